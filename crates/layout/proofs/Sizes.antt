@@ -1,0 +1,62 @@
+-- What the five sizes share, proved once: a fact of each size goes by `by-size`, and what every tile has is the record
+-- `Tile`. Assumes nothing.
+use mathlib.Core.Path.{_≡_, refl, sym, ap, _∙_, subst}
+use mathlib.Core.Bool.{Bool, true, false}
+use mathlib.Core.List.{List, [], _∷_}
+use Prim.Native.Nat.{ℕ, zero, suc, _+_, _*_, _/_, _<_, _≤_}
+use native.Mathlib.Nat.{not-suc-le-zero, le-of-suc-le-suc}
+use native.Mathlib.Omega.{arith}
+use lib.ListN.{length, getD}
+use borrow.Author.Tests.{ltb-true, ne-eqb}
+use Rattle.laws.specs.Choice.{pick, placeOf}
+use Rattle.laws.proofs.Choice.{place-found}
+use Rattle.layout.specs.Sizes.{sizes, isSize, widthOf, heightOf}
+
+-- what holds of each of the five sizes holds of every size
+pub by-size {ℓ} : (P : ℕ → Type ℓ) → P 1 → P 2 → P 4 → P 8 → P 16 → (s : ℕ) → isSize s ≡ true → P s
+unfolding isSize
+by-size P p1 p2 p4 p8 p16 s e = go (placeOf s sizes) (ltb-true _ _ e) (place-found s sizes (ltb-true _ _ e))
+  where
+    go : (k : ℕ) → k < 5 → getD sizes k 0 ≡ s → P s
+    go zero h q = subst P q p1
+    go (suc zero) h q = subst P q p2
+    go (suc (suc zero)) h q = subst P q p4
+    go (suc (suc (suc zero))) h q = subst P q p8
+    go (suc (suc (suc (suc zero)))) h q = subst P q p16
+    go (suc (suc (suc (suc (suc k))))) h q = absurd (no-more k h)
+      where
+        no-more : (k : ℕ) → suc (suc (suc (suc (suc k)))) < 5 → ⊥
+        no-more k h = omega arith
+
+-- what is none of the five has no line in the table
+pub no-size :
+    (s : ℕ) → (s ≡ 1 → ⊥) → (s ≡ 2 → ⊥) → (s ≡ 4 → ⊥) → (s ≡ 8 → ⊥) → (s ≡ 16 → ⊥) → placeOf s sizes ≡ 5
+unfolding placeOf
+no-size s n1 n2 n4 n8 n16 = simp (ne-eqb s 1 n1, ne-eqb s 2 n2, ne-eqb s 4 n4, ne-eqb s 8 n8, ne-eqb s 16 n16)
+
+-- A tile is 8 by 8 cells of 32 bytes; a cell is p elements wide and q high.
+pub record Tile (s p q : ℕ) : Type 0 where
+  pub width : widthOf s ≡ p * 8
+  pub height : heightOf s ≡ q * 8
+  pub cell : q * p * s ≡ 32
+  pub p-pos : 0 < p
+  pub q-pos : 0 < q
+  pub s-pos : 0 < s
+  pub p-most : p ≤ 8
+  pub q-most : q ≤ 4
+  pub s-most : s ≤ 16
+
+pub tile : (s : ℕ) → isSize s ≡ true → Tile s (widthOf s / 8) (heightOf s / 8)
+unfolding widthOf heightOf placeOf
+tile =
+    by-size (λ s. Tile s (widthOf s / 8) (heightOf s / 8)) (omega arith) (omega arith) (omega arith) (omega arith) (omega arith)
+
+-- a size that is none of the other four is 16
+pub sixteen : (s : ℕ) → isSize s ≡ true → (s ≡ 1 → ⊥) → (s ≡ 2 → ⊥) → (s ≡ 4 → ⊥) → (s ≡ 8 → ⊥) → s ≡ 16
+sixteen =
+    by-size (λ s. (s ≡ 1 → ⊥) → (s ≡ 2 → ⊥) → (s ≡ 4 → ⊥) → (s ≡ 8 → ⊥) → s ≡ 16)
+    (λ n1 n2 n4 n8. absurd (n1 refl))
+    (λ n1 n2 n4 n8. absurd (n2 refl))
+    (λ n1 n2 n4 n8. absurd (n4 refl))
+    (λ n1 n2 n4 n8. absurd (n8 refl))
+    (λ n1 n2 n4 n8. refl)

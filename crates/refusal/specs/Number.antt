@@ -1,0 +1,41 @@
+-- Document 01, "Refusal numbers": the number of each refusal. Assumes nothing.
+use Prim.Native.Nat.{ℕ}
+use Rattle.refusal.specs.declared.Refusal.{Refusal}
+use Rattle.refusal.specs.declared.Refusal.the-variants.{
+  Stopped,
+  UnknownHeader,
+  Malformed,
+  NumberTooHigh,
+  DomainCrossed,
+  WindowRule,
+  StartUnset,
+  DomainOutside,
+  SpansShared,
+  PairOutside,
+  WrongLength,
+  Unowned,
+  FlowField,
+  AtLimit,
+  PastEnd,
+  Ended,
+  WordLimit,
+}
+
+abbrev pub numberOf : Refusal → ℕ
+numberOf Stopped = 1
+numberOf UnknownHeader = 2
+numberOf Malformed = 3
+numberOf NumberTooHigh = 4
+numberOf DomainCrossed = 5
+numberOf WindowRule = 6
+numberOf StartUnset = 7
+numberOf DomainOutside = 8
+numberOf SpansShared = 9
+numberOf PairOutside = 10
+numberOf WrongLength = 11
+numberOf Unowned = 12
+numberOf FlowField = 13
+numberOf AtLimit = 14
+numberOf PastEnd = 15
+numberOf Ended = 16
+numberOf WordLimit = 17

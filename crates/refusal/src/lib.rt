@@ -1,0 +1,66 @@
+// Document 01's refusals: each cause by name, and its number. Every answer that can refuse holds a `Refusal`, so the
+// numbers stand here and nowhere else in the code.
+ghost use mathlib.Core.Path.{_≡_};
+ghost use Rattle.refusal.specs.Number.{numberOf};
+
+pub enum Refusal {
+    // 1: the session is stopped.
+    Stopped,
+    // 2: a header word stands in no line of the command table.
+    UnknownHeader,
+    // 3: a reserved bit or code is set, or a layout argument is malformed.
+    Malformed,
+    // 4: input number over 15, output number over 3.
+    NumberTooHigh,
+    // 5: i0 > i1 or j0 > j1.
+    DomainCrossed,
+    // 6: window rule broken.
+    WindowRule,
+    // 7: start without a domain, an instruction format or any output set.
+    StartUnset,
+    // 8: the domain is not inside every set output's window.
+    DomainOutside,
+    // 9: spans of two set outputs share a byte.
+    SpansShared,
+    // 10: a pair is outside its window.
+    PairOutside,
+    // 11: room, element data or memory of a wrong length or place.
+    WrongLength,
+    // 12: no pair of the window owns the address.
+    Unowned,
+    // 13: flow word field or group size not allowed.
+    FlowField,
+    // 14: branch counter or return stack at its limit.
+    AtLimit,
+    // 15: a jump past the program's end, or a program of a wrong length.
+    PastEnd,
+    // 16: the program has already ended.
+    Ended,
+    // 17: the session has taken 1,000,000,000 words.
+    WordLimit,
+}
+
+// Document 01's number of a refusal, 1 to 17.
+pub fn number(r: Refusal) -> u32
+    ensures { λ n. ⌜ n ≡ numberOf r ⌝ }
+{
+    match r {
+        Refusal::Stopped => 1,
+        Refusal::UnknownHeader => 2,
+        Refusal::Malformed => 3,
+        Refusal::NumberTooHigh => 4,
+        Refusal::DomainCrossed => 5,
+        Refusal::WindowRule => 6,
+        Refusal::StartUnset => 7,
+        Refusal::DomainOutside => 8,
+        Refusal::SpansShared => 9,
+        Refusal::PairOutside => 10,
+        Refusal::WrongLength => 11,
+        Refusal::Unowned => 12,
+        Refusal::FlowField => 13,
+        Refusal::AtLimit => 14,
+        Refusal::PastEnd => 15,
+        Refusal::Ended => 16,
+        Refusal::WordLimit => 17,
+    }
+}
