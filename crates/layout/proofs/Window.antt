@@ -1,17 +1,17 @@
 -- What an accepted layout has: its tile counts and span are small enough for 32-bit work, and its judgement comes case by
 -- case as the code finds it. Assumes nothing.
 use mathlib.Core.Path.{_≡_, refl, sym, ap, _∙_, subst}
-use mathlib.Core.Bool.{Bool, true, false}
+use mathlib.Core.Bool.{Bool, true, false, false≢true}
 use mathlib.Core.List.{List, [], _∷_}
 use Prim.Native.Nat.{ℕ, zero, suc, _+_, _-_, _*_, _/_, _%_, _^_, _<_, _≤_}
-use native.Mathlib.Nat.{mul-le-mul}
+use native.Mathlib.Nat.{mul-le-mul, mul-div-cancel}
 use native.Mathlib.Omega.{arith}
 use borrow.Author.Tests.{leb-true, le-leb, lt-leb}
 use Rattle.laws.specs.Choice.{_and_, pick, placeOf}
 use Rattle.laws.proofs.Choice.{pick-yes, pick-no, and-intro, and-left, and-right, and-no-left, and-no-right}
 use Rattle.refusal.specs.Told.{gives, refuses}
 use Rattle.layout.specs.Sizes.{isSize, widthOf, heightOf}
-use Rattle.layout.specs.Layout.{wellFormed, rowStep, tileRows, spanOf, SpanAsked, inBounds, windowRule, judgeOf}
+use Rattle.layout.specs.Layout.{wellFormed, unitOf, rowStep, tileRows, spanOf, SpanAsked, inBounds, windowRule, judgeOf}
 use Rattle.layout.proofs.Sizes.{by-size}
 
 -- row step and height from 1 to 4,096
@@ -25,6 +25,10 @@ pub rows-most : (s h : ℕ) → isSize s ≡ true → h ≤ 4096 → tileRows s 
 unfolding tileRows heightOf placeOf
 rows-most s h e =
     by-size (λ s. h ≤ 4096 → tileRows s h ≤ 512) (omega arith) (omega arith) (omega arith) (omega arith) (omega arith) s e
+
+pub width-pos : (s : ℕ) → isSize s ≡ true → 0 < widthOf s
+unfolding widthOf placeOf
+width-pos = by-size (λ s. 0 < widthOf s) (omega arith) (omega arith) (omega arith) (omega arith) (omega arith)
 
 pub columns-most : (s e : ℕ) → isSize s ≡ true → e ≤ 4096 → e / widthOf s ≤ 256
 unfolding widthOf placeOf
@@ -74,6 +78,23 @@ pub asked-of : (e h s : ℕ) → isSize s ≡ true → inBounds e h ≡ true →
 asked-of e h s z t =
     let b = bounds-of e h t in
     record { size = z; step = b .step-most; rows = b .height-most }
+
+-- the window rule, taken apart
+pub rule-bounds : (base : ℕ) (tiled : Bool) (s e h : ℕ) → windowRule base tiled s e h ≡ true → Bounds e h
+unfolding windowRule
+rule-bounds base tiled s e h w = bounds-of e h (and-left _ _ w)
+
+pub rule-room : (base : ℕ) (tiled : Bool) (s e h : ℕ) → windowRule base tiled s e h ≡ true → base + spanOf tiled s e h ≤ 2 ^ 32
+unfolding windowRule
+rule-room base tiled s e h w = leb-true _ _ (and-right _ _ w)
+
+-- a tiled layout's row step is a whole number of tiles
+pub step-whole :
+    (tiled : Bool) (s pitch : ℕ) → isSize s ≡ true → tiled ≡ true →
+    rowStep tiled s pitch / widthOf s * widthOf s ≡ rowStep tiled s pitch
+unfolding rowStep unitOf pick
+step-whole true s pitch z e = ap (λ (n : ℕ). n * widthOf s) (mul-div-cancel (pitch / widthOf s) (width-pos s z))
+step-whole false s pitch z e = absurd (false≢true e)
 
 -- the judgement, as far as the tests on the way decide it
 module _ (base pitch h s : ℕ) (tiled : Bool) where

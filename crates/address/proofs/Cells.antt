@@ -1,0 +1,141 @@
+-- The code of a cell inside its tile, bits 10 to 5 of the place, has an inverse: the way back finds the cell's column and
+-- row from the tile's and the code. No size is in it. Assumes nothing.
+use mathlib.Core.Path.{_≡_, refl, sym, ap, ap₂, _∙_}
+use Prim.Native.Nat.{ℕ, _+_, _*_, _/_, _%_, _<_}
+use native.Mathlib.Nat.{div-one, div-add-mod, div-div-eq-div-mul}
+use native.Mathlib.Omega.{arith}
+use Rattle.laws.specs.Bits.{bit, xor}
+use Rattle.laws.proofs.Bits.{xor-lt, xor-back}
+use Rattle.address.specs.Offset.{codeOf, highX, highY, cellX, cellY}
+
+-- a number of six bits, and its bits
+record Six (n a b c d e f : ℕ) : Type 0 where
+  bit5 : bit 5 n ≡ a
+  bit4 : bit 4 n ≡ b
+  bit3 : bit 3 n ≡ c
+  bit2 : bit 2 n ≡ d
+  bit1 : bit 1 n ≡ e
+  bit0 : bit 0 n ≡ f
+
+six :
+    (a b c d e f : ℕ) → a < 2 → b < 2 → c < 2 → d < 2 → e < 2 → f < 2 →
+    Six (32 * a + 16 * b + 8 * c + 4 * d + 2 * e + f) a b c d e f
+six a b c d e f ha hb hc hd he hf = omega arith
+
+-- a number by its quotient by 8 and its three low bits
+record Eights (x n a b c : ℕ) : Type 0 where
+  pub quotient : x / 8 ≡ n
+  pub bit3 : bit 3 x ≡ bit 0 n
+  pub bit2 : bit 2 x ≡ a
+  pub bit1 : bit 1 x ≡ b
+  pub bit0 : bit 0 x ≡ c
+
+eights : (n a b c : ℕ) → a < 2 → b < 2 → c < 2 → Eights (8 * n + 4 * a + 2 * b + c) n a b c
+eights n a b c ha hb hc = omega arith
+
+-- a number is its three low bits and eight times the rest
+low : (x : ℕ) → 8 * (x / 8) + 4 * bit 2 x + 2 * bit 1 x + bit 0 x ≡ x
+low x = join (x / 1) (x / 2) (x / 4) (x / 8) (halved 1 x) (halved 2 x) (halved 4 x) ∙ div-one x
+  where
+    halved : (d n : ℕ) → 2 * (n / (d * 2)) + n / d % 2 ≡ n / d
+    halved d n = rw (← (div-div-eq-div-mul n d 2)) (div-add-mod (n / d) 2)
+
+    join :
+        (x x2 x4 x8 : ℕ) → 2 * x2 + x % 2 ≡ x → 2 * x4 + x2 % 2 ≡ x2 → 2 * x8 + x4 % 2 ≡ x4 →
+        8 * x8 + 4 * (x4 % 2) + 2 * (x2 % 2) + x % 2 ≡ x
+    join x x2 x4 x8 e0 e1 e2 = sum x x2 x4 x8 (x % 2) (x2 % 2) (x4 % 2) e0 e1 e2
+      where
+        sum :
+            (x x2 x4 x8 b0 b1 b2 : ℕ) → 2 * x2 + b0 ≡ x → 2 * x4 + b1 ≡ x2 → 2 * x8 + b2 ≡ x4 →
+            8 * x8 + 4 * b2 + 2 * b1 + b0 ≡ x
+        sum x x2 x4 x8 b0 b1 b2 e0 e1 e2 = omega arith
+
+-- a number of six bits is their sum
+whole : (n : ℕ) → n < 64 → 32 * bit 5 n + 16 * bit 4 n + 8 * bit 3 n + 4 * bit 2 n + 2 * bit 1 n + bit 0 n ≡ n
+whole n h =
+    sum (n / 8) (n / 8 / 8) (bit 5 n) (bit 4 n) (bit 3 n) (bit 2 n) (bit 1 n) (bit 0 n) (omega arith) (above (low (n / 8))) (low n)
+  where
+    above :
+        8 * (n / 8 / 8) + 4 * bit 2 (n / 8) + 2 * bit 1 (n / 8) + bit 0 (n / 8) ≡ n / 8 →
+        8 * (n / 8 / 8) + 4 * bit 5 n + 2 * bit 4 n + bit 3 n ≡ n / 8
+    above e =
+        rw (div-div-eq-div-mul n 8 4, div-div-eq-div-mul n 8 2, div-div-eq-div-mul n 8 1) at e
+
+    sum :
+        (m o a b c d e f : ℕ) → o ≡ 0 → 8 * o + 4 * a + 2 * b + c ≡ m → 8 * m + 4 * d + 2 * e + f ≡ n →
+        32 * a + 16 * b + 8 * c + 4 * d + 2 * e + f ≡ n
+    sum m o a b c d e f z p q = omega arith
+
+high : (x : ℕ) → bit 0 (x / 8) ≡ bit 3 x
+high x = omega arith
+
+pub code-lt : (X Y : ℕ) → codeOf X Y < 64
+unfolding codeOf
+code-lt X Y =
+    omega
+    (arith,
+    xor-lt (bit 2 Y) (bit 3 X),
+    xor-lt (bit 2 X) (bit 3 Y),
+    xor-lt (bit 1 Y) (bit 2 X),
+    xor-lt (bit 1 X) (bit 2 Y))
+
+module _ (X Y : ℕ) where
+  code-bits :
+      Six (codeOf X Y) (xor (bit 2 Y) (bit 3 X)) (xor (bit 2 X) (bit 3 Y)) (xor (bit 1 Y) (bit 2 X)) (xor (bit 1 X) (bit 2 Y))
+      (bit 0 Y) (bit 0 X)
+  unfolding codeOf
+  code-bits =
+      six _ _ _ _ _ _ (xor-lt (bit 2 Y) (bit 3 X)) (xor-lt (bit 2 X) (bit 3 Y)) (xor-lt (bit 1 Y) (bit 2 X))
+      (xor-lt (bit 1 X) (bit 2 Y)) (omega arith) (omega arith)
+
+  high-x : highX (Y / 8) (codeOf X Y) ≡ bit 2 X
+  unfolding highX
+  high-x = ap₂ xor (code-bits .bit4) (high Y) ∙ xor-back (bit 2 X) (bit 3 Y) (omega arith)
+
+  high-y : highY (X / 8) (codeOf X Y) ≡ bit 2 Y
+  unfolding highY
+  high-y = ap₂ xor (code-bits .bit5) (high X) ∙ xor-back (bit 2 Y) (bit 3 X) (omega arith)
+
+  -- the code leads back to the cell's column and row
+  pub cell-x : cellX (X / 8) (Y / 8) (codeOf X Y) ≡ X
+  unfolding cellX
+  cell-x =
+      rw (high-x, high-y, code-bits .bit2, code-bits .bit0, xor-back (bit 1 X) (bit 2 Y) (omega arith)) (low X)
+
+  pub cell-y : cellY (X / 8) (Y / 8) (codeOf X Y) ≡ Y
+  unfolding cellY
+  cell-y =
+      rw (high-x, high-y, code-bits .bit3, code-bits .bit1, xor-back (bit 1 Y) (bit 2 X) (omega arith)) (low Y)
+
+module _ (column row c : ℕ) where
+  columns :
+      Eights (cellX column row c) column (highX row c) (xor (bit 2 c) (highY column c)) (bit 0 c)
+  unfolding cellX highX
+  columns = eights column _ _ _ (xor-lt _ _) (xor-lt _ _) (omega arith)
+
+  rows : Eights (cellY column row c) row (highY column c) (xor (bit 3 c) (highX row c)) (bit 1 c)
+  unfolding cellY highY
+  rows = eights row _ _ _ (xor-lt _ _) (xor-lt _ _) (omega arith)
+
+  -- the cell that the way back finds lies in the tile
+  pub cell-column : cellX column row c / 8 ≡ column
+  cell-column = columns .quotient
+
+  pub cell-row : cellY column row c / 8 ≡ row
+  cell-row = rows .quotient
+
+  high-x-back : xor (highX row c) (bit 0 row) ≡ bit 4 c
+  unfolding highX
+  high-x-back = xor-back (bit 4 c) (bit 0 row) (omega arith)
+
+  high-y-back : xor (highY column c) (bit 0 column) ≡ bit 5 c
+  unfolding highY
+  high-y-back = xor-back (bit 5 c) (bit 0 column) (omega arith)
+
+  -- and has the code that it was found by
+  pub cell-code : c < 64 → codeOf (cellX column row c) (cellY column row c) ≡ c
+  unfolding codeOf
+  cell-code h =
+      rw (columns .bit3, columns .bit2, columns .bit1, columns .bit0, rows .bit3, rows .bit2, rows .bit1, rows .bit0)
+      (rw (high-x-back, high-y-back, xor-back (bit 3 c) (highX row c) (omega arith), xor-back (bit 2 c) (highY column c) (omega arith))
+      (whole c h))

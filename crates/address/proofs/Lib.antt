@@ -1,0 +1,4 @@
+pub mod Cells
+pub mod Inverse
+pub mod Offsets
+pub mod Windows
