@@ -5,7 +5,7 @@ use Prim.Native.Nat.{ℕ, _+_, _*_, _/_, _%_, _<_}
 use native.Mathlib.Nat.{div-one, div-add-mod, div-div-eq-div-mul}
 use native.Mathlib.Omega.{arith}
 use Rattle.laws.specs.Bits.{bit, xor}
-use Rattle.laws.proofs.Bits.{xor-lt, xor-back}
+use Rattle.laws.proofs.Bits.{bit-zero, xor-lt, xor-back}
 use Rattle.address.specs.Offset.{codeOf, highX, highY, cellX, cellY}
 
 -- a number of six bits, and its bits
@@ -139,3 +139,27 @@ module _ (column row c : ℕ) where
       rw (columns .bit3, columns .bit2, columns .bit1, columns .bit0, rows .bit3, rows .bit2, rows .bit1, rows .bit0)
       (rw (high-x-back, high-y-back, xor-back (bit 3 c) (highX row c) (omega arith), xor-back (bit 2 c) (highY column c) (omega arith))
       (whole c h))
+
+-- as the code reckons them, bit by bit
+pub code-of :
+    (X Y a b c d : ℕ) → a ≡ xor (bit 2 Y) (bit 3 X) → b ≡ xor (bit 2 X) (bit 3 Y) → c ≡ xor (bit 1 Y) (bit 2 X) →
+    d ≡ xor (bit 1 X) (bit 2 Y) → 32 * a + 16 * b + 8 * c + 4 * d + 2 * (Y % 2) + X % 2 ≡ codeOf X Y
+unfolding codeOf
+code-of X Y a b c d ea eb ec ed = rw (ea, eb, ec, ed, bit-zero X, bit-zero Y)
+
+module _ (column row code a b : ℕ) (ea : a ≡ xor (bit 4 code) (row % 2)) (eb : b ≡ xor (bit 5 code) (column % 2)) where
+  is-high-x : a ≡ highX row code
+  unfolding highX
+  is-high-x = rw (bit-zero row) ea
+
+  is-high-y : b ≡ highY column code
+  unfolding highY
+  is-high-y = rw (bit-zero column) eb
+
+  pub cell-x-of : (d : ℕ) → d ≡ xor (bit 2 code) b → 8 * column + 4 * a + 2 * d + code % 2 ≡ cellX column row code
+  unfolding cellX
+  cell-x-of d ed = rw (ed, is-high-x, is-high-y, bit-zero code)
+
+  pub cell-y-of : (d : ℕ) → d ≡ xor (bit 3 code) a → 8 * row + 4 * b + 2 * d + code / 2 % 2 ≡ cellY column row code
+  unfolding cellY
+  cell-y-of d ed = rw (ed, is-high-x, is-high-y)

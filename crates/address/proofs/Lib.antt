@@ -1,4 +1,5 @@
 pub mod Cells
 pub mod Inverse
 pub mod Offsets
+pub mod Sums
 pub mod Windows

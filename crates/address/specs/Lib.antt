@@ -1,3 +1,4 @@
 pub mod Address
+pub mod Asked
 pub mod Inverse
 pub mod Offset

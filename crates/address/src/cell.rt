@@ -1,0 +1,47 @@
+// The cells of a tile: bits 10 to 5 of a place inside a tile, and the way back from them. No size is in it.
+ghost use mathlib.Core.Path.{_≡_};
+ghost use Prim.Native.Nat.{_<_};
+ghost use Rattle.laws.specs.Bits.{xor};
+ghost use Rattle.address.specs.Offset.{codeOf, cellX, cellY};
+
+// A cell of 32 bytes, by its column and row in the whole window.
+pub struct Cell {
+    pub column: u32,
+    pub row: u32,
+}
+
+// The exclusive or of two bits.
+fn flip(a: u32, b: u32) -> u32
+    requires { ⌜ (a < 2) × (b < 2) ⌝ }
+    ensures { λ r. ⌜ (r ≡ xor a b) × (r < 2) ⌝ }
+{
+    a ^ b
+}
+
+// Bits 10 to 5 of the place inside a tile, for the cell at this column and row of the window.
+pub fn code(column: u32, row: u32) -> u32
+    ensures { λ r. ⌜ (r ≡ codeOf column row) × (r < 64) ⌝ }
+{
+    let x2 = column / 4 % 2;
+    let y2 = row / 4 % 2;
+    let bit10 = flip(y2, column / 8 % 2);
+    let bit9 = flip(x2, row / 8 % 2);
+    let bit8 = flip(row / 2 % 2, x2);
+    let bit7 = flip(column / 2 % 2, y2);
+    32 * bit10 + 16 * bit9 + 8 * bit8 + 4 * bit7 + 2 * (row % 2) + column % 2
+}
+
+// The cell with this code in the tile at this column and row of tiles.
+pub fn find(column: u32, row: u32, code: u32) -> Cell
+    requires { ⌜ (column < 16777216) × (row < 16777216) ⌝ }
+    ensures { λ r. ⌜ (r .column ≡ cellX column row code) × (r .row ≡ cellY column row code) ⌝ }
+{
+    let x2 = flip(code / 16 % 2, row % 2);
+    let y2 = flip(code / 32 % 2, column % 2);
+    let x1 = flip(code / 4 % 2, y2);
+    let y1 = flip(code / 8 % 2, x2);
+    Cell {
+        column: 8 * column + 4 * x2 + 2 * x1 + code % 2,
+        row: 8 * row + 4 * y2 + 2 * y1 + code / 2 % 2,
+    }
+}
