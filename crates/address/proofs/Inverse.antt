@@ -63,13 +63,13 @@ module _ (l : Layout) (accepted : Accepted l) where
   unfolding addressOf
   within x y i = omega (arith, room, windows.within (l .tiled) s e (l .height) x y grid (i .column) (i .row))
 
-  from-base : (o : ℕ) → locateOf l (base + o) ≡ backOf l o
+  pub from-base : (o : ℕ) → locateOf l (base + o) ≡ backOf l o
   unfolding locateOf
   from-base o =
       answered _ ∙ pick-yes _ _ (le-leb base (base + o) (omega arith)) ∙
       ap (backOf l) {x = base + o - base} {y = o} (omega arith)
 
-  below-base : (a : ℕ) → a < base → locateOf l a ≡ refuses 12
+  pub below-base : (a : ℕ) → a < base → locateOf l a ≡ refuses 12
   unfolding locateOf
   below-base a k = answered _ ∙ pick-no _ _ (lt-leb base a k)
 

@@ -37,7 +37,7 @@ module _ (s : ℕ) (size : isSize s ≡ true) where
   column-of : (e x : ℕ) → e / widthOf s * widthOf s ≡ e → x / widthOf s < e / widthOf s → x < e
   column-of e x w h = rw w at (div-lt-iff-lt-mul (width-pos s size) .0 h)
 
-  tiles-pos : (e : ℕ) → e / widthOf s * widthOf s ≡ e → 0 < e → 0 < e / widthOf s
+  pub tiles-pos : (e : ℕ) → e / widthOf s * widthOf s ≡ e → 0 < e → 0 < e / widthOf s
   tiles-pos e w h = omega (arith, tile-of e 0 w h)
 
   -- "tile rows needed" hold every row of the window
