@@ -34,7 +34,7 @@ eights : (n a b c : ℕ) → a < 2 → b < 2 → c < 2 → Eights (8 * n + 4 * a
 eights n a b c ha hb hc = omega arith
 
 -- a number is its three low bits and eight times the rest
-low : (x : ℕ) → 8 * (x / 8) + 4 * bit 2 x + 2 * bit 1 x + bit 0 x ≡ x
+pub low : (x : ℕ) → 8 * (x / 8) + 4 * bit 2 x + 2 * bit 1 x + bit 0 x ≡ x
 low x = join (x / 1) (x / 2) (x / 4) (x / 8) (halved 1 x) (halved 2 x) (halved 4 x) ∙ div-one x
   where
     halved : (d n : ℕ) → 2 * (n / (d * 2)) + n / d % 2 ≡ n / d

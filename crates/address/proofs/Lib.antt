@@ -2,5 +2,6 @@ pub mod Answers
 pub mod Cells
 pub mod Inverse
 pub mod Offsets
+pub mod Printed
 pub mod Sums
 pub mod Windows
