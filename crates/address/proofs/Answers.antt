@@ -78,7 +78,7 @@ module _ (l : Layout) (e : ℕ) (t : Taken l e) where
         size = size;
         step = rule-bounds (l .base .0) (l .tiled) (l .size) (stepOf l) (l .height) (t .accepted .window) .step-most;
         least = grid l (t .accepted) .step;
-        tiles = λ k. tiles-pos (l .size) size (stepOf l) (grid l (t .accepted) .whole k) (grid l (t .accepted) .step)
+        tiles = λ k. tiles-pos (l .size) size (stepOf l) (grid l (t .accepted) .whole k) (grid l (t .accepted) .step);
       })
 
   module _ (x y : ℕ) where
@@ -101,8 +101,8 @@ module _ (l : Layout) (e : ℕ) (t : Taken l e) where
             step = step-asked .step;
             column = hx;
             row =
-              omega
-              (arith, rule-bounds (l .base .0) (l .tiled) (l .size) (stepOf l) (l .height) (t .accepted .window) .height-most)
+                omega
+                (arith, rule-bounds (l .base .0) (l .tiled) (l .size) (stepOf l) (l .height) (t .accepted .window) .height-most);
           }
 
       module _ (o : ℕ) (eo : o ≡ offsetOf (l .tiled) (l .size) e x y) where

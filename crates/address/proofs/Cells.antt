@@ -72,12 +72,13 @@ high x = omega arith
 pub code-lt : (X Y : ℕ) → codeOf X Y < 64
 unfolding codeOf
 code-lt X Y =
-    omega
-    (arith,
-    xor-lt (bit 2 Y) (bit 3 X),
-    xor-lt (bit 2 X) (bit 3 Y),
-    xor-lt (bit 1 Y) (bit 2 X),
-    xor-lt (bit 1 X) (bit 2 Y))
+    omega (
+      arith,
+      xor-lt (bit 2 Y) (bit 3 X),
+      xor-lt (bit 2 X) (bit 3 Y),
+      xor-lt (bit 1 Y) (bit 2 X),
+      xor-lt (bit 1 X) (bit 2 Y),
+    )
 
 module _ (X Y : ℕ) where
   code-bits :

@@ -42,7 +42,7 @@ module _ (l : Layout) (accepted : Accepted l) where
       record {
         size = size;
         step = rule-bounds base (l .tiled) s e (l .height) (accepted .window) .step-least;
-        whole = step-whole (l .tiled) s (l .pitch) size
+        whole = step-whole (l .tiled) s (l .pitch) size;
       }
 
   pub room : base + spanOf (l .tiled) s e (l .height) ≤ 2 ^ 32
@@ -78,10 +78,11 @@ module _ (l : Layout) (accepted : Accepted l) where
       (x y k : ℕ) → Inside l x y → k < s → backOf l (offsetOf (l .tiled) s e x y + k) ≡ gives (x ∷ y ∷ k ∷ [])
   unfolding backOf
   leads-back x y k i hk =
-      rw
-      (windows.there-x (l .tiled) s e x y k grid (i .column) hk,
-      windows.there-y (l .tiled) s e x y k grid (i .column) hk,
-      windows.there-place (l .tiled) s e x y k grid (i .column) hk)
+      rw (
+        windows.there-x (l .tiled) s e x y k grid (i .column) hk,
+        windows.there-y (l .tiled) s e x y k grid (i .column) hk,
+        windows.there-place (l .tiled) s e x y k grid (i .column) hk,
+      )
       (pick-yes _ _ (lt-ltb _ _ (i .row)))
 
   back : (a x y place : ℕ) → Owns l a x y place → locateOf l a ≡ gives (x ∷ y ∷ place ∷ [])
@@ -101,7 +102,7 @@ module _ (l : Layout) (accepted : Accepted l) where
       record {
         pair = record { column = windows.back-column (l .tiled) s e o grid; row = k };
         below = windows.back-place s o size;
-        byte = omega (arith, windows.back (l .tiled) s e o grid)
+        byte = omega (arith, windows.back (l .tiled) s e o grid);
       }
 
   from : (o : ℕ) → Found (base + o)
@@ -161,5 +162,5 @@ module _ (l : Layout) (accepted : Accepted l) where
         found = found;
         refused = refused;
         unowned = unowned;
-        apart = apart
+        apart = apart;
       }

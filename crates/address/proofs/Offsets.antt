@@ -4,7 +4,15 @@ use mathlib.Core.Path.{_≡_, refl, sym, ap, ap₂, _∙_, subst}
 use mathlib.Core.Bool.{Bool, true, false}
 use Prim.Native.Nat.{ℕ, zero, suc, _+_, _-_, _*_, _/_, _%_, _<_, _≤_, _∣_}
 use native.Mathlib.Nat.{
-    dvd-mul-left, mod-lt, div-add-mod', div-div-eq-div-mul, div-lt-iff-lt-mul, mod-mod-of-dvd, mul-le-mul, mul-comm, mul-pos
+  dvd-mul-left,
+  mod-lt,
+  div-add-mod',
+  div-div-eq-div-mul,
+  div-lt-iff-lt-mul,
+  mod-mod-of-dvd,
+  mul-le-mul,
+  mul-comm,
+  mul-pos,
 }
 use native.Mathlib.Omega.{arith}
 use lib.Arith.{digits-lt, digits-div, digits-mod}
@@ -12,8 +20,22 @@ use Rattle.laws.specs.Choice.{pick}
 use Rattle.layout.specs.Sizes.{isSize, widthOf, heightOf}
 use Rattle.layout.proofs.Sizes.{Tile, tile}
 use Rattle.address.specs.Offset.{
-    cellWidth, cellHeight, codeOf, insideOf, tiledOffset, linearOffset, offsetOf, cellX, cellY, tiledX, tiledY, linearX,
-    linearY, xOf, yOf, bytePlace
+  cellWidth,
+  cellHeight,
+  codeOf,
+  insideOf,
+  tiledOffset,
+  linearOffset,
+  offsetOf,
+  cellX,
+  cellY,
+  tiledX,
+  tiledY,
+  linearX,
+  linearY,
+  xOf,
+  yOf,
+  bytePlace,
 }
 use Rattle.address.proofs.Cells.{code-lt, cell-x, cell-y, cell-column, cell-row, cell-code}
 
@@ -87,33 +109,35 @@ module _ (s : ℕ) (t : Tile s (cellWidth s) (cellHeight s)) where
     pub tiled-there-x : tiledX s e offset ≡ x
     unfolding tiledX
     tiled-there-x =
-        rw
-        (there-parts .tile-part,
-        there-parts .code-part,
-        there-parts .rest-part,
-        digits-mod (y / heightOf s) hx,
-        digits-div (y / heightOf s) hx,
-        digits-div element hk,
-        digits-mod (y % q) (mod-lt x (t .p-pos)),
-        column-of x,
-        row-of y,
-        cell-x (x / p) (y / q))
+        rw (
+          there-parts .tile-part,
+          there-parts .code-part,
+          there-parts .rest-part,
+          digits-mod (y / heightOf s) hx,
+          digits-div (y / heightOf s) hx,
+          digits-div element hk,
+          digits-mod (y % q) (mod-lt x (t .p-pos)),
+          column-of x,
+          row-of y,
+          cell-x (x / p) (y / q),
+        )
         (div-add-mod' x p)
 
     pub tiled-there-y : tiledY s e offset ≡ y
     unfolding tiledY
     tiled-there-y =
-        rw
-        (there-parts .tile-part,
-        there-parts .code-part,
-        there-parts .rest-part,
-        digits-mod (y / heightOf s) hx,
-        digits-div (y / heightOf s) hx,
-        digits-div element hk,
-        digits-div (y % q) (mod-lt x (t .p-pos)),
-        column-of x,
-        row-of y,
-        cell-y (x / p) (y / q))
+        rw (
+          there-parts .tile-part,
+          there-parts .code-part,
+          there-parts .rest-part,
+          digits-mod (y / heightOf s) hx,
+          digits-div (y / heightOf s) hx,
+          digits-div element hk,
+          digits-div (y % q) (mod-lt x (t .p-pos)),
+          column-of x,
+          row-of y,
+          cell-y (x / p) (y / q),
+        )
         (div-add-mod' y q)
 
     pub tiled-there-place : bytePlace s offset ≡ k
@@ -167,17 +191,18 @@ module _ (s : ℕ) (t : Tile s (cellWidth s) (cellHeight s)) where
     pub tiled-back : tiledOffset s e (tiledX s e o) (tiledY s e o) + bytePlace s o ≡ o
     unfolding tiledOffset insideOf bytePlace
     tiled-back =
-        rw
-        (back-tile-column,
-        back-tile-row,
-        back-column,
-        back-row,
-        back-x-rest,
-        back-y-rest,
-        div-add-mod' (o / 2048) (e / widthOf s),
-        div-add-mod' (o % 32 / s) p,
-        cell-code column row code (mod-lt (o / 32) (omega arith)),
-        ← (mod-mod-of-dvd s o thirty-two))
+        rw (
+          back-tile-column,
+          back-tile-row,
+          back-column,
+          back-row,
+          back-x-rest,
+          back-y-rest,
+          div-add-mod' (o / 2048) (e / widthOf s),
+          div-add-mod' (o % 32 / s) p,
+          cell-code column row code (mod-lt (o / 32) (omega arith)),
+          ← (mod-mod-of-dvd s o thirty-two),
+        )
         (regroup (2048 * (o / 2048)) (32 * code) (o % 32 / s * s) (o % 32 % s) (o % 32) (div-add-mod' (o % 32) s) ∙ joined o)
       where
         regroup : (n c m k r : ℕ) → m + k ≡ r → n + (c + m) + k ≡ n + (c + r)

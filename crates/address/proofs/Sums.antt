@@ -11,7 +11,15 @@ use Rattle.laws.specs.Choice.{placeOf}
 use Rattle.layout.proofs.Sizes.{Tile, by-size}
 use Rattle.address.specs.Asked.{CellAsked, PairAsked, StepAsked}
 use Rattle.address.specs.Offset.{
-    cellWidth, cellHeight, codeOf, insideOf, tiledOffset, cellX, cellY, tiledX, tiledY
+  cellWidth,
+  cellHeight,
+  codeOf,
+  insideOf,
+  tiledOffset,
+  cellX,
+  cellY,
+  tiledX,
+  tiledY,
 }
 use Rattle.address.proofs.Cells.{cell-column, cell-row}
 use Rattle.address.proofs.Offsets.{cells}
@@ -48,13 +56,13 @@ module _ (p q s e : ℕ) (a : CellAsked p q s e) where
   sums x y b =
       record {
         rows =
-          mul-le-mul {n₂ = 512} {m₂ = 256} (omega (arith, quotient-lt 512 q y (a .q-least) (omega arith)))
-          (omega (arith, quotient-lt 257 p e (omega arith) (omega arith)));
+            mul-le-mul {n₂ = 512} {m₂ = 256} (omega (arith, quotient-lt 512 q y (a .q-least) (omega arith)))
+            (omega (arith, quotient-lt 257 p e (omega arith) (omega arith)));
         column = omega (arith, quotient-lt 257 p x (omega arith) (omega arith));
         row-part = mul-le-mul {n₂ = 4} {m₂ = 8} (omega (arith, mod-lt y (a .q-least))) (a .p-most);
         element =
-          omega (arith, digits-lt {c = p} (mod-lt y (a .q-least)) (mod-lt x (tile .p-pos)), mul-le-mul (a .q-most) (a .p-most));
-        bytes = omega (arith, in-cell (y % q) (x % p) (mod-lt y (a .q-least)) (mod-lt x (tile .p-pos)))
+            omega (arith, digits-lt {c = p} (mod-lt y (a .q-least)) (mod-lt x (tile .p-pos)), mul-le-mul (a .q-most) (a .p-most));
+        bytes = omega (arith, in-cell (y % q) (x % p) (mod-lt y (a .q-least)) (mod-lt x (tile .p-pos)));
       }
     where
       in-cell : (r k : ℕ) → r < q → k < p → (r * p + k) * s + 0 < 32
@@ -79,7 +87,7 @@ module _ (p q s e : ℕ) (a : CellAsked p q s e) where
         record {
           columns = rw (tile .width) at tiles;
           column = omega (arith, mod-le (o / 2048) (e / (p * 8)));
-          row = omega (arith, div-le-self (o / 2048) (e / (p * 8)))
+          row = omega (arith, div-le-self (o / 2048) (e / (p * 8)));
         }
 
     module _ (X Y : ℕ) (eX : X ≡ cellX column row (o / 32 % 64)) (eY : Y ≡ cellY column row (o / 32 % 64)) where
@@ -89,7 +97,7 @@ module _ (p q s e : ℕ) (a : CellAsked p q s e) where
             x = mul-le-mul {n₂ = 16777216} {m₂ = 8} (eighth X column (ap (λ (n : ℕ). n / 8) eX ∙ cell-column column row (o / 32 % 64)) (tile-sums .column)) (a .p-most);
             y = mul-le-mul {n₂ = 16777216} {m₂ = 4} (eighth Y row (ap (λ (n : ℕ). n / 8) eY ∙ cell-row column row (o / 32 % 64)) (tile-sums .row)) (a .q-most);
             x-rest = omega (arith, mod-lt (o % 32 / s) (tile .p-pos));
-            y-rest = omega (arith, div-le-self (o % 32 / s) p, div-le-self (o % 32) s)
+            y-rest = omega (arith, div-le-self (o % 32 / s) p, div-le-self (o % 32) s);
           }
         where
           eighth : (n m : ℕ) → n / 8 ≡ m → m < 2097152 → n ≤ 16777216
@@ -120,7 +128,7 @@ cell-asked s e z h =
       q-least = cells s z .q-pos;
       q-most = cells s z .q-most;
       s-least = cells s z .s-pos;
-      s-most = cells s z .s-most
+      s-most = cells s z .s-most;
     }
 
 pub pair-arm :

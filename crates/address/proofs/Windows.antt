@@ -11,8 +11,20 @@ use Rattle.layout.specs.Layout.{tileRows, spanOf}
 use Rattle.layout.proofs.Sizes.{Tile}
 use Rattle.layout.proofs.Window.{width-pos}
 use Rattle.address.specs.Offset.{
-    cellWidth, cellHeight, codeOf, insideOf, tiledOffset, linearOffset, offsetOf, tiledX, tiledY, linearX, linearY, xOf, yOf,
-    bytePlace
+  cellWidth,
+  cellHeight,
+  codeOf,
+  insideOf,
+  tiledOffset,
+  linearOffset,
+  offsetOf,
+  tiledX,
+  tiledY,
+  linearX,
+  linearY,
+  xOf,
+  yOf,
+  bytePlace,
 }
 use Rattle.address.proofs.Cells.{code-lt}
 use Rattle.address.proofs.Offsets as offsets
@@ -51,11 +63,12 @@ module _ (s : ℕ) (size : isSize s ≡ true) where
   inside-most : (x y : ℕ) → insideOf s x y + s ≤ 2048
   unfolding insideOf
   inside-most x y =
-      omega
-      (arith,
-      code-lt (x / cellWidth s) (y / cellHeight s),
-      t .s-pos,
-      offsets.rest-lt s t (y % cellHeight s) (x % cellWidth s) (s - 1) (mod-lt y (t .q-pos)) (mod-lt x (t .p-pos)) (omega (arith, t .s-pos)))
+      omega (
+        arith,
+        code-lt (x / cellWidth s) (y / cellHeight s),
+        t .s-pos,
+        offsets.rest-lt s t (y % cellHeight s) (x % cellWidth s) (s - 1) (mod-lt y (t .q-pos)) (mod-lt x (t .p-pos)) (omega (arith, t .s-pos)),
+      )
 
   tiled-within :
       (e h x y : ℕ) → e / widthOf s * widthOf s ≡ e → x < e → y < h →

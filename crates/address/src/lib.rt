@@ -2,7 +2,10 @@
 // and the byte's place in the element. `translate` answers the address or 3, 6, 10; `locate` the pair or 3, 6, 12.
 mod cell;
 mod offset;
-use layout::{ByteAddress, Judged, Layout};
+
+use layout::ByteAddress;
+use layout::Judged;
+use layout::Layout;
 use refusal::Refusal;
 ghost use mathlib.Core.Path.{_≡_};
 ghost use Rattle.address.specs.Address.{translateOf, locateOf, toldTranslated, toldLocated};

@@ -19,6 +19,6 @@ demand3 = inverse
 -- The worked cases of document 01, all together.
 pub worked : Agree cases
 unfolding
-  _and_ pick placeOf isSize widthOf heightOf wellFormed unitOf rowStep tileRows spanOf inBounds windowRule judgeOf xor cellWidth
-  cellHeight codeOf insideOf tiledOffset linearOffset offsetOf ifAccepted inside addressOf translateOf
+    _and_ pick placeOf isSize widthOf heightOf wellFormed unitOf rowStep tileRows spanOf inBounds windowRule judgeOf xor cellWidth
+    cellHeight codeOf insideOf tiledOffset linearOffset offsetOf ifAccepted inside addressOf translateOf
 worked = (refl, (refl, (refl, (refl, (refl, (refl, (refl, (refl, (refl, (refl, (refl, tt)))))))))))

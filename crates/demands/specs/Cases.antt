@@ -20,7 +20,6 @@ abbrev tiled : ℕ → ℕ → ℕ → ℕ → Layout
 tiled = layout true
 
 infix 20 _is_
-
 -- an answer, by the definitions, and what document 01 says it is
 pub data Case : Type 0 where
   _is_ : Told → Told → Case

@@ -1,0 +1,10 @@
+// Runs document 01's worked values and the tests around them, and prints how many agreed and how many differed. Its stdout
+// file holds what it must print; every line ends in '0 differed'.
+mod addresses;
+mod refusals;
+mod tally;
+
+fn main() {
+    addresses::run();
+    refusals::run();
+}
