@@ -1,0 +1,3 @@
+pub mod Format
+pub mod Kinds
+pub mod Table
