@@ -60,6 +60,17 @@ pub one-parameter : (l : ℕ) → l < 21 → NoneOf Unit (0 ∷ 3 ∷ 4 ∷ 5 �
 unfolding oneParameter countOf everyBelow namedOr placeOf pick _and_
 one-parameter l h r = eqb-true (countOf l) 1 (otherwise oneParameter (0 ∷ 3 ∷ 4 ∷ 5 ∷ 6 ∷ 7 ∷ 8 ∷ 9 ∷ []) 21 refl l h r)
 
+-- a line of the table that is none of the lines before the last is the last
+isLast : ℕ → Bool
+isLast l = eqb l 20
+
+abbrev pub beforeLast : List ℕ
+beforeLast = 0 ∷ 1 ∷ 2 ∷ 3 ∷ 4 ∷ 5 ∷ 6 ∷ 7 ∷ 8 ∷ 9 ∷ 10 ∷ 11 ∷ 12 ∷ 13 ∷ 14 ∷ 15 ∷ 16 ∷ 17 ∷ 18 ∷ 19 ∷ []
+
+pub last-line : (l : ℕ) → l < 21 → NoneOf Unit beforeLast l → l ≡ 20
+unfolding isLast everyBelow namedOr placeOf pick _and_
+last-line l h r = eqb-true l 20 (otherwise isLast beforeLast 21 refl l h r)
+
 module _ (w : ℕ) where
   -- a header that stands in the table is found, at its line
   pub found : (l : ℕ) → l < 21 → headerOf l ≡ w → lineWith w ≡ gives (l ∷ [])

@@ -1,3 +1,4 @@
 pub mod Headers
 pub mod Windows
 pub mod Words
+pub mod WriteBack

@@ -1,3 +1,4 @@
+pub mod Commands
 pub mod Format
 pub mod Kinds
 pub mod Table
