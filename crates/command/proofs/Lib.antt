@@ -1,4 +1,7 @@
 pub mod Headers
+pub mod Judging
+pub mod Room
+pub mod Rule
 pub mod Windows
 pub mod Words
 pub mod WriteBack

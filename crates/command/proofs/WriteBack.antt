@@ -13,7 +13,7 @@ use Rattle.laws.specs.Choice.{placeOf}
 use Rattle.laws.proofs.Table.{EachBelow, _&_, each}
 use Rattle.command.specs.Table.{headers, headerOf, countOf}
 use Rattle.command.specs.Kinds.{allowed, kindOf}
-use Rattle.command.specs.Commands.{noEffectLine, storedLine, lineOf, fieldsOf, wordsOf, commandOf, EachAllowed}
+use Rattle.command.specs.Commands.{noEffectLine, storedLine, lineOf, fieldsOf, wordsOf, placesOf, commandOf, EachAllowed}
 use Rattle.command.proofs.Headers.{place-of-line}
 use Rattle.command.specs.declared.kinds.Kind.the-variants.{Reserved}
 use Rattle.command.specs.declared.commands.NoEffect.{NoEffect}
@@ -128,34 +128,36 @@ module _ (p0 p1 p2 p3 : ℕ) where
       kept 19 refl refl &
       kept 20 refl refl)
 
--- every command has a line of the table, and as many parameters as that line says
+-- every command has a line of the table, and as many parameters as that line says: the first of the four places
 pub record Lined (c : Command) : Type 0 where
   pub line-most : lineOf c < 21
   pub fields-count : length (fieldsOf c) ≡ countOf (lineOf c)
+  pub fields-taken :
+      take (countOf (lineOf c)) (placesOf c .p0 ∷ placesOf c .p1 ∷ placesOf c .p2 ∷ placesOf c .p3 ∷ []) ≡ fieldsOf c
 
 pub lined : (c : Command) → Lined c
-unfolding lineOf fieldsOf noEffectLine storedLine countOf
-lined (Domain i0 j0 i1 j1) = record { line-most = lit< tt; fields-count = refl }
-lined Start = record { line-most = lit< tt; fields-count = refl }
-lined (Quiet Wait) = record { line-most = lit< tt; fields-count = refl }
-lined (Quiet InvalidateInstructions) = record { line-most = lit< tt; fields-count = refl }
-lined (Quiet InvalidateFloats) = record { line-most = lit< tt; fields-count = refl }
-lined (Quiet InvalidateIntegers) = record { line-most = lit< tt; fields-count = refl }
-lined (Quiet InvalidateBooleans) = record { line-most = lit< tt; fields-count = refl }
-lined (Quiet InvalidateConditional) = record { line-most = lit< tt; fields-count = refl }
-lined (Quiet InvalidateInputs) = record { line-most = lit< tt; fields-count = refl }
-lined (Quiet FlushOutputs) = record { line-most = lit< tt; fields-count = refl }
-lined (Quiet FlushConditional) = record { line-most = lit< tt; fields-count = refl }
-lined (Store Instructions base format) = record { line-most = lit< tt; fields-count = refl }
-lined (Store Floats base format) = record { line-most = lit< tt; fields-count = refl }
-lined (Store Integers base format) = record { line-most = lit< tt; fields-count = refl }
-lined (Store Booleans base format) = record { line-most = lit< tt; fields-count = refl }
-lined (Input number base format height) = record { line-most = lit< tt; fields-count = refl }
-lined (Output number base format height) = record { line-most = lit< tt; fields-count = refl }
-lined (Conditional base format height) = record { line-most = lit< tt; fields-count = refl }
-lined (OutputMask mask) = record { line-most = lit< tt; fields-count = refl }
-lined (ConditionalMask mask) = record { line-most = lit< tt; fields-count = refl }
-lined (Test test) = record { line-most = lit< tt; fields-count = refl }
+unfolding lineOf fieldsOf placesOf noEffectLine storedLine countOf
+lined (Domain i0 j0 i1 j1) = record { line-most = lit< tt; fields-count = refl; fields-taken = refl }
+lined Start = record { line-most = lit< tt; fields-count = refl; fields-taken = refl }
+lined (Quiet Wait) = record { line-most = lit< tt; fields-count = refl; fields-taken = refl }
+lined (Quiet InvalidateInstructions) = record { line-most = lit< tt; fields-count = refl; fields-taken = refl }
+lined (Quiet InvalidateFloats) = record { line-most = lit< tt; fields-count = refl; fields-taken = refl }
+lined (Quiet InvalidateIntegers) = record { line-most = lit< tt; fields-count = refl; fields-taken = refl }
+lined (Quiet InvalidateBooleans) = record { line-most = lit< tt; fields-count = refl; fields-taken = refl }
+lined (Quiet InvalidateConditional) = record { line-most = lit< tt; fields-count = refl; fields-taken = refl }
+lined (Quiet InvalidateInputs) = record { line-most = lit< tt; fields-count = refl; fields-taken = refl }
+lined (Quiet FlushOutputs) = record { line-most = lit< tt; fields-count = refl; fields-taken = refl }
+lined (Quiet FlushConditional) = record { line-most = lit< tt; fields-count = refl; fields-taken = refl }
+lined (Store Instructions base format) = record { line-most = lit< tt; fields-count = refl; fields-taken = refl }
+lined (Store Floats base format) = record { line-most = lit< tt; fields-count = refl; fields-taken = refl }
+lined (Store Integers base format) = record { line-most = lit< tt; fields-count = refl; fields-taken = refl }
+lined (Store Booleans base format) = record { line-most = lit< tt; fields-count = refl; fields-taken = refl }
+lined (Input number base format height) = record { line-most = lit< tt; fields-count = refl; fields-taken = refl }
+lined (Output number base format height) = record { line-most = lit< tt; fields-count = refl; fields-taken = refl }
+lined (Conditional base format height) = record { line-most = lit< tt; fields-count = refl; fields-taken = refl }
+lined (OutputMask mask) = record { line-most = lit< tt; fields-count = refl; fields-taken = refl }
+lined (ConditionalMask mask) = record { line-most = lit< tt; fields-count = refl; fields-taken = refl }
+lined (Test test) = record { line-most = lit< tt; fields-count = refl; fields-taken = refl }
 
 -- two commands with the same words are the same command
 pub words-apart : (c d : Command) → wordsOf c ≡ wordsOf d → c ≡ d

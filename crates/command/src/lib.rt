@@ -4,4 +4,6 @@
 pub mod commands;
 pub mod format;
 pub mod kinds;
+pub mod rules;
 pub mod table;
+pub mod writer;
