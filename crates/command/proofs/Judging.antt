@@ -131,11 +131,12 @@ later-three : (l : ℕ) → l < 21 → laterThree l ≡ true
 unfolding laterThree faultOf kindOf everyBelow _and_
 later-three = every laterThree 21 refl
 
-data Fault (n : ℕ) : Type 0 where
+-- a word's fault is 3 or 4
+pub data Fault (n : ℕ) : Type 0 where
   three : n ≡ 3 → Fault n
   four : n ≡ 4 → Fault n
 
-fault : (k : Kind) → Fault (faultOf k)
+pub fault : (k : Kind) → Fault (faultOf k)
 unfolding faultOf
 fault Reserved = three refl
 fault InputNumber = four refl

@@ -1,5 +1,6 @@
 pub mod Headers
 pub mod Judging
+pub mod Readable
 pub mod Room
 pub mod Rule
 pub mod Windows
