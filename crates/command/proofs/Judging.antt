@@ -94,10 +94,10 @@ module _ (l p0 p1 p2 p3 : ℕ) (second : Told) (asked1 : second ≡ checkOf (kin
 pub record Spread (c : Command) : Type 0 where
   pub three :
       fieldsSpare 3 c ≡
-      (spares 3 (kindOf (lineOf c) 0) (placesOf c .p0) and spares 3 (kindOf (lineOf c) 1) (placesOf c .p1) and spares 3 (kindOf (lineOf c) 2) (placesOf c .p2) and spares 3 (kindOf (lineOf c) 3) (placesOf c .p3) and true)
+      (spares 3 (kindOf (lineOf c) 0) (placesOf c .0) and spares 3 (kindOf (lineOf c) 1) (placesOf c .1) and spares 3 (kindOf (lineOf c) 2) (placesOf c .2) and spares 3 (kindOf (lineOf c) 3) (placesOf c .3) and true)
   pub four :
       fieldsSpare 4 c ≡
-      (spares 4 (kindOf (lineOf c) 0) (placesOf c .p0) and spares 4 (kindOf (lineOf c) 1) (placesOf c .p1) and spares 4 (kindOf (lineOf c) 2) (placesOf c .p2) and spares 4 (kindOf (lineOf c) 3) (placesOf c .p3) and true)
+      (spares 4 (kindOf (lineOf c) 0) (placesOf c .0) and spares 4 (kindOf (lineOf c) 1) (placesOf c .1) and spares 4 (kindOf (lineOf c) 2) (placesOf c .2) and spares 4 (kindOf (lineOf c) 3) (placesOf c .3) and true)
 
 spread : (c : Command) → Spread c
 unfolding fieldsSpare allSpare spares kindOf lineOf placesOf fieldsOf noEffectLine storedLine faultOf allowed pick _and_
@@ -196,13 +196,13 @@ module _ (k0 k1 k2 k3 : Kind) (p0 p1 p2 p3 : ℕ) (last : Told) where
 -- the places' answer, then the rules', is document 01's
 pub places-judged :
     (c : Command) →
-    thenTold (placesJudgedOf (lineOf c) (placesOf c .p0) (placesOf c .p1) (placesOf c .p2) (placesOf c .p3)) (lastRuleOf c) ≡ judgeCommandOf c
+    thenTold (placesJudgedOf (lineOf c) (placesOf c .0) (placesOf c .1) (placesOf c .2) (placesOf c .3)) (lastRuleOf c) ≡ judgeCommandOf c
 unfolding placesJudgedOf judgeCommandOf laterThree
 places-judged c =
     let l = lineOf c in
     let t = later-three l (lined c .line-most) in
     rw (spread c .three, spread c .four)
-    (ordered (kindOf l 0) (kindOf l 1) (kindOf l 2) (kindOf l 3) (placesOf c .p0) (placesOf c .p1) (placesOf c .p2) (placesOf c .p3) (lastRuleOf c) (fault (kindOf l 0)) (eqb-true _ _ (and-left _ _ t)) (eqb-true _ _ (and-left _ _ (and-right _ _ t)))
+    (ordered (kindOf l 0) (kindOf l 1) (kindOf l 2) (kindOf l 3) (placesOf c .0) (placesOf c .1) (placesOf c .2) (placesOf c .3) (lastRuleOf c) (fault (kindOf l 0)) (eqb-true _ _ (and-left _ _ t)) (eqb-true _ _ (and-left _ _ (and-right _ _ t)))
     (eqb-true _ _ (and-right _ _ (and-right _ _ t))))
 
 -- the same from the line and the places as the code has them
@@ -213,12 +213,12 @@ module _
     (t : Told)
     (line : l ≡ lineOf c)
     (places : f ≡ placesOf c)
-    (asked : t ≡ placesJudgedOf l (f .p0) (f .p1) (f .p2) (f .p3))
+    (asked : t ≡ placesJudgedOf l (f .0) (f .1) (f .2) (f .3))
   where
     judged : thenTold t (lastRuleOf c) ≡ judgeCommandOf c
     judged =
         ap (λ (x : Told). thenTold x (lastRuleOf c))
-        (asked ∙ ap₂ (λ (n : ℕ) (g : Places). placesJudgedOf n (g .p0) (g .p1) (g .p2) (g .p3)) line places) ∙
+        (asked ∙ ap₂ (λ (n : ℕ) (g : Places). placesJudgedOf n (g .0) (g .1) (g .2) (g .3)) line places) ∙
         places-judged c
 
     pub command-refused : (n : ℕ) → t ≡ refuses n → t ≡ judgeCommandOf c

@@ -56,20 +56,20 @@ module _ (c : Command) (before : List ℕ) where
 
     pub write-done :
         (after : List ℕ) (h : ℕ) (f : Places) → n + 1 ≤ length before → h ≡ headerOf l → f ≡ placesOf c →
-        after ≡ (h ∷ take n (f .p0 ∷ f .p1 ∷ f .p2 ∷ f .p3 ∷ [])) ++ drop (n + 1) before →
+        after ≡ (h ∷ take n (f .0 ∷ f .1 ∷ f .2 ∷ f .3 ∷ [])) ++ drop (n + 1) before →
         Wrote c (gives ((n + 1) ∷ [])) before after
     unfolding writeOf roomAfter wordsOf
     write-done after h f fits header places stored =
         let w : length (wordsOf c) ≡ n + 1 = words in
-        let same : h ∷ take n (f .p0 ∷ f .p1 ∷ f .p2 ∷ f .p3 ∷ []) ≡ wordsOf c = written h f header places in
+        let same : h ∷ take n (f .0 ∷ f .1 ∷ f .2 ∷ f .3 ∷ []) ≡ wordsOf c = written h f header places in
         told (gives ((n + 1) ∷ [])) after
         (then-given _ judged ∙ pick-yes _ _ (le-leb (length (wordsOf c)) (length before) (omega arith)) ∙ ap (λ (m : ℕ). gives (m ∷ [])) w)
         (stored ∙ ap₂ (λ (ws : List ℕ) (m : ℕ). ws ++ drop m before) same (sym w))
       where
-        written : (h : ℕ) (f : Places) → h ≡ headerOf l → f ≡ placesOf c → h ∷ take n (f .p0 ∷ f .p1 ∷ f .p2 ∷ f .p3 ∷ []) ≡ wordsOf c
+        written : (h : ℕ) (f : Places) → h ≡ headerOf l → f ≡ placesOf c → h ∷ take n (f .0 ∷ f .1 ∷ f .2 ∷ f .3 ∷ []) ≡ wordsOf c
         written h f header places =
             ap₂ (λ (x : ℕ) (xs : List ℕ). x ∷ xs) (header ∙ ap headerOf line)
-            (ap₂ (λ (m : ℕ) (g : Places). take m (g .p0 ∷ g .p1 ∷ g .p2 ∷ g .p3 ∷ [])) (count ∙ ap countOf line) places ∙ lined c .fields-taken)
+            (ap₂ (λ (m : ℕ) (g : Places). take m (g .0 ∷ g .1 ∷ g .2 ∷ g .3 ∷ [])) (count ∙ ap countOf line) places ∙ lined c .fields-taken)
 
 -- what the stores ask for: a line's number of parameters, and room for them
 pub room-fits :

@@ -133,7 +133,7 @@ pub record Lined (c : Command) : Type 0 where
   pub line-most : lineOf c < 21
   pub fields-count : length (fieldsOf c) ≡ countOf (lineOf c)
   pub fields-taken :
-      take (countOf (lineOf c)) (placesOf c .p0 ∷ placesOf c .p1 ∷ placesOf c .p2 ∷ placesOf c .p3 ∷ []) ≡ fieldsOf c
+      take (countOf (lineOf c)) (placesOf c .0 ∷ placesOf c .1 ∷ placesOf c .2 ∷ placesOf c .3 ∷ []) ≡ fieldsOf c
 
 pub lined : (c : Command) → Lined c
 unfolding lineOf fieldsOf placesOf noEffectLine storedLine countOf

@@ -89,10 +89,10 @@ wordsOf command = headerOf (lineOf command) ∷ fieldsOf command
 unfoldable pub placesOf : Command → Places
 placesOf command =
     record {
-      p0 = getD (fieldsOf command) 0 0;
-      p1 = getD (fieldsOf command) 1 0;
-      p2 = getD (fieldsOf command) 2 0;
-      p3 = getD (fieldsOf command) 3 0;
+      0 = getD (fieldsOf command) 0 0;
+      1 = getD (fieldsOf command) 1 0;
+      2 = getD (fieldsOf command) 2 0;
+      3 = getD (fieldsOf command) 3 0;
     }
 
 -- the command of each line, in the order of the table, with the line's parameters

@@ -24,42 +24,21 @@ pub enum Stored {
     Booleans,
 }
 
+// Fields stand in document 01's order.
 pub enum Command {
-    // set_domain: pairs from (i0, j0) to (i1, j1), both ends included.
-    Domain {
-        i0: u32,
-        j0: u32,
-        i1: u32,
-        j1: u32,
-    },
+    // set_domain: i0, j0, i1, j1; pairs from (i0, j0) to (i1, j1), both ends included.
+    Domain(u32, u32, u32, u32),
     // start_program.
     Start,
     // wait_for_idle, the invalidations and the flushes.
     Quiet(NoEffect),
-    // set_inst_fmt, set_constf_fmt, set_consti_fmt, set_constb_fmt.
-    Store {
-        what: Stored,
-        base: u32,
-        format: u32,
-    },
-    // set_inp_fmt, set_out_fmt, set_cond_out_fmt.
-    Input {
-        number: u32,
-        base: u32,
-        format: u32,
-        height: u32,
-    },
-    Output {
-        number: u32,
-        base: u32,
-        format: u32,
-        height: u32,
-    },
-    Conditional {
-        base: u32,
-        format: u32,
-        height: u32,
-    },
+    // set_inst_fmt, set_constf_fmt, set_consti_fmt, set_constb_fmt: base, format.
+    Store(Stored, u32, u32),
+    // set_inp_fmt, set_out_fmt: number, base, format, height.
+    Input(u32, u32, u32, u32),
+    Output(u32, u32, u32, u32),
+    // set_cond_out_fmt: base, format, height.
+    Conditional(u32, u32, u32),
     // set_out_mask, set_cond_out_mask, set_cond_test.
     OutputMask(u32),
     ConditionalMask(u32),
@@ -67,12 +46,7 @@ pub enum Command {
 }
 
 // A command's parameters in four places; 0 where it has none.
-pub struct Places {
-    pub p0: u32,
-    pub p1: u32,
-    pub p2: u32,
-    pub p3: u32,
-}
+pub struct Places(pub u32, pub u32, pub u32, pub u32);
 
 // The command of a line, with the line's parameters in the first places.
 pub fn build(line: u32, p0: u32, p1: u32, p2: u32, p3: u32) -> Command
@@ -80,51 +54,16 @@ pub fn build(line: u32, p0: u32, p1: u32, p2: u32, p3: u32) -> Command
     ensures { λ r. ⌜ r ≡ commandOf line p0 p1 p2 p3 ⌝ }
 {
     match line {
-        0 => Command::Domain {
-            i0: p0,
-            j0: p1,
-            i1: p2,
-            j1: p3,
-        },
+        0 => Command::Domain(p0, p1, p2, p3),
         1 => Command::Start,
         2 => Command::Quiet(NoEffect::Wait),
-        3 => Command::Store {
-            what: Stored::Instructions,
-            base: p0,
-            format: p1,
-        },
-        4 => Command::Input {
-            number: p0,
-            base: p1,
-            format: p2,
-            height: p3,
-        },
-        5 => Command::Output {
-            number: p0,
-            base: p1,
-            format: p2,
-            height: p3,
-        },
-        6 => Command::Conditional {
-            base: p0,
-            format: p1,
-            height: p2,
-        },
-        7 => Command::Store {
-            what: Stored::Floats,
-            base: p0,
-            format: p1,
-        },
-        8 => Command::Store {
-            what: Stored::Integers,
-            base: p0,
-            format: p1,
-        },
-        9 => Command::Store {
-            what: Stored::Booleans,
-            base: p0,
-            format: p1,
-        },
+        3 => Command::Store(Stored::Instructions, p0, p1),
+        4 => Command::Input(p0, p1, p2, p3),
+        5 => Command::Output(p0, p1, p2, p3),
+        6 => Command::Conditional(p0, p1, p2),
+        7 => Command::Store(Stored::Floats, p0, p1),
+        8 => Command::Store(Stored::Integers, p0, p1),
+        9 => Command::Store(Stored::Booleans, p0, p1),
         10 => Command::Quiet(NoEffect::InvalidateInstructions),
         11 => Command::Quiet(NoEffect::InvalidateFloats),
         12 => Command::Quiet(NoEffect::InvalidateIntegers),
@@ -139,6 +78,7 @@ pub fn build(line: u32, p0: u32, p1: u32, p2: u32, p3: u32) -> Command
     }
 }
 
+// The line of each command without effect, and of each store.
 pub fn no_effect_line(what: NoEffect) -> u32
     ensures { λ r. ⌜ r ≡ noEffectLine what ⌝ }
 {
@@ -171,13 +111,13 @@ pub fn line(command: Command) -> u32
     ensures { λ r. ⌜ r ≡ lineOf command ⌝ }
 {
     match command {
-        Command::Domain { .. } => 0,
+        Command::Domain(..) => 0,
         Command::Start => 1,
         Command::Quiet(what) => no_effect_line(what),
-        Command::Store { what, .. } => stored_line(what),
-        Command::Input { .. } => 4,
-        Command::Output { .. } => 5,
-        Command::Conditional { .. } => 6,
+        Command::Store(what, ..) => stored_line(what),
+        Command::Input(..) => 4,
+        Command::Output(..) => 5,
+        Command::Conditional(..) => 6,
         Command::OutputMask(_) => 18,
         Command::ConditionalMask(_) => 19,
         Command::Test(_) => 20,
@@ -189,83 +129,15 @@ pub fn fields(command: Command) -> Places
     ensures { λ r. ⌜ r ≡ placesOf command ⌝ }
 {
     match command {
-        Command::Domain { i0, j0, i1, j1 } => Places {
-            p0: i0,
-            p1: j0,
-            p2: i1,
-            p3: j1,
-        },
-        Command::Start => Places {
-            p0: 0,
-            p1: 0,
-            p2: 0,
-            p3: 0,
-        },
-        Command::Quiet(_) => Places {
-            p0: 0,
-            p1: 0,
-            p2: 0,
-            p3: 0,
-        },
-        Command::Store {
-            what: _,
-            base,
-            format,
-        } => Places {
-            p0: base,
-            p1: format,
-            p2: 0,
-            p3: 0,
-        },
-        Command::Input {
-            number,
-            base,
-            format,
-            height,
-        } => Places {
-            p0: number,
-            p1: base,
-            p2: format,
-            p3: height,
-        },
-        Command::Output {
-            number,
-            base,
-            format,
-            height,
-        } => Places {
-            p0: number,
-            p1: base,
-            p2: format,
-            p3: height,
-        },
-        Command::Conditional {
-            base,
-            format,
-            height,
-        } => Places {
-            p0: base,
-            p1: format,
-            p2: height,
-            p3: 0,
-        },
-        Command::OutputMask(mask) => Places {
-            p0: mask,
-            p1: 0,
-            p2: 0,
-            p3: 0,
-        },
-        Command::ConditionalMask(mask) => Places {
-            p0: mask,
-            p1: 0,
-            p2: 0,
-            p3: 0,
-        },
-        Command::Test(test) => Places {
-            p0: test,
-            p1: 0,
-            p2: 0,
-            p3: 0,
-        },
+        Command::Domain(i0, j0, i1, j1) => Places(i0, j0, i1, j1),
+        Command::Start => Places(0, 0, 0, 0),
+        Command::Quiet(_) => Places(0, 0, 0, 0),
+        Command::Store(_, base, format) => Places(base, format, 0, 0),
+        Command::Input(number, base, format, height) => Places(number, base, format, height),
+        Command::Output(number, base, format, height) => Places(number, base, format, height),
+        Command::Conditional(base, format, height) => Places(base, format, height, 0),
+        Command::OutputMask(mask) => Places(mask, 0, 0, 0),
+        Command::ConditionalMask(mask) => Places(mask, 0, 0, 0),
+        Command::Test(test) => Places(test, 0, 0, 0),
     }
 }

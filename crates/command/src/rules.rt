@@ -13,7 +13,7 @@ ghost use Rattle.command.specs.Rules.{isGiven, domainKept, windowKept, l
 fn domain_kept(command: Command) -> bool
     ensures { λ r. ⌜ r ≡ domainKept command ⌝ }
 {
-    if let Command::Domain { i0, j0, i1, j1 } = command {
+    if let Command::Domain(i0, j0, i1, j1) = command {
         if i0 <= i1 { j0 <= j1 } else { false }
     } else {
         true
@@ -35,31 +35,13 @@ fn window_kept(command: Command) -> bool
     ensures { λ r. ⌜ r ≡ windowKept command ⌝ }
 {
     match command {
-        Command::Domain { .. } => true,
+        Command::Domain(..) => true,
         Command::Start => true,
         Command::Quiet(_) => true,
-        Command::Store {
-            what: _,
-            base,
-            format,
-        } => is_window(base, format, 1),
-        Command::Input {
-            number: _,
-            base,
-            format,
-            height,
-        } => is_window(base, format, height),
-        Command::Output {
-            number: _,
-            base,
-            format,
-            height,
-        } => is_window(base, format, height),
-        Command::Conditional {
-            base,
-            format,
-            height,
-        } => is_window(base, format, height),
+        Command::Store(_, base, format) => is_window(base, format, 1),
+        Command::Input(_, base, format, height) => is_window(base, format, height),
+        Command::Output(_, base, format, height) => is_window(base, format, height),
+        Command::Conditional(base, format, height) => is_window(base, format, height),
         Command::OutputMask(_) => true,
         Command::ConditionalMask(_) => true,
         Command::Test(_) => true,

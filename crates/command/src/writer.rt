@@ -48,7 +48,7 @@ pub fn check_command(command: Command) -> Checked
     ensures { λ r. ⌜ toldChecked r ≡ judgeCommandOf command ⌝ }
 {
     let places = fields(command);
-    let checked = check_places(line(command), places.p0, places.p1, places.p2, places.p3);
+    let checked = check_places(line(command), places.0, places.1, places.2, places.3);
     let Checked::Fine = checked else {
         return checked;
     };
@@ -95,10 +95,10 @@ pub fn write(command: Command, room: &mut [u32]) -> Written
         room,
         count,
         header(line),
-        places.p0,
-        places.p1,
-        places.p2,
-        places.p3,
+        places.0,
+        places.1,
+        places.2,
+        places.3,
     );
     Written::Words(words)
 }
