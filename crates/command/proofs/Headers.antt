@@ -7,7 +7,7 @@ use Prim.Native.Nat.{ℕ, _+_, _-_, _*_, _/_, _%_, _^_, _<_, _≤_}
 use native.Mathlib.Omega.{arith}
 use lib.Dec.{eqb, leb, ltb}
 use lib.ListN.{length, getD, List·getD-eq-default}
-use borrow.Author.Tests.{eqb-true, leb-true, lt-ltb, le-ltb}
+use borrow.Author.Tests.{eqb-true, leb-true, ltb-true, lt-ltb, le-ltb}
 use Rattle.laws.specs.Choice.{_and_, pick, placeOf}
 use Rattle.laws.proofs.Choice.{Tested, holds, fails, tested, pick-yes, pick-no, place-found, and-left, and-right}
 use Rattle.laws.proofs.Table.{everyBelow, every, NoneOf, namedOr, otherwise}
@@ -106,3 +106,32 @@ module _ (w : ℕ) where
       (λ h.
       let e : placeOf w headers ≡ w / 256 % 256 - 7 = omega (arith, line-of-operation h) in
       n (sym (ap headerOf e) ∙ stands h))
+
+-- a header is accepted exactly when it stands in the table, at the line where it stands
+pub record Accepted (w l : ℕ) : Type 0 where
+  pub line : l < 21
+  pub header : headerOf l ≡ w
+
+pub accepted-stands : (w l : ℕ) → lineWith w ≡ gives (l ∷ []) → Accepted w l
+unfolding lineWith
+accepted-stands w l e = go (tested (ltb (placeOf w headers) 21))
+  where
+    go : Tested (ltb (placeOf w headers) 21) → Accepted w l
+    go (holds t) =
+        let g : gives (placeOf w headers ∷ []) ≡ gives (l ∷ []) = sym (pick-yes _ _ t) ∙ e in
+        let p : placeOf w headers ≡ l = cc in
+        let h : placeOf w headers < 21 = ltb-true _ _ t in
+        record { line = rw p at h; header = rw p at (stands w h) }
+    go (fails t) =
+        let g : refuses 2 ≡ gives (l ∷ []) = sym (pick-no _ _ t) ∙ e in
+        let z : _≡_ {A = ℕ} 0 1 = cc in
+        absurd (omega arith)
+
+pub stands-accepted : (w l : ℕ) → Accepted w l → lineWith w ≡ gives (l ∷ [])
+stands-accepted w l a = found w l (a .line) (a .header)
+
+pub refused-absent : (w : ℕ) → lineWith w ≡ refuses 2 → (l : ℕ) → Accepted w l → ⊥
+refused-absent w e l a =
+    let g : refuses 2 ≡ gives (l ∷ []) = sym e ∙ stands-accepted w l a in
+    let z : _≡_ {A = ℕ} 0 1 = cc in
+    omega arith
