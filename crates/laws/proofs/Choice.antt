@@ -18,6 +18,12 @@ module _ {ℓ} {A : Type ℓ} where
   unfolding pick
   pick-no {t} a b e = subst (λ (u : Bool). pick u a b ≡ b) (sym e) refl
 
+  -- what holds of both values, each where the test says so, holds of the choice
+  pub by-pick {ℓ′} : (P : A → Type ℓ′) (t : Bool) (a b : A) → (t ≡ true → P a) → (t ≡ false → P b) → P (pick t a b)
+  unfolding pick
+  by-pick P true a b y n = y refl
+  by-pick P false a b y n = n refl
+
 -- a test holds or doesn't
 pub data Tested (t : Bool) : Type 0 where
   holds : t ≡ true → Tested t

@@ -1,0 +1,5 @@
+pub mod Cells
+pub mod Feed
+pub mod Start
+pub mod State
+pub mod Step

@@ -1,0 +1,98 @@
+-- A session as document 01 speaks of it: a party's own part, and the settings that are shared. A flag is 1 or 0; what isn't set
+-- is all zeros. Assumes nothing.
+use mathlib.Core.List.{List, [], _∷_}
+use Prim.Native.Nat.{ℕ}
+
+-- a buffer as it was set: base, format word and height
+pub record Buffer : Type 0 where
+  pub isSet : ℕ
+  pub base : ℕ
+  pub format : ℕ
+  pub height : ℕ
+
+-- the open command: its line of the table (21: none is open), how many parameters were taken, and these; 0 for the others
+pub record Open : Type 0 where
+  pub line : ℕ
+  pub count : ℕ
+  pub p0 : ℕ
+  pub p1 : ℕ
+  pub p2 : ℕ
+  pub p3 : ℕ
+
+-- the domain, from (i0, j0) to (i1, j1)
+pub record Domain : Type 0 where
+  pub isSet : ℕ
+  pub i0 : ℕ
+  pub j0 : ℕ
+  pub i1 : ℕ
+  pub j1 : ℕ
+
+-- the tallies: starts that passed, and the elements that they claimed
+pub record Tally : Type 0 where
+  pub runs : ℕ
+  pub claims : ℕ
+
+-- a party's own part
+pub record Party : Type 0 where
+  pub stopped : ℕ
+  pub taken : ℕ
+  pub opened : Open
+  pub domain : Domain
+  pub instructions : Buffer
+  pub tally : Tally
+
+-- what is shared: masks, the test, the constants' formats, the conditional output, and outputs and inputs by number
+pub record Shared : Type 0 where
+  pub mask : ℕ
+  pub conditionalMaskSet : ℕ
+  pub conditionalMask : ℕ
+  pub testSet : ℕ
+  pub test : ℕ
+  pub floats : Buffer
+  pub integers : Buffer
+  pub booleans : Buffer
+  pub conditional : Buffer
+  pub outputs : List Buffer
+  pub inputs : List Buffer
+
+pub record Session : Type 0 where
+  pub party : Party
+  pub shared : Shared
+
+-- nothing set
+abbrev pub unset : Buffer
+unset = record { isSet = 0; base = 0; format = 0; height = 0 }
+
+abbrev pub none : Open
+none = record { line = 21; count = 0; p0 = 0; p1 = 0; p2 = 0; p3 = 0 }
+
+-- "A new session has nothing set and mask 65535."
+abbrev pub newParty : Party
+newParty =
+    record {
+      stopped = 0;
+      taken = 0;
+      opened = none;
+      domain = record { isSet = 0; i0 = 0; j0 = 0; i1 = 0; j1 = 0 };
+      instructions = unset;
+      tally = record { runs = 0; claims = 0 };
+    }
+
+abbrev pub newShared : Shared
+newShared =
+    record {
+      mask = 65535;
+      conditionalMaskSet = 0;
+      conditionalMask = 0;
+      testSet = 0;
+      test = 0;
+      floats = unset;
+      integers = unset;
+      booleans = unset;
+      conditional = unset;
+      outputs = unset ∷ unset ∷ unset ∷ unset ∷ [];
+      inputs = unset ∷ unset ∷ unset ∷ unset ∷ unset ∷ unset ∷ unset ∷ unset ∷ unset ∷ unset ∷ unset ∷ unset ∷ unset ∷ unset ∷ unset ∷ unset ∷ [];
+    }
+
+abbrev pub newSession : Session
+newSession = record { party = newParty; shared = newShared }

@@ -1,0 +1,222 @@
+-- Document 01: what a session answers to a word, and the session after it. "Order: 1, then 17, then the rest in table order
+-- among those that the present word can cause." Assumes nothing.
+use mathlib.Core.Bool.{Bool, true, false}
+use mathlib.Core.List.{List, [], _∷_}
+use Prim.Native.Nat.{ℕ, _+_}
+use lib.Dec.{eqb, leb, ltb}
+use lib.ListN.{length, set}
+use Rattle.laws.specs.Choice.{pick, placeOf}
+use Rattle.refusal.specs.Told.{Told, gives, refuses}
+use Rattle.command.specs.Table.{headers, countOf}
+use Rattle.command.specs.Kinds.{allowed, faultOf, kindOf}
+use Rattle.command.specs.Commands.{commandOf}
+use Rattle.command.specs.Rules.{lastRuleOf}
+use Rattle.command.specs.Writer.{thenTold}
+use Rattle.command.specs.declared.commands.Stored.{Stored}
+use Rattle.command.specs.declared.commands.Stored.the-variants as stored
+use Rattle.command.specs.declared.commands.Command.{Command}
+use Rattle.command.specs.declared.commands.Command.the-variants as command
+use Rattle.session.specs.State.{Buffer, Open, Domain, Tally, Party, Shared, Session, none}
+use Rattle.session.specs.Start.{readyOf, claimOf}
+
+-- "An accepted word answers "open", or the command that it completes"; a refused one its number
+pub data Reply : Type 0 where
+  stillOpen : Reply
+  completed : Command → Reply
+  refused : ℕ → Reply
+
+pub record Stepped : Type 0 where
+  pub reply : Reply
+  pub session : Session
+
+-- "17: the session has taken 1,000,000,000 words"
+abbrev pub limit : ℕ
+limit = 1000000000
+
+-- the party with another open command
+abbrev pub opening : Open → Party → Party
+opening o p =
+    record { stopped = p .stopped; taken = p .taken; opened = o; domain = p .domain; instructions = p .instructions; tally = p .tally }
+
+-- one more word taken
+abbrev pub took : Party → Party
+took p =
+    record {
+      stopped = p .stopped;
+      taken = p .taken + 1;
+      opened = p .opened;
+      domain = p .domain;
+      instructions = p .instructions;
+      tally = p .tally;
+    }
+
+-- "drop the open command and stop the session for good"
+abbrev pub stop : Party → Party
+stop p =
+    record { stopped = 1; taken = p .taken; opened = none; domain = p .domain; instructions = p .instructions; tally = p .tally }
+
+abbrev pub refusing : Session → ℕ → Stepped
+refusing s n = record { reply = refused n; session = record { party = stop (s .party); shared = s .shared } }
+
+-- the open command with its next parameter
+abbrev pub withParameter : Open → ℕ → Open
+withParameter o w =
+    record {
+      line = o .line;
+      count = o .count + 1;
+      p0 = pick (eqb (o .count) 0) w (o .p0);
+      p1 = pick (eqb (o .count) 1) w (o .p1);
+      p2 = pick (eqb (o .count) 2) w (o .p2);
+      p3 = pick (eqb (o .count) 3) w (o .p3);
+    }
+
+-- a buffer that is set
+abbrev pub buffer : ℕ → ℕ → ℕ → Buffer
+buffer base format height = record { isSet = 1; base = base; format = format; height = height }
+
+-- settings with one of them replaced
+abbrev pub withDomain : Domain → Party → Party
+withDomain d p =
+    record { stopped = p .stopped; taken = p .taken; opened = p .opened; domain = d; instructions = p .instructions; tally = p .tally }
+
+abbrev pub withInstructions : Buffer → Party → Party
+withInstructions b p =
+    record { stopped = p .stopped; taken = p .taken; opened = p .opened; domain = p .domain; instructions = b; tally = p .tally }
+
+abbrev pub withTally : Tally → Party → Party
+withTally t p =
+    record { stopped = p .stopped; taken = p .taken; opened = p .opened; domain = p .domain; instructions = p .instructions; tally = t }
+
+abbrev pub withShared :
+    ℕ → ℕ → ℕ → ℕ → ℕ → Buffer → Buffer → Buffer → Buffer → List Buffer → List Buffer → Shared
+withShared m cs cm ts t f i b c o n =
+    record {
+      mask = m;
+      conditionalMaskSet = cs;
+      conditionalMask = cm;
+      testSet = ts;
+      test = t;
+      floats = f;
+      integers = i;
+      booleans = b;
+      conditional = c;
+      outputs = o;
+      inputs = n;
+    }
+
+-- what a command without its session's open part does to the party's own settings; "A start that passes adds one to the runs,
+-- and to the claimed elements the number of pairs in the domain times the number of set outputs."
+unfoldable pub ownAfter : Command → Shared → Party → Party
+ownAfter (command.Domain i0 j0 i1 j1) h p = withDomain (record { isSet = 1; i0 = i0; j0 = j0; i1 = i1; j1 = j1 }) p
+ownAfter command.Start h p =
+    withTally (record { runs = p .tally .runs + 1; claims = p .tally .claims + claimOf (p .domain) (h .outputs) }) p
+ownAfter (command.Quiet what) h p = p
+ownAfter (command.Store stored.Instructions base format) h p = withInstructions (buffer base format 1) p
+ownAfter (command.Store stored.Floats base format) h p = p
+ownAfter (command.Store stored.Integers base format) h p = p
+ownAfter (command.Store stored.Booleans base format) h p = p
+ownAfter (command.Input number base format height) h p = p
+ownAfter (command.Output number base format height) h p = p
+ownAfter (command.Conditional base format height) h p = p
+ownAfter (command.OutputMask mask) h p = p
+ownAfter (command.ConditionalMask mask) h p = p
+ownAfter (command.Test test) h p = p
+
+-- and to the shared ones
+unfoldable pub sharedAfter : Command → Shared → Shared
+sharedAfter (command.Domain i0 j0 i1 j1) h = h
+sharedAfter command.Start h = h
+sharedAfter (command.Quiet what) h = h
+sharedAfter (command.Store stored.Instructions base format) h = h
+sharedAfter (command.Store stored.Floats base format) h =
+    withShared (h .mask) (h .conditionalMaskSet) (h .conditionalMask) (h .testSet) (h .test) (buffer base format 1) (h .integers)
+    (h .booleans) (h .conditional) (h .outputs) (h .inputs)
+sharedAfter (command.Store stored.Integers base format) h =
+    withShared (h .mask) (h .conditionalMaskSet) (h .conditionalMask) (h .testSet) (h .test) (h .floats) (buffer base format 1)
+    (h .booleans) (h .conditional) (h .outputs) (h .inputs)
+sharedAfter (command.Store stored.Booleans base format) h =
+    withShared (h .mask) (h .conditionalMaskSet) (h .conditionalMask) (h .testSet) (h .test) (h .floats) (h .integers)
+    (buffer base format 1) (h .conditional) (h .outputs) (h .inputs)
+sharedAfter (command.Input number base format height) h =
+    withShared (h .mask) (h .conditionalMaskSet) (h .conditionalMask) (h .testSet) (h .test) (h .floats) (h .integers)
+    (h .booleans) (h .conditional) (h .outputs) (set (h .inputs) number (buffer base format height))
+sharedAfter (command.Output number base format height) h =
+    withShared (h .mask) (h .conditionalMaskSet) (h .conditionalMask) (h .testSet) (h .test) (h .floats) (h .integers)
+    (h .booleans) (h .conditional) (set (h .outputs) number (buffer base format height)) (h .inputs)
+sharedAfter (command.Conditional base format height) h =
+    withShared (h .mask) (h .conditionalMaskSet) (h .conditionalMask) (h .testSet) (h .test) (h .floats) (h .integers)
+    (h .booleans) (buffer base format height) (h .outputs) (h .inputs)
+sharedAfter (command.OutputMask mask) h =
+    withShared mask (h .conditionalMaskSet) (h .conditionalMask) (h .testSet) (h .test) (h .floats) (h .integers) (h .booleans)
+    (h .conditional) (h .outputs) (h .inputs)
+sharedAfter (command.ConditionalMask mask) h =
+    withShared (h .mask) 1 mask (h .testSet) (h .test) (h .floats) (h .integers) (h .booleans) (h .conditional) (h .outputs)
+    (h .inputs)
+sharedAfter (command.Test test) h =
+    withShared (h .mask) (h .conditionalMaskSet) (h .conditionalMask) 1 test (h .floats) (h .integers) (h .booleans)
+    (h .conditional) (h .outputs) (h .inputs)
+
+-- a start asks 7, 8 and 9 of the settings; no other command does
+unfoldable pub startRuleOf : Command → Session → Told
+startRuleOf (command.Domain i0 j0 i1 j1) s = gives []
+startRuleOf command.Start s = readyOf (s .party .domain) (s .party .instructions) (s .shared .outputs)
+startRuleOf (command.Quiet what) s = gives []
+startRuleOf (command.Store what base format) s = gives []
+startRuleOf (command.Input number base format height) s = gives []
+startRuleOf (command.Output number base format height) s = gives []
+startRuleOf (command.Conditional base format height) s = gives []
+startRuleOf (command.OutputMask mask) s = gives []
+startRuleOf (command.ConditionalMask mask) s = gives []
+startRuleOf (command.Test test) s = gives []
+
+-- the session after a command that was accepted, its last word taken
+unfoldable pub after : Command → Session → Session
+after c s =
+    record {
+      party = ownAfter c (s .shared) (opening none (took (s .party)));
+      shared = sharedAfter c (s .shared);
+    }
+
+-- a command that is whole: accepted, or refused with 5 to 9
+unfoldable pub judged : Told → Command → Session → Stepped
+judged (gives values) c s = record { reply = completed c; session = after c s }
+judged (refuses n) c s = refusing s n
+
+unfoldable pub completing : Open → Session → Stepped
+completing o s =
+    let c = commandOf (o .line) (o .p0) (o .p1) (o .p2) (o .p3) in
+    judged (thenTold (lastRuleOf c) (startRuleOf c s)) c s
+
+-- a parameter that its kind allows: "5 to 9 with the last parameter"
+unfoldable pub placing : Open → Session → Stepped
+placing o s =
+    pick (ltb (o .count) (countOf (o .line)))
+    (record { reply = stillOpen; session = record { party = opening o (took (s .party)); shared = s .shared } })
+    (completing o s)
+
+-- a word where a command is open: "Refusals 3 and 4 come with the word at fault"
+unfoldable pub parameterStep : Session → ℕ → Stepped
+parameterStep s w =
+    let o = s .party .opened in
+    pick (allowed (kindOf (o .line) (o .count)) w) (placing (withParameter o w) s) (refusing s (faultOf (kindOf (o .line) (o .count))))
+
+-- a word where none is: "2: a header word stands in no line of the command table"
+unfoldable pub headerStep : Session → ℕ → Stepped
+headerStep s w =
+    pick (ltb (placeOf w headers) (length headers))
+    (record {
+      reply = stillOpen;
+      session =
+          record {
+            party = opening (record { line = placeOf w headers; count = 0; p0 = 0; p1 = 0; p2 = 0; p3 = 0 }) (took (s .party));
+            shared = s .shared;
+          };
+    })
+    (refusing s 2)
+
+-- a word
+unfoldable pub stepOf : Session → ℕ → Stepped
+stepOf s w =
+    pick (eqb (s .party .stopped) 1) (record { reply = refused 1; session = s })
+    (pick (leb limit (s .party .taken)) (refusing s 17)
+    (pick (eqb (s .party .opened .line) 21) (headerStep s w) (parameterStep s w)))
