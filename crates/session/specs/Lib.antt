@@ -3,3 +3,4 @@ pub mod Feed
 pub mod Start
 pub mod State
 pub mod Step
+pub mod Valid

@@ -1,0 +1,293 @@
+-- Validity holds of a new session and is kept by every word. Assumes nothing.
+use mathlib.Core.Path.{_≡_, refl, sym, ap, _∙_, subst}
+use mathlib.Core.Bool.{Bool, true, false}
+use mathlib.Core.List.{List, [], _∷_}
+use Prim.Native.Nat.{ℕ, zero, suc, _+_, _-_, _*_, _<_, _≤_}
+use native.Mathlib.Nat.{mul-le-mul, not-suc-le-zero}
+use native.Mathlib.Omega.{arith}
+use lib.Dec.{eqb, ltb, leb}
+use lib.ListN.{length, getD, take, set, length-set}
+use lib.Seq.{getD-take}
+use borrow.Author.Tests.{eqb-true, eqb-false, ltb-true, ltb-false, leb-true, leb-false, ne-eqb, eq-eqb}
+use Rattle.laws.specs.Choice.{_and_, pick, placeOf}
+use Rattle.laws.proofs.Choice.{pick-yes, pick-no, by-pick, and-left, and-right, Tested, tested, holds, fails}
+use Rattle.laws.proofs.Table.{each, _&_}
+use Rattle.refusal.specs.Told.{Told, gives, refuses}
+use Rattle.command.specs.Table.{headers, headerOf, countOf}
+use Rattle.command.specs.Kinds.{allowed, kindOf}
+use Rattle.command.specs.Commands.{commandOf, lineOf, fieldsOf, wordsOf, EachAllowed}
+use Rattle.command.specs.Rules.{domainKept, lastRuleOf}
+use Rattle.command.specs.declared.commands.Stored.the-variants as stored
+use Rattle.command.specs.declared.commands.Command.{Command}
+use Rattle.command.specs.declared.commands.Command.the-variants as command
+use Rattle.command.specs.declared.kinds.Kind.the-variants.{Coordinate}
+use Rattle.command.proofs.Headers.{count-least, count-most}
+use Rattle.command.proofs.Rule.{rule-five}
+use Rattle.command.proofs.WriteBack.{made}
+use Rattle.session.specs.State.{Buffer, Open, Domain, Tally, Party, Shared, Session, none, newSession}
+use Rattle.session.specs.Start.{sumBelow, counts, pairsOf, claimOf}
+use Rattle.session.specs.Step.{
+    Reply, stillOpen, completed, refused, Stepped, limit, opening, took, stop, refusing, withParameter, buffer, ownAfter, sharedAfter,
+    startRuleOf, after, stepOf
+}
+use Rattle.session.specs.Valid.{parametersOf, OpenValid, DomainValid, TallyValid, Valid}
+use Rattle.session.proofs.Ways.{whole, begun, goingOn, Running, Placed, Way, wasStopped, stops, opens, fills, ends, way}
+
+pub new-valid : Valid newSession
+new-valid =
+    record {
+      flag = omega arith;
+      full = omega arith;
+      line-most = omega arith;
+      closed = λ e. refl;
+      dropped = λ e. refl;
+      opened = λ (k : 21 < 21). absurd (no-line k);
+      domain = omega arith;
+      tally = omega arith;
+      outputs = refl;
+      inputs = refl;
+    }
+  where
+    no-line : 21 < 21 → ⊥
+    no-line k = omega arith
+
+-- the parameters after one more
+parameter-at : (o : Open) (w k : ℕ) → o .count < 4 → k < 4 →
+    getD (parametersOf (withParameter o w)) k 0 ≡ pick (eqb (o .count) k) w (getD (parametersOf o) k 0)
+parameter-at o w k h = each (λ k. getD (parametersOf (withParameter o w)) k 0 ≡ pick (eqb (o .count) k) w (getD (parametersOf o) k 0)) 4 (tt & refl & refl & refl & refl) k
+
+-- an open command that takes an allowed parameter: every parameter so far is allowed
+allowed-more : (o : Open) (w : ℕ) → o .count < 4 → OpenValid o → allowed (kindOf (o .line) (o .count)) w ≡ true →
+    (k : ℕ) → k < o .count + 1 → allowed (kindOf (o .line) k) (getD (parametersOf (withParameter o w)) k 0) ≡ true
+allowed-more o w h v a k hk =
+    rw (parameter-at o w k h (omega arith))
+    (by-pick (λ (p : ℕ). allowed (kindOf (o .line) k) p ≡ true) (eqb (o .count) k) w (getD (parametersOf o) k 0)
+    (λ e. subst (λ (m : ℕ). allowed (kindOf (o .line) m) w ≡ true) (eqb-true _ _ e) a)
+    (λ e. v .passed k (let ne : o .count ≡ k → ⊥ = eqb-false _ _ e in omega arith)))
+
+-- the fields of a whole command are allowed, each by its kind
+fields-allowed : (o : Open) → o .line < 21 → o .count ≡ countOf (o .line) →
+    ((k : ℕ) → k < o .count → allowed (kindOf (o .line) k) (getD (parametersOf o) k 0) ≡ true) →
+    EachAllowed (o .line) (parametersOf o)
+fields-allowed o h e a k hk = a k (rw e hk)
+
+-- a command that keeps the rules has a domain with its ends in order, if it has one
+ordered : (c : Command) (u : List ℕ) → lastRuleOf c ≡ gives u → domainKept c ≡ true
+ordered c u r = go (tested (domainKept c))
+  where
+    go : Tested (domainKept c) → domainKept c ≡ true
+    go (holds e) = e
+    go (fails e) = absurd (told-apart (sym r ∙ rule-five c e))
+      where
+        told-apart : {v : List ℕ} {n : ℕ} → gives v ≡ refuses n → ⊥
+        told-apart h = let z : _≡_ {A = ℕ} 0 1 = cc in omega arith
+
+coordinate : (w : ℕ) → allowed Coordinate w ≡ true → w < 4096
+unfolding allowed
+coordinate w e = ltb-true w 4096 e
+
+set-domain : (i0 j0 i1 j1 : ℕ) → EachAllowed 0 (i0 ∷ j0 ∷ i1 ∷ j1 ∷ []) → domainKept (command.Domain i0 j0 i1 j1) ≡ true →
+    DomainValid (record { isSet = 1; i0 = i0; j0 = j0; i1 = i1; j1 = j1 })
+unfolding countOf kindOf domainKept
+set-domain i0 j0 i1 j1 a k =
+    record {
+      columns = leb-true _ _ (and-left _ _ k);
+      column-most = coordinate i1 (a 2 (omega arith));
+      rows = leb-true _ _ (and-right _ _ k);
+      row-most = coordinate j1 (a 3 (omega arith));
+    }
+
+-- no start claims more than 4,096 · 4,096 pairs of four outputs
+claim-most : (d : Domain) (outputs : List Buffer) → DomainValid d → claimOf d outputs ≤ 67108864
+unfolding claimOf pairsOf sumBelow
+claim-most d outputs v =
+    mul-le-mul {n₂ = 16777216} {m₂ = 4} (mul-le-mul {n₂ = 4096} {m₂ = 4096} (omega (arith, v)) (omega (arith, v)))
+    (sum-most (λ n. pick (counts outputs n) 1 0) (λ n. by-pick (λ (m : ℕ). m ≤ 1) (counts outputs n) 1 0 (λ e. omega arith) (λ e. omega arith)))
+  where
+    sum-most : (f : ℕ → ℕ) → ((n : ℕ) → f n ≤ 1) → sumBelow 4 f ≤ 4
+    sum-most f h = omega (arith, h 0, h 1, h 2, h 3)
+
+-- what a whole command leaves of a session: the open command, the count and the flag stand; what it sets is valid
+pub record Effects (c : Command) (h : Shared) (p : Party) (n : ℕ) : Type 0 where
+  pub same-flag : ownAfter c h p .stopped ≡ p .stopped
+  pub same-count : ownAfter c h p .taken ≡ p .taken
+  pub same-open : ownAfter c h p .opened ≡ p .opened
+  pub domain : DomainValid (ownAfter c h p .domain)
+  pub tally : TallyValid (ownAfter c h p .tally) (n + 1)
+  pub outputs : length (sharedAfter c h .outputs) ≡ length (h .outputs)
+  pub inputs : length (sharedAfter c h .inputs) ≡ length (h .inputs)
+
+module _ (h : Shared) (p : Party) (n : ℕ) (d : DomainValid (p .domain)) (t : TallyValid (p .tally) n) where
+  still : TallyValid (p .tally) (n + 1)
+  still = omega (arith, t)
+
+  -- a command that changes neither domain nor tallies
+  plain : (c : Command) → ownAfter c h p .stopped ≡ p .stopped → ownAfter c h p .taken ≡ p .taken →
+      ownAfter c h p .opened ≡ p .opened → ownAfter c h p .domain ≡ p .domain → ownAfter c h p .tally ≡ p .tally →
+      length (sharedAfter c h .outputs) ≡ length (h .outputs) → length (sharedAfter c h .inputs) ≡ length (h .inputs) →
+      Effects c h p n
+  plain c a b e f g k l =
+      record {
+        same-flag = a;
+        same-count = b;
+        same-open = e;
+        domain = rw f d;
+        tally = rw g still;
+        outputs = k;
+        inputs = l;
+      }
+
+  pub effects : (c : Command) → EachAllowed (lineOf c) (fieldsOf c) → (u : List ℕ) → lastRuleOf c ≡ gives u → Effects c h p n
+  unfolding ownAfter sharedAfter lineOf fieldsOf
+  effects (command.Domain i0 j0 i1 j1) a u r =
+      record {
+        same-flag = refl;
+        same-count = refl;
+        same-open = refl;
+        domain = set-domain i0 j0 i1 j1 a (ordered _ u r);
+        tally = still;
+        outputs = refl;
+        inputs = refl;
+      }
+  effects command.Start a u r =
+      record {
+        same-flag = refl;
+        same-count = refl;
+        same-open = refl;
+        domain = d;
+        tally = omega (arith, t, claim-most (p .domain) (h .outputs) d);
+        outputs = refl;
+        inputs = refl;
+      }
+  effects (command.Quiet what) a u r = plain (command.Quiet what) refl refl refl refl refl refl refl
+  effects (command.Store stored.Instructions base format) a u r =
+      plain (command.Store stored.Instructions base format) refl refl refl refl refl refl refl
+  effects (command.Store stored.Floats base format) a u r =
+      plain (command.Store stored.Floats base format) refl refl refl refl refl refl refl
+  effects (command.Store stored.Integers base format) a u r =
+      plain (command.Store stored.Integers base format) refl refl refl refl refl refl refl
+  effects (command.Store stored.Booleans base format) a u r =
+      plain (command.Store stored.Booleans base format) refl refl refl refl refl refl refl
+  effects (command.Input number base format height) a u r =
+      plain (command.Input number base format height) refl refl refl refl refl refl
+      (length-set (h .inputs) number (buffer base format height))
+  effects (command.Output number base format height) a u r =
+      plain (command.Output number base format height) refl refl refl refl refl
+      (length-set (h .outputs) number (buffer base format height)) refl
+  effects (command.Conditional base format height) a u r =
+      plain (command.Conditional base format height) refl refl refl refl refl refl refl
+  effects (command.OutputMask mask) a u r = plain (command.OutputMask mask) refl refl refl refl refl refl refl
+  effects (command.ConditionalMask mask) a u r = plain (command.ConditionalMask mask) refl refl refl refl refl refl refl
+  effects (command.Test test) a u r = plain (command.Test test) refl refl refl refl refl refl refl
+
+-- the fields of the command that an open command with all its parameters is
+module _ (o : Open) (line : o .line < 21) (a : EachAllowed (o .line) (parametersOf o)) where
+  pub whole-line : lineOf (whole o) ≡ o .line
+  whole-line = made (o .p0) (o .p1) (o .p2) (o .p3) (o .line) line .line-back
+
+  pub whole-words : wordsOf (whole o) ≡ headerOf (o .line) ∷ take (countOf (o .line)) (parametersOf o)
+  whole-words = made (o .p0) (o .p1) (o .p2) (o .p3) (o .line) line .words-back a
+
+  whole-fields : fieldsOf (whole o) ≡ take (countOf (o .line)) (parametersOf o)
+  unfolding wordsOf
+  whole-fields = tails whole-words
+    where
+      tails : {x y : ℕ} {xs ys : List ℕ} → (x ∷ xs) ≡ (y ∷ ys) → xs ≡ ys
+      tails e = cc
+
+  pub whole-allowed : EachAllowed (lineOf (whole o)) (fieldsOf (whole o))
+  whole-allowed k h =
+      let less : k < countOf (o .line) = rw whole-line at h in
+      rw (whole-fields, whole-line, getD-take (countOf (o .line)) (parametersOf o) k 0 less) (a k less)
+
+-- a session that goes on with an open command is valid where the open command is
+goes-on : (s : Session) (o : Open) → Valid s → Running s → o .line < 21 → OpenValid o → Valid (goingOn o s)
+goes-on s o v r h b =
+    record {
+      flag = v .flag;
+      full = omega (arith, leb-false limit (s .party .taken) (r .unfilled));
+      line-most = omega arith;
+      closed = λ e. absurd (not-none e);
+      dropped = λ e. absurd (eqb-false _ _ (r .unstopped) e);
+      opened = λ k. b;
+      domain = v .domain;
+      tally = omega (arith, v .tally);
+      outputs = v .outputs;
+      inputs = v .inputs;
+    }
+  where
+    not-none : o .line ≡ 21 → ⊥
+    not-none e = omega arith
+
+no-line : 21 < 21 → ⊥
+no-line k = omega arith
+
+module _ (s : Session) (w : ℕ) (v : Valid s) where
+  -- the open command before and after an allowed parameter
+  module _ (p : Placed s w) where
+    abbrev before : Open
+    before = s .party .opened
+
+    line-lt : before .line < 21
+    line-lt = let ne : before .line ≡ 21 → ⊥ = eqb-false _ _ (p .isOpen) in omega (arith, v .line-most)
+
+    count-lt : before .count < 4
+    count-lt = omega (arith, v .opened line-lt .fewer, count-most (before .line) line-lt)
+
+    pub more-allowed : (k : ℕ) → k < before .count + 1 →
+        allowed (kindOf (before .line) k) (getD (parametersOf (withParameter before w)) k 0) ≡ true
+    more-allowed = allowed-more before w count-lt (v .opened line-lt) (p .kindAllows)
+
+    -- the parameters are complete where no more are asked
+    all-allowed : ltb (before .count + 1) (countOf (before .line)) ≡ false →
+        EachAllowed (before .line) (parametersOf (withParameter before w))
+    all-allowed l k h = more-allowed k (omega (arith, ltb-false (before .count + 1) (countOf (before .line)) l))
+
+    each-allowed : ltb (before .count + 1) (countOf (before .line)) ≡ false → (c : Command) → c ≡ whole (withParameter before w) →
+        EachAllowed (lineOf c) (fieldsOf c)
+    each-allowed l c e =
+        subst (λ (d : Command). EachAllowed (lineOf d) (fieldsOf d)) (sym e)
+        (whole-allowed (withParameter before w) line-lt (all-allowed l))
+
+  pub kept-way : (t : Stepped) → Way s w t → Valid (t .session)
+  unfolding after
+  kept-way t (wasStopped e) = v
+  kept-way t (stops n e) =
+      record {
+        flag = omega arith;
+        full = v .full;
+        line-most = omega arith;
+        closed = λ k. refl;
+        dropped = λ k. refl;
+        opened = λ k. absurd (no-line k);
+        domain = v .domain;
+        tally = v .tally;
+        outputs = v .outputs;
+        inputs = v .inputs;
+      }
+  kept-way t (opens r i k) =
+      goes-on s (begun w) v r (ltb-true _ _ k)
+      (record { fewer = count-least _ (ltb-true _ _ k); passed = λ j h. absurd (not-suc-le-zero h) })
+  kept-way t (fills p m) =
+      goes-on s (withParameter (s .party .opened) w) v (p .running) (line-lt p)
+      (record { fewer = ltb-true _ _ m; passed = more-allowed p })
+  kept-way t (ends p l c e u u' r q) =
+      done (effects (s .shared) (opening none (took (s .party))) (s .party .taken) (v .domain) (v .tally) c (each-allowed p l c e) u r)
+    where
+      done : Effects c (s .shared) (opening none (took (s .party))) (s .party .taken) → Valid (after c s)
+      done f =
+          record {
+            flag = rw (f .same-flag) (v .flag);
+            full = rw (f .same-count) (omega (arith, leb-false limit (s .party .taken) (p .running .unfilled)));
+            line-most = rw (f .same-open) (omega arith);
+            closed = λ k. f .same-open;
+            dropped = λ k. f .same-open;
+            opened = rw (f .same-open) (λ k. absurd (no-line k));
+            domain = f .domain;
+            tally = rw (f .same-count) (f .tally);
+            outputs = f .outputs ∙ v .outputs;
+            inputs = f .inputs ∙ v .inputs;
+          }
+
+pub kept : (s : Session) (w : ℕ) → Valid s → Valid (stepOf s w .session)
+kept s w v = kept-way s w v (stepOf s w) (way s w)
