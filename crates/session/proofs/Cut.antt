@@ -10,7 +10,7 @@ use Rattle.laws.proofs.Choice.{pick-yes}
 use Rattle.command.specs.declared.commands.Command.{Command}
 use Rattle.session.specs.State.{Session}
 use Rattle.session.specs.Step.{Reply, stillOpen, completed, refused, Stepped, stepOf}
-use Rattle.session.specs.Feed.{First, nothing, first, Fed, onward, ended, proceed, feedOf, earlier, joined}
+use Rattle.session.specs.Feed.{First, nothing, first, Fed, onward, ended, proceed, feedOf, earlier, joined, fedPieces, uncut}
 use Rattle.session.proofs.Ways.{Way, wasStopped, stops, opens, fills, ends, way}
 
 -- a stopped session answers 1 and changes nothing at all
@@ -73,15 +73,7 @@ cut s [] b = sym (nothing-joined s (feedOf s b))
 cut s (w ∷ a) b = word-cut s w a b (stepOf s w) (went s w (way s w)) (cut (stepOf s w .session) a b)
 
 -- so for any way of cutting, into any number of pieces, empty ones among them
-pub fedPieces : Session → List (List ℕ) → Fed
-fedPieces s [] = ended nothing s
-fedPieces s (p ∷ ps) = joined (feedOf s p) (fedPieces (feedOf s p .session) ps)
-
-pub flat : List (List ℕ) → List ℕ
-flat [] = []
-flat (p ∷ ps) = p ++ flat ps
-
-pub cut-anywhere : (s : Session) (ps : List (List ℕ)) → fedPieces s ps ≡ feedOf s (flat ps)
-unfolding fedPieces flat
+pub cut-anywhere : (s : Session) (ps : List (List ℕ)) → fedPieces s ps ≡ feedOf s (uncut ps)
+unfolding fedPieces uncut
 cut-anywhere s [] = unfold feedOf in refl
-cut-anywhere s (p ∷ ps) = ap (joined (feedOf s p)) (cut-anywhere (feedOf s p .session) ps) ∙ sym (cut s p (flat ps))
+cut-anywhere s (p ∷ ps) = ap (joined (feedOf s p)) (cut-anywhere (feedOf s p .session) ps) ∙ sym (cut s p (uncut ps))

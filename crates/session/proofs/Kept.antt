@@ -228,10 +228,10 @@ module _ (s : Session) (w : ℕ) (v : Valid s) where
     abbrev before : Open
     before = s .party .opened
 
-    line-lt : before .line < 21
+    pub line-lt : before .line < 21
     line-lt = let ne : before .line ≡ 21 → ⊥ = eqb-false _ _ (p .isOpen) in omega (arith, v .line-most)
 
-    count-lt : before .count < 4
+    pub count-lt : before .count < 4
     count-lt = omega (arith, v .opened line-lt .fewer, count-most (before .line) line-lt)
 
     pub more-allowed : (k : ℕ) → k < before .count + 1 →
@@ -239,7 +239,7 @@ module _ (s : Session) (w : ℕ) (v : Valid s) where
     more-allowed = allowed-more before w count-lt (v .opened line-lt) (p .kindAllows)
 
     -- the parameters are complete where no more are asked
-    all-allowed : ltb (before .count + 1) (countOf (before .line)) ≡ false →
+    pub all-allowed : ltb (before .count + 1) (countOf (before .line)) ≡ false →
         EachAllowed (before .line) (parametersOf (withParameter before w))
     all-allowed l k h = more-allowed k (omega (arith, ltb-false (before .count + 1) (countOf (before .line)) l))
 
@@ -248,6 +248,12 @@ module _ (s : Session) (w : ℕ) (v : Valid s) where
     each-allowed l c e =
         subst (λ (d : Command). EachAllowed (lineOf d) (fieldsOf d)) (sym e)
         (whole-allowed (withParameter before w) line-lt (all-allowed l))
+
+    pub effects-of : ltb (before .count + 1) (countOf (before .line)) ≡ false → (c : Command) →
+        c ≡ whole (withParameter before w) → (u : List ℕ) → lastRuleOf c ≡ gives u →
+        Effects c (s .shared) (opening none (took (s .party))) (s .party .taken)
+    effects-of l c e u r =
+        effects (s .shared) (opening none (took (s .party))) (s .party .taken) (v .domain) (v .tally) c (each-allowed l c e) u r
 
   pub kept-way : (t : Stepped) → Way s w t → Valid (t .session)
   unfolding after
@@ -272,7 +278,7 @@ module _ (s : Session) (w : ℕ) (v : Valid s) where
       goes-on s (withParameter (s .party .opened) w) v (p .running) (line-lt p)
       (record { fewer = ltb-true _ _ m; passed = more-allowed p })
   kept-way t (ends p l c e u u' r q) =
-      done (effects (s .shared) (opening none (took (s .party))) (s .party .taken) (v .domain) (v .tally) c (each-allowed p l c e) u r)
+      done (effects-of p l c e u r)
     where
       done : Effects c (s .shared) (opening none (took (s .party))) (s .party .taken) → Valid (after c s)
       done f =

@@ -1,3 +1,4 @@
 pub mod Cut
 pub mod Kept
 pub mod Ways
+pub mod WriteBack

@@ -2,6 +2,7 @@
 -- words were taken and how many commands they completed, and those stand." Assumes nothing.
 use mathlib.Core.List.{List, [], _∷_, _++_}
 use Prim.Native.Nat.{ℕ, zero, suc, _+_}
+use Rattle.command.specs.Commands.{wordsOf}
 use Rattle.command.specs.declared.commands.Command.{Command}
 use Rattle.session.specs.State.{Session}
 use Rattle.session.specs.Step.{Reply, stillOpen, completed, refused, Stepped, stepOf}
@@ -50,3 +51,18 @@ joined f g =
       refusal = earlier (f .refusal) (g .refusal);
       session = g .session;
     }
+
+-- what completed commands write, one after the other
+unfoldable pub written : List Command → List ℕ
+written [] = []
+written (c ∷ cs) = wordsOf c ++ written cs
+
+-- a stream in pieces, fed one after the other
+unfoldable pub fedPieces : Session → List (List ℕ) → Fed
+fedPieces s [] = ended nothing s
+fedPieces s (p ∷ ps) = joined (feedOf s p) (fedPieces (feedOf s p .session) ps)
+
+-- the same stream uncut
+unfoldable pub uncut : List (List ℕ) → List ℕ
+uncut [] = []
+uncut (p ∷ ps) = p ++ uncut ps
