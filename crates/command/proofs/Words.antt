@@ -3,7 +3,7 @@
 use mathlib.Core.Path.{_≡_, refl, sym, ap, _∙_}
 use mathlib.Core.Bool.{Bool, true, false}
 use mathlib.Core.List.{List, [], _∷_}
-use Prim.Native.Nat.{ℕ, _+_, _*_, _/_, _%_, _^_, _<_, _≤_}
+use Prim.Native.Nat.{ℕ, _+_, _*_, _/_, _%_, _<_}
 use native.Mathlib.Omega.{arith}
 use lib.Dec.{leb}
 use denote.Enum.Declared.{tagOf}
@@ -11,7 +11,7 @@ use types.Run.{OneOf, miss}
 use Rattle.laws.specs.Choice.{_and_, pick, placeOf}
 use Rattle.laws.proofs.Choice.{pick-yes, pick-no}
 use Rattle.laws.proofs.Table.{everyBelow, NoneOf, namedOr, otherwise}
-use Rattle.refusal.specs.Told.{Told, gives, refuses}
+use Rattle.refusal.specs.Told.{gives, refuses}
 use Rattle.command.proofs.kinds.Kind.{the-type}
 use Rattle.command.specs.Format.{superfineOf, codeOf, channelsOf}
 use Rattle.command.specs.Kinds.{superfineAllowed, allowed, faultOf, checkOf, kindOf}
