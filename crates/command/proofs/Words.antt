@@ -57,6 +57,16 @@ fault-other MaskBits e = refl
 fault-other ConditionalMaskBit e = refl
 fault-other TestBits e = refl
 
+given-chosen : (t : Bool) (n : ℕ) → pick t (gives []) (refuses n) ≡ gives [] → t ≡ true
+unfolding pick
+given-chosen true n e = refl
+given-chosen false n e = let z : _≡_ {A = ℕ} 0 1 = cc in absurd (omega arith)
+
+refused-chosen : (t : Bool) (m n : ℕ) → pick t (gives []) (refuses m) ≡ refuses n → n ≡ m
+unfolding pick
+refused-chosen true m n e = cc
+refused-chosen false m n e = cc
+
 module _ (k : Kind) (w : ℕ) where
   pub check-fine : allowed k w ≡ true → checkOf k w ≡ gives []
   unfolding checkOf
@@ -65,6 +75,15 @@ module _ (k : Kind) (w : ℕ) where
   pub check-refused : (n : ℕ) → allowed k w ≡ false → n ≡ faultOf k → checkOf k w ≡ refuses n
   unfolding checkOf
   check-refused n e f = pick-no _ _ e ∙ ap refuses (sym f)
+
+  -- the other way: what passed is allowed, and a refusal is the kind's
+  pub fine-allowed : checkOf k w ≡ gives [] → allowed k w ≡ true
+  unfolding checkOf
+  fine-allowed e = given-chosen (allowed k w) (faultOf k) e
+
+  pub refused-by-kind : (n : ℕ) → checkOf k w ≡ refuses n → n ≡ faultOf k
+  unfolding checkOf
+  refused-by-kind n e = refused-chosen (allowed k w) (faultOf k) n e
 
 -- the kind at a place of the table, four places to a line
 unfoldable pub kindAt : ℕ → Kind
