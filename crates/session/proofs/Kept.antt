@@ -27,8 +27,23 @@ use Rattle.command.proofs.WriteBack.{made}
 use Rattle.session.specs.State.{Buffer, Open, Domain, Tally, Party, Shared, Session, none, newSession}
 use Rattle.session.specs.Start.{sumBelow, counts, pairsOf, claimOf}
 use Rattle.session.specs.Step.{
-    Reply, stillOpen, completed, refused, Stepped, limit, opening, took, stop, refusing, withParameter, buffer, ownAfter, sharedAfter,
-    startRuleOf, after, stepOf
+  Reply,
+  stillOpen,
+  completed,
+  refused,
+  Stepped,
+  limit,
+  opening,
+  took,
+  stop,
+  refusing,
+  withParameter,
+  buffer,
+  ownAfter,
+  sharedAfter,
+  startRuleOf,
+  after,
+  stepOf,
 }
 use Rattle.session.specs.Valid.{parametersOf, OpenValid, DomainValid, TallyValid, Valid}
 use Rattle.session.proofs.Ways.{whole, begun, goingOn, Running, Placed, Way, wasStopped, stops, opens, fills, ends, way}

@@ -17,8 +17,25 @@ use Rattle.command.specs.Writer.{thenTold}
 use Rattle.command.specs.declared.commands.Command.{Command}
 use Rattle.session.specs.State.{Open, Party, Shared, Session, none}
 use Rattle.session.specs.Step.{
-    Reply, stillOpen, completed, refused, Stepped, limit, opening, took, stop, refusing, withParameter, startRuleOf, after, judged,
-    completing, placing, parameterStep, headerStep, stepOf
+  Reply,
+  stillOpen,
+  completed,
+  refused,
+  Stepped,
+  limit,
+  opening,
+  took,
+  stop,
+  refusing,
+  withParameter,
+  startRuleOf,
+  after,
+  judged,
+  completing,
+  placing,
+  parameterStep,
+  headerStep,
+  stepOf,
 }
 
 -- the command that an open command with all its parameters is

@@ -55,12 +55,28 @@ module _ (s : Session) (w : ℕ) (v : Valid s) where
       headerOf (s .party .opened .line) ∷ take (s .party .opened .count + 1) (parametersOf (withParameter (s .party .opened) w))
   held-more p =
       ap (λ (l : List ℕ). l ++ (w ∷ [])) (held-open p) ∙
-      ap {B = List ℕ} (λ (l : List ℕ). headerOf (s .party .opened .line) ∷ l) (more _ (s .party .opened .count) _ _ _ _ w (count-lt s w v p))
+      ap {B = List ℕ} (λ (l : List ℕ). headerOf (s .party .opened .line) ∷ l) (more (s .party .opened .line) (s .party .opened .count) _ _ _ _ w (count-lt s w v p))
 
   taken : (t : Stepped) → Way s w t → Taken s w t
   unfolding heldOf emitted after
   taken t (wasStopped e) = refuses 1 s
   taken t (stops n e) = refuses n _
-  taken t (opens r i k) = took _ ?
-  taken t (fills p m) = took _ ?
-  taken t (ends p l c e u u' r q) = took _ ?
+  taken t (opens r i k) =
+      took _
+      (ap (λ (l : List ℕ). l ++ (w ∷ [])) (pick-yes _ _ i) ∙
+      sym
+      (pick-no _ _ (ne-eqb _ _ (λ e. not-none e (ltb-true _ _ k))) ∙
+      ap {B = List ℕ} (λ (h : ℕ). h ∷ []) (stands w (ltb-true _ _ k))))
+    where
+      not-none : {n : ℕ} → n ≡ 21 → n < 21 → ⊥
+      not-none e h = omega arith
+  taken t (fills p m) = took _ (held-more p ∙ sym (pick-no _ _ (p .isOpen)))
+  taken t (ends p l c e u u' r q) = took _ (held-more p ∙ whole-command ∙ sym nothing-held)
+    where
+      whole-command :
+          headerOf (s .party .opened .line) ∷ take (s .party .opened .count + 1) (parametersOf (withParameter (s .party .opened) w)) ≡
+          wordsOf c
+      whole-command = ?
+
+      nothing-held : wordsOf c ++ heldOf (after c s .party .opened) ≡ wordsOf c
+      nothing-held = ?
