@@ -1,4 +1,5 @@
+pub mod Cells
 pub mod Cut
 pub mod Kept
+pub mod Puts
 pub mod Ways
-pub mod WriteBack

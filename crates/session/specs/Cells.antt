@@ -3,7 +3,7 @@
 use mathlib.Core.Path.{_≡_}
 use mathlib.Core.List.{List, [], _∷_, _++_}
 use Prim.Native.Nat.{ℕ, _+_}
-use lib.ListN.{length, getD}
+use lib.ListN.{length, getD, set}
 use Rattle.session.specs.State.{Buffer, Open, Domain, Tally, Party, Shared, Session}
 
 -- a buffer's four cells
@@ -64,6 +64,10 @@ unfoldable pub sharedCells : Shared → List ℕ
 sharedCells h =
     h .mask ∷ h .conditionalMaskSet ∷ h .conditionalMask ∷ h .testSet ∷ h .test ∷
     buffersCells (h .floats ∷ h .integers ∷ h .booleans ∷ h .conditional ∷ (h .outputs ++ h .inputs))
+
+-- a buffer stored from place `k` on
+abbrev pub setBuffer : List ℕ → ℕ → Buffer → List ℕ
+setBuffer l k b = set (set (set (set l k (b .isSet)) (k + 1) (b .base)) (k + 2) (b .format)) (k + 3) (b .height)
 
 -- cells of the lengths that a session has
 pub record Sized (own tallies shared : List ℕ) : Type 0 where

@@ -63,8 +63,12 @@ pub record Session : Type 0 where
 abbrev pub unset : Buffer
 unset = record { isSet = 0; base = 0; format = 0; height = 0 }
 
+-- a command of a line, none of its parameters taken; 21 stands for no command
+abbrev pub atLine : ℕ → Open
+atLine line = record { line = line; count = 0; p0 = 0; p1 = 0; p2 = 0; p3 = 0 }
+
 abbrev pub none : Open
-none = record { line = 21; count = 0; p0 = 0; p1 = 0; p2 = 0; p3 = 0 }
+none = atLine 21
 
 -- "A new session has nothing set and mask 65535."
 abbrev pub newParty : Party

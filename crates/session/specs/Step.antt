@@ -2,7 +2,7 @@
 -- among those that the present word can cause." Assumes nothing.
 use mathlib.Core.Bool.{Bool, true, false}
 use mathlib.Core.List.{List, [], _∷_}
-use Prim.Native.Nat.{ℕ, _+_}
+use Prim.Native.Nat.{ℕ, _+_, _<_}
 use lib.Dec.{eqb, leb, ltb}
 use lib.ListN.{length, set}
 use Rattle.laws.specs.Choice.{pick, placeOf}
@@ -16,7 +16,7 @@ use Rattle.command.specs.declared.commands.Stored.{Stored}
 use Rattle.command.specs.declared.commands.Stored.the-variants as stored
 use Rattle.command.specs.declared.commands.Command.{Command}
 use Rattle.command.specs.declared.commands.Command.the-variants as command
-use Rattle.session.specs.State.{Buffer, Open, Domain, Tally, Party, Shared, Session, none}
+use Rattle.session.specs.State.{Buffer, Open, Domain, Tally, Party, Shared, Session, atLine, none}
 use Rattle.session.specs.Start.{readyOf, claimOf}
 
 -- "An accepted word answers "open", or the command that it completes"; a refused one its number
@@ -74,6 +74,10 @@ withParameter o w =
 abbrev pub buffer : ℕ → ℕ → ℕ → Buffer
 buffer base format height = record { isSet = 1; base = base; format = format; height = height }
 
+-- a domain that is set
+abbrev pub domainFrom : ℕ → ℕ → ℕ → ℕ → Domain
+domainFrom i0 j0 i1 j1 = record { isSet = 1; i0 = i0; j0 = j0; i1 = i1; j1 = j1 }
+
 -- settings with one of them replaced
 abbrev pub withDomain : Domain → Party → Party
 withDomain d p =
@@ -107,7 +111,7 @@ withShared m cs cm ts t f i b c o n =
 -- what a command without its session's open part does to the party's own settings; "A start that passes adds one to the runs,
 -- and to the claimed elements the number of pairs in the domain times the number of set outputs."
 unfoldable pub ownAfter : Command → Shared → Party → Party
-ownAfter (command.Domain i0 j0 i1 j1) h p = withDomain (record { isSet = 1; i0 = i0; j0 = j0; i1 = i1; j1 = j1 }) p
+ownAfter (command.Domain i0 j0 i1 j1) h p = withDomain (domainFrom i0 j0 i1 j1) p
 ownAfter command.Start h p =
     withTally (record { runs = p .tally .runs + 1; claims = p .tally .claims + claimOf (p .domain) (h .outputs) }) p
 ownAfter (command.Quiet what) h p = p
@@ -155,6 +159,19 @@ sharedAfter (command.ConditionalMask mask) h =
 sharedAfter (command.Test test) h =
     withShared (h .mask) (h .conditionalMaskSet) (h .conditionalMask) 1 test (h .floats) (h .integers) (h .booleans)
     (h .conditional) (h .outputs) (h .inputs)
+
+-- an input's or output's number is below 16 or 4
+abbrev pub Numbered : Command → Type 0
+Numbered (command.Domain i0 j0 i1 j1) = Unit {0}
+Numbered command.Start = Unit {0}
+Numbered (command.Quiet what) = Unit {0}
+Numbered (command.Store what base format) = Unit {0}
+Numbered (command.Input number base format height) = number < 16
+Numbered (command.Output number base format height) = number < 4
+Numbered (command.Conditional base format height) = Unit {0}
+Numbered (command.OutputMask mask) = Unit {0}
+Numbered (command.ConditionalMask mask) = Unit {0}
+Numbered (command.Test test) = Unit {0}
 
 -- a start asks 7, 8 and 9 of the settings; no other command does
 unfoldable pub startRuleOf : Command → Session → Told
@@ -208,7 +225,7 @@ headerStep s w =
       reply = stillOpen;
       session =
           record {
-            party = opening (record { line = placeOf w headers; count = 0; p0 = 0; p1 = 0; p2 = 0; p3 = 0 }) (took (s .party));
+            party = opening (atLine (placeOf w headers)) (took (s .party));
             shared = s .shared;
           };
     })

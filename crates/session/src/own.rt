@@ -1,0 +1,90 @@
+// A party's own cells: the stop, the words taken, the open command, the domain and the instruction format.
+ghost use mathlib.Core.Path.{_≡_};
+ghost use Prim.Native.Nat.{_<_};
+ghost use mathlib.Core.List.{[]};
+ghost use lib.ListN.{length};
+ghost use Rattle.session.specs.State.{atLine, none};
+ghost use Rattle.session.specs.Step.{buffer, domainFrom, opening, stop as stopped, took, withDomain, withInstructions, withParameter};
+ghost use Rattle.session.specs.Cells.{partyOf, partyCells};
+
+// Places of the cells.
+pub const STOPPED: usize = 0;
+pub const TAKEN: usize = 1;
+pub const LINE: usize = 2;
+pub const COUNT: usize = 3;
+pub const PARAMETERS: usize = 4;
+pub const DOMAIN: usize = 8;
+pub const INSTRUCTIONS: usize = 13;
+
+// The line that stands for no open command: one past the table.
+pub const NO_LINE: u32 = 21;
+
+// No command is open.
+pub fn close(own: &mut [u32; 17])
+    requires { ⌜ length (now own) ≡ 17 ⌝ }
+    ensures { λ _. ⌜ now (own .exit) ≡ partyCells (opening none (partyOf (now (own .entry)) [])) ⌝ }
+{
+    own[2] = 21;
+    own[3] = 0;
+    own[4] = 0;
+    own[5] = 0;
+    own[6] = 0;
+    own[7] = 0;
+}
+
+// The session is stopped and its open command dropped.
+pub fn stop(own: &mut [u32; 17])
+    requires { ⌜ length (now own) ≡ 17 ⌝ }
+    ensures { λ _. ⌜ now (own .exit) ≡ partyCells (stopped (partyOf (now (own .entry)) [])) ⌝ }
+{
+    own[0] = 1;
+    close(own);
+}
+
+// One more word is taken.
+pub fn count_word(own: &mut [u32; 17])
+    requires { ⌜ (length (now own) ≡ 17) × (partyOf (now own) [] .taken < 1000000000) ⌝ }
+    ensures { λ _. ⌜ now (own .exit) ≡ partyCells (took (partyOf (now (own .entry)) [])) ⌝ }
+{
+    own[1] = own[1] + 1;
+}
+
+// A header is taken: the command of this line is open.
+pub fn open_line(own: &mut [u32; 17], line: u32)
+    requires { ⌜ (length (now own) ≡ 17) × ((partyOf (now own) [] .taken < 1000000000) × (partyOf (now own) [] .opened ≡ none)) ⌝ }
+    ensures { λ _. ⌜ now (own .exit) ≡ partyCells (took (opening (atLine line) (partyOf (now (own .entry)) []))) ⌝ }
+{
+    own[2] = line;
+    count_word(own);
+}
+
+// The next parameter of the open command, of which `count` were there.
+pub fn place(own: &mut [u32; 17], count: u32, word: u32)
+    requires { ⌜ (length (now own) ≡ 17) × ((count < 4) × (partyOf (now own) [] .opened .count ≡ count)) ⌝ }
+    ensures { λ _. ⌜ now (own .exit) ≡ partyCells (opening (withParameter (partyOf (now (own .entry)) [] .opened) word) (partyOf (now (own .entry)) [])) ⌝ }
+{
+    let at = 4 + count as usize;
+    own[at] = word;
+    own[3] = count + 1;
+}
+
+pub fn set_domain(own: &mut [u32; 17], i0: u32, j0: u32, i1: u32, j1: u32)
+    requires { ⌜ length (now own) ≡ 17 ⌝ }
+    ensures { λ _. ⌜ now (own .exit) ≡ partyCells (withDomain (domainFrom i0 j0 i1 j1) (partyOf (now (own .entry)) [])) ⌝ }
+{
+    own[8] = 1;
+    own[9] = i0;
+    own[10] = j0;
+    own[11] = i1;
+    own[12] = j1;
+}
+
+pub fn set_instructions(own: &mut [u32; 17], base: u32, format: u32)
+    requires { ⌜ length (now own) ≡ 17 ⌝ }
+    ensures { λ _. ⌜ now (own .exit) ≡ partyCells (withInstructions (buffer base format 1) (partyOf (now (own .entry)) [])) ⌝ }
+{
+    own[13] = 1;
+    own[14] = base;
+    own[15] = format;
+    own[16] = 1;
+}
