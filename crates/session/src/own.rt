@@ -9,11 +9,17 @@ ghost use Rattle.session.specs.Cells.{partyOf, partyCells};
 
 // Places of the cells.
 pub const STOPPED: usize = 0;
+
 pub const TAKEN: usize = 1;
+
 pub const LINE: usize = 2;
+
 pub const COUNT: usize = 3;
+
 pub const PARAMETERS: usize = 4;
+
 pub const DOMAIN: usize = 8;
+
 pub const INSTRUCTIONS: usize = 13;
 
 // The line that stands for no open command: one past the table.
