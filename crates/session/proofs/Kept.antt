@@ -72,7 +72,7 @@ parameter-at : (o : Open) (w k : ℕ) → o .count < 4 → k < 4 →
 parameter-at o w k h = each (λ k. getD (parametersOf (withParameter o w)) k 0 ≡ pick (eqb (o .count) k) w (getD (parametersOf o) k 0)) 4 (tt & refl & refl & refl & refl) k
 
 -- an open command that takes an allowed parameter: every parameter so far is allowed
-allowed-more : (o : Open) (w : ℕ) → o .count < 4 → OpenValid o → allowed (kindOf (o .line) (o .count)) w ≡ true →
+pub allowed-more : (o : Open) (w : ℕ) → o .count < 4 → OpenValid o → allowed (kindOf (o .line) (o .count)) w ≡ true →
     (k : ℕ) → k < o .count + 1 → allowed (kindOf (o .line) k) (getD (parametersOf (withParameter o w)) k 0) ≡ true
 allowed-more o w h v a k hk =
     rw (parameter-at o w k h (omega arith))

@@ -1,6 +1,9 @@
+pub mod Accepting
 pub mod Cells
 pub mod Cut
 pub mod Kept
+pub mod OwnPuts
 pub mod Puts
 pub mod SharedPuts
+pub mod Stepping
 pub mod Ways

@@ -1,3 +1,5 @@
+pub mod Answers
+pub mod Asked
 pub mod Cells
 pub mod Feed
 pub mod Start

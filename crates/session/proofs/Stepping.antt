@@ -1,0 +1,225 @@
+-- A whole command and a parameter, cell by cell as the code takes them, are the definition's steps. Assumes nothing.
+use mathlib.Core.Path.{_≡_, refl, sym, ap, _∙_, subst}
+use mathlib.Core.Bool.{Bool, true, false}
+use mathlib.Core.List.{List, [], _∷_}
+use Prim.Native.Nat.{ℕ, zero, suc, _+_, _<_, _≤_, _^_}
+use native.Mathlib.Omega.{arith}
+use lib.Dec.{eqb, leb, ltb}
+use lib.ListN.{length, getD}
+use borrow.Author.Tests.{lt-ltb, le-ltb, leb-true}
+use denote.Enum.Declared.{tagOf}
+use types.Run.{OneOf, miss}
+use Rattle.laws.specs.Choice.{pick}
+use Rattle.laws.proofs.Choice.{pick-yes, pick-no}
+use Rattle.refusal.specs.Told.{Told, gives, refuses}
+use Rattle.command.specs.Table.{countOf}
+use Rattle.command.specs.Kinds.{allowed, kindOf}
+use Rattle.command.specs.Commands.{commandOf, lineOf, fieldsOf, EachAllowed}
+use Rattle.command.specs.Rules.{lastRuleOf}
+use Rattle.command.specs.Writer.{thenTold}
+use Rattle.command.specs.declared.commands.Command.{Command}
+use Rattle.command.specs.declared.commands.Command.the-variants as command
+use Rattle.command.proofs.commands.Command.{the-type}
+use Rattle.command.proofs.Headers.{count-most}
+use Rattle.command.proofs.Judging.{then-refused, then-given}
+use Rattle.session.specs.State.{Open, Party, Shared, Session, none}
+use Rattle.session.specs.Start.{readyOf}
+use Rattle.session.specs.Step.{
+    Reply, stillOpen, completed, refused, Stepped, Numbered, limit, opening, took, stop, refusing, withParameter, startRuleOf, after,
+    judged, completing, placing, stepOf
+}
+use Rattle.session.specs.Valid.{parametersOf, OpenValid, Valid}
+use Rattle.session.specs.Asked.{Held, Left, OwnAsked, AcceptAsked, CompleteAsked, ParameterAsked, Given}
+use Rattle.session.specs.Cells.{Sized, partyOf, partyCells, tallyCells, sharedOf, sharedCells, sessionOf}
+use Rattle.session.proofs.Cells.{own-canon, tally-canon, shared-canon}
+use Rattle.session.proofs.Kept.{whole-allowed, allowed-more}
+use Rattle.session.proofs.Ways.{whole}
+
+-- only a start asks anything of the settings
+pub no-start-rule : (c : Command) (s : Session) → OneOf (0 ∷ 2 ∷ 3 ∷ 4 ∷ 5 ∷ 6 ∷ 7 ∷ 8 ∷ 9 ∷ []) (tagOf the-type c) → startRuleOf c s ≡ gives []
+unfolding startRuleOf
+no-start-rule (command.Domain i0 j0 i1 j1) s e = refl
+no-start-rule command.Start s e = absurd (miss (0 ∷ 2 ∷ 3 ∷ 4 ∷ 5 ∷ 6 ∷ 7 ∷ 8 ∷ 9 ∷ []) 1 tt e)
+no-start-rule (command.Quiet what) s e = refl
+no-start-rule (command.Store what base format) s e = refl
+no-start-rule (command.Input number base format height) s e = refl
+no-start-rule (command.Output number base format height) s e = refl
+no-start-rule (command.Conditional base format height) s e = refl
+no-start-rule (command.OutputMask mask) s e = refl
+no-start-rule (command.ConditionalMask mask) s e = refl
+no-start-rule (command.Test test) s e = refl
+
+-- the start's rule reads the domain, the instructions and the outputs alone
+start-rule-same : (c : Command) (p q : Party) (h : Shared) → p .domain ≡ q .domain → p .instructions ≡ q .instructions →
+    startRuleOf c (record { party = p; shared = h }) ≡ startRuleOf c (record { party = q; shared = h })
+unfolding startRuleOf
+start-rule-same (command.Domain i0 j0 i1 j1) p q h d i = refl
+start-rule-same command.Start p q h d i = ap (λ x. readyOf x (p .instructions) (h .outputs)) d ∙ ap (λ x. readyOf (q .domain) x (h .outputs)) i
+start-rule-same (command.Quiet what) p q h d i = refl
+start-rule-same (command.Store what base format) p q h d i = refl
+start-rule-same (command.Input number base format height) p q h d i = refl
+start-rule-same (command.Output number base format height) p q h d i = refl
+start-rule-same (command.Conditional base format height) p q h d i = refl
+start-rule-same (command.OutputMask mask) p q h d i = refl
+start-rule-same (command.ConditionalMask mask) p q h d i = refl
+start-rule-same (command.Test test) p q h d i = refl
+
+-- the rules on a whole command, as the code asks them
+module _ (c : Command) (s : Session) (told : Told) where
+  pub rule-refused : (n : ℕ) → told ≡ lastRuleOf c → told ≡ refuses n → told ≡ thenTold (lastRuleOf c) (startRuleOf c s)
+  rule-refused n e r = e ∙ sym (then-refused (startRuleOf c s) (sym e ∙ r))
+
+  pub rule-passed : (v : List ℕ) → lastRuleOf c ≡ gives v → told ≡ startRuleOf c s → told ≡ thenTold (lastRuleOf c) (startRuleOf c s)
+  rule-passed v e q = q ∙ sym (then-given (startRuleOf c s) e)
+
+pub start-rule : {c : Command} (s : Session) → c ≡ command.Start →
+    readyOf (s .party .domain) (s .party .instructions) (s .shared .outputs) ≡ startRuleOf c s
+unfolding startRuleOf
+start-rule s e = ap (λ (c : Command). startRuleOf c s) {x = command.Start} (sym e)
+
+-- an input's and an output's number is in range where its kind allows it
+numbered : (c : Command) → EachAllowed (lineOf c) (fieldsOf c) → Numbered c
+unfolding lineOf fieldsOf countOf kindOf allowed
+numbered (command.Domain i0 j0 i1 j1) a = tt
+numbered command.Start a = tt
+numbered (command.Quiet what) a = tt
+numbered (command.Store what base format) a = tt
+numbered (command.Input number base format height) a = omega (arith, leb-true number 15 (a 0 (omega arith)))
+numbered (command.Output number base format height) a = omega (arith, leb-true number 3 (a 0 (omega arith)))
+numbered (command.Conditional base format height) a = tt
+numbered (command.OutputMask mask) a = tt
+numbered (command.ConditionalMask mask) a = tt
+numbered (command.Test test) a = tt
+
+-- a refused word's cells: the session is stopped and its open command dropped, all else stands
+pub refusing-left : (l t s : List ℕ) → Sized l t s → (n : ℕ) (l1 : List ℕ) → l1 ≡ partyCells (stop (partyOf l [])) →
+    Left (refusing (sessionOf l t s) n) (refused n) l1 t s
+refusing-left l t s z n l1 e =
+    record {
+      reply = refl;
+      held =
+        record {
+          own-cells = unfold partyOf partyCells in e;
+          tally-cells = unfold partyOf tallyCells in sym (tally-canon l t (z .tallies-length));
+          shared-cells = sym (shared-canon s (z .shared-length));
+        };
+    }
+
+-- a whole command
+module _ (l t s : List ℕ) (a : CompleteAsked l t s) where
+  abbrev o : Open
+  o = partyOf l [] .opened
+
+  abbrev ss : Session
+  ss = sessionOf l t s
+
+  pub whole-numbered : (c : Command) → c ≡ whole o → AcceptAsked c l t s
+  whole-numbered c e =
+      record {
+        asked = a .asked;
+        number = subst Numbered (sym e) (numbered (whole o) (whole-allowed o line-lt passed));
+        taken = a .taken;
+      }
+    where
+      line-lt : o .line < 21
+      line-lt = unfold partyOf in a .line
+
+      passed : EachAllowed (o .line) (parametersOf o)
+      passed = unfold partyOf in a .passed
+
+  same-rule : (c : Command) → thenTold (lastRuleOf c) (startRuleOf c (sessionOf l [] s)) ≡ thenTold (lastRuleOf c) (startRuleOf c ss)
+  same-rule c =
+      ap (thenTold (lastRuleOf c)) (start-rule-same c (partyOf l []) (partyOf l t) (sharedOf s) (unfold partyOf in refl) (unfold partyOf in refl))
+
+  module _ (c : Command) (e : c ≡ whole o) (told : Told) (r : told ≡ thenTold (lastRuleOf c) (startRuleOf c (sessionOf l [] s))) where
+    is-judged : judged told c ss ≡ completing o ss
+    unfolding completing
+    is-judged =
+        ap (λ (x : Told). judged x c ss) (r ∙ same-rule c) ∙
+        ap (λ (d : Command). judged (thenTold (lastRuleOf d) (startRuleOf d ss)) d ss) e
+
+    pub whole-refused : (n : ℕ) → told ≡ refuses n → (l1 : List ℕ) → l1 ≡ partyCells (stop (partyOf l [])) →
+        Left (completing o ss) (refused n) l1 t s
+    unfolding judged
+    whole-refused n k l1 q =
+        subst (λ (x : Stepped). Left x (refused n) l1 t s) (ap (λ (x : Told). judged x c ss) (sym k) ∙ is-judged)
+        (refusing-left l t s (a .asked .sized) n l1 q)
+
+    pub whole-accepted : (v : List ℕ) → told ≡ gives v → (l1 t1 s1 : List ℕ) → Held (after c ss) l1 t1 s1 →
+        Left (completing o ss) (completed c) l1 t1 s1
+    unfolding judged
+    whole-accepted v k l1 t1 s1 h =
+        subst (λ (x : Stepped). Left x (completed c) l1 t1 s1) (ap (λ (x : Told). judged x c ss) (sym k) ∙ is-judged)
+        (record { reply = refl; held = h })
+
+-- a step of a session whose open command has one parameter more is a step of the session before it
+reopened : Open → Session → Session
+reopened o s = record { party = opening o (s .party); shared = s .shared }
+
+judged-same : (t : Told) (c : Command) (o : Open) (s : Session) → judged t c (reopened o s) ≡ judged t c s
+unfolding judged after reopened
+judged-same (gives v) c o s = refl
+judged-same (refuses n) c o s = refl
+
+completing-same : (o p : Open) (s : Session) → completing o (reopened p s) ≡ completing o s
+unfolding completing reopened
+completing-same o p s =
+    ap (λ (r : Told). judged (thenTold (lastRuleOf (whole o)) r) (whole o) (reopened p s))
+    (start-rule-same (whole o) (opening p (s .party)) (s .party) (s .shared) refl refl) ∙
+    judged-same _ (whole o) p s
+
+-- a parameter that its kind allows
+module _ (l t s : List ℕ) (w : ℕ) (a : ParameterAsked l t s w) where
+  abbrev sw : Session
+  sw = sessionOf l t s
+
+  abbrev ow : Open
+  ow = partyOf l [] .opened
+
+  abbrev next : Open
+  next = withParameter ow w
+
+  open-valid : OpenValid (partyOf l t .opened)
+  open-valid = a .given .valid .opened (a .line)
+
+  count-lt : partyOf l t .opened .count < 4
+  count-lt = omega (arith, open-valid .fewer, count-most (partyOf l t .opened .line) (a .line))
+
+  pub place-asked : (length l ≡ 17) × ((getD l 3 0 < 4) × (partyOf l [] .opened .count ≡ getD l 3 0))
+  unfolding partyOf
+  place-asked = (a .given .sized .own-length, (count-lt, refl))
+
+  pub count-fits : getD l 3 0 + 1 < 2 ^ 32
+  unfolding partyOf
+  count-fits = omega (arith, count-lt)
+
+  module _ (l1 : List ℕ) (e1 : l1 ≡ partyCells (opening next (partyOf l []))) where
+    pub placed-asked : (length l1 ≡ 17) × (partyOf l1 [] .taken < limit)
+    unfolding partyOf partyCells
+    placed-asked = rw e1 (refl, a .taken)
+
+    pub placed-open : getD l 3 0 + 1 < countOf (getD l 2 0) → (l2 : List ℕ) → l2 ≡ partyCells (took (partyOf l1 [])) →
+        Left (placing next sw) stillOpen l2 t s
+    unfolding placing partyOf
+    placed-open k l2 e2 =
+        subst (λ (x : Stepped). Left x stillOpen l2 t s) (sym (pick-yes _ _ (lt-ltb _ _ k)))
+        (record {
+          reply = refl;
+          held =
+            record {
+              own-cells = unfold partyCells in (e2 ∙ ap (λ (x : List ℕ). partyCells (took (partyOf x []))) e1);
+              tally-cells = unfold tallyCells in sym (tally-canon l t (a .given .sized .tallies-length));
+              shared-cells = sym (shared-canon s (a .given .sized .shared-length));
+            };
+        })
+
+    is-next : partyOf l1 t ≡ opening next (partyOf l t)
+    unfolding partyOf partyCells
+    is-next = ap (λ (x : List ℕ). partyOf x t) e1
+
+    pub complete-asked : countOf (getD l 2 0) ≤ getD l 3 0 + 1 → CompleteAsked l1 t s
+    complete-asked k = ?
+
+    pub placed-whole : countOf (getD l 2 0) ≤ getD l 3 0 + 1 → (r : Reply) (l2 t2 s2 : List ℕ) →
+        Left (completing (partyOf l1 [] .opened) (sessionOf l1 t s)) r l2 t2 s2 → Left (placing next sw) r l2 t2 s2
+    placed-whole k r l2 t2 s2 h = ?

@@ -1,0 +1,81 @@
+// The words of a stream, one by one and in pieces.
+use crate::accept;
+use crate::own;
+use crate::start;
+use command::commands;
+use command::commands::Command;
+use command::kinds;
+use command::kinds::Checked;
+use command::rules;
+use command::table;
+use command::table::Line;
+use refusal::Refusal;
+ghost use mathlib.Core.Path.{_≡_};
+ghost use mathlib.Core.List.{[]};
+ghost use Prim.Native.Nat.{_<_};
+ghost use lib.ListN.{length};
+ghost use Rattle.command.specs.Kinds.{toldChecked};
+ghost use Rattle.command.specs.Rules.{lastRuleOf};
+ghost use Rattle.command.specs.Writer.{thenTold};
+ghost use Rattle.session.specs.State.{newSession};
+ghost use Rattle.session.specs.Step.{completing, parameterStep, placing, startRuleOf, stepOf, withParameter};
+ghost use Rattle.session.specs.Cells.{Sized, partyOf, sessionOf};
+ghost use Rattle.session.specs.Asked.{CompleteAsked, Given, Held, Left, ParameterAsked};
+ghost use Rattle.session.specs.Answers.{replyOf};
+
+// What a word is answered: the command is still open, the command that the word completed, or the refusal.
+pub enum Answer {
+    Open,
+    Done(Command),
+    Refused(Refusal),
+}
+
+// The rules on a whole command: 5 and 6 of its fields, and of a start 7, 8 and 9 of the settings.
+fn whole_rule(own: &[u32; 17], shared: &[u32; 101], command: Command) -> Checked
+    requires { ⌜ (length (now own) ≡ 17) × (length (now shared) ≡ 101) ⌝ }
+    ensures { λ r. ⌜ toldChecked r ≡ thenTold (lastRuleOf command) (startRuleOf command (sessionOf (now (own .entry)) [] (now (shared .entry)))) ⌝ }
+{
+    let rule = rules::last_rule(command);
+    let Checked::Fine = rule else {
+        return rule;
+    };
+    if let Command::Start = command {
+        start::ready(own, shared)
+    } else {
+        Checked::Fine
+    }
+}
+
+// All parameters are there: the command is judged as a whole, and accepted or refused.
+fn complete(own: &mut [u32; 17], tallies: &mut [u64; 2], shared: &mut [u32; 101]) -> Answer
+    requires { ⌜ CompleteAsked (now own) (now tallies) (now shared) ⌝ }
+    ensures { λ r. ⌜ Left (completing (partyOf (now (own .entry)) [] .opened) (sessionOf (now (own .entry)) (now (tallies .entry)) (now (shared .entry)))) (replyOf r) (now (own .exit)) (now (tallies .exit)) (now (shared .exit)) ⌝ }
+{
+    let command = commands::build(own[2], own[4], own[5], own[6], own[7]);
+    let rule = whole_rule(own, shared, command);
+    match rule {
+        Checked::Refused(why) => {
+            own::stop(own);
+            Answer::Refused(why)
+        }
+        Checked::Fine => {
+            accept::accept(own, tallies, shared, command);
+            Answer::Done(command)
+        }
+    }
+}
+
+// A parameter that its kind allows.
+fn placed(own: &mut [u32; 17], tallies: &mut [u64; 2], shared: &mut [u32; 101], word: u32) -> Answer
+    requires { ⌜ ParameterAsked (now own) (now tallies) (now shared) word ⌝ }
+    ensures { λ r. ⌜ Left (placing (withParameter (partyOf (now (own .entry)) [] .opened) word) (sessionOf (now (own .entry)) (now (tallies .entry)) (now (shared .entry)))) (replyOf r) (now (own .exit)) (now (tallies .exit)) (now (shared .exit)) ⌝ }
+{
+    let line = own[2];
+    let count = own[3];
+    own::place(own, count, word);
+    if count + 1 < table::parameters(line) {
+        own::count_word(own);
+        return Answer::Open;
+    }
+    complete(own, tallies, shared)
+}
