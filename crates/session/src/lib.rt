@@ -3,3 +3,4 @@
 // A word is refused with 1 to 9 or 17; all but 1 stop the session for good and drop the open command.
 pub mod own;
 pub mod settings;
+pub mod start;
