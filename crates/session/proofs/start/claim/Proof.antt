@@ -1,42 +1,33 @@
+-- `session::start::claim` meets its contract. Assumes nothing.
+use native.Mathlib.Omega.{arith}
+use Rattle.session.proofs.Readiness.{claim-most, claim-told, domain-places}
 use borrow.Author.Needs.{needs}
 use Rattle.session.proofs.start.claim.Statement.{statement}
 use Rattle.session.proofs.start.claim.Tie as tie
-use Rattle.session.proofs.start.claim.Reads as reads
-use Rattle.session.proofs.start.claim.Lts as lts
-use Rattle.session.proofs.start.pairs.Reads as pairs-reads
-use Rattle.session.proofs.start.set_outputs.Reads as set-outputs-reads
 
--- src/start.rt:176:11
 element-copy-out-pairs : tie.Need-element-copy-out-pairs
 element-copy-out-pairs c = search needs
 
--- src/start.rt:176:19
 element-copy-out-pairs-2 : tie.Need-element-copy-out-pairs-2
 element-copy-out-pairs-2 c = search needs
 
--- src/start.rt:176:28
 element-copy-out-pairs-3 : tie.Need-element-copy-out-pairs-3
 element-copy-out-pairs-3 c = search needs
 
--- src/start.rt:176:37
 element-copy-out-pairs-4 : tie.Need-element-copy-out-pairs-4
 element-copy-out-pairs-4 c = search needs
 
--- src/start.rt:176:5
 pairs-requires : tie.Need-pairs-requires
-pairs-requires c κs = ?
+pairs-requires c κs = domain-places (c .before .before .before .before .args .own .now) (c .before .before .before .before .pre .1)
 
--- src/start.rt:176:48
 set-outputs-requires : tie.Need-set-outputs-requires
 set-outputs-requires c κs = search needs
 
--- src/start.rt:176:5
 mul-result : tie.Need-mul-result
-mul-result c = ?
+mul-result c = omega (arith, claim-most (c .before .pairs .ensures .1) (c .set-outputs .ensures .1))
 
--- src/start.rt:172:1
 returns : tie.Need-returns
-returns c = ?
+returns c = claim-told (c .before .before .before .before .before .before .args .own .now) (c .before .before .before .before .before .before .args .shared .now) (c .before .pairs .ensures) (c .set-outputs .ensures)
 
 pub claim-spec : {M : Type 1} → statement M
 claim-spec =

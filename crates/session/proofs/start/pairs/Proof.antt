@@ -1,40 +1,34 @@
+-- `session::start::pairs` meets its contract. Assumes nothing.
+use mathlib.Core.Path.{refl}
+use native.Mathlib.Omega.{arith}
+use Rattle.session.proofs.Readiness.{pairs-most}
 use borrow.Author.Needs.{needs}
 use Rattle.session.proofs.start.pairs.Statement.{statement}
 use Rattle.session.proofs.start.pairs.Tie as tie
-use Rattle.session.proofs.start.pairs.Reads as reads
-use Rattle.session.proofs.start.pairs.Lts as lts
 
--- src/start.rt:151:20
 sub-columns : tie.Need-sub-columns
 sub-columns c = search needs
 
--- src/start.rt:151:20
 add-columns : tie.Need-add-columns
 add-columns c = search needs
 
--- src/start.rt:151:19
 cast-columns : tie.Need-cast-columns
 cast-columns c = search needs
 
--- src/start.rt:152:17
 sub-rows : tie.Need-sub-rows
 sub-rows c = search needs
 
--- src/start.rt:152:17
 add-rows : tie.Need-add-rows
 add-rows c = search needs
 
--- src/start.rt:152:16
 cast-rows : tie.Need-cast-rows
 cast-rows c = search needs
 
--- src/start.rt:153:5
 mul-result : tie.Need-mul-result
-mul-result c = ?
+mul-result c = omega (arith, pairs-most (c .args .i0) (c .args .j0) (c .args .i1) (c .args .j1) (c .pre))
 
--- src/start.rt:147:1
 returns : tie.Need-returns
-returns c = ?
+returns c = (refl, pairs-most (c .args .i0) (c .args .j0) (c .args .i1) (c .args .j1) (c .pre))
 
 pub pairs-spec : {M : Type 1} → statement M
 pairs-spec =
