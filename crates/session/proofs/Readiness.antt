@@ -6,8 +6,8 @@ use mathlib.Core.List.{List, [], _∷_}
 use Prim.Native.Nat.{ℕ, _+_, _-_, _*_, _<_, _≤_}
 use native.Mathlib.Nat.{mul-le-mul}
 use native.Mathlib.Omega.{arith}
-use lib.Dec.{eqb, ltb, leb}
-use lib.ListN.{length, getD}
+use lib.Dec.{eqb, ltb}
+use lib.ListN.{getD}
 use borrow.Author.Tests.{eq-eqb, ne-eqb}
 use Rattle.laws.specs.Choice.{_and_, pick}
 use Rattle.laws.proofs.Choice.{pick-yes, pick-no}
@@ -47,20 +47,21 @@ use Rattle.session.specs.Windows.{
   verdictOf,
 }
 
--- an output whose window is judged
+-- an output by the judgement of its window
+abbrev judged : ℕ → ℕ → ℕ → Told → Output
+judged flag base height t =
+    record { counts = eqb flag 1; base = base; step = valueOf t 0; height = height; span = valueOf t 1 }
+
 module _ (flag base format height : ℕ) where
   pub output-given : {step span : ℕ} → gives (step ∷ span ∷ []) ≡ windowOf base format height →
       record { counts = eqb flag 1; base = base; step = step; height = height; span = span } ≡ outputOf (cellsBuffer flag base format height)
   unfolding outputOf stepOfBuffer spanOfBuffer valueOf
-  output-given e = ap (seen flag base height) e
+  output-given e = ap (judged flag base height) e
 
   pub output-refused : {n : ℕ} → refuses n ≡ windowOf base format height →
       record { counts = eqb flag 1; base = base; step = 0; height = height; span = 0 } ≡ outputOf (cellsBuffer flag base format height)
   unfolding outputOf stepOfBuffer spanOfBuffer valueOf
-  output-refused e = ap (seen flag base height) e
-    where
-      seen : ℕ → ℕ → ℕ → Told → Output
-      seen f b h t = record { counts = eqb f 1; base = b; step = valueOf t 0; height = h; span = valueOf t 1 }
+  output-refused e = ap (judged flag base height) e
 
 -- one output, and two
 pub holds-counted : (i j : ℕ) (a : Output) {r : Bool} → a .counts ≡ true → r ≡ (ltb i (a .step) and ltb j (a .height)) →
@@ -153,10 +154,10 @@ module _ (own shared : List ℕ) where
   ready-told ea eb ec ed es ep ex ey ez et = cc (complete-seen, covered-seen, disjoint-seen)
 
 -- what a start claims
-pub one-set : (flag : ℕ) → flag ≡ 1 → (1 ≡ pick (eqb flag 1) 1 0) × (1 ≤ 1)
+pub one-set : (flag : ℕ) → flag ≡ 1 → (_≡_ {A = ℕ} 1 (pick (eqb flag 1) 1 0)) × (1 ≤ 1)
 one-set flag e = (sym (pick-yes 1 0 (eq-eqb flag 1 e)), omega arith)
 
-pub one-unset : (flag : ℕ) → (flag ≡ 1 → ⊥) → (0 ≡ pick (eqb flag 1) 1 0) × (0 ≤ 1)
+pub one-unset : (flag : ℕ) → (flag ≡ 1 → ⊥) → (_≡_ {A = ℕ} 0 (pick (eqb flag 1) 1 0)) × (0 ≤ 1)
 one-unset flag e = (sym (pick-no 1 0 (ne-eqb flag 1 e)), omega arith)
 
 pub set-outputs : (shared : List ℕ) {a b c d : ℕ} →
@@ -170,15 +171,15 @@ pub pairs-most : (i0 j0 i1 j1 : ℕ) → ((i0 ≤ i1) × (i1 < 4096)) × ((j0 �
     (i1 - i0 + 1) * (j1 - j0 + 1) ≤ 16777216
 pairs-most i0 j0 i1 j1 h = mul-le-mul {n₂ = 4096} {m₂ = 4096} (omega (arith, h)) (omega (arith, h))
 
-pub claim-most : {p n : ℕ} → p ≤ 16777216 → n ≤ 4 → p * n ≤ 67108864
-claim-most h k = mul-le-mul {n₂ = 16777216} {m₂ = 4} h k
+pub claim-fits : {p n : ℕ} → p ≤ 16777216 → n ≤ 4 → p * n ≤ 67108864
+claim-fits h k = mul-le-mul {n₂ = 16777216} {m₂ = 4} h k
 
 pub claim-told : (own shared : List ℕ) {p n : ℕ} →
     (p ≡ (getD own 11 0 - getD own 9 0 + 1) * (getD own 12 0 - getD own 10 0 + 1)) × (p ≤ 16777216) →
     (n ≡ sumBelow 4 (λ n. pick (counts (sharedOf shared .outputs) n) 1 0)) × (n ≤ 4) →
     (p * n ≡ claimOf (partyOf own [] .domain) (sharedOf shared .outputs)) × (p * n ≤ 67108864)
 unfolding claimOf pairsOf partyOf
-claim-told own shared e f = (cc, claim-most (e .1) (f .1))
+claim-told own shared e f = (cc, claim-fits (e .1) (f .1))
 
 pub domain-places : (own : List ℕ) → DomainValid (partyOf own [] .domain) →
     ((getD own 9 0 ≤ getD own 11 0) × (getD own 11 0 < 4096)) × ((getD own 10 0 ≤ getD own 12 0) × (getD own 12 0 < 4096))

@@ -7,7 +7,7 @@ ghost use mathlib.Core.Path.{_≡_};
 ghost use mathlib.Core.Bool.{true};
 ghost use mathlib.Core.List.{[]};
 ghost use Prim.Native.Nat.{_+_, _-_, _*_, _<_, _≤_};
-ghost use lib.Dec.{eqb, leb};
+ghost use lib.Dec.{eqb};
 ghost use lib.ListN.{length};
 ghost use Rattle.laws.specs.Choice.{_and_, pick};
 ghost use Rattle.command.specs.Kinds.{toldChecked};
@@ -31,8 +31,20 @@ fn output_of(flag: u32, base: u32, format: u32, height: u32) -> Output
 {
     let counts = flag == 1;
     match window(base, format, height) {
-        Judged::Accepted { step, span } => Output { counts, base, step, height, span },
-        Judged::Refused(_) => Output { counts, base, step: 0, height, span: 0 },
+        Judged::Accepted { step, span } => Output {
+            counts,
+            base,
+            step,
+            height,
+            span,
+        },
+        Judged::Refused(_) => Output {
+            counts,
+            base,
+            step: 0,
+            height,
+            span: 0,
+        },
     }
 }
 
@@ -108,7 +120,10 @@ fn each_apart(a: Output, b: Output, c: Output, d: Output) -> bool
 {
     let second = keeps_apart(b, a);
     let third = both(keeps_apart(c, a), keeps_apart(c, b));
-    let fourth = both(both(keeps_apart(d, a), keeps_apart(d, b)), keeps_apart(d, c));
+    let fourth = both(
+        both(keeps_apart(d, a), keeps_apart(d, b)),
+        keeps_apart(d, c),
+    );
     both(both(second, third), fourth)
 }
 

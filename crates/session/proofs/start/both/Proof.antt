@@ -1,4 +1,4 @@
--- `session::start::both` meets its contract. Assumes nothing.
+-- `session::start::both` meets its contract: the second test where the first holds. Assumes nothing.
 use mathlib.Core.Path.{sym}
 use Rattle.laws.proofs.Choice.{and-yes, and-no-left}
 use Rattle.session.proofs.start.both.Statement.{statement}

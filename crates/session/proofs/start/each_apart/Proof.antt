@@ -1,4 +1,4 @@
--- `session::start::each_apart` meets its contract. Assumes nothing.
+-- `session::start::each_apart` meets its contract: the chain of tests is the definition's. Assumes nothing.
 use Rattle.session.proofs.Readiness.{each-apart}
 use borrow.Author.Needs.{needs}
 use Rattle.session.proofs.start.each_apart.Statement.{statement}
@@ -38,7 +38,23 @@ both-requires-5 : tie.Need-both-requires-5
 both-requires-5 c κs = search needs
 
 returns : tie.Need-returns
-returns c = each-apart (c .before .before .before .before .before .before .before .before .before .before .before .args .a) (c .before .before .before .before .before .before .before .before .before .before .before .args .b) (c .before .before .before .before .before .before .before .before .before .before .before .args .c) (c .before .before .before .before .before .before .before .before .before .before .before .args .d) (c .before .before .before .before .before .before .before .before .before .before .keeps-apart .ensures) (c .before .before .before .before .before .before .before .before .before .keeps-apart2 .ensures) (c .before .before .before .before .before .before .before .before .keeps-apart3 .ensures) (c .before .before .before .before .before .before .before .both .ensures) (c .before .before .before .before .before .before .keeps-apart4 .ensures) (c .before .before .before .before .before .keeps-apart5 .ensures) (c .before .before .before .before .both2 .ensures) (c .before .before .before .keeps-apart6 .ensures) (c .before .before .both3 .ensures) (c .before .both4 .ensures) (c .both5 .ensures)
+returns c =
+    each-apart
+    (c .before .before .before .before .before .before .before .before .before .before .before .args .a)
+    (c .before .before .before .before .before .before .before .before .before .before .before .args .b)
+    (c .before .before .before .before .before .before .before .before .before .before .before .args .c)
+    (c .before .before .before .before .before .before .before .before .before .before .before .args .d)
+    (c .before .before .before .before .before .before .before .before .before .before .keeps-apart .ensures)
+    (c .before .before .before .before .before .before .before .before .before .keeps-apart2 .ensures)
+    (c .before .before .before .before .before .before .before .before .keeps-apart3 .ensures)
+    (c .before .before .before .before .before .before .before .both .ensures)
+    (c .before .before .before .before .before .before .keeps-apart4 .ensures)
+    (c .before .before .before .before .before .keeps-apart5 .ensures)
+    (c .before .before .before .before .both2 .ensures)
+    (c .before .before .before .keeps-apart6 .ensures)
+    (c .before .before .both3 .ensures)
+    (c .before .both4 .ensures)
+    (c .both5 .ensures)
 
 pub each-apart-spec : {M : Type 1} → statement M
 each-apart-spec =

@@ -1,4 +1,4 @@
--- `session::start::each_holds` meets its contract. Assumes nothing.
+-- `session::start::each_holds` meets its contract: the chain of tests is the definition's. Assumes nothing.
 use Rattle.session.proofs.Readiness.{each-holds}
 use borrow.Author.Needs.{needs}
 use Rattle.session.proofs.start.each_holds.Statement.{statement}
@@ -26,7 +26,19 @@ both-requires-3 : tie.Need-both-requires-3
 both-requires-3 c κs = search needs
 
 returns : tie.Need-returns
-returns c = each-holds (c .before .before .before .before .before .before .before .args .a) (c .before .before .before .before .before .before .before .args .b) (c .before .before .before .before .before .before .before .args .c) (c .before .before .before .before .before .before .before .args .d) _ _ (c .before .before .before .before .before .before .holds-pair .ensures) (c .before .before .before .before .before .holds-pair2 .ensures) (c .before .before .before .before .both .ensures) (c .before .before .before .holds-pair3 .ensures) (c .before .before .both2 .ensures) (c .before .holds-pair4 .ensures) (c .both3 .ensures)
+returns c =
+    each-holds
+    (c .before .before .before .before .before .before .before .args .a)
+    (c .before .before .before .before .before .before .before .args .b)
+    (c .before .before .before .before .before .before .before .args .c)
+    (c .before .before .before .before .before .before .before .args .d) _ _
+    (c .before .before .before .before .before .before .holds-pair .ensures)
+    (c .before .before .before .before .before .holds-pair2 .ensures)
+    (c .before .before .before .before .both .ensures)
+    (c .before .before .before .holds-pair3 .ensures)
+    (c .before .before .both2 .ensures)
+    (c .before .holds-pair4 .ensures)
+    (c .both3 .ensures)
 
 pub each-holds-spec : {M : Type 1} → statement M
 each-holds-spec =

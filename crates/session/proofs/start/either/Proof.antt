@@ -1,4 +1,4 @@
--- `session::start::either` meets its contract. Assumes nothing.
+-- `session::start::either` meets its contract: the second test where the first fails. Assumes nothing.
 use mathlib.Core.Path.{sym}
 use Rattle.laws.proofs.Choice.{pick-yes, pick-no}
 use Rattle.session.proofs.start.either.Statement.{statement}

@@ -1,4 +1,4 @@
--- `session::start::holds_pair` meets its contract. Assumes nothing.
+-- `session::start::holds_pair` meets its contract: an output that doesn't count holds every pair. Assumes nothing.
 use Rattle.session.proofs.Readiness.{holds-counted, holds-uncounted}
 use borrow.Author.Needs.{needs}
 use Rattle.session.proofs.start.holds_pair.Statement.{statement}
@@ -8,7 +8,11 @@ both-requires : tie.Need-both-requires
 both-requires c κs = search needs
 
 returns : tie.Need-returns
-returns c = holds-counted _ _ (c .before .before .before .before .args .a) (c .before .before .before .if1 .taken) (c .both .ensures)
+returns c =
+    holds-counted _ _
+    (c .before .before .before .before .args .a)
+    (c .before .before .before .if1 .taken)
+    (c .both .ensures)
 
 returns-2 : tie.Need-returns-2
 returns-2 c = holds-uncounted _ _ (c .before .args .a) (c .if1 .left)

@@ -1,4 +1,4 @@
--- `session::start::one` meets its contract. Assumes nothing.
+-- `session::start::one` meets its contract: 1 where the flag is 1, 0 where it is not. Assumes nothing.
 use Rattle.session.proofs.Readiness.{one-set, one-unset}
 use Rattle.session.proofs.start.one.Statement.{statement}
 use Rattle.session.proofs.start.one.Tie as tie

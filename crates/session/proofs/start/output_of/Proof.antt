@@ -1,4 +1,4 @@
--- `session::start::output_of` meets its contract. Assumes nothing.
+-- `session::start::output_of` meets its contract: the row step and span of an accepted window, or zeros. Assumes nothing.
 use mathlib.Core.Path.{sym, ap, _∙_}
 use Rattle.layout.specs.Layout.{toldJudged}
 use Rattle.session.proofs.Readiness.{output-given, output-refused}

@@ -1,4 +1,4 @@
--- `session::start::pairs` meets its contract. Assumes nothing.
+-- `session::start::pairs` meets its contract: at most 4,096 columns by 4,096 rows. Assumes nothing.
 use mathlib.Core.Path.{refl}
 use native.Mathlib.Omega.{arith}
 use Rattle.session.proofs.Readiness.{pairs-most}

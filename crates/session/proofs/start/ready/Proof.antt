@@ -1,4 +1,4 @@
--- `session::start::ready` meets its contract. Assumes nothing.
+-- `session::start::ready` meets its contract: what it finds of the four outputs is what the definition asks of them. Assumes nothing.
 use Rattle.session.proofs.Readiness.{ready-told}
 use borrow.Author.Needs.{needs}
 use Rattle.session.proofs.start.ready.Statement.{statement}
@@ -47,7 +47,20 @@ verdict-requires : tie.Need-verdict-requires
 verdict-requires c κs = search needs
 
 returns : tie.Need-returns
-returns c = ready-told (c .before .before .before .before .before .before .before .before .before .before .before .before .before .before .args .own .now) (c .before .before .before .before .before .before .before .before .before .before .before .before .before .before .args .shared .now) (c .before .before .before .before .before .before .before .before .before .before .before .before .before .output-at .ensures) (c .before .before .before .before .before .before .before .before .before .before .before .before .output-at2 .ensures) (c .before .before .before .before .before .before .before .before .before .before .before .output-at3 .ensures) (c .before .before .before .before .before .before .before .before .before .before .output-at4 .ensures) (c .before .before .before .before .before .before .before .some-counts .ensures) (c .before .before .before .before .before .before .both .ensures) (c .before .before .before .before .before .both2 .ensures) (c .before .before .each-holds .ensures) (c .before .each-apart .ensures) (c .verdict .ensures)
+returns c =
+    ready-told
+    (c .before .before .before .before .before .before .before .before .before .before .before .before .before .before .args .own .now)
+    (c .before .before .before .before .before .before .before .before .before .before .before .before .before .before .args .shared .now)
+    (c .before .before .before .before .before .before .before .before .before .before .before .before .before .output-at .ensures)
+    (c .before .before .before .before .before .before .before .before .before .before .before .before .output-at2 .ensures)
+    (c .before .before .before .before .before .before .before .before .before .before .before .output-at3 .ensures)
+    (c .before .before .before .before .before .before .before .before .before .before .output-at4 .ensures)
+    (c .before .before .before .before .before .before .before .some-counts .ensures)
+    (c .before .before .before .before .before .before .both .ensures)
+    (c .before .before .before .before .before .both2 .ensures)
+    (c .before .before .each-holds .ensures)
+    (c .before .each-apart .ensures)
+    (c .verdict .ensures)
 
 pub ready-spec : {M : Type 1} → statement M
 ready-spec =

@@ -1,4 +1,4 @@
--- `session::start::set_outputs` meets its contract. Assumes nothing.
+-- `session::start::set_outputs` meets its contract: a sum of four ones and zeros. Assumes nothing.
 use Rattle.session.proofs.Readiness.{set-outputs}
 use borrow.Author.Needs.{needs}
 use Rattle.session.proofs.start.set_outputs.Statement.{statement}
@@ -38,7 +38,13 @@ add-result-3 : tie.Need-add-result-3
 add-result-3 c = search needs
 
 returns : tie.Need-returns
-returns c = set-outputs (c .before .before .before .before .before .before .before .before .args .shared .now) (c .before .before .before .before .before .before .one .ensures) (c .before .before .before .before .one2 .ensures) (c .before .before .one3 .ensures) (c .one4 .ensures)
+returns c =
+    set-outputs
+    (c .before .before .before .before .before .before .before .before .args .shared .now)
+    (c .before .before .before .before .before .before .one .ensures)
+    (c .before .before .before .before .one2 .ensures)
+    (c .before .before .one3 .ensures)
+    (c .one4 .ensures)
 
 pub set-outputs-spec : {M : Type 1} → statement M
 set-outputs-spec =

@@ -1,4 +1,4 @@
--- `session::start::spans_apart` meets its contract. Assumes nothing.
+-- `session::start::spans_apart` meets its contract: both ends fit 64 bits. Assumes nothing.
 use Rattle.session.specs.Windows.{spansApart}
 use borrow.Author.Needs.{needs}
 use Rattle.session.proofs.start.spans_apart.Statement.{statement}
