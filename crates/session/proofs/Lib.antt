@@ -4,6 +4,7 @@ pub mod Cut
 pub mod Kept
 pub mod OwnPuts
 pub mod Puts
+pub mod Readiness
 pub mod SharedPuts
 pub mod Stepping
 pub mod Ways

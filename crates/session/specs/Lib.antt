@@ -6,3 +6,4 @@ pub mod Start
 pub mod State
 pub mod Step
 pub mod Valid
+pub mod Windows
