@@ -31,11 +31,11 @@ module _ (c : Command) (l t s : List ℕ) (a : AcceptAsked c l t s) where
           rw both
           (record {
             sized =
-              record {
-                own-length = refl;
-                tallies-length = a .asked .sized .tallies-length;
-                shared-length = a .asked .sized .shared-length;
-              };
+                record {
+                  own-length = refl;
+                  tallies-length = a .asked .sized .tallies-length;
+                  shared-length = a .asked .sized .shared-length;
+                };
             domain = a .asked .domain;
             runs = a .asked .runs;
             claims = a .asked .claims;

@@ -25,8 +25,24 @@ use Rattle.command.proofs.Judging.{then-refused, then-given}
 use Rattle.session.specs.State.{Open, Party, Shared, Session, none}
 use Rattle.session.specs.Start.{readyOf}
 use Rattle.session.specs.Step.{
-    Reply, stillOpen, completed, refused, Stepped, Numbered, limit, opening, took, stop, refusing, withParameter, startRuleOf, after,
-    judged, completing, placing, stepOf
+  Reply,
+  stillOpen,
+  completed,
+  refused,
+  Stepped,
+  Numbered,
+  limit,
+  opening,
+  took,
+  stop,
+  refusing,
+  withParameter,
+  startRuleOf,
+  after,
+  judged,
+  completing,
+  placing,
+  stepOf,
 }
 use Rattle.session.specs.Valid.{parametersOf, OpenValid, Valid}
 use Rattle.session.specs.Asked.{Held, Left, OwnAsked, AcceptAsked, CompleteAsked, ParameterAsked, Given}
@@ -98,11 +114,11 @@ refusing-left l t s z n l1 e =
     record {
       reply = refl;
       held =
-        record {
-          own-cells = unfold partyOf partyCells in e;
-          tally-cells = unfold partyOf tallyCells in sym (tally-canon l t (z .tallies-length));
-          shared-cells = sym (shared-canon s (z .shared-length));
-        };
+          record {
+            own-cells = unfold partyOf partyCells in e;
+            tally-cells = unfold partyOf tallyCells in sym (tally-canon l t (z .tallies-length));
+            shared-cells = sym (shared-canon s (z .shared-length));
+          };
     }
 
 -- a whole command
@@ -206,20 +222,56 @@ module _ (l t s : List ℕ) (w : ℕ) (a : ParameterAsked l t s w) where
         (record {
           reply = refl;
           held =
-            record {
-              own-cells = unfold partyCells in (e2 ∙ ap (λ (x : List ℕ). partyCells (took (partyOf x []))) e1);
-              tally-cells = unfold tallyCells in sym (tally-canon l t (a .given .sized .tallies-length));
-              shared-cells = sym (shared-canon s (a .given .sized .shared-length));
-            };
+              record {
+                own-cells = unfold partyCells in (e2 ∙ ap (λ (x : List ℕ). partyCells (took (partyOf x []))) e1);
+                tally-cells = unfold tallyCells in sym (tally-canon l t (a .given .sized .tallies-length));
+                shared-cells = sym (shared-canon s (a .given .sized .shared-length));
+              };
         })
 
     is-next : partyOf l1 t ≡ opening next (partyOf l t)
     unfolding partyOf partyCells
     is-next = ap (λ (x : List ℕ). partyOf x t) e1
 
+    all-passed : countOf (getD l 2 0) ≤ getD l 3 0 + 1 → EachAllowed (next .line) (parametersOf next)
+    unfolding partyOf
+    all-passed k j h =
+        allowed-more (partyOf l t .opened) w count-lt open-valid (a .kindAllows) j (omega (arith, h, k))
+
     pub complete-asked : countOf (getD l 2 0) ≤ getD l 3 0 + 1 → CompleteAsked l1 t s
-    complete-asked k = ?
+    complete-asked k =
+        record {
+          asked =
+              record {
+                sized =
+                    record {
+                      own-length = placed-asked .0;
+                      tallies-length = a .given .sized .tallies-length;
+                      shared-length = a .given .sized .shared-length;
+                    };
+                domain = rw is-next (a .given .valid .domain);
+                runs = rw is-next (omega (arith, a .given .valid .tally, a .given .valid .full));
+                claims = rw is-next (omega (arith, a .given .valid .tally, a .given .valid .full));
+              };
+          taken = rw is-next (a .taken);
+          line = rw is-next (unfold partyOf in a .line);
+          passed =
+              subst (λ (o : Open). EachAllowed (o .line) (parametersOf o)) (sym (ap (λ (p : Party). p .opened) is-next)) (all-passed k);
+        }
+
+    is-open : partyOf l1 [] .opened ≡ next
+    unfolding partyOf partyCells
+    is-open = ap (λ (x : List ℕ). partyOf x [] .opened) e1
 
     pub placed-whole : countOf (getD l 2 0) ≤ getD l 3 0 + 1 → (r : Reply) (l2 t2 s2 : List ℕ) →
         Left (completing (partyOf l1 [] .opened) (sessionOf l1 t s)) r l2 t2 s2 → Left (placing next sw) r l2 t2 s2
-    placed-whole k r l2 t2 s2 h = ?
+    unfolding placing reopened
+    placed-whole k r l2 t2 s2 h =
+        subst (λ (x : Stepped). Left x r l2 t2 s2)
+        (ap (λ (p : Party). completing (partyOf l1 [] .opened) (record { party = p; shared = sharedOf s })) is-next ∙
+        ap (λ (q : Open). completing q (reopened next sw)) is-open ∙
+        completing-same next next sw ∙ sym (pick-no _ _ (le-ltb _ _ more)))
+        h
+      where
+        more : countOf (next .line) ≤ next .count
+        more = unfold partyOf in k

@@ -57,7 +57,12 @@ fn apply_own(own: &mut [u32; 17], tallies: &mut [u64; 2], shared: &[u32; 101], c
 }
 
 // The command's effect on the whole session, its last word taken.
-pub fn accept(own: &mut [u32; 17], tallies: &mut [u64; 2], shared: &mut [u32; 101], command: Command)
+pub fn accept(
+    own: &mut [u32; 17],
+    tallies: &mut [u64; 2],
+    shared: &mut [u32; 101],
+    command: Command,
+)
     requires { ⌜ AcceptAsked command (now own) (now tallies) (now shared) ⌝ }
     ensures { λ _. ⌜ Held (after command (sessionOf (now (own .entry)) (now (tallies .entry)) (now (shared .entry)))) (now (own .exit)) (now (tallies .exit)) (now (shared .exit)) ⌝ }
 {

@@ -10,7 +10,7 @@ use Rattle.session.proofs.accept.count_start.Tie as tie
 
 claim-requires : tie.Need-claim-requires
 unfolding partyOf
-claim-requires c κs = (c .pre .sized .own-length, (c .pre .sized .shared-length, c .pre .domain))
+claim-requires c κs = ((c .pre .sized .own-length, c .pre .sized .shared-length), c .pre .domain)
 
 element-copy-out-tallies : tie.Need-element-copy-out-tallies
 element-copy-out-tallies c = search needs

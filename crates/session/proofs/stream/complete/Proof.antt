@@ -1,64 +1,54 @@
+-- `session::stream::complete` meets its contract. Assumes nothing.
+use mathlib.Core.Path.{ap}
+use Rattle.command.specs.Kinds.{toldChecked}
+use Rattle.session.specs.Cells.{partyOf}
+use Rattle.session.proofs.Stepping.{whole-numbered, whole-refused, whole-accepted}
 use borrow.Author.Needs.{needs}
 use Rattle.session.proofs.stream.complete.Statement.{statement}
 use Rattle.session.proofs.stream.complete.Tie as tie
-use Rattle.session.proofs.stream.complete.Reads as reads
-use Rattle.session.proofs.stream.complete.Lts as lts
-use Rattle.command.proofs.commands.build.Reads as build-reads
-use Rattle.session.proofs.accept.accept.Reads as accept-reads
-use Rattle.session.proofs.own.stop.Reads as stop-reads
-use Rattle.session.proofs.stream.whole_rule.Reads as whole-rule-reads
 
--- src/stream.rt:54:35
 element-copy-out-build : tie.Need-element-copy-out-build
 element-copy-out-build c = search needs
 
--- src/stream.rt:54:43
 element-copy-out-build-2 : tie.Need-element-copy-out-build-2
 element-copy-out-build-2 c = search needs
 
--- src/stream.rt:54:51
 element-copy-out-build-3 : tie.Need-element-copy-out-build-3
 element-copy-out-build-3 c = search needs
 
--- src/stream.rt:54:59
 element-copy-out-build-4 : tie.Need-element-copy-out-build-4
 element-copy-out-build-4 c = search needs
 
--- src/stream.rt:54:67
 element-copy-out-build-5 : tie.Need-element-copy-out-build-5
 element-copy-out-build-5 c = search needs
 
--- src/stream.rt:54:9
 build-requires : tie.Need-build-requires
-build-requires c κs = ?
+unfolding partyOf
+build-requires c κs = c .before .before .before .before .before .pre .line
 
--- src/stream.rt:55:9
 whole-rule-requires : tie.Need-whole-rule-requires
 whole-rule-requires c κs = search needs
 
--- src/stream.rt:57:26
 enum-known-rule : tie.Need-enum-known-rule
 enum-known-rule c = search needs
 
--- src/stream.rt:58:13
 stop-requires : tie.Need-stop-requires
 stop-requires c κs = search needs
 
--- src/stream.rt:62:28
 enum-told : tie.Need-enum-told
 enum-told c = search needs
 
--- src/stream.rt:62:13
 accept-requires : tie.Need-accept-requires
-accept-requires c κs = ?
+unfolding partyOf
+accept-requires c κs = whole-numbered (c .before .before .before .before .before .before .before .before .before .before .before .before .before .before .args .own .now) (c .before .before .before .before .before .before .before .before .before .before .before .before .before .before .args .tallies .now) (c .before .before .before .before .before .before .before .before .before .before .before .before .before .before .args .shared .now) (c .before .before .before .before .before .before .before .before .before .before .before .before .before .before .pre) _ (c .before .before .before .before .before .before .before .before .build .ensures)
 
--- src/stream.rt:50:1
 returns : tie.Need-returns
-returns c = ?
+unfolding partyOf
+returns c = whole-refused (c .before .before .before .before .before .before .before .before .before .before .before .before .before .before .args .own .now) (c .before .before .before .before .before .before .before .before .before .before .before .before .before .before .args .tallies .now) (c .before .before .before .before .before .before .before .before .before .before .before .before .before .before .args .shared .now) (c .before .before .before .before .before .before .before .before .before .before .before .before .before .before .pre) _ (c .before .before .before .before .before .before .before .before .build .ensures) _ (c .before .before .before .before .before .whole-rule .ensures) _ (ap toldChecked (c .before .before .before .rule .given .1)) _ (c .stop .ensures)
 
--- src/stream.rt:50:1
 returns-2 : tie.Need-returns-2
-returns-2 c = ?
+unfolding partyOf
+returns-2 c = whole-accepted (c .before .before .before .before .before .before .before .before .before .before .before .before .before .before .before .args .own .now) (c .before .before .before .before .before .before .before .before .before .before .before .before .before .before .before .args .tallies .now) (c .before .before .before .before .before .before .before .before .before .before .before .before .before .before .before .args .shared .now) (c .before .before .before .before .before .before .before .before .before .before .before .before .before .before .before .pre) _ (c .before .before .before .before .before .before .before .before .before .build .ensures) _ (c .before .before .before .before .before .before .whole-rule .ensures) _ (ap toldChecked (c .before .before .before .before .enum-told .given .1)) _ _ _ (c .accept .ensures)
 
 pub complete-spec : {M : Type 1} → statement M
 complete-spec =
