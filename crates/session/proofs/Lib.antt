@@ -1,4 +1,5 @@
 pub mod Cut
 pub mod Kept
+pub mod Refusals
 pub mod Ways
 pub mod WriteBack

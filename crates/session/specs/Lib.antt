@@ -1,5 +1,6 @@
 pub mod Cells
 pub mod Feed
+pub mod Refusals
 pub mod Start
 pub mod State
 pub mod Step
