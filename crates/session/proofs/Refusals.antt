@@ -6,7 +6,8 @@ use mathlib.Core.List.{List, [], _∷_}
 use Prim.Native.Nat.{ℕ, suc, _<_, _≤_}
 use native.Mathlib.Omega.{arith}
 use lib.Dec.{eqb, leb, ltb}
-use borrow.Author.Tests.{eqb-true, eq-eqb, lt-ltb, le-ltb, ltb-true}
+use lib.ListN.{take}
+use borrow.Author.Tests.{eqb-true, eq-eqb, ne-eqb, lt-ltb, le-ltb, lt-leb}
 use Rattle.laws.specs.Choice.{pick, placeOf}
 use Rattle.laws.proofs.Choice.{pick-yes, pick-no, by-pick}
 use Rattle.refusal.specs.Told.{Told, gives, refuses}
@@ -37,12 +38,13 @@ use Rattle.session.specs.Step.{
   headerStep,
   stepOf,
 }
-use Rattle.session.specs.Feed.{Fed, proceed, feedOf}
+use Rattle.session.specs.Feed.{First, nothing, first, Fed, proceed, feedOf}
 use Rattle.session.specs.Valid.{Valid}
-use Rattle.session.specs.Refusals.{SessionNumber, low, full, RefusedTo, unchanged, stopping}
-use Rattle.session.proofs.Ways.{Way, wasStopped, stops, opens, fills, ends, way}
+use Rattle.session.specs.Refusals.{StopNumber, low, full, RefusedTo, unchanged, stopping, Idle}
+use Rattle.session.proofs.Ways.{begun, goingOn}
 use Rattle.session.proofs.Kept.{kept}
 use Rattle.session.proofs.Cut.{stopped-word}
+use Rattle.session.proofs.WriteBack.{first-word}
 
 -- every piece leaves a valid session
 proceed-valid : (r : Reply) (u : Session) (f : Fed) → Valid u → Valid (f .session) → Valid (proceed r u f .session)
@@ -58,21 +60,128 @@ fed-valid s (w ∷ ws) v =
     proceed-valid (stepOf s w .reply) (stepOf s w .session) (feedOf (stepOf s w .session) ws) (kept s w v)
     (fed-valid (stepOf s w .session) ws (kept s w v))
 
--- a refused word, whatever its number: a stopped session is as it was, any other drops its open command and stops
-refused-way : (s : Session) (w : ℕ) (t : Stepped) → Way s w t → (n : ℕ) → t .reply ≡ refused n → RefusedTo s n (t .session)
-refused-way s w t (wasStopped e) n p =
-    subst (λ (m : ℕ). RefusedTo s m s) (number p) (unchanged (eqb-true _ _ e))
-  where
-    number : {m k : ℕ} → refused m ≡ refused k → m ≡ k
-    number e = cc
-refused-way s w t (stops m e) n p = stopping
-refused-way s w t (opens r i k) n p = absurd (let z : _≡_ {A = ℕ} 0 1 = cc in omega arith)
-refused-way s w t (fills q m) n p = absurd (let z : _≡_ {A = ℕ} 0 1 = cc in omega arith)
-refused-way s w t (ends q l c e u v r k) n p = absurd (let z : _≡_ {A = ℕ} 0 1 = cc in omega arith)
+-- where the reply is a refusal, the session is as one that was refused so
+abbrev Told-so : Session → Stepped → Type 0
+Told-so s t = (n : ℕ) → t .reply ≡ refused n → RefusedTo s n (t .session)
 
-pub refused-word : (s : Session) (w n : ℕ) → stepOf s w .reply ≡ refused n → RefusedTo s n (stepOf s w .session)
-refused-word s w n e = refused-way s w (stepOf s w) (way s w) n e
+module _ (s : Session) where
+  opens-on : (u : Session) → Told-so s (record { reply = stillOpen; session = u })
+  opens-on u n p = absurd (let z : _≡_ {A = ℕ} 0 1 = cc in omega arith)
 
--- a stopped session answers 1 to every word and is as it was
+  completes : (c : Command) (u : Session) → Told-so s (record { reply = completed c; session = u })
+  completes c u n p = absurd (let z : _≡_ {A = ℕ} 0 1 = cc in omega arith)
+
+  number : {m k : ℕ} → refused m ≡ refused k → m ≡ k
+  number e = cc
+
+  refuses-so : {m : ℕ} → StopNumber m → Told-so s (refusing s m)
+  refuses-so k n p = subst (λ (x : ℕ). RefusedTo s x (refusing s n .session)) (number p) (stopping k)
+
+  -- 3 and 4
+  by-kind : {m : ℕ} → Fault m → StopNumber m
+  by-kind {m} (three e) = low {n = m} (omega arith) (omega arith)
+  by-kind {m} (four e) = low {n = m} (omega arith) (omega arith)
+
+  -- 7, 8 and 9
+  by-start : (a b c : Bool) (d : Command) →
+      Told-so s (judged (pick a (pick b (pick c (gives []) (refuses 9)) (refuses 8)) (refuses 7)) d s)
+  unfolding pick judged
+  by-start true true true d = completes d _
+  by-start true true false d = refuses-so (low (omega arith) (omega arith))
+  by-start true false c d = refuses-so (low (omega arith) (omega arith))
+  by-start false b c d = refuses-so (low (omega arith) (omega arith))
+
+  by-command : (d : Command) → Told-so s (judged (startRuleOf d s) d s)
+  unfolding startRuleOf readyOf judged
+  by-command (command.Domain i0 j0 i1 j1) = completes (command.Domain i0 j0 i1 j1) _
+  by-command command.Start = by-start _ _ _ command.Start
+  by-command (command.Quiet what) = completes (command.Quiet what) _
+  by-command (command.Store what base format) = completes (command.Store what base format) _
+  by-command (command.Input number base format height) = completes (command.Input number base format height) _
+  by-command (command.Output number base format height) = completes (command.Output number base format height) _
+  by-command (command.Conditional base format height) = completes (command.Conditional base format height) _
+  by-command (command.OutputMask mask) = completes (command.OutputMask mask) _
+  by-command (command.ConditionalMask mask) = completes (command.ConditionalMask mask) _
+  by-command (command.Test test) = completes (command.Test test) _
+
+  -- 5 to 9
+  by-rules : (d : Command) (t : Told) → Ruled t → Told-so s (judged (thenTold t (startRuleOf d s)) d s)
+  unfolding thenTold judged
+  by-rules d t fine = by-command d
+  by-rules d t five = refuses-so (low (omega arith) (omega arith))
+  by-rules d t six = refuses-so (low (omega arith) (omega arith))
+
+  by-parameter : (w : ℕ) → Told-so s (parameterStep s w)
+  unfolding parameterStep placing completing
+  by-parameter w =
+      by-pick (Told-so s) _ _ _ (λ a. by-pick (Told-so s) _ _ _ (λ b. opens-on _) (λ b. by-rules _ _ (ruled _)))
+      (λ a. refuses-so (by-kind (fault _)))
+
+  by-header : (w : ℕ) → Told-so s (headerStep s w)
+  unfolding headerStep
+  by-header w = by-pick (Told-so s) _ _ _ (λ a. opens-on _) (λ a. refuses-so (low (omega arith) (omega arith)))
+
+  -- a refused word: with 1 nothing at all has changed; with any of 2 to 9 and 17, and no other number comes, nothing but the stop
+  -- and the dropped command
+  pub refused-word : (w n : ℕ) → stepOf s w .reply ≡ refused n → RefusedTo s n (stepOf s w .session)
+  unfolding stepOf
+  refused-word w =
+      by-pick (Told-so s) _ _ _
+      (λ a n p. subst (λ (x : ℕ). RefusedTo s x s) (number p) (unchanged (eqb-true _ _ a)))
+      (λ a.
+      by-pick (Told-so s) _ _ _ (λ b. refuses-so full) (λ b. by-pick (Told-so s) _ _ _ (λ c. by-header w) (λ c. by-parameter w)))
+
+-- a stopped session answers 1 to every word and changes nothing at all
 pub stopped-same : (s : Session) (w : ℕ) → s .party .stopped ≡ 1 → stepOf s w ≡ record { reply = refused 1; session = s }
 stopped-same s w e = stopped-word s w (eq-eqb _ _ e)
+
+-- a piece with a refusal leaves what its refused word leaves of the session after the words that it took
+refused-first : (n m : ℕ) → first n ≡ first m → n ≡ m
+refused-first n m e = cc
+
+module _ (s : Session) (w : ℕ) (ws : List ℕ) where
+  abbrev u : Session
+  u = stepOf s w .session
+
+  -- what was taken, fed alone
+  abbrev Left : Session → List ℕ → Fed → Type 0
+  Left s ws f = (n : ℕ) → f .refusal ≡ first n → RefusedTo (feedOf s (take (f .taken) ws) .session) n (f .session)
+
+  left-word : (r : Reply) → stepOf s w .reply ≡ r → Left u ws (feedOf u ws) → Left s (w ∷ ws) (proceed r u (feedOf u ws))
+  unfolding proceed feedOf
+  left-word stillOpen e a n p =
+      subst (λ (f : Fed). RefusedTo (f .session) n (feedOf u ws .session))
+      (sym (first-word s w (take (feedOf u ws .taken) ws) stillOpen e)) (a n p)
+  left-word (completed c) e a n p =
+      subst (λ (f : Fed). RefusedTo (f .session) n (feedOf u ws .session))
+      (sym (first-word s w (take (feedOf u ws .taken) ws) (completed c) e)) (a n p)
+  left-word (refused m) e a n p = refused-word s w n (e ∙ ap refused (refused-first m n p))
+
+pub refused-piece :
+    (s : Session) (ws : List ℕ) (n : ℕ) → feedOf s ws .refusal ≡ first n →
+    RefusedTo (feedOf s (take (feedOf s ws .taken) ws) .session) n (feedOf s ws .session)
+unfolding feedOf
+refused-piece s [] n p = absurd (let z : _≡_ {A = ℕ} 0 1 = cc in omega arith)
+refused-piece s (w ∷ ws) n p =
+    left-word s w ws (stepOf s w .reply) refl (refused-piece (stepOf s w .session) ws) n p
+
+-- a header is accepted exactly when it stands in the table
+module _ (s : Session) (w : ℕ) (i : Idle s) where
+  at-header : stepOf s w ≡ headerStep s w
+  unfolding stepOf
+  at-header =
+      pick-no _ _ (ne-eqb (s .party .stopped) 1 (λ e. omega (arith, i .unstopped))) ∙
+      pick-no _ _ (lt-leb limit (s .party .taken) (i .room)) ∙
+      pick-yes _ _ (eq-eqb (s .party .opened .line) 21 (ap (λ (o : Open). o .line) (i .unopened)))
+
+  pub header-taken : (l : ℕ) → Accepted w l → stepOf s w ≡ record { reply = stillOpen; session = goingOn (begun w) s }
+  unfolding headerStep
+  header-taken l a =
+      let p : placeOf w headers ≡ l = sym (ap (λ (x : ℕ). placeOf x headers) (a .header)) ∙ place-of-line l (a .line) in
+      at-header ∙ pick-yes _ _ (lt-ltb (placeOf w headers) 21 (rw p (a .line)))
+
+  pub header-refused : ((l : ℕ) → Accepted w l → ⊥) → stepOf s w ≡ refusing s 2
+  unfolding headerStep
+  header-refused none =
+      at-header ∙
+      pick-no _ _ (le-ltb (placeOf w headers) 21 (let k : placeOf w headers < 21 → ⊥ = λ h. none (placeOf w headers) (record { line = h; header = stands w h }) in omega arith))
