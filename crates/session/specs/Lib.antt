@@ -4,4 +4,5 @@ pub mod Refusals
 pub mod Start
 pub mod State
 pub mod Step
+pub mod Tallies
 pub mod Valid
