@@ -40,8 +40,9 @@ use Rattle.session.specs.Step.{
 }
 use Rattle.session.specs.Feed.{First, nothing, first, Fed, proceed, feedOf}
 use Rattle.session.specs.Valid.{Valid}
-use Rattle.session.specs.Refusals.{StopNumber, low, full, RefusedTo, unchanged, stopping, Idle}
-use Rattle.session.proofs.Ways.{begun, goingOn}
+use Rattle.session.specs.Refusals.{StopNumber, low, full, RefusedTo, unchanged, stopping}
+use Rattle.session.specs.Again.{Idle, holding}
+use Rattle.session.proofs.Ways.{goingOn}
 use Rattle.session.proofs.Kept.{kept}
 use Rattle.session.proofs.Cut.{stopped-word}
 use Rattle.session.proofs.WriteBack.{first-word}
@@ -165,6 +166,9 @@ refused-piece s [] n p = absurd (let z : _≡_ {A = ℕ} 0 1 = cc in omega arith
 refused-piece s (w ∷ ws) n p =
     left-word s w ws (stepOf s w .reply) refl (refused-piece (stepOf s w .session) ws) n p
 
+abbrev pub going : Session → Stepped
+going u = record { reply = stillOpen; session = u }
+
 -- a header is accepted exactly when it stands in the table
 module _ (s : Session) (w : ℕ) (i : Idle s) where
   at-header : stepOf s w ≡ headerStep s w
@@ -174,11 +178,14 @@ module _ (s : Session) (w : ℕ) (i : Idle s) where
       pick-no _ _ (lt-leb limit (s .party .taken) (i .room)) ∙
       pick-yes _ _ (eq-eqb (s .party .opened .line) 21 (ap (λ (o : Open). o .line) (i .unopened)))
 
-  pub header-taken : (l : ℕ) → Accepted w l → stepOf s w ≡ record { reply = stillOpen; session = goingOn (begun w) s }
+  pub header-taken : (l : ℕ) → Accepted w l → stepOf s w ≡ going (goingOn (holding l []) s)
   unfolding headerStep
   header-taken l a =
-      let p : placeOf w headers ≡ l = sym (ap (λ (x : ℕ). placeOf x headers) (a .header)) ∙ place-of-line l (a .line) in
-      at-header ∙ pick-yes _ _ (lt-ltb (placeOf w headers) 21 (rw p (a .line)))
+      at-header ∙ pick-yes _ _ (lt-ltb (placeOf w headers) 21 (rw place (a .line))) ∙
+      ap (λ (n : ℕ). going (goingOn (holding n []) s)) place
+    where
+      place : placeOf w headers ≡ l
+      place = sym (ap (λ (x : ℕ). placeOf x headers) (a .header)) ∙ place-of-line l (a .line)
 
   pub header-refused : ((l : ℕ) → Accepted w l → ⊥) → stepOf s w ≡ refusing s 2
   unfolding headerStep

@@ -1,3 +1,4 @@
+pub mod Again
 pub mod Cells
 pub mod Feed
 pub mod Refusals

@@ -1,8 +1,8 @@
 -- Document 01: what a refused word leaves, and the numbers that a session refuses with. Assumes nothing.
 use mathlib.Core.Path.{_≡_}
-use Prim.Native.Nat.{ℕ, _<_, _≤_}
-use Rattle.session.specs.State.{Session, none}
-use Rattle.session.specs.Step.{limit, stop}
+use Prim.Native.Nat.{ℕ, _≤_}
+use Rattle.session.specs.State.{Session}
+use Rattle.session.specs.Step.{stop}
 
 -- "In a session, refusals 2 to 9 and 17 also drop the open command and stop the session for good."
 pub data StopNumber : ℕ → Type 0 where
@@ -15,9 +15,3 @@ pub data RefusedTo (s : Session) : ℕ → Session → Type 0 where
   unchanged : s .party .stopped ≡ 1 → RefusedTo s 1 s
   -- any other: the open command is dropped and the session is stopped; all else stands
   stopping : {n : ℕ} → StopNumber n → RefusedTo s n (record { party = stop (s .party); shared = s .shared })
-
--- a session that takes a header: it isn't stopped, has room for a word, and no command is open
-pub record Idle (s : Session) : Type 0 where
-  pub unstopped : s .party .stopped ≡ 0
-  pub room : s .party .taken < limit
-  pub unopened : s .party .opened ≡ none
