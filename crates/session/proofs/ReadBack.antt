@@ -17,6 +17,7 @@ use Rattle.command.specs.Kinds.{allowed, kindOf}
 use Rattle.command.specs.Commands.{lineOf, fieldsOf, wordsOf, EachAllowed}
 use Rattle.command.specs.Rules.{lastRuleOf}
 use Rattle.command.specs.Writer.{thenTold, judgeCommandOf}
+use Rattle.command.specs.declared.commands.Stored.the-variants as stored
 use Rattle.command.specs.declared.commands.Command.{Command}
 use Rattle.command.specs.declared.commands.Command.the-variants as command
 use Rattle.command.proofs.WriteBack.{read-back, lined}
@@ -34,6 +35,8 @@ use Rattle.session.specs.Step.{
   withParameter,
   startRuleOf,
   after,
+  ownAfter,
+  sharedAfter,
   judged,
   completing,
   placing,
@@ -42,8 +45,7 @@ use Rattle.session.specs.Step.{
 }
 use Rattle.session.specs.Feed.{First, nothing, first, Fed, onward, ended, proceed, feedOf, written}
 use Rattle.session.specs.Valid.{Valid, heldOf}
-use Rattle.session.specs.Again.{Idle, holding, standing, advanced}
-use Rattle.session.proofs.Ways.{whole}
+use Rattle.session.specs.Again.{Idle, fed, holding, standing, advanced}
 use Rattle.session.proofs.WriteBack.{none-held, fed-back}
 use Rattle.session.proofs.Refusals.{going, header-taken}
 
@@ -177,3 +179,85 @@ module _ (s : Session) (unstopped : s .party .stopped ≡ 0) (c : Command) (a : 
       ap (λ (t : Stepped). proceed (t .reply) (t .session) (feedOf (t .session) (q' ∷ qs)))
       (filled m ps q (q' ∷ qs) e (omega arith) (omega arith)) ∙
       ap (onward []) (rest qs q' (ps ++ (q ∷ [])) (m + 1) (append-assoc ps (q ∷ []) (q' ∷ qs) ∙ e) (omega arith))
+
+-- the answers that a last word can give
+lastly-completed : (k : ℕ) (c : Command) (u : Session) →
+    lastly k (record { reply = completed c; session = u }) ≡ fed (suc k) (c ∷ []) nothing u
+unfolding lastly proceed
+lastly-completed zero c u = refl
+lastly-completed (suc k) c u = ap (onward []) (lastly-completed k c u)
+
+lastly-refused : (k n : ℕ) (u : Session) → lastly k (record { reply = refused n; session = u }) ≡ fed k [] (first n) u
+unfolding lastly proceed
+lastly-refused zero n u = refl
+lastly-refused (suc k) n u = ap (onward []) (lastly-refused k n u)
+
+-- a command does the same whatever the count
+after-standing : (c : Command) (s : Session) (n : ℕ) (o : Open) → after c (standing s n o) ≡ standing (after c s) (n + 1) none
+unfolding after ownAfter sharedAfter
+after-standing (command.Domain i0 j0 i1 j1) s n o = refl
+after-standing command.Start s n o = refl
+after-standing (command.Quiet what) s n o = refl
+after-standing (command.Store stored.Instructions base format) s n o = refl
+after-standing (command.Store stored.Floats base format) s n o = refl
+after-standing (command.Store stored.Integers base format) s n o = refl
+after-standing (command.Store stored.Booleans base format) s n o = refl
+after-standing (command.Input number base format height) s n o = refl
+after-standing (command.Output number base format height) s n o = refl
+after-standing (command.Conditional base format height) s n o = refl
+after-standing (command.OutputMask mask) s n o = refl
+after-standing (command.ConditionalMask mask) s n o = refl
+after-standing (command.Test test) s n o = refl
+
+-- a command that the writer accepts, fed to a running session without an open command that has room for its words
+module _
+  (s : Session)
+  (c : Command)
+  (i : Idle s)
+  (written : judgeCommandOf c ≡ gives [])
+  (room : s .party .taken + length (wordsOf c) ≤ limit)
+  where
+  abbrev size : ℕ
+  size = length (fieldsOf c)
+
+  told-start : thenTold (lastRuleOf c) (startRuleOf c s) ≡ startRuleOf c s
+  unfolding thenTold
+  told-start = ap (λ (t : Told). thenTold t (startRuleOf c s)) (readable c written .rules-kept)
+
+  ends-as : feedOf s (wordsOf c) ≡ lastly size (judged (startRuleOf c s) c (standing s (s .party .taken + size) none))
+  unfolding feedOf wordsOf proceed lastly
+  ends-as = go (fieldsOf c) refl
+    where
+      go : (fs : List ℕ) → fieldsOf c ≡ fs →
+          feedOf s (headerOf (lineOf c) ∷ fs) ≡ lastly (length fs) (judged (startRuleOf c s) c (standing s (s .party .taken + length fs) none))
+      go [] e = absurd (omega (arith, ap length e, lined c .fields-count, count-least (lineOf c) (lined c .line-most)))
+      go (q ∷ qs) e =
+          ap (λ (t : Stepped). proceed (t .reply) (t .session) (feedOf (t .session) (q ∷ qs)))
+          (header-taken s (headerOf (lineOf c)) i (omega arith) (lineOf c) (record { line = lined c .line-most; header = refl })) ∙
+          ap (onward [])
+          (rest s (i .unstopped) c (readable c written .fields-allowed) (s .party .taken + suc (length qs)) (omega (arith, ap length e)) qs q [] (s .party .taken + 1) (sym e) (omega arith) ∙
+          ap (λ (t : Told). lastly (length qs) (judged t c (standing s (s .party .taken + suc (length qs)) none))) told-start)
+
+  -- it is read back: the command, as `after` says, with all its words taken
+  pub reads-back : (v : List ℕ) → startRuleOf c s ≡ gives v →
+      feedOf s (wordsOf c) ≡
+      fed (length (wordsOf c)) (c ∷ []) nothing (standing (after c s) (s .party .taken + length (wordsOf c)) none)
+  unfolding wordsOf judged
+  reads-back v r =
+      ends-as ∙
+      ap (λ (t : Told). lastly size (judged t c (standing s (s .party .taken + size) none))) r ∙
+      lastly-completed size c (after c (standing s (s .party .taken + size) none)) ∙
+      ap (fed (suc size) (c ∷ []) nothing) (after-standing c s (s .party .taken + size) none) ∙
+      ap (λ (n : ℕ). fed (suc size) (c ∷ []) nothing (standing (after c s) n none)) counted
+    where
+      counted : s .party .taken + size + 1 ≡ s .party .taken + suc size
+      counted = omega arith
+
+  -- unless the settings refuse it: with 7, 8 or 9, at its last word
+  pub refuses-start : (n : ℕ) → startRuleOf c s ≡ refuses n →
+      feedOf s (wordsOf c) ≡ fed size [] (first n) (refusing (advanced size s) n .session)
+  unfolding judged
+  refuses-start n r =
+      ends-as ∙
+      ap (λ (t : Told). lastly size (judged t c (standing s (s .party .taken + size) none))) r ∙
+      lastly-refused size n (refusing (advanced size s) n .session)

@@ -170,12 +170,12 @@ abbrev pub going : Session → Stepped
 going u = record { reply = stillOpen; session = u }
 
 -- a header is accepted exactly when it stands in the table
-module _ (s : Session) (w : ℕ) (i : Idle s) where
+module _ (s : Session) (w : ℕ) (i : Idle s) (room : s .party .taken < limit) where
   at-header : stepOf s w ≡ headerStep s w
   unfolding stepOf
   at-header =
       pick-no _ _ (ne-eqb (s .party .stopped) 1 (λ e. omega (arith, i .unstopped))) ∙
-      pick-no _ _ (lt-leb limit (s .party .taken) (i .room)) ∙
+      pick-no _ _ (lt-leb limit (s .party .taken) room) ∙
       pick-yes _ _ (eq-eqb (s .party .opened .line) 21 (ap (λ (o : Open). o .line) (i .unopened)))
 
   pub header-taken : (l : ℕ) → Accepted w l → stepOf s w ≡ going (goingOn (holding l []) s)

@@ -1,19 +1,22 @@
 -- Document 01: what the statements on reading again speak of. Assumes nothing.
 use mathlib.Core.Path.{_≡_}
 use mathlib.Core.List.{List, [], _∷_}
-use Prim.Native.Nat.{ℕ, _+_, _<_}
+use Prim.Native.Nat.{ℕ, _+_}
 use lib.ListN.{length, getD}
 use Rattle.refusal.specs.Told.{gives}
 use Rattle.command.specs.Writer.{judgeCommandOf}
 use Rattle.command.specs.declared.commands.Command.{Command}
 use Rattle.session.specs.State.{Open, Session, none}
-use Rattle.session.specs.Step.{limit}
+use Rattle.session.specs.Feed.{First, Fed}
 
--- a session that takes a header: it isn't stopped, has room for a word, and no command is open
+-- a running session without an open command
 pub record Idle (s : Session) : Type 0 where
   pub unstopped : s .party .stopped ≡ 0
-  pub room : s .party .taken < limit
   pub unopened : s .party .opened ≡ none
+
+-- the answer to a piece: words taken, commands completed, the first refusal, and the session after it
+abbrev pub fed : ℕ → List Command → First → Session → Fed
+fed taken commands refusal session = record { taken = taken; commands = commands; refusal = refusal; session = session }
 
 -- the open command of a line with its parameters so far
 abbrev pub holding : ℕ → List ℕ → Open
