@@ -1,5 +1,6 @@
 pub mod Cut
 pub mod Kept
+pub mod Parameters
 pub mod ReadBack
 pub mod Refusals
 pub mod Tallies

@@ -1,13 +1,15 @@
 -- Document 01: what the statements on reading again speak of. Assumes nothing.
 use mathlib.Core.Path.{_≡_}
 use mathlib.Core.List.{List, [], _∷_}
-use Prim.Native.Nat.{ℕ, _+_}
+use Prim.Native.Nat.{ℕ, _+_, _-_, _<_, _≤_}
 use lib.ListN.{length, getD}
-use Rattle.refusal.specs.Told.{gives}
+use Rattle.refusal.specs.Told.{gives, refuses}
+use Rattle.command.specs.Commands.{fieldsOf, wordsOf}
 use Rattle.command.specs.Writer.{judgeCommandOf}
 use Rattle.command.specs.declared.commands.Command.{Command}
 use Rattle.session.specs.State.{Open, Session, none}
-use Rattle.session.specs.Feed.{First, Fed}
+use Rattle.session.specs.Step.{limit, refusing, startRuleOf, after}
+use Rattle.session.specs.Feed.{First, nothing, first, Fed}
 
 -- a running session without an open command
 pub record Idle (s : Session) : Type 0 where
@@ -39,9 +41,20 @@ standing s n o =
       shared = s .shared;
     }
 
--- a session that has taken `n` words more, all else the same
-abbrev pub advanced : ℕ → Session → Session
-advanced n s = standing s (s .party .taken + n) (s .party .opened)
+-- the answers to the words of a command that the writer accepts, where the session is running and without an open command
+pub data ReadAs (s : Session) (c : Command) : Fed → Type 0 where
+  -- it is read back: the command, what `after` says of it, and all its words taken
+  readWhole :
+      (v : List ℕ) → startRuleOf c s ≡ gives v →
+      ReadAs s c (fed (length (wordsOf c)) (c ∷ []) nothing (standing (after c s) (s .party .taken + length (wordsOf c)) none))
+  -- 7, 8 or 9, with its last word
+  deniedStart :
+      (n : ℕ) → startRuleOf c s ≡ refuses n → 7 ≤ n → n ≤ 9 →
+      ReadAs s c (fed (length (fieldsOf c)) [] (first n) (refusing (standing s (s .party .taken + length (fieldsOf c)) none) n .session))
+  -- 17, with the word that comes when the session has taken 1,000,000,000
+  filledUp :
+      limit < s .party .taken + length (wordsOf c) →
+      ReadAs s c (fed (limit - s .party .taken) [] (first 17) (refusing (standing s limit none) 17 .session))
 
 -- "the settings they first met": the same settings in two sessions
 pub record SameSettings (s u : Session) : Type 0 where
