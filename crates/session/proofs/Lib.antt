@@ -1,6 +1,7 @@
 pub mod Cut
 pub mod Kept
 pub mod Parameters
+pub mod ReadAgain
 pub mod ReadBack
 pub mod Refusals
 pub mod Tallies

@@ -9,7 +9,7 @@ use Rattle.command.specs.Writer.{judgeCommandOf}
 use Rattle.command.specs.declared.commands.Command.{Command}
 use Rattle.session.specs.State.{Open, Session, none}
 use Rattle.session.specs.Step.{limit, refusing, startRuleOf, after}
-use Rattle.session.specs.Feed.{First, nothing, first, Fed}
+use Rattle.session.specs.Feed.{First, nothing, first, Fed, written}
 
 -- a running session without an open command
 pub record Idle (s : Session) : Type 0 where
@@ -61,6 +61,14 @@ pub record SameSettings (s u : Session) : Type 0 where
   pub domain : s .party .domain ≡ u .party .domain
   pub instructions : s .party .instructions ≡ u .party .instructions
   pub shared : s .shared ≡ u .shared
+
+-- commands whose words are read again to the same commands and the same settings: `t` is the session that they left first, `f` the
+-- answer to their words
+pub record ReadAgain (cs : List Command) (t : Session) (f : Fed) : Type 0 where
+  pub commands : f .commands ≡ cs
+  pub unrefused : f .refusal ≡ nothing
+  pub all-taken : f .taken ≡ length (written cs)
+  pub settings : SameSettings t (f .session)
 
 -- the writer accepts each of the commands
 abbrev pub EachWritable : List Command → Type 0
