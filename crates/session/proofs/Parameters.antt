@@ -1,51 +1,31 @@
 -- The parameters of a command, fed one after the other to a session that holds the command open: all but the last leave it open, the
 -- last completes it, unless 17 comes before. Assumes nothing.
 use mathlib.Core.Path.{_≡_, refl, sym, ap, ap₂, _∙_, subst}
-use mathlib.Core.Bool.{Bool, true, false}
-use mathlib.Core.List.{List, [], _∷_, _++_, append-assoc, append-nil}
+use mathlib.Core.Bool.{true}
+use mathlib.Core.List.{List, [], _∷_, _++_, append-assoc}
 use Prim.Native.Nat.{ℕ, zero, suc, _+_, _-_, _<_, _≤_}
 use native.Mathlib.Omega.{arith}
-use lib.Dec.{eqb, ltb}
+use lib.Dec.{eqb}
 use lib.ListN.{length, getD, length-append}
 use borrow.Author.Tests.{eqb-true, eqb-false, ne-eqb, lt-ltb, le-ltb, le-leb, lt-leb}
 use Rattle.laws.specs.Choice.{pick}
 use Rattle.laws.proofs.Choice.{Tested, holds, fails, tested, pick-yes, pick-no}
 use Rattle.refusal.specs.Told.{Told, gives, refuses}
-use Rattle.command.specs.Table.{headerOf, countOf}
+use Rattle.command.specs.Table.{countOf}
 use Rattle.command.specs.Kinds.{allowed, kindOf}
-use Rattle.command.specs.Commands.{lineOf, fieldsOf, wordsOf, EachAllowed}
+use Rattle.command.specs.Commands.{lineOf, fieldsOf, EachAllowed}
 use Rattle.command.specs.Rules.{lastRuleOf}
-use Rattle.command.specs.Writer.{thenTold, judgeCommandOf}
+use Rattle.command.specs.Writer.{thenTold}
 use Rattle.command.specs.declared.commands.Stored.the-variants as stored
 use Rattle.command.specs.declared.commands.Command.{Command}
 use Rattle.command.specs.declared.commands.Command.the-variants as command
 use Rattle.command.proofs.WriteBack.{read-back, lined}
-use Rattle.command.proofs.Headers.{count-least, count-most}
-use Rattle.command.proofs.Readable.{Readable, readable}
+use Rattle.command.proofs.Headers.{count-most}
 use Rattle.session.specs.State.{Open, Session, none}
-use Rattle.session.specs.Step.{
-  Reply,
-  stillOpen,
-  completed,
-  refused,
-  Stepped,
-  limit,
-  refusing,
-  withParameter,
-  startRuleOf,
-  after,
-  ownAfter,
-  sharedAfter,
-  judged,
-  completing,
-  placing,
-  parameterStep,
-  stepOf,
-}
-use Rattle.session.specs.Feed.{First, nothing, first, Fed, onward, ended, proceed, feedOf, written}
-use Rattle.session.specs.Valid.{Valid, heldOf}
-use Rattle.session.specs.Again.{Idle, fed, holding, standing, ReadAs, readWhole, deniedStart, filledUp}
-use Rattle.session.proofs.Refusals.{going, header-taken}
+use Rattle.session.specs.Step.{completed, refused, Stepped, limit, refusing, withParameter, startRuleOf, after, judged, completing, placing, parameterStep, stepOf}
+use Rattle.session.specs.Feed.{nothing, first, Fed, onward, ended, proceed, feedOf}
+use Rattle.session.specs.Again.{fed, holding, standing}
+use Rattle.session.proofs.Refusals.{going}
 
 -- one parameter more
 held-more : (l : ℕ) (ps : List ℕ) (w : ℕ) → length ps < 4 → withParameter (holding l ps) w ≡ holding l (ps ++ (w ∷ []))

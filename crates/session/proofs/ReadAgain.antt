@@ -1,12 +1,11 @@
 -- Reading again: the words of the completed commands, read from the settings that these first met, lead to the same commands and
 -- settings, and from the same session to the same session. Assumes nothing.
 use mathlib.Core.Path.{_≡_, refl, sym, ap, _∙_, subst}
-use mathlib.Core.Bool.{Bool, true, false}
 use mathlib.Core.List.{List, [], _∷_, _++_, append-nil}
 use Prim.Native.Nat.{ℕ, _+_, _≤_}
 use native.Mathlib.Omega.{arith}
 use lib.ListN.{length, length-append}
-use Rattle.refusal.specs.Told.{Told, gives, refuses}
+use Rattle.refusal.specs.Told.{Told, gives}
 use Rattle.command.specs.Commands.{wordsOf}
 use Rattle.command.specs.Rules.{lastRuleOf}
 use Rattle.command.specs.Writer.{judgeCommandOf}
@@ -17,20 +16,8 @@ use Rattle.command.proofs.Rule.{Ruled, fine, five, six, ruled}
 use Rattle.command.proofs.Readable.{writable}
 use Rattle.session.specs.State.{Open, Session, none}
 use Rattle.session.specs.Start.{readyOf}
-use Rattle.session.specs.Step.{
-  Reply,
-  stillOpen,
-  completed,
-  refused,
-  Stepped,
-  limit,
-  ownAfter,
-  sharedAfter,
-  startRuleOf,
-  after,
-  stepOf,
-}
-use Rattle.session.specs.Feed.{First, nothing, first, Fed, proceed, feedOf, joined, written}
+use Rattle.session.specs.Step.{stillOpen, completed, refused, Stepped, limit, ownAfter, sharedAfter, startRuleOf, after, stepOf}
+use Rattle.session.specs.Feed.{nothing, first, Fed, proceed, feedOf, joined, written}
 use Rattle.session.specs.Valid.{Valid, heldOf}
 use Rattle.session.specs.Again.{Idle, fed, standing, SameSettings, ReadAgain, EachWritable}
 use Rattle.session.proofs.Ways.{Way, wasStopped, stops, opens, fills, ends, way}

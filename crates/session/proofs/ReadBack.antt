@@ -11,7 +11,7 @@ use borrow.Author.Tests.{eqb-true, eqb-false, leb-true, leb-false}
 use Rattle.laws.specs.Choice.{pick}
 use Rattle.laws.proofs.Choice.{Tested, holds, fails, tested}
 use Rattle.refusal.specs.Told.{Told, gives, refuses}
-use Rattle.command.specs.Table.{headerOf, countOf}
+use Rattle.command.specs.Table.{headerOf}
 use Rattle.command.specs.Commands.{lineOf, fieldsOf, wordsOf, EachAllowed}
 use Rattle.command.specs.Rules.{lastRuleOf}
 use Rattle.command.specs.Writer.{thenTold, judgeCommandOf}

@@ -3,17 +3,14 @@
 use mathlib.Core.Path.{_≡_, refl, sym, ap, _∙_, subst}
 use mathlib.Core.Bool.{Bool, true, false}
 use mathlib.Core.List.{List, [], _∷_}
-use Prim.Native.Nat.{ℕ, suc, _<_, _≤_}
+use Prim.Native.Nat.{ℕ, _<_}
 use native.Mathlib.Omega.{arith}
-use lib.Dec.{eqb, leb, ltb}
 use lib.ListN.{take}
 use borrow.Author.Tests.{eqb-true, eq-eqb, ne-eqb, lt-ltb, le-ltb, lt-leb}
 use Rattle.laws.specs.Choice.{pick, placeOf}
 use Rattle.laws.proofs.Choice.{pick-yes, pick-no, by-pick}
 use Rattle.refusal.specs.Told.{Told, gives, refuses}
-use Rattle.command.specs.Table.{headers, headerOf, countOf}
-use Rattle.command.specs.Kinds.{allowed, faultOf, kindOf}
-use Rattle.command.specs.Rules.{lastRuleOf}
+use Rattle.command.specs.Table.{headers}
 use Rattle.command.specs.Writer.{thenTold}
 use Rattle.command.specs.declared.commands.Command.{Command}
 use Rattle.command.specs.declared.commands.Command.the-variants as command
@@ -21,7 +18,7 @@ use Rattle.command.proofs.Headers.{Accepted, stands, place-of-line}
 use Rattle.command.proofs.Judging.{Fault, three, four, fault}
 use Rattle.command.proofs.Rule.{Ruled, fine, five, six, ruled}
 use Rattle.session.specs.State.{Open, Session, none}
-use Rattle.session.specs.Start.{complete, covered, disjoint, readyOf}
+use Rattle.session.specs.Start.{readyOf}
 use Rattle.session.specs.Step.{
   Reply,
   stillOpen,
@@ -38,7 +35,7 @@ use Rattle.session.specs.Step.{
   headerStep,
   stepOf,
 }
-use Rattle.session.specs.Feed.{First, nothing, first, Fed, proceed, feedOf}
+use Rattle.session.specs.Feed.{nothing, first, Fed, ended, proceed, feedOf}
 use Rattle.session.specs.Valid.{Valid}
 use Rattle.session.specs.Refusals.{StopNumber, low, full, RefusedTo, unchanged, stopping}
 use Rattle.session.specs.Again.{Idle, holding}
@@ -135,6 +132,19 @@ module _ (s : Session) where
 -- a stopped session answers 1 to every word and changes nothing at all
 pub stopped-same : (s : Session) (w : ℕ) → s .party .stopped ≡ 1 → stepOf s w ≡ record { reply = refused 1; session = s }
 stopped-same s w e = stopped-word s w (eq-eqb _ _ e)
+
+pub stopped-piece : (s : Session) (w : ℕ) (ws : List ℕ) → s .party .stopped ≡ 1 → feedOf s (w ∷ ws) ≡ ended (first 1) s
+unfolding feedOf proceed
+stopped-piece s w ws e =
+    ap (λ (t : Stepped). proceed (t .reply) (t .session) (feedOf (t .session) ws)) (stopped-same s w e)
+
+-- a refused word has stopped the session for good
+pub stopped-for-good : (s : Session) (w n : ℕ) → stepOf s w .reply ≡ refused n → stepOf s w .session .party .stopped ≡ 1
+stopped-for-good s w n e = go (refused-word s w n e)
+  where
+    go : {m : ℕ} {u : Session} → RefusedTo s m u → u .party .stopped ≡ 1
+    go (unchanged k) = k
+    go (stopping k) = refl
 
 -- a piece with a refusal leaves what its refused word leaves of the session after the words that it took
 refused-first : (n m : ℕ) → first n ≡ first m → n ≡ m

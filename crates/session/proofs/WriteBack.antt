@@ -1,8 +1,8 @@
 -- Write-back: the words taken are what the completed commands write, followed by the open command's words. Assumes nothing.
-use mathlib.Core.Path.{_≡_, refl, sym, ap, _∙_, subst}
-use mathlib.Core.Bool.{Bool, true, false}
+use mathlib.Core.Path.{_≡_, refl, sym, ap, _∙_}
+use mathlib.Core.Bool.{true, false}
 use mathlib.Core.List.{List, [], _∷_, _++_, append-assoc, append-nil}
-use Prim.Native.Nat.{ℕ, zero, suc, _+_, _<_, _≤_}
+use Prim.Native.Nat.{ℕ, suc, _+_, _<_}
 use native.Mathlib.Omega.{arith}
 use lib.Dec.{eqb, ltb}
 use lib.ListN.{length, take}
@@ -17,11 +17,11 @@ use Rattle.command.specs.Rules.{lastRuleOf}
 use Rattle.command.specs.declared.commands.Command.{Command}
 use Rattle.command.proofs.Headers.{stands}
 use Rattle.session.specs.State.{Open, Session, none}
-use Rattle.session.specs.Step.{Reply, stillOpen, completed, refused, Stepped, opening, took, withParameter, after, stepOf}
-use Rattle.session.specs.Feed.{First, nothing, first, Fed, onward, ended, proceed, feedOf, written, accepts, emitted}
+use Rattle.session.specs.Step.{Reply, stillOpen, completed, refused, Stepped, took, withParameter, after, stepOf}
+use Rattle.session.specs.Feed.{nothing, first, Fed, onward, proceed, feedOf, written, accepts, emitted}
 use Rattle.session.specs.Valid.{parametersOf, Valid, heldOf}
-use Rattle.session.proofs.Ways.{whole, begun, goingOn, Placed, Way, wasStopped, stops, opens, fills, ends, way}
-use Rattle.session.proofs.Kept.{Effects, line-lt, count-lt, all-allowed, whole-words, effects-of, kept}
+use Rattle.session.proofs.Ways.{whole, begun, Placed, Way, wasStopped, stops, opens, fills, ends, way}
+use Rattle.session.proofs.Kept.{line-lt, count-lt, all-allowed, whole-words, effects-of, kept}
 
 -- one parameter more
 more : (l n p0 p1 p2 p3 w : ℕ) → n < 4 →
@@ -122,6 +122,19 @@ fed-back s [] v e = unfold written in append-nil (heldOf (s .party .opened))
 fed-back s (w ∷ ws) v e =
     onward-back (stepOf s w .reply) (stepOf s w .session) (feedOf (stepOf s w .session) ws) (heldOf (s .party .opened))
     (heldOf (stepOf s w .session .party .opened)) w ws (taken s w v) (fed-back (stepOf s w .session) ws (kept s w v)) e
+
+-- a piece without a refusal took all its words
+all-word : (r : Reply) (u : Session) (f : Fed) (n : ℕ) → (f .refusal ≡ nothing → f .taken ≡ n) → proceed r u f .refusal ≡ nothing →
+    proceed r u f .taken ≡ suc n
+unfolding proceed
+all-word stillOpen u f n rest e = ap suc (rest e)
+all-word (completed c) u f n rest e = ap suc (rest e)
+all-word (refused m) u f n rest e = absurd (let z : _≡_ {A = ℕ} 0 1 = cc in omega arith)
+
+pub all-taken : (s : Session) (ws : List ℕ) → feedOf s ws .refusal ≡ nothing → feedOf s ws .taken ≡ length ws
+unfolding feedOf
+all-taken s [] e = refl
+all-taken s (w ∷ ws) e = all-word (stepOf s w .reply) _ (feedOf (stepOf s w .session) ws) (length ws) (all-taken (stepOf s w .session) ws) e
 
 -- the words that a piece took, fed alone: the same commands, and no refusal
 pub record Alone (s : Session) (ws : List ℕ) (f : Fed) : Type 0 where
