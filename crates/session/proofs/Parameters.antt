@@ -16,7 +16,6 @@ use Rattle.command.specs.Kinds.{allowed, kindOf}
 use Rattle.command.specs.Commands.{lineOf, fieldsOf, EachAllowed}
 use Rattle.command.specs.Rules.{lastRuleOf}
 use Rattle.command.specs.Writer.{thenTold}
-use Rattle.command.specs.declared.commands.Stored.the-variants as stored
 use Rattle.command.specs.declared.commands.Command.{Command}
 use Rattle.command.specs.declared.commands.Command.the-variants as command
 use Rattle.command.proofs.WriteBack.{read-back, lined}
@@ -67,14 +66,14 @@ lastly zero t = proceed (t .reply) (t .session) (ended nothing (t .session))
 lastly (suc n) t = onward [] (lastly n t)
 
 module _ (s : Session) (unstopped : s .party .stopped ≡ 0) (c : Command) (a : EachAllowed (lineOf c) (fieldsOf c)) where
-  abbrev pub l : ℕ
+  abbrev l : ℕ
   l = lineOf c
 
-  abbrev pub told : Told
+  abbrev told : Told
   told = thenTold (lastRuleOf c) (startRuleOf c s)
 
   -- the answer where `m` words were taken before, and 17 comes
-  abbrev pub filled-up : ℕ → Fed
+  abbrev filled-up : ℕ → Fed
   filled-up m = fed (limit - m) [] (first 17) (refusing (standing s limit none) 17 .session)
 
   module _ (m : ℕ) (ps : List ℕ) (q : ℕ) (qs : List ℕ) (e : ps ++ (q ∷ qs) ≡ fieldsOf c) (less : m < limit) where
@@ -178,4 +177,3 @@ pub lastly-refused : (k n : ℕ) (u : Session) → lastly k (record { reply = re
 unfolding lastly proceed
 lastly-refused zero n u = refl
 lastly-refused (suc k) n u = ap (onward []) (lastly-refused k n u)
-

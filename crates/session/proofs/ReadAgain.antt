@@ -17,7 +17,7 @@ use Rattle.command.proofs.Readable.{writable}
 use Rattle.session.specs.State.{Open, Session, none}
 use Rattle.session.specs.Start.{readyOf}
 use Rattle.session.specs.Step.{stillOpen, completed, refused, Stepped, limit, ownAfter, sharedAfter, startRuleOf, after, stepOf}
-use Rattle.session.specs.Feed.{nothing, first, Fed, proceed, feedOf, joined, written}
+use Rattle.session.specs.Feed.{nothing, Fed, proceed, feedOf, joined, written}
 use Rattle.session.specs.Valid.{Valid, heldOf}
 use Rattle.session.specs.Again.{Idle, fed, standing, SameSettings, ReadAgain, EachWritable}
 use Rattle.session.proofs.Ways.{Way, wasStopped, stops, opens, fills, ends, way}
@@ -28,36 +28,36 @@ use Rattle.session.proofs.ReadBack.{reads-back}
 
 -- a piece that begins and ends with no command open, and gets no refusal
 module _
-  (s : Session)
-  (ws : List ℕ)
-  (v : Valid s)
-  (unopened : s .party .opened ≡ none)
-  (unrefused : feedOf s ws .refusal ≡ nothing)
-  (closed : feedOf s ws .session .party .opened ≡ none)
+    (s : Session)
+    (ws : List ℕ)
+    (v : Valid s)
+    (unopened : s .party .opened ≡ none)
+    (unrefused : feedOf s ws .refusal ≡ nothing)
+    (closed : feedOf s ws .session .party .opened ≡ none)
   where
-  -- it is what its commands write
-  pub whole-back : written (feedOf s ws .commands) ≡ ws
-  whole-back =
-      sym
-      (sym (ap (λ (h : List ℕ). h ++ ws) (nil unopened)) ∙ fed-back s ws v unrefused ∙
-      ap (λ (h : List ℕ). written (feedOf s ws .commands) ++ h) (nil closed) ∙
-      append-nil (written (feedOf s ws .commands)))
-    where
-      nil : {o : Open} → o ≡ none → heldOf o ≡ []
-      nil e = ap heldOf e ∙ none-held none refl
+    -- it is what its commands write
+    pub whole-back : written (feedOf s ws .commands) ≡ ws
+    whole-back =
+        sym
+        (sym (ap (λ (h : List ℕ). h ++ ws) (nil unopened)) ∙ fed-back s ws v unrefused ∙
+        ap (λ (h : List ℕ). written (feedOf s ws .commands) ++ h) (nil closed) ∙
+        append-nil (written (feedOf s ws .commands)))
+      where
+        nil : {o : Open} → o ≡ none → heldOf o ≡ []
+        nil e = ap heldOf e ∙ none-held none refl
 
-  -- so these words, fed to the same session, give the same commands and the same session
-  pub whole-again : feedOf s (written (feedOf s ws .commands)) ≡ feedOf s ws
-  whole-again = ap (feedOf s) whole-back
+    -- so these words, fed to the same session, give the same commands and the same session
+    pub whole-again : feedOf s (written (feedOf s ws .commands)) ≡ feedOf s ws
+    whole-again = ap (feedOf s) whole-back
 
-  -- in particular where it is one command
-  module _ (c : Command) (only : feedOf s ws .commands ≡ c ∷ []) where
-    pub words-of-one : wordsOf c ≡ ws
-    unfolding written
-    words-of-one = sym (append-nil (wordsOf c)) ∙ sym (ap written only) ∙ whole-back
+    -- in particular where it is one command
+    module _ (c : Command) (only : feedOf s ws .commands ≡ c ∷ []) where
+      pub words-of-one : wordsOf c ≡ ws
+      unfolding written
+      words-of-one = sym (append-nil (wordsOf c)) ∙ sym (ap written only) ∙ whole-back
 
-    pub one-again : feedOf s (wordsOf c) ≡ feedOf s ws
-    one-again = ap (feedOf s) words-of-one
+      pub one-again : feedOf s (wordsOf c) ≡ feedOf s ws
+      one-again = ap (feedOf s) words-of-one
 
 -- a command that a session completed: the writer accepts it, and the settings passed it
 record Passed (s : Session) (c : Command) : Type 0 where

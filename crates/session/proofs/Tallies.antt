@@ -81,8 +81,8 @@ module _ (s u : Session) (cs : List Command) (f : Session) (r : Tallied u cs f) 
   unfolding runsOf claimsOf
   after-one c e =
       let k :
-          claimsOf cs (u .party .domain) (u .shared .outputs) ≡
-          claimsOf cs (domainAfter c (s .party .domain)) (outputsAfter c (s .shared .outputs))
+      claimsOf cs (u .party .domain) (u .shared .outputs) ≡
+      claimsOf cs (domainAfter c (s .party .domain)) (outputsAfter c (s .shared .outputs))
       = ap₂ (claimsOf cs) (e .domain) (e .outputs)
       in
       record { runs = omega (arith, r .runs, e .runs); claims = omega (arith, r .claims, e .claims) }

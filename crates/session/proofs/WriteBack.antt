@@ -16,12 +16,12 @@ use Rattle.command.specs.Commands.{wordsOf}
 use Rattle.command.specs.Rules.{lastRuleOf}
 use Rattle.command.specs.declared.commands.Command.{Command}
 use Rattle.command.proofs.Headers.{stands}
-use Rattle.session.specs.State.{Open, Session, none}
+use Rattle.session.specs.State.{Open, Session, none, newSession}
 use Rattle.session.specs.Step.{Reply, stillOpen, completed, refused, Stepped, took, withParameter, after, stepOf}
 use Rattle.session.specs.Feed.{nothing, first, Fed, onward, proceed, feedOf, written, accepts, emitted}
 use Rattle.session.specs.Valid.{parametersOf, Valid, heldOf}
 use Rattle.session.proofs.Ways.{whole, begun, Placed, Way, wasStopped, stops, opens, fills, ends, way}
-use Rattle.session.proofs.Kept.{line-lt, count-lt, all-allowed, whole-words, effects-of, kept}
+use Rattle.session.proofs.Kept.{new-valid, line-lt, count-lt, all-allowed, whole-words, effects-of, kept}
 
 -- one parameter more
 more : (l n p0 p1 p2 p3 w : ℕ) → n < 4 →
@@ -122,6 +122,12 @@ fed-back s [] v e = unfold written in append-nil (heldOf (s .party .opened))
 fed-back s (w ∷ ws) v e =
     onward-back (stepOf s w .reply) (stepOf s w .session) (feedOf (stepOf s w .session) ws) (heldOf (s .party .opened))
     (heldOf (stepOf s w .session .party .opened)) w ws (taken s w v) (fed-back (stepOf s w .session) ws (kept s w v)) e
+
+-- so from the beginning
+pub all-back :
+    (ws : List ℕ) → feedOf newSession ws .refusal ≡ nothing →
+    ws ≡ written (feedOf newSession ws .commands) ++ heldOf (feedOf newSession ws .session .party .opened)
+all-back ws e = sym (ap (λ (h : List ℕ). h ++ ws) (none-held none refl)) ∙ fed-back newSession ws new-valid e
 
 -- a piece without a refusal took all its words
 all-word : (r : Reply) (u : Session) (f : Fed) (n : ℕ) → (f .refusal ≡ nothing → f .taken ≡ n) → proceed r u f .refusal ≡ nothing →
