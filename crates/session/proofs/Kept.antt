@@ -258,7 +258,7 @@ module _ (s : Session) (w : ℕ) (v : Valid s) where
         EachAllowed (before .line) (parametersOf (withParameter before w))
     all-allowed l k h = more-allowed k (omega (arith, ltb-false (before .count + 1) (countOf (before .line)) l))
 
-    each-allowed : ltb (before .count + 1) (countOf (before .line)) ≡ false → (c : Command) → c ≡ whole (withParameter before w) →
+    pub each-allowed : ltb (before .count + 1) (countOf (before .line)) ≡ false → (c : Command) → c ≡ whole (withParameter before w) →
         EachAllowed (lineOf c) (fieldsOf c)
     each-allowed l c e =
         subst (λ (d : Command). EachAllowed (lineOf d) (fieldsOf d)) (sym e)

@@ -3,8 +3,14 @@ pub mod Cells
 pub mod Cut
 pub mod Kept
 pub mod OwnPuts
+pub mod Parameters
 pub mod Puts
+pub mod ReadAgain
+pub mod ReadBack
 pub mod Readiness
+pub mod Refusals
 pub mod SharedPuts
 pub mod Stepping
+pub mod Tallies
 pub mod Ways
+pub mod WriteBack

@@ -1,5 +1,6 @@
 -- Document 01: "A piece of words answers as its words one after another do, up to the first refused one: it also says how many
 -- words were taken and how many commands they completed, and those stand." Assumes nothing.
+use mathlib.Core.Bool.{Bool, true, false}
 use mathlib.Core.List.{List, [], _∷_, _++_}
 use Prim.Native.Nat.{ℕ, zero, suc, _+_}
 use Rattle.command.specs.Commands.{wordsOf}
@@ -66,3 +67,15 @@ fedPieces s (p ∷ ps) = joined (feedOf s p) (fedPieces (feedOf s p .session) ps
 unfoldable pub uncut : List (List ℕ) → List ℕ
 uncut [] = []
 uncut (p ∷ ps) = p ++ uncut ps
+
+-- "An accepted word answers "open", or the command that it completes"
+unfoldable pub accepts : Reply → Bool
+accepts stillOpen = true
+accepts (completed c) = true
+accepts (refused n) = false
+
+-- what the command writes that a word completes; nothing where it completes none
+unfoldable pub emitted : Reply → List ℕ
+emitted stillOpen = []
+emitted (completed c) = wordsOf c
+emitted (refused n) = []

@@ -1,9 +1,12 @@
+pub mod Again
 pub mod Answers
 pub mod Asked
 pub mod Cells
 pub mod Feed
+pub mod Refusals
 pub mod Start
 pub mod State
 pub mod Step
+pub mod Tallies
 pub mod Valid
 pub mod Windows
