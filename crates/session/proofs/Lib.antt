@@ -11,6 +11,7 @@ pub mod Readiness
 pub mod Refusals
 pub mod SharedPuts
 pub mod Stepping
+pub mod Taking
 pub mod Tallies
 pub mod Ways
 pub mod WriteBack

@@ -59,3 +59,9 @@ pub record ParameterAsked (own tallies shared : List ℕ) (w : ℕ) : Type 0 whe
   pub line : partyOf own tallies .opened .line < 21
   pub kindAllows :
       allowed (kindOf (partyOf own tallies .opened .line) (partyOf own tallies .opened .count)) w ≡ true
+
+-- a valid session that takes words, with an open command
+pub record OpenAsked (own tallies shared : List ℕ) : Type 0 where
+  pub given : Given own tallies shared
+  pub taken : partyOf own tallies .taken < limit
+  pub line : partyOf own tallies .opened .line < 21

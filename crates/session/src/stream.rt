@@ -20,7 +20,7 @@ ghost use Rattle.command.specs.Writer.{thenTold};
 ghost use Rattle.session.specs.State.{newSession};
 ghost use Rattle.session.specs.Step.{completing, parameterStep, placing, startRuleOf, stepOf, withParameter};
 ghost use Rattle.session.specs.Cells.{Sized, partyOf, sessionOf};
-ghost use Rattle.session.specs.Asked.{CompleteAsked, Given, Held, Left, ParameterAsked};
+ghost use Rattle.session.specs.Asked.{CompleteAsked, Given, Held, Left, OpenAsked, ParameterAsked};
 ghost use Rattle.session.specs.Answers.{replyOf};
 
 // What a word is answered: the command is still open, the command that the word completed, or the refusal.
@@ -78,4 +78,68 @@ fn placed(own: &mut [u32; 17], tallies: &mut [u64; 2], shared: &mut [u32; 101], 
         return Answer::Open;
     }
     complete(own, tallies, shared)
+}
+
+// A word where a command is open: judged by the kind of the parameter that it is.
+fn parameter(
+    own: &mut [u32; 17],
+    tallies: &mut [u64; 2],
+    shared: &mut [u32; 101],
+    word: u32,
+) -> Answer
+    requires { ⌜ OpenAsked (now own) (now tallies) (now shared) ⌝ }
+    ensures { λ r. ⌜ Left (parameterStep (sessionOf (now (own .entry)) (now (tallies .entry)) (now (shared .entry))) word) (replyOf r) (now (own .exit)) (now (tallies .exit)) (now (shared .exit)) ⌝ }
+{
+    let kind = kinds::kind_at(own[2], own[3]);
+    let checked = kinds::check(kind, word);
+    match checked {
+        Checked::Refused(why) => {
+            own::stop(own);
+            Answer::Refused(why)
+        }
+        Checked::Fine => placed(own, tallies, shared, word),
+    }
+}
+
+// One word. 1 comes before 17, and 17 before the word is looked at.
+pub fn word(
+    own: &mut [u32; 17],
+    tallies: &mut [u64; 2],
+    shared: &mut [u32; 101],
+    word: u32,
+) -> Answer
+    requires { ⌜ Given (now own) (now tallies) (now shared) ⌝ }
+    ensures { λ r. ⌜ Left (stepOf (sessionOf (now (own .entry)) (now (tallies .entry)) (now (shared .entry))) word) (replyOf r) (now (own .exit)) (now (tallies .exit)) (now (shared .exit)) ⌝ }
+{
+    if own[0] == 1 {
+        return Answer::Refused(Refusal::Stopped);
+    }
+    if 1000000000 <= own[1] {
+        own::stop(own);
+        return Answer::Refused(Refusal::WordLimit);
+    }
+    if own[2] != 21 {
+        return parameter(own, tallies, shared, word);
+    }
+    match table::line_of(word) {
+        Line::Unknown => {
+            own::stop(own);
+            Answer::Refused(Refusal::UnknownHeader)
+        }
+        Line::At(line) => {
+            own::open_line(own, line);
+            Answer::Open
+        }
+    }
+}
+
+// A new session: nothing set, mask 65535.
+pub fn begin(own: &mut [u32; 17], tallies: &mut [u64; 2], shared: &mut [u32; 101])
+    ensures { λ _. ⌜ Held newSession (now (own .exit)) (now (tallies .exit)) (now (shared .exit)) ⌝ }
+{
+    *own = [0; 17];
+    own[2] = 21;
+    *tallies = [0; 2];
+    *shared = [0; 101];
+    shared[0] = 65535;
 }

@@ -1,0 +1,193 @@
+-- A word, cell by cell as the code takes it, is the definition's step. Assumes nothing.
+use mathlib.Core.Path.{_≡_, refl, sym, ap, _∙_, subst}
+use mathlib.Core.Bool.{Bool, true, false}
+use mathlib.Core.List.{List, [], _∷_}
+use Prim.Native.Nat.{ℕ, _+_, _<_, _≤_}
+use native.Mathlib.Omega.{arith}
+use lib.Dec.{eqb, leb, ltb}
+use lib.ListN.{length, getD, replicate, set}
+use borrow.Author.Tests.{eq-eqb, ne-eqb, le-leb, lt-leb, lt-ltb}
+use Rattle.laws.specs.Choice.{pick, placeOf}
+use Rattle.laws.proofs.Choice.{pick-yes, pick-no, Tested, tested, holds, fails}
+use Rattle.refusal.specs.Told.{Told, gives, refuses}
+use Rattle.command.specs.Table.{headers, lineWith}
+use Rattle.command.specs.Kinds.{allowed, faultOf, kindOf, checkOf}
+use Rattle.command.specs.declared.kinds.Kind.{Kind}
+use Rattle.command.proofs.Headers.{count-most}
+use Rattle.session.specs.State.{Open, Party, Session, atLine, none, newSession}
+use Rattle.session.specs.Step.{
+  Reply,
+  stillOpen,
+  refused,
+  Stepped,
+  limit,
+  opening,
+  took,
+  stop,
+  refusing,
+  withParameter,
+  placing,
+  parameterStep,
+  headerStep,
+  stepOf,
+}
+use Rattle.session.specs.Valid.{Valid}
+use Rattle.session.specs.Asked.{Held, Left, OpenAsked, ParameterAsked, Given}
+use Rattle.session.specs.Cells.{Sized, partyOf, partyCells, tallyCells, sharedOf, sharedCells, sessionOf}
+use Rattle.session.proofs.Cells.{own-canon, tally-canon, shared-canon}
+use Rattle.session.proofs.Stepping.{refusing-left}
+
+told-apart : {v : List ℕ} {n : ℕ} → gives v ≡ refuses n → ⊥
+told-apart h = let z : _≡_ {A = ℕ} 0 1 = cc in omega arith
+
+same-number : {m n : ℕ} → refuses m ≡ refuses n → m ≡ n
+same-number h = cc
+
+-- what a parameter's check tells
+module _ (k : Kind) (w : ℕ) where
+  is-allowed : (v : List ℕ) → checkOf k w ≡ gives v → allowed k w ≡ true
+  unfolding checkOf
+  is-allowed v e = go (tested (allowed k w))
+    where
+      go : Tested (allowed k w) → allowed k w ≡ true
+      go (holds t) = t
+      go (fails t) = absurd (told-apart (sym e ∙ pick-no _ _ t))
+
+  not-allowed : (n : ℕ) → checkOf k w ≡ refuses n → (allowed k w ≡ false) × (faultOf k ≡ n)
+  unfolding checkOf
+  not-allowed n e = go (tested (allowed k w))
+    where
+      go : Tested (allowed k w) → (allowed k w ≡ false) × (faultOf k ≡ n)
+      go (holds t) = absurd (told-apart (sym (pick-yes _ _ t) ∙ e))
+      go (fails t) = (t, same-number (sym (pick-no _ _ t) ∙ e))
+
+-- a word where a command is open
+module _ (l t s : List ℕ) (w : ℕ) (a : OpenAsked l t s) where
+  abbrev so : Session
+  so = sessionOf l t s
+
+  count-lt : partyOf l t .opened .count < 4
+  count-lt =
+      omega (arith, a .given .valid .opened (a .line) .fewer, count-most (partyOf l t .opened .line) (a .line))
+
+  pub kind-asked : (getD l 2 0 < 21) × (getD l 3 0 < 4)
+  unfolding partyOf
+  kind-asked = (a .line, count-lt)
+
+  module _ (k : Kind) (e : k ≡ kindOf (getD l 2 0) (getD l 3 0)) where
+    pub kind-refused : (n : ℕ) → checkOf k w ≡ refuses n → (l1 : List ℕ) → l1 ≡ partyCells (stop (partyOf l [])) →
+        Left (parameterStep so w) (refused n) l1 t s
+    unfolding parameterStep partyOf
+    kind-refused n r l1 q =
+        let no = not-allowed (kindOf (getD l 2 0) (getD l 3 0)) w n (ap (λ (x : Kind). checkOf x w) (sym e) ∙ r) in
+        subst (λ (x : Stepped). Left x (refused n) l1 t s)
+        (ap (refusing so) (sym (no .1)) ∙ sym (pick-no _ _ (no .0)))
+        (refusing-left l t s (a .given .sized) n l1 q)
+
+    module _ (v : List ℕ) (r : checkOf k w ≡ gives v) where
+      allows : allowed (kindOf (getD l 2 0) (getD l 3 0)) w ≡ true
+      allows = is-allowed (kindOf (getD l 2 0) (getD l 3 0)) w v (ap (λ (x : Kind). checkOf x w) (sym e) ∙ r)
+
+      pub parameter-asked : ParameterAsked l t s w
+      parameter-asked =
+          record { given = a .given; taken = a .taken; line = a .line; kindAllows = unfold partyOf in allows }
+
+      pub kind-passed : (y : Reply) (l1 t1 s1 : List ℕ) → Left (placing (withParameter (partyOf l [] .opened) w) so) y l1 t1 s1 →
+          Left (parameterStep so w) y l1 t1 s1
+      unfolding parameterStep partyOf
+      kind-passed y l1 t1 s1 h = subst (λ (x : Stepped). Left x y l1 t1 s1) (sym (pick-yes _ _ allows)) h
+
+-- a word
+module _ (l t s : List ℕ) (w : ℕ) (g : Given l t s) where
+  abbrev sg : Session
+  sg = sessionOf l t s
+
+  same : Held sg l t s
+  same =
+      record {
+        own-cells = sym (own-canon l t (g .sized .own-length));
+        tally-cells = sym (tally-canon l t (g .sized .tallies-length));
+        shared-cells = sym (shared-canon s (g .sized .shared-length));
+      }
+
+  pub word-stopped : getD l 0 0 ≡ 1 → Left (stepOf sg w) (refused 1) l t s
+  unfolding stepOf partyOf
+  word-stopped e =
+      subst (λ (x : Stepped). Left x (refused 1) l t s) (sym (pick-yes _ _ (eq-eqb _ _ e))) (record { reply = refl; held = same })
+
+  module _ (n0 : getD l 0 0 ≡ 1 → ⊥) where
+    pub word-full : limit ≤ getD l 1 0 → (l1 : List ℕ) → l1 ≡ partyCells (stop (partyOf l [])) → Left (stepOf sg w) (refused 17) l1 t s
+    unfolding stepOf partyOf
+    word-full k l1 e =
+        subst (λ (x : Stepped). Left x (refused 17) l1 t s)
+        (sym (pick-no _ _ (ne-eqb _ _ n0) ∙ pick-yes _ _ (le-leb _ _ k)))
+        (refusing-left l t s (g .sized) 17 l1 e)
+
+    module _ (k : getD l 1 0 < limit) where
+      going : stepOf sg w ≡ pick (eqb (getD l 2 0) 21) (headerStep sg w) (parameterStep sg w)
+      unfolding stepOf partyOf
+      going = pick-no _ _ (ne-eqb _ _ n0) ∙ pick-no _ _ (lt-leb _ _ k)
+
+      module _ (ne : getD l 2 0 ≡ 21 → ⊥) where
+        pub open-asked : OpenAsked l t s
+        open-asked =
+            record {
+              given = g;
+              taken = unfold partyOf in k;
+              line = unfold partyOf in (omega (arith, ne, g .valid .line-most));
+            }
+
+        pub word-parameter : (y : Reply) (l1 t1 s1 : List ℕ) → Left (parameterStep sg w) y l1 t1 s1 → Left (stepOf sg w) y l1 t1 s1
+        word-parameter y l1 t1 s1 h = subst (λ (x : Stepped). Left x y l1 t1 s1) (sym (going ∙ pick-no _ _ (ne-eqb _ _ ne))) h
+
+      module _ (e : getD l 2 0 ≡ 21) where
+        header : stepOf sg w ≡ headerStep sg w
+        header = going ∙ pick-yes _ _ (eq-eqb _ _ e)
+
+        none-open : partyOf l t .opened ≡ none
+        none-open = g .valid .closed (unfold partyOf in e)
+
+        pub line-asked : (length l ≡ 17) × ((partyOf l [] .taken < limit) × (partyOf l [] .opened ≡ none))
+        unfolding partyOf
+        line-asked = (g .sized .own-length, (k, none-open))
+
+        pub word-unknown : lineWith w ≡ refuses 2 → (l1 : List ℕ) → l1 ≡ partyCells (stop (partyOf l [])) →
+            Left (stepOf sg w) (refused 2) l1 t s
+        unfolding headerStep lineWith
+        word-unknown r l1 q =
+            subst (λ (x : Stepped). Left x (refused 2) l1 t s) (sym (header ∙ pick-no _ _ (unknown (tested _))))
+            (refusing-left l t s (g .sized) 2 l1 q)
+          where
+            unknown : Tested (ltb (placeOf w headers) (length headers)) → ltb (placeOf w headers) (length headers) ≡ false
+            unknown (holds x) = absurd (told-apart (sym (pick-yes _ _ x) ∙ r))
+            unknown (fails x) = x
+
+        pub word-header : (n : ℕ) → lineWith w ≡ gives (n ∷ []) → (l1 : List ℕ) →
+            l1 ≡ partyCells (took (opening (atLine n) (partyOf l []))) → Left (stepOf sg w) stillOpen l1 t s
+        unfolding headerStep lineWith
+        word-header n r l1 q =
+            subst (λ (x : Stepped). Left x stillOpen l1 t s) (sym (header ∙ pick-yes _ _ (known (tested _) .0)))
+            (record {
+              reply = refl;
+              held =
+                  record {
+                    own-cells =
+                        unfold partyOf partyCells in
+                        (q ∙ ap (λ (m : ℕ). partyCells (took (opening (atLine m) (partyOf l t)))) (sym (known (tested _) .1)));
+                    tally-cells = unfold partyOf tallyCells in sym (tally-canon l t (g .sized .tallies-length));
+                    shared-cells = sym (shared-canon s (g .sized .shared-length));
+                  };
+            })
+          where
+            one-line : {x y : ℕ} → gives (x ∷ []) ≡ gives (y ∷ []) → x ≡ y
+            one-line h = cc
+
+            known : Tested (ltb (placeOf w headers) (length headers)) →
+                (ltb (placeOf w headers) (length headers) ≡ true) × (placeOf w headers ≡ n)
+            known (holds x) = (x, one-line (sym (pick-yes _ _ x) ∙ r))
+            known (fails x) = absurd (told-apart (sym r ∙ pick-no _ _ x))
+
+-- a new session's cells
+pub begun : Held newSession (set (replicate 17 0) 2 21) (replicate 2 0) (set (replicate 101 0) 0 65535)
+unfolding partyCells tallyCells sharedCells
+begun = record { own-cells = refl; tally-cells = refl; shared-cells = refl }

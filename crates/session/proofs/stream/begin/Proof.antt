@@ -1,0 +1,17 @@
+-- `session::stream::begin` meets its contract. Assumes nothing.
+use Rattle.session.proofs.Taking.{begun}
+use borrow.Author.Needs.{needs}
+use Rattle.session.proofs.stream.begin.Statement.{statement}
+use Rattle.session.proofs.stream.begin.Tie as tie
+
+element-write-own : tie.Need-element-write-own
+element-write-own c = search needs
+
+element-write-shared : tie.Need-element-write-shared
+element-write-shared c = search needs
+
+returns : tie.Need-returns
+returns c = begun
+
+pub begin-spec : {M : Type 1} → statement M
+begin-spec = tie.close (tie.spec element-write-own element-write-shared returns)
