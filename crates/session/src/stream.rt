@@ -21,7 +21,8 @@ ghost use Rattle.session.specs.State.{newSession};
 ghost use Rattle.session.specs.Step.{completing, parameterStep, placing, startRuleOf, stepOf, withParameter};
 ghost use Rattle.session.specs.Cells.{Sized, partyOf, sessionOf};
 ghost use Rattle.session.specs.Asked.{CompleteAsked, Given, Held, Left, OpenAsked, ParameterAsked};
-ghost use Rattle.session.specs.Answers.{replyOf};
+ghost use Rattle.session.specs.Answers.{PieceLeft, completedBy, replyOf};
+ghost use Rattle.session.specs.Feed.{feedOf};
 
 // What a word is answered: the command is still open, the command that the word completed, or the refusal.
 pub enum Answer {
@@ -142,4 +143,64 @@ pub fn begin(own: &mut [u32; 17], tallies: &mut [u64; 2], shared: &mut [u32; 101
     *tallies = [0; 2];
     *shared = [0; 101];
     shared[0] = 65535;
+}
+
+// A word's place in a piece or in a session, counted from 0: one of document 01's three kinds of number, never a byte
+// address or a slot number.
+pub struct WordPosition(pub u64);
+
+// The first refusal of a piece, or none.
+pub enum First {
+    Nothing,
+    Refused(Refusal),
+}
+
+// What a piece is answered: the words taken, which is also the place of the refused word if there is one; the commands
+// that they completed; and the first refusal.
+pub struct Fed {
+    pub taken: WordPosition,
+    pub commands: u64,
+    pub refusal: First,
+}
+
+// One for a command that was completed.
+fn completed_by(answer: Answer) -> u64
+    ensures { λ r. ⌜ r ≡ completedBy (replyOf answer) ⌝ }
+{
+    match answer {
+        Answer::Open => 0,
+        Answer::Done(_) => 1,
+        Answer::Refused(_) => 0,
+    }
+}
+
+// A piece of words, one after another up to the first refused one; words after that aren't looked at.
+pub fn feed(
+    own: &mut [u32; 17],
+    tallies: &mut [u64; 2],
+    shared: &mut [u32; 101],
+    words: &[u32],
+) -> Fed
+    requires { ⌜ Given (now own) (now tallies) (now shared) ⌝ }
+    ensures { λ r. ⌜ PieceLeft (feedOf (sessionOf (now (own .entry)) (now (tallies .entry)) (now (shared .entry))) (now (words .entry))) r (now (own .exit)) (now (tallies .exit)) (now (shared .exit)) ⌝ }
+{
+    let mut i: usize = 0;
+    let mut commands: u64 = 0;
+    while i < words.len() {
+        let answer = word(own, tallies, shared, words[i]);
+        if let Answer::Refused(why) = answer {
+            return Fed {
+                taken: WordPosition(i as u64),
+                commands,
+                refusal: First::Refused(why),
+            };
+        }
+        commands = commands + completed_by(answer);
+        i = i + 1;
+    }
+    Fed {
+        taken: WordPosition(i as u64),
+        commands,
+        refusal: First::Nothing,
+    }
 }
