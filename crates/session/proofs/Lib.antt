@@ -1,6 +1,7 @@
 pub mod Accepting
 pub mod Cells
 pub mod Cut
+pub mod Feeding
 pub mod Handed
 pub mod Kept
 pub mod OwnPuts
