@@ -11,6 +11,7 @@ pub mod ReadAgain
 pub mod ReadBack
 pub mod Readiness
 pub mod Refusals
+pub mod Seen
 pub mod SharedPuts
 pub mod Stepping
 pub mod Taking
