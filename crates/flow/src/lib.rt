@@ -1,0 +1,1 @@
+// Flow words for one group.
