@@ -1,3 +1,5 @@
 pub mod Cases
+pub mod Cells
 pub mod Group
+pub mod Masks
 pub mod Proc
