@@ -1,13 +1,13 @@
 -- What the functions on masks work out, processor by processor. A law of a processor is a test that is computed for an
 -- active and an absent one and for every counter from 0 to 31. Assumes nothing.
-use mathlib.Core.Path.{_≡_, refl, sym, ap, ap₂, _∙_, subst}
+use mathlib.Core.Path.{_≡_, refl, sym, ap, ap₂, _∙_, subst, fun-ext}
 use mathlib.Core.Bool.{Bool, true, false, not}
 use Prim.Native.Nat.{ℕ, zero, suc, _+_, _-_, _*_, _/_, _%_, _^_, _<_, _≤_}
 use native.Mathlib.Nat.{div-one}
 use native.Mathlib.Omega.{arith}
 use lib.Dec.{eqb, leb, ltb}
 use lib.Bits.{bitAnd, bitOr, bitXor}
-use borrow.Author.Tests.{leb-true}
+use borrow.Author.Tests.{leb-true, ne-eqb}
 use Rattle.laws.proofs.Choice.{pick-yes, pick-no, and-left, and-right}
 use Rattle.laws.specs.Choice.{_and_, pick}
 use Rattle.laws.specs.Masks.{_or_, differ, digit, on, pack, Places, some, every}
@@ -529,3 +529,34 @@ module _ {procs : ℕ → Proc} {live active p0 p1 p2 p3 p4 : ℕ} (m : MasksOf 
         (xor-places at2 c1) (λ i. raised2 jump (on i wish) (procs i) (m .counters i))
         (xor-places at3 c2) (λ i. raised3 jump (on i wish) (procs i) (m .counters i))
         (xor-places at4 c3) (λ i. raised4 jump (on i wish) (procs i) (m .counters i))
+
+-- the branch operation by its code
+module _ (procs : ℕ → Proc) (op k wish : ℕ) (jump : Bool) where
+  pub works-lower :
+      op ≡ 1 → shownAs (λ i. lowered k (procs i)) ≡ shownAs (λ i. worked op k jump (on i wish) (procs i))
+  unfolding worked pick
+  works-lower e = sym (ap (λ (n : ℕ). shownAs (λ i. worked n k jump (on i wish) (procs i))) e)
+
+  pub works-lift :
+      op ≡ 2 → shownAs (λ i. raised jump (on i wish) (procs i)) ≡ shownAs (λ i. worked op k jump (on i wish) (procs i))
+  unfolding worked pick
+  works-lift e = sym (ap (λ (n : ℕ). shownAs (λ i. worked n k jump (on i wish) (procs i))) e)
+
+  pub works-none : (op ≡ 1 → ⊥) → (op ≡ 2 → ⊥) → shownAs procs ≡ shownAs (λ i. worked op k jump (on i wish) (procs i))
+  unfolding worked
+  works-none n1 n2 =
+      ap shownAs (fun-ext (λ i. sym (pick-no _ _ (ne-eqb op 1 n1) ∙ pick-no _ _ (ne-eqb op 2 n2))))
+
+-- the words themselves, where nothing is done
+pub marked :
+    {procs : ℕ → Proc} {live active p0 p1 p2 p3 p4 : ℕ} → MasksOf procs live active p0 p1 p2 p3 p4 →
+    _≡_ {A = Worked} (record { active = active; p0 = p0; p1 = p1; p2 = p2; p3 = p3; p4 = p4 }) (shownAs procs)
+marked m =
+    λ j. record {
+      active = m .active-word j;
+      p0 = m .word0 j;
+      p1 = m .word1 j;
+      p2 = m .word2 j;
+      p3 = m .word3 j;
+      p4 = m .word4 j;
+    }

@@ -1,30 +1,34 @@
+-- `flow::planes::work` meets its contract: the operation by its code. Assumes nothing.
+use mathlib.Core.Path.{_∙_}
 use borrow.Author.Needs.{needs}
+use Rattle.flow.specs.Cells.{procAt}
+use Rattle.flow.proofs.Places.{works-lower, works-lift, works-none, marked}
 use Rattle.flow.proofs.planes.work.Statement.{statement}
 use Rattle.flow.proofs.planes.work.Tie as tie
-use Rattle.flow.proofs.planes.work.Reads as reads
-use Rattle.flow.proofs.planes.work.Lts as lts
-use Rattle.flow.proofs.planes.lift.Reads as lift-reads
-use Rattle.flow.proofs.planes.lower.Reads as lower-reads
 
--- src/planes.rt:137:14
 lower-requires : tie.Need-lower-requires
 lower-requires c κs = search needs
 
--- src/planes.rt:138:14
 lift-requires : tie.Need-lift-requires
 lift-requires c κs = search needs
 
--- src/planes.rt:132:1
 returns : tie.Need-returns
-returns c = ?
+returns c =
+    let a = (c .before .before .args) in
+    (c .lower) .ensures ∙
+    works-lower (procAt (a .live) (a .active) (a .p0) (a .p1) (a .p2) (a .p3) (a .p4)) (a .op) (a .count) (a .wish) (a .jump) ((c .before .match) .keys1)
 
--- src/planes.rt:132:1
 returns-2 : tie.Need-returns-2
-returns-2 c = ?
+returns-2 c =
+    let a = (c .before .before .args) in
+    (c .lift) .ensures ∙
+    works-lift (procAt (a .live) (a .active) (a .p0) (a .p1) (a .p2) (a .p3) (a .p4)) (a .op) (a .count) (a .wish) (a .jump) ((c .before .match) .keys2)
 
--- src/planes.rt:132:1
 returns-3 : tie.Need-returns-3
-returns-3 c = ?
+returns-3 c =
+    let a = (c .before .args) in
+    marked ((c .before .pre) .1) ∙
+    works-none (procAt (a .live) (a .active) (a .p0) (a .p1) (a .p2) (a .p3) (a .p4)) (a .op) (a .count) (a .wish) (a .jump) ((c .match) .rest .0 .1) ((c .match) .rest .1)
 
 pub work-spec : {M : Type 1} → statement M
 work-spec = tie.close (tie.spec lower-requires lift-requires returns returns-2 returns-3)
