@@ -1,2 +1,3 @@
 pub mod Cases
 pub mod Places
+pub mod State
