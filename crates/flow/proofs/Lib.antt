@@ -1,3 +1,4 @@
 pub mod Cases
 pub mod Places
 pub mod State
+pub mod Words

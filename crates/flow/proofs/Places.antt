@@ -14,7 +14,7 @@ use Rattle.laws.specs.Masks.{_or_, differ, digit, on, pack, Places, some, every
 use Rattle.laws.proofs.Masks.{pack-same, and-places, or-places, xor-places, not-places, on-zero, on-suc, pack-on, on-pack, none-zero, every-none, some-same, every-at}
 use Rattle.flow.specs.declared.planes.Worked.{Worked}
 use Rattle.flow.specs.Proc.{Proc, Active, Idle, Absent, isLive, isActive, counterBit, within, turned, wants, decided, lowered, raised, atLimit, worked}
-use Rattle.flow.specs.Group.{wishOf}
+use Rattle.flow.specs.Group.{turnedIf, wishOf}
 use Rattle.flow.specs.Cells.{procAt, liveMask, activeMask, plane, counterOf}
 use Rattle.flow.specs.Masks.{MasksOf, Marks, shownAs}
 
@@ -560,3 +560,29 @@ marked m =
       p3 = m .word3 j;
       p4 = m .word4 j;
     }
+
+-- B_ELSE where the slot has it
+module _ (procs : ℕ → Proc) {else : Bool} where
+  pub turned-yes : else ≡ true → activeMask (λ i. turned (procs i)) ≡ activeMask (turnedIf else procs)
+  unfolding turnedIf
+  turned-yes e = ap activeMask (fun-ext (λ i. sym (pick-yes (turned (procs i)) (procs i) e)))
+
+  pub turned-no : else ≡ false → activeMask procs ≡ activeMask (turnedIf else procs)
+  unfolding turnedIf
+  turned-no e = ap activeMask (fun-ext (λ i. sym (pick-no (turned (procs i)) (procs i) e)))
+
+-- the limit, processor by processor
+pub limit-shown :
+    {procs : ℕ → Proc} {live active p0 p1 p2 p3 p4 : ℕ} → MasksOf procs live active p0 p1 p2 p3 p4 →
+    some 32 (λ i. eqb (counterOf (on i p0) (on i p1) (on i p2) (on i p3) (on i p4)) 31) ≡ some 32 (λ i. atLimit 31 (procs i))
+unfolding _and_ on every digit
+limit-shown {procs} {live} {active} {p0} {p1} {p2} {p3} {p4} m =
+    some-same 32 _ _
+    (λ i h.
+      rw (bit 0 i h (m .word0), bit 1 i h (m .word1), bit 2 i h (m .word2), bit 3 i h (m .word3), bit 4 i h (m .word4))
+      (agree
+      (λ q. eqb (counterOf (counterBit 0 q) (counterBit 1 q) (counterBit 2 q) (counterBit 3 q) (counterBit 4 q)) 31)
+      (atLimit 31) refl (procs i) (m .counters i)))
+  where
+    bit : {w : ℕ} (k i : ℕ) → i < 32 → w ≡ plane k procs → on i w ≡ counterBit k (procs i)
+    bit k i h e = ap (on i) e ∙ on-pack 32 i (λ j. counterBit k (procs j)) h

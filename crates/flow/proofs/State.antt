@@ -127,14 +127,12 @@ group-back g s =
 pub made-of : (g : Group) → Sound 31 g → Made (cellsOf g)
 made-of g s =
     record {
+      size = refl;
       sound = subst (Sound 31) (sym (group-back g s)) s;
       whole = sym (ap cellsOf (group-back g s));
     }
 
--- cells handed in: their number, and the masks of their processors
-pub made-length : (l : List ℕ) → Made l → length l ≡ 20
-made-length l m = ap length (m .whole)
-
+-- cells handed in are the masks of their processors
 pub made-masks :
     (l : List ℕ) → Made l →
     MasksOf (groupOf l .procs) (getD l 0 0) (getD l 1 0) (getD l 2 0) (getD l 3 0) (getD l 4 0) (getD l 5 0) (getD l 6 0)

@@ -87,6 +87,7 @@ pub record Sound (limit : ℕ) (g : Group) : Type 0 where
 
 -- cells that came from these entries: they are just those of a sound group
 pub record Made (l : List ℕ) : Type 0 where
+  pub size : length l ≡ 20
   pub sound : Sound 31 (groupOf l)
   pub whole : l ≡ cellsOf (groupOf l)
 

@@ -58,13 +58,17 @@ abbrev pub popped : List ℕ → Way
 popped [] = Stuck
 popped (r ∷ rs) = Goes r rs
 
+-- "push stores position + 1 (full: 14)"; the stack has "at most 4 returns"
+abbrev pub pushed : ℕ → ℕ → List ℕ → Way
+pushed position address returns =
+    pick (ltb (length returns) 4) (Goes address ((position + 1) ∷ returns)) Stuck
+
 -- 5. "On a jump: push stores position + 1 (full: 14); pop goes to the stored place (empty: 14). On a stay neither happens."
 unfoldable pub wayOf : ℕ → Bool → ℕ → ℕ → List ℕ → Way
 wayOf aop jump position address returns =
     pick jump
     (pick (eqb aop 1) (popped returns)
-    (pick (eqb aop 2) (pick (ltb (length returns) 4) (Goes address ((position + 1) ∷ returns)) Stuck)
-    (Goes address returns)))
+    (pick (eqb aop 2) (pushed position address returns) (Goes address returns)))
     (Goes (position + 1) returns)
 
 -- 6. "The next position may equal N, which ends the program; above N is 15."

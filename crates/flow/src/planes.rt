@@ -6,7 +6,7 @@ ghost use lib.Dec.{eqb};
 ghost use Rattle.laws.specs.Choice.{_and_};
 ghost use Rattle.laws.specs.Masks.{differ, on, pack, some};
 ghost use Rattle.flow.specs.Proc.{turned, lowered, raised, worked, decided};
-ghost use Rattle.flow.specs.Group.{wishOf};
+ghost use Rattle.flow.specs.Group.{turnedIf, wishOf};
 ghost use Rattle.flow.specs.Cells.{procAt, activeMask, counterOf};
 ghost use Rattle.flow.specs.Masks.{Marks, shownAs};
 
@@ -66,6 +66,27 @@ pub fn at_limit(p0: u32, p1: u32, p2: u32, p3: u32, p4: u32) -> bool
     ensures { λ r. ⌜ r ≡ some 32 (λ i. eqb (counterOf (on i p0) (on i p1) (on i p2) (on i p3) (on i p4)) 31) ⌝ }
 {
     p0 & p1 & p2 & p3 & p4 != 0
+}
+
+// Whether the operation is an increment that a counter of 31 forbids.
+pub fn over_limit(op: u32, p0: u32, p1: u32, p2: u32, p3: u32, p4: u32) -> bool
+    ensures { λ r. ⌜ r ≡ (eqb op 2 and some 32 (λ i. eqb (counterOf (on i p0) (on i p1) (on i p2) (on i p3) (on i p4)) 31)) ⌝ }
+{
+    if op == 2 {
+        return at_limit(p0, p1, p2, p3, p4);
+    }
+    false
+}
+
+// The active processors as the wishes see them: turned by B_ELSE where the slot has it.
+pub fn turn_if(otherwise: bool, live: u32, active: u32, p0: u32, p1: u32, p2: u32, p3: u32, p4: u32) -> u32
+    requires { ⌜ Marks live active p0 p1 p2 p3 p4 ⌝ }
+    ensures { λ r. ⌜ r ≡ activeMask (turnedIf otherwise (procAt live active p0 p1 p2 p3 p4)) ⌝ }
+{
+    if otherwise {
+        return turn(live, active, p0, p1, p2, p3, p4);
+    }
+    active
 }
 
 // Decrement: idle counters lose `count`, plane by plane with a borrow; where a borrow is left over, the counter would go
