@@ -1,4 +1,5 @@
 pub mod Cases
 pub mod Places
 pub mod State
+pub mod Stepping
 pub mod Words

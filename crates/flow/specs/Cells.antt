@@ -49,10 +49,14 @@ unfoldable pub stored : List ℕ → List ℕ
 stored [] = []
 stored (r ∷ rs) = pick (eqb r 0) [] (r ∷ stored rs)
 
+-- the processors that the cells show with another word for the active ones
+abbrev pub withActive : List ℕ → ℕ → ℕ → Proc
+withActive l active = procAt (getD l 0 0) active (getD l 2 0) (getD l 3 0) (getD l 4 0) (getD l 5 0) (getD l 6 0)
+
 abbrev pub groupOf : List ℕ → Group
 groupOf l =
     record {
-      procs = procAt (getD l 0 0) (getD l 1 0) (getD l 2 0) (getD l 3 0) (getD l 4 0) (getD l 5 0) (getD l 6 0);
+      procs = withActive l (getD l 1 0);
       position = getD l 7 0;
       returns = stored (getD l 8 0 ∷ getD l 9 0 ∷ getD l 10 0 ∷ getD l 11 0 ∷ []);
     }

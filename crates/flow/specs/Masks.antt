@@ -2,7 +2,9 @@
 -- that an operation leaves. Assumes nothing.
 use mathlib.Core.Path.{_≡_}
 use mathlib.Core.Bool.{Bool, true}
+use mathlib.Core.List.{List}
 use Prim.Native.Nat.{ℕ}
+use lib.ListN.{getD}
 use Rattle.flow.specs.declared.planes.Worked.{Worked}
 use Rattle.flow.specs.Proc.{Proc, within}
 use Rattle.flow.specs.Cells.{procAt, liveMask, activeMask, plane}
@@ -21,6 +23,11 @@ pub record MasksOf (procs : ℕ → Proc) (live active p0 p1 p2 p3 p4 : ℕ) : T
 -- the seven words are the masks of the processors that they show
 abbrev pub Marks : ℕ → ℕ → ℕ → ℕ → ℕ → ℕ → ℕ → Type 0
 Marks live active p0 p1 p2 p3 p4 = MasksOf (procAt live active p0 p1 p2 p3 p4) live active p0 p1 p2 p3 p4
+
+-- the same of the words in a group's cells, with another word for the active ones
+abbrev pub MarksIn : List ℕ → ℕ → Type 0
+MarksIn l active =
+    Marks (getD l 0 0) active (getD l 2 0) (getD l 3 0) (getD l 4 0) (getD l 5 0) (getD l 6 0)
 
 -- what an operation leaves, whole: the masks of the processors after it
 abbrev pub shownAs : (ℕ → Proc) → Worked

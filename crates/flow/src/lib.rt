@@ -10,8 +10,8 @@ ghost use Prim.Native.Nat.{_<_, _≤_};
 ghost use lib.ListN.{getD};
 ghost use Rattle.laws.specs.Masks.{on};
 ghost use Rattle.flow.specs.Group.{settled, slotStep, stepOf};
-ghost use Rattle.flow.specs.Cells.{procAt, groupOf, Made};
-ghost use Rattle.flow.specs.Masks.{Marks};
+ghost use Rattle.flow.specs.Cells.{withActive, groupOf, Made};
+ghost use Rattle.flow.specs.Masks.{MarksIn};
 ghost use Rattle.flow.specs.Answers.{StepDone, programOf};
 
 // The number of a slot: one of document 01's three kinds of number, never a byte address or a word's position.
@@ -31,8 +31,8 @@ pub enum Stepped {
 // The rest of a step once B_ELSE, the wishes and the decision are known: branch counters, returns, next position. Nothing is
 // stored before every refusal is ruled out.
 fn settle(first: u32, second: u32, slots: u32, cells: &mut [u32; 20], active: u32, wish: u32, jump: bool) -> Stepped
-    requires { ⌜ (Made (now cells)) × (getD (now cells) 7 0 < 512) × (Marks (getD (now cells) 0 0) active (getD (now cells) 2 0) (getD (now cells) 3 0) (getD (now cells) 4 0) (getD (now cells) 5 0) (getD (now cells) 6 0)) ⌝ }
-    ensures { λ r. ⌜ StepDone (now (cells .entry)) (now (cells .exit)) r (settled 31 slots first second jump (λ i. on i wish) (procAt (getD (now (cells .entry)) 0 0) active (getD (now (cells .entry)) 2 0) (getD (now (cells .entry)) 3 0) (getD (now (cells .entry)) 4 0) (getD (now (cells .entry)) 5 0) (getD (now (cells .entry)) 6 0)) (groupOf (now (cells .entry)))) ⌝ }
+    requires { ⌜ (Made (now cells)) × (getD (now cells) 7 0 < 512) × (MarksIn (now cells) active) ⌝ }
+    ensures { λ r. ⌜ StepDone (now (cells .entry)) (now (cells .exit)) r (settled 31 slots first second jump (λ i. on i wish) (withActive (now (cells .entry)) active) (groupOf (now (cells .entry)))) ⌝ }
 {
     let live = cells[0];
     let p0 = cells[2];
