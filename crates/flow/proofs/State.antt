@@ -149,14 +149,14 @@ made-masks l m =
     }
 
 -- what each part of a step keeps, whatever the limit
-turned-absent : (else : Bool) {p : Proc} → p ≡ Absent → pick else (turned p) p ≡ Absent
+pub turned-absent : (else : Bool) {p : Proc} → p ≡ Absent → pick else (turned p) p ≡ Absent
 turned-absent else {p} e = rw e (pick-same else Absent)
 
-worked-absent : (op k : ℕ) (jump wish : Bool) {p : Proc} → p ≡ Absent → worked op k jump wish p ≡ Absent
+pub worked-absent : (op k : ℕ) (jump wish : Bool) {p : Proc} → p ≡ Absent → worked op k jump wish p ≡ Absent
 unfolding worked
 worked-absent op k jump wish {p} e = rw e (ap (pick (eqb op 1) Absent) (pick-same (eqb op 2) Absent) ∙ pick-same (eqb op 1) Absent)
 
-turned-within : (limit : ℕ) (p : Proc) → within limit p ≡ true → within limit (turned p) ≡ true
+pub turned-within : (limit : ℕ) (p : Proc) → within limit p ≡ true → within limit (turned p) ≡ true
 turned-within limit Active w = le-leb 0 limit zero-le
 turned-within limit (Idle zero) w = refl
 turned-within limit (Idle (suc n)) w = w

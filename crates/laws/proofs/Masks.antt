@@ -205,6 +205,13 @@ some-same (suc k) f g h =
     ap₂ _or_ (h zero (suc-le-suc zero-le))
     (some-same k (λ i. f (suc i)) (λ i. g (suc i)) (λ i p. h (suc i) (suc-le-suc p)))
 
+pub every-same : (k : ℕ) (f g : ℕ → Bool) → ((i : ℕ) → i < k → f i ≡ g i) → every k f ≡ every k g
+unfolding every
+every-same zero f g h = refl
+every-same (suc k) f g h =
+    ap₂ _and_ (h zero (suc-le-suc zero-le))
+    (every-same k (λ i. f (suc i)) (λ i. g (suc i)) (λ i p. h (suc i) (suc-le-suc p)))
+
 -- a test that holds at every place below `k` holds at each
 pub every-at : (k : ℕ) (f : ℕ → Bool) → every k f ≡ true → (i : ℕ) → i < k → f i ≡ true
 unfolding every

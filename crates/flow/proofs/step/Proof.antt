@@ -1,61 +1,39 @@
+-- `flow::step` meets its contract: the tests on the program, and then the slot at the position. Assumes nothing.
+use denote.Ref.{now}
+use Rattle.flow.proofs.Stepping.{step-ended, step-many, step-done}
 use borrow.Author.Needs.{needs}
 use Rattle.flow.proofs.step.Statement.{statement}
 use Rattle.flow.proofs.step.Tie as tie
-use Rattle.flow.proofs.step.Reads as reads
-use Rattle.flow.proofs.step.Lts as lts
-use Rattle.flow.proofs.step_slot.Reads as step-slot-reads
 
--- src/lib.rt:87:20
 element-copy-out-position : tie.Need-element-copy-out-position
 element-copy-out-position c = search needs
 
--- src/lib.rt:89:9
 returns : tie.Need-returns
-returns c = ?
+returns c = step-ended (now ((c .before .before .args) .cells)) (now ((c .before .before .args) .firsts)) (now ((c .before .before .args) .seconds)) ((c .before .before .args) .slots) ((c .before .before .args) .alu) ((c .before .before .args) .predicate) ((c .before .before .args) .booleans) ((c .if1) .taken)
 
--- src/lib.rt:92:9
 returns-2 : tie.Need-returns-2
-returns-2 c = ?
+returns-2 c = step-many (now ((c .before .before .before .args) .cells)) (now ((c .before .before .before .args) .firsts)) (now ((c .before .before .before .args) .seconds)) ((c .before .before .before .args) .slots) ((c .before .before .before .args) .alu) ((c .before .before .before .args) .predicate) ((c .before .before .before .args) .booleans) ((c .before .if1) .left) ((c .if2) .taken)
 
--- src/lib.rt:94:14
 cast-at : tie.Need-cast-at
 cast-at c = search needs
 
--- src/lib.rt:95:15
 mul-step-slot : tie.Need-mul-step-slot
 mul-step-slot c = search needs
 
--- src/lib.rt:95:15
 element-copy-out-step-slot : tie.Need-element-copy-out-step-slot
 element-copy-out-step-slot c = search needs
 
--- src/lib.rt:95:27
 mul-step-slot-2 : tie.Need-mul-step-slot-2
 mul-step-slot-2 c = search needs
 
--- src/lib.rt:95:27
 element-copy-out-step-slot-2 : tie.Need-element-copy-out-step-slot-2
 element-copy-out-step-slot-2 c = search needs
 
--- src/lib.rt:95:5
 step-slot-requires : tie.Need-step-slot-requires
 step-slot-requires c κs = search needs
 
--- src/lib.rt:83:1
 returns-3 : tie.Need-returns-3
-returns-3 c = ?
+returns-3 c = step-done (now ((c .before .before .before .before .before .before .before .args) .cells)) (now ((c .before .before .before .before .before .before .before .args) .firsts)) (now ((c .before .before .before .before .before .before .before .args) .seconds)) ((c .before .before .before .before .before .before .before .args) .slots) ((c .before .before .before .before .before .before .before .args) .alu) ((c .before .before .before .before .before .before .before .args) .predicate) ((c .before .before .before .before .before .before .before .args) .booleans) ((c .before .before .before .before .before .if1) .left) ((c .before .before .before .before .if2) .left) ((c .step-slot) .ensures)
 
 pub step-spec : {M : Type 1} → statement M
-step-spec =
-    tie.close
-    (tie.spec
-    element-copy-out-position
-    returns
-    returns-2
-    cast-at
-    mul-step-slot
-    element-copy-out-step-slot
-    mul-step-slot-2
-    element-copy-out-step-slot-2
-    step-slot-requires
-    returns-3)
+step-spec = tie.close (tie.spec element-copy-out-position returns returns-2 cast-at mul-step-slot element-copy-out-step-slot mul-step-slot-2 element-copy-out-step-slot-2 step-slot-requires returns-3)
