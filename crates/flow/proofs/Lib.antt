@@ -1,5 +1,8 @@
+pub mod Beginning
 pub mod Cases
+pub mod Loading
 pub mod Places
+pub mod Running
 pub mod State
 pub mod Stepping
 pub mod Words

@@ -192,7 +192,7 @@ worked-within limit op k jump wish p w f =
       (λ t. w))
 
 -- where a step may go on to
-abbrev SoundWay : Way → Type 0
+abbrev pub SoundWay : Way → Type 0
 SoundWay Stuck = Unit {0}
 SoundWay (Goes next rs) = (length rs ≤ 4) × (areReturns rs ≡ true)
 
@@ -224,7 +224,7 @@ way-sound aop jump position address rs p h e =
         (λ b. (h, e))))
     (λ j. (h, e))
 
-abbrev SoundAfter : ℕ → Outcome → Type 0
+abbrev pub SoundAfter : ℕ → Outcome → Type 0
 SoundAfter limit (Steps jump g) = Sound limit g
 SoundAfter limit (Fails why) = Unit {0}
 

@@ -9,10 +9,19 @@ use Rattle.refusal.specs.Number.{numberOf}
 use Rattle.refusal.specs.Told.{Told, gives, refuses}
 use Rattle.flow.specs.declared.Stepped.{Stepped}
 use Rattle.flow.specs.declared.Stepped.the-variants as stepped
+use Rattle.flow.specs.declared.Begun.{Begun}
+use Rattle.flow.specs.declared.Begun.the-variants as begun
+use Rattle.flow.specs.declared.Loaded.{Loaded}
+use Rattle.flow.specs.declared.Loaded.the-variants as loaded
+use Rattle.flow.specs.declared.Ran.{Ran}
+use Rattle.flow.specs.declared.Ran.the-variants as ran
+use Rattle.flow.specs.declared.Walked.{Walked}
+use Rattle.flow.specs.declared.Walked.the-variants as walked
 use Rattle.flow.specs.declared.slot.Next.{Next}
 use Rattle.flow.specs.declared.slot.Next.the-variants as next
-use Rattle.flow.specs.Group.{Outcome, Program, Way, Goes, Stuck, stepTold}
-use Rattle.flow.specs.Cells.{areReturns, stepLeaves}
+use Rattle.flow.specs.Group.{Outcome, Program, Way, Goes, Stuck, Run, Makes, Breaks, stepTold, runTold, beginTold}
+use Rattle.flow.specs.Cells.{groupOf, areReturns, Made, stepLeaves, runLeaves, beginLeaves}
+use Rattle.flow.specs.Store.{loadTold, firstsLeft, secondsLeft}
 
 -- a jump tells 1, a stay 0, and both the next position
 abbrev pub toldStepped : Stepped → Told
@@ -42,3 +51,39 @@ nextOf Stuck = next.Stuck
 -- a program in its two lent arrays
 abbrev pub programOf : List ℕ → List ℕ → ℕ → Program
 programOf firsts seconds slots = record { firsts = firsts; seconds = seconds; slots = slots }
+
+-- a fresh group tells nothing, a program its number of slots
+abbrev pub toldBegun : Begun → Told
+toldBegun begun.Ready = gives []
+toldBegun (begun.Refused why) = refuses (numberOf why)
+
+pub record BeginDone (entry leaves : List ℕ) (r : Begun) (size : ℕ) : Type 0 where
+  pub told : toldBegun r ≡ beginTold size
+  pub left : leaves ≡ beginLeaves entry size
+
+abbrev pub toldLoaded : Loaded → Told
+toldLoaded (loaded.Slots n) = gives (n ∷ [])
+toldLoaded (loaded.Refused why) = refuses (numberOf why)
+
+pub record LoadDone (words firsts firsts' seconds seconds' : List ℕ) (r : Loaded) : Type 0 where
+  pub told : toldLoaded r ≡ loadTold words
+  pub left-firsts : firsts' ≡ firstsLeft firsts words
+  pub left-seconds : seconds' ≡ secondsLeft seconds words
+
+-- a run's report: steps made, first active, number active
+abbrev pub toldRan : Ran → Told
+toldRan (ran.Report steps first active) = gives (steps ∷ first ∷ active ∷ [])
+toldRan (ran.Refused why) = refuses (numberOf why)
+
+pub record RunDone (entry leaves : List ℕ) (r : Ran) (o : Run) : Type 0 where
+  pub told : toldRan r ≡ runTold o
+  pub left : leaves ≡ runLeaves entry o
+
+-- steps made one after the other, on cells that end as `leaves`
+abbrev pub walkTold : Walked → List ℕ → Run
+walkTold (walked.Made n) leaves = Makes n (groupOf leaves)
+walkTold (walked.Refused why) leaves = Breaks (numberOf why)
+
+pub record WalkDone (leaves : List ℕ) (r : Walked) (o : Run) : Type 0 where
+  pub told : walkTold r leaves ≡ o
+  pub made : Made leaves

@@ -18,7 +18,7 @@ use lib.ListN.{length, getD}
 use Rattle.laws.specs.Choice.{_and_, pick}
 use Rattle.laws.specs.Masks.{digit, on, pack}
 use Rattle.flow.specs.Proc.{Proc, Active, Idle, Absent, isLive, isActive, counterBit, within}
-use Rattle.flow.specs.Group.{Group, Outcome, Steps, Fails, Run, Makes, Breaks}
+use Rattle.flow.specs.Group.{Group, Outcome, Steps, Fails, Run, Makes, Breaks, fresh, isGroupSize}
 
 -- a group of processors as masks
 abbrev pub liveMask : (ℕ → Proc) → ℕ
@@ -103,3 +103,6 @@ stepLeaves l (Fails why) = l
 abbrev pub runLeaves : List ℕ → Run → List ℕ
 runLeaves l (Makes n g) = cellsOf g
 runLeaves l (Breaks why) = l
+
+unfoldable pub beginLeaves : List ℕ → ℕ → List ℕ
+beginLeaves l size = pick (isGroupSize size) (cellsOf (fresh size)) l

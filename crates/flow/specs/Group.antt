@@ -31,6 +31,10 @@ pub record Group : Type 0 where
 unfoldable pub fresh : ℕ → Group
 fresh size = record { procs = λ i. pick (ltb i size) Active Absent; position = 0; returns = [] }
 
+-- the size is one that a group may have
+unfoldable pub isGroupSize : ℕ → Bool
+isGroupSize size = leb 1 size and leb size 32
+
 -- the answer of a step: the decision and the state after it, or the refusal
 pub data Outcome : Type 0 where
   Steps : Bool → Group → Outcome
@@ -155,3 +159,7 @@ stepTold (Fails why) = refuses why
 abbrev pub runTold : Run → Told
 runTold (Makes n g) = gives (n ∷ firstActive g ∷ numberActive g ∷ [])
 runTold (Breaks why) = refuses why
+
+-- a fresh group tells nothing, and another size 13
+unfoldable pub beginTold : ℕ → Told
+beginTold size = pick (isGroupSize size) (gives []) (refuses 13)

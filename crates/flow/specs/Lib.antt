@@ -4,3 +4,4 @@ pub mod Cells
 pub mod Group
 pub mod Masks
 pub mod Proc
+pub mod Store

@@ -8,11 +8,11 @@ use slot::Next;
 ghost use mathlib.Core.Path.{_≡_};
 ghost use Prim.Native.Nat.{_<_, _≤_};
 ghost use lib.ListN.{getD};
-ghost use Rattle.laws.specs.Masks.{on};
-ghost use Rattle.flow.specs.Group.{settled, slotStep, stepOf};
+ghost use Rattle.laws.specs.Masks.{on, count, least};
+ghost use Rattle.flow.specs.Group.{Makes, settled, slotStep, stepOf, goOn, stepsOf, runOf};
 ghost use Rattle.flow.specs.Cells.{withActive, groupOf, Made};
 ghost use Rattle.flow.specs.Masks.{MarksIn};
-ghost use Rattle.flow.specs.Answers.{StepDone, programOf};
+ghost use Rattle.flow.specs.Answers.{StepDone, BeginDone, LoadDone, RunDone, WalkDone, programOf};
 
 // The number of a slot: one of document 01's three kinds of number, never a byte address or a word's position.
 pub struct SlotNumber(pub u32);
@@ -23,6 +23,35 @@ pub enum Stepped {
     Stayed(SlotNumber),
     Refused(Refusal),
 }
+
+// A fresh group stands in the cells, or its size isn't allowed.
+pub enum Begun {
+    Ready,
+    Refused(Refusal),
+}
+
+// How many slots of a loaded program run (document 01's N), or the refusal.
+pub enum Loaded {
+    Slots(u32),
+    Refused(Refusal),
+}
+
+// A run's report: steps made, the first active processor (32 if none) and the number of active ones.
+pub enum Ran {
+    Report { steps: usize, first: u32, active: u32 },
+    Refused(Refusal),
+}
+
+// How many steps were made one after the other, or the refusal of the next.
+enum Walked {
+    Made(usize),
+    Refused(Refusal),
+}
+
+// The plain slot, which fills a store before its program is loaded.
+const PLAIN_FIRST: u32 = 0x20;
+
+const PLAIN_SECOND: u32 = 0;
 
 // The state of a group is 20 cells: 0 the processors in the group and 1 the active ones, bit i for processor i; 2 to 6 the
 // branch counters, bit i of cell 2 + k being bit k of processor i's counter; 7 the position; 8 to 11 the stored returns, the
@@ -93,4 +122,128 @@ pub fn step(firsts: &[u32; 512], seconds: &[u32; 512], slots: u32, cells: &mut [
     }
     let at = position as usize;
     step_slot(firsts[at], seconds[at], slots, cells, alu, predicate, booleans)
+}
+
+// A fresh group: all its processors active, position 0, no returns. 13 unless the size is from 1 to 32.
+pub fn begin(size: u32, cells: &mut [u32; 20]) -> Begun
+    ensures { λ r. ⌜ BeginDone (now (cells .entry)) (now (cells .exit)) r size ⌝ }
+{
+    if size < 1 {
+        return Begun::Refused(Refusal::FlowField);
+    }
+    if 32 < size {
+        return Begun::Refused(Refusal::FlowField);
+    }
+    // From the top down, since 1 << 32 would not fit.
+    let live = 4294967295u32 >> (32 - size);
+    *cells = [live, live, 0, 0, 0, 0, 0, 0, 0, 0, 0, 0, 0, 0, 0, 0, 0, 0, 0, 0];
+    Begun::Ready
+}
+
+// Loads a program into the store, two words a slot, and answers how many slots it has. 15 for no slot, more than 512 or an
+// odd number of words. Any words are taken: they are judged when stepped.
+pub fn load(words: &[u32], firsts: &mut [u32; 512], seconds: &mut [u32; 512]) -> Loaded
+    ensures { λ r. ⌜ LoadDone (now (words .entry)) (now (firsts .entry)) (now (firsts .exit)) (now (seconds .entry)) (now (seconds .exit)) r ⌝ }
+{
+    let n = words.len() / 2;
+    if words.len() % 2 != 0 {
+        return Loaded::Refused(Refusal::PastEnd);
+    }
+    if n < 1 {
+        return Loaded::Refused(Refusal::PastEnd);
+    }
+    if 512 < n {
+        return Loaded::Refused(Refusal::PastEnd);
+    }
+    *firsts = [PLAIN_FIRST; 512];
+    *seconds = [PLAIN_SECOND; 512];
+    let mut k = 0;
+    while k < n {
+        firsts[k] = words[k * 2];
+        seconds[k] = words[k * 2 + 1];
+        k += 1;
+    }
+    Loaded::Slots(n as u32)
+}
+
+// The first active processor: the lowest bit of the mask, 32 where it has none.
+pub fn first_active(active: u32) -> u32
+    ensures { λ r. ⌜ r ≡ least 32 (λ i. on i active) ⌝ }
+{
+    let mut rest = active;
+    let mut i = 0;
+    while i < 32 {
+        if rest % 2 == 1 {
+            return i;
+        }
+        rest = rest / 2;
+        i += 1;
+    }
+    i
+}
+
+// The number of active processors: the ones of the mask.
+pub fn number_active(active: u32) -> u32
+    ensures { λ r. ⌜ r ≡ count 32 (λ i. on i active) ⌝ }
+{
+    u32::count_ones(active)
+}
+
+// One step, as a run of its own.
+fn one_step(firsts: &[u32; 512], seconds: &[u32; 512], slots: u32, cells: &mut [u32; 20], alu: u32, predicate: u32, booleans: u32) -> Walked
+    requires { ⌜ Made (now cells) ⌝ }
+    ensures { λ r. ⌜ WalkDone (now (cells .exit)) r (goOn (stepOf 31 (programOf (now (firsts .entry)) (now (seconds .entry)) slots) alu predicate booleans (groupOf (now (cells .entry)))) (λ g. Makes 0 g)) ⌝ }
+{
+    let answer = step(firsts, seconds, slots, cells, alu, predicate, booleans);
+    match answer {
+        Stepped::Jumped(_) => Walked::Made(1),
+        Stepped::Stayed(_) => Walked::Made(1),
+        Stepped::Refused(why) => Walked::Refused(why),
+    }
+}
+
+// Steps with two masks each, up to the end of the list or of the program. A last mask without its partner isn't read.
+fn walk(firsts: &[u32; 512], seconds: &[u32; 512], slots: u32, cells: &mut [u32; 20], masks: &[u32], booleans: u32) -> Walked
+    requires { ⌜ Made (now cells) ⌝ }
+    ensures { λ r. ⌜ WalkDone (now (cells .exit)) r (stepsOf 31 (programOf (now (firsts .entry)) (now (seconds .entry)) slots) booleans (now (masks .entry)) (groupOf (now (cells .entry)))) ⌝ }
+{
+    let pairs = masks.len() / 2;
+    let mut made = 0;
+    while made < pairs {
+        if slots <= cells[7] {
+            return Walked::Made(made);
+        }
+        let next = one_step(firsts, seconds, slots, cells, masks[made * 2], masks[made * 2 + 1], booleans);
+        if let Walked::Refused(why) = next {
+            return Walked::Refused(why);
+        }
+        made += 1;
+    }
+    Walked::Made(made)
+}
+
+// A run over a list of masks, alu then predicate for each step, with one word of booleans. It ends with the list or with the
+// program. 16 where the program had ended before, whatever the list; where a step is refused, the run gets that number and
+// the state is as before the run.
+pub fn run(firsts: &[u32; 512], seconds: &[u32; 512], slots: u32, cells: &mut [u32; 20], masks: &[u32], booleans: u32) -> Ran
+    requires { ⌜ Made (now cells) ⌝ }
+    ensures { λ r. ⌜ RunDone (now (cells .entry)) (now (cells .exit)) r (runOf 31 (programOf (now (firsts .entry)) (now (seconds .entry)) slots) booleans (now (masks .entry)) (groupOf (now (cells .entry)))) ⌝ }
+{
+    if slots <= cells[7] {
+        return Ran::Refused(Refusal::Ended);
+    }
+    let mut trial = *cells;
+    let walked = walk(firsts, seconds, slots, &mut trial, masks, booleans);
+    match walked {
+        Walked::Made(steps) => {
+            *cells = trial;
+            let active = trial[1];
+            Ran::Report {
+                steps,
+                first: first_active(active),
+                active: number_active(active),
+            }
+        }
+        Walked::Refused(why) => Ran::Refused(why),
+    }
 }

@@ -248,3 +248,30 @@ least-here k f e = pick-yes _ _ e
 pub least-later : (k : ℕ) (f : ℕ → Bool) → f zero ≡ false → least (suc k) f ≡ suc (least k (λ i. f (suc i)))
 unfolding least
 least-later k f e = pick-no _ _ e
+
+pub count-same : (k : ℕ) (f g : ℕ → Bool) → ((i : ℕ) → i < k → f i ≡ g i) → count k f ≡ count k g
+unfolding count
+count-same zero f g h = refl
+count-same (suc k) f g h =
+    ap₂ (λ (b : Bool) (n : ℕ). digit b + n) (h zero (suc-le-suc zero-le))
+    (count-same k (λ i. f (suc i)) (λ i. g (suc i)) (λ i p. h (suc i) (suc-le-suc p)))
+
+pub least-same : (k : ℕ) (f g : ℕ → Bool) → ((i : ℕ) → i < k → f i ≡ g i) → least k f ≡ least k g
+unfolding least
+least-same zero f g h = refl
+least-same (suc k) f g h =
+    ap₂ (λ (b : Bool) (n : ℕ). pick b 0 (suc n)) (h zero (suc-le-suc zero-le))
+    (least-same k (λ i. f (suc i)) (λ i. g (suc i)) (λ i p. h (suc i) (suc-le-suc p)))
+
+-- the least place of a word, bit by bit from the lowest
+pub least-odd : (k n : ℕ) → n % 2 ≡ 1 → least (suc k) (λ i. on i n) ≡ 0
+least-odd k n e = least-here k (λ i. on i n) (on-zero n ∙ eq-eqb (n % 2) 1 e)
+
+pub least-even : (k n : ℕ) → (n % 2 ≡ 1 → ⊥) → least (suc k) (λ i. on i n) ≡ suc (least k (λ i. on i (n / 2)))
+least-even k n e =
+    least-later k (λ i. on i n) (on-zero n ∙ ne-eqb (n % 2) 1 e) ∙
+    ap suc (least-same k (λ i. on (suc i) n) (λ i. on i (n / 2)) (λ i h. on-suc i n))
+
+-- the count of a word's ones is the number of its places
+pub ones-places : (k n : ℕ) → n < 2 ^ k → ones n ≡ count k (λ i. on i n)
+ones-places k n h = ap ones (pack-on k n h) ∙ ones-count k (λ i. on i n)
