@@ -49,8 +49,8 @@ module _ (size : ℕ) where
   unfolding fresh
   fresh-cells h =
       λ j.
-        cellsWith ((full-mask size h ∙ in-size isLive refl refl) j) ((full-mask size h ∙ in-size isActive refl refl) j)
-        (none-set 0 j) (none-set 1 j) (none-set 2 j) (none-set 3 j) (none-set 4 j) 0 0 0 0 0
+      cellsWith ((full-mask size h ∙ in-size isLive refl refl) j) ((full-mask size h ∙ in-size isActive refl refl) j)
+      (none-set 0 j) (none-set 1 j) (none-set 2 j) (none-set 3 j) (none-set 4 j) 0 0 0 0 0
 
   module _ (l : List ℕ) where
     refused-size : isGroupSize size ≡ false → BeginDone l l (begun.Refused FlowField) size
@@ -92,13 +92,14 @@ module _ (active rest i : ℕ) (e : least 32 (λ j. on j active) ≡ i + least (
       least 32 (λ j. on j active) ≡ i + 1 + least (32 - (i + 1)) (λ j. on j (rest / 2))
   look-on h even =
       let n : least (32 - i) (λ j. on j rest) ≡ suc (least (31 - i) (λ j. on j (rest / 2))) =
-        ap (λ (k : ℕ). least k (λ j. on j rest)) (room h) ∙ least-even (31 - i) rest even in
+      ap (λ (k : ℕ). least k (λ j. on j rest)) (room h) ∙ least-even (31 - i) rest even in
       let q : least (32 - (i + 1)) (λ j. on j (rest / 2)) ≡ least (31 - i) (λ j. on j (rest / 2)) =
-        ap (λ (k : ℕ). least k (λ j. on j (rest / 2))) (less h) in
+      ap (λ (k : ℕ). least k (λ j. on j (rest / 2))) (less h) in
       omega arith
     where
       room : i < 32 → 32 - i ≡ suc (31 - i)
       room h = omega arith
+
       less : i < 32 → 32 - (i + 1) ≡ 31 - i
       less h = omega arith
 

@@ -1,5 +1,6 @@
 pub mod Beginning
 pub mod Cases
+pub mod Given
 pub mod Loading
 pub mod Places
 pub mod Running

@@ -321,12 +321,16 @@ full b0 b1 b2 b3 b4 =
   where
     t5 : Bool → Bool → Bool → Bool → Bool → Bool
     t5 b0 b1 b2 b3 b4 = same ((((b0 and b1) and b2) and b3) and b4) (eqb (counterOf b0 b1 b2 b3 b4) 31)
+
     t4 : Bool → Bool → Bool → Bool → Bool
     t4 b0 b1 b2 b3 = both (t5 b0 b1 b2 b3)
+
     t3 : Bool → Bool → Bool → Bool
     t3 b0 b1 b2 = both (t4 b0 b1 b2)
+
     t2 : Bool → Bool → Bool
     t2 b0 b1 = both (t3 b0 b1)
+
     t1 : Bool → Bool
     t1 b0 = both (t2 b0)
 
@@ -510,9 +514,9 @@ module _ {procs : ℕ → Proc} {live active p0 p1 p2 p3 p4 : ℕ} (m : MasksOf 
     left =
         record {
           word =
-            e ∙
-            pack-same 32 _ _
-            (λ i p. ap (λ (t : Bool). t and differ (on i wish) jump) (ap (on i) (m .active-word) ∙ on-pack 32 i (λ j. isActive (procs j)) p))
+              e ∙
+              pack-same 32 _ _
+              (λ i p. ap (λ (t : Bool). t and differ (on i wish) jump) (ap (on i) (m .active-word) ∙ on-pack 32 i (λ j. isActive (procs j)) p));
         }
 
     pub lift-words :
@@ -579,10 +583,10 @@ unfolding _and_ on every digit
 limit-shown {procs} {live} {active} {p0} {p1} {p2} {p3} {p4} m =
     some-same 32 _ _
     (λ i h.
-      rw (bit 0 i h (m .word0), bit 1 i h (m .word1), bit 2 i h (m .word2), bit 3 i h (m .word3), bit 4 i h (m .word4))
-      (agree
-      (λ q. eqb (counterOf (counterBit 0 q) (counterBit 1 q) (counterBit 2 q) (counterBit 3 q) (counterBit 4 q)) 31)
-      (atLimit 31) refl (procs i) (m .counters i)))
+    rw (bit 0 i h (m .word0), bit 1 i h (m .word1), bit 2 i h (m .word2), bit 3 i h (m .word3), bit 4 i h (m .word4))
+    (agree
+    (λ q. eqb (counterOf (counterBit 0 q) (counterBit 1 q) (counterBit 2 q) (counterBit 3 q) (counterBit 4 q)) 31)
+    (atLimit 31) refl (procs i) (m .counters i)))
   where
     bit : {w : ℕ} (k i : ℕ) → i < 32 → w ≡ plane k procs → on i w ≡ counterBit k (procs i)
     bit k i h e = ap (on i) e ∙ on-pack 32 i (λ j. counterBit k (procs j)) h

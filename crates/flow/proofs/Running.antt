@@ -125,78 +125,79 @@ breaks-off (Fails why) n rest e = sym e
 -- the loop: `made` steps are made, and the cells are `l` now
 module _ (firsts seconds : List ℕ) (slots booleans : ℕ) (masks : List ℕ) (g₀ : Group) (made : ℕ) (l : List ℕ)
     (inv :
-      stepsOf 31 (programOf firsts seconds slots) booleans masks g₀ ≡
-      plus made (stepsOf 31 (programOf firsts seconds slots) booleans (drop (made * 2) masks) (groupOf l)))
+    stepsOf 31 (programOf firsts seconds slots) booleans masks g₀ ≡
+    plus made (stepsOf 31 (programOf firsts seconds slots) booleans (drop (made * 2) masks) (groupOf l)))
   where
-  abbrev program : Program
-  program = programOf firsts seconds slots
+    abbrev program : Program
+    program = programOf firsts seconds slots
 
-  abbrev whole : Run
-  whole = stepsOf 31 program booleans masks g₀
+    abbrev whole : Run
+    whole = stepsOf 31 program booleans masks g₀
 
-  stands : stepsOf 31 program booleans (drop (made * 2) masks) (groupOf l) ≡ Makes 0 (groupOf l) → Makes made (groupOf l) ≡ whole
-  stands e = sym (inv ∙ ap (plus made) e ∙ ap (λ (n : ℕ). Makes n (groupOf l)) (add-zero made))
+    stands : stepsOf 31 program booleans (drop (made * 2) masks) (groupOf l) ≡ Makes 0 (groupOf l) → Makes made (groupOf l) ≡ whole
+    stands e = sym (inv ∙ ap (plus made) e ∙ ap (λ (n : ℕ). Makes n (groupOf l)) (add-zero made))
 
-  pub walk-ended : slots ≤ getD l 7 0 → Made l → WalkDone l (walked.Made made) whole
-  unfolding ended
-  walk-ended h m =
-      record {
-        told = stands (steps-ended 31 program booleans (drop (made * 2) masks) (groupOf l) (le-leb slots (getD l 7 0) h));
-        made = m;
-      }
+    pub walk-ended : slots ≤ getD l 7 0 → Made l → WalkDone l (walked.Made made) whole
+    unfolding ended
+    walk-ended h m =
+        record {
+          told = stands (steps-ended 31 program booleans (drop (made * 2) masks) (groupOf l) (le-leb slots (getD l 7 0) h));
+          made = m;
+        }
 
-  pub walk-out : length masks / 2 ≤ made → Made l → WalkDone l (walked.Made made) whole
-  walk-out h m =
-      record {
-        told =
-          stands
-          (steps-short 31 program booleans (drop (made * 2) masks) (groupOf l)
-          (omega (arith, length-drop (made * 2) masks)));
-        made = m;
-      }
+    pub walk-out : length masks / 2 ≤ made → Made l → WalkDone l (walked.Made made) whole
+    walk-out h m =
+        record {
+          told =
+              stands
+              (steps-short 31 program booleans (drop (made * 2) masks) (groupOf l)
+              (omega (arith, length-drop (made * 2) masks)));
+          made = m;
+        }
 
-  -- a turn
-  module _ (more : made < length masks / 2) (goes : getD l 7 0 < slots) where
-    abbrev first : Outcome
-    first = stepOf 31 program (getD masks (made * 2) 0) (getD masks (made * 2 + 1) 0) booleans (groupOf l)
+    -- a turn
+    module _ (more : made < length masks / 2) (goes : getD l 7 0 < slots) where
+      abbrev first : Outcome
+      first = stepOf 31 program (getD masks (made * 2) 0) (getD masks (made * 2 + 1) 0) booleans (groupOf l)
 
-    two-left : drop (made * 2) masks ≡ getD masks (made * 2) 0 ∷ (getD masks (made * 2 + 1) 0 ∷ drop ((made + 1) * 2) masks)
-    two-left =
-        drop-cons masks (made * 2) 0 (omega arith) ∙
-        ap (λ (x : List ℕ). getD masks (made * 2) 0 ∷ x)
-        (ap (λ (n : ℕ). drop n masks) (one made) ∙ drop-cons masks (made * 2 + 1) 0 (omega arith) ∙
-        ap (λ (n : ℕ). getD masks (made * 2 + 1) 0 ∷ drop n masks) (two made))
-      where
-        one : (n : ℕ) → suc (n * 2) ≡ n * 2 + 1
-        one n = omega arith
-        two : (n : ℕ) → suc (n * 2 + 1) ≡ (n + 1) * 2
-        two n = omega arith
+      two-left : drop (made * 2) masks ≡ getD masks (made * 2) 0 ∷ (getD masks (made * 2 + 1) 0 ∷ drop ((made + 1) * 2) masks)
+      two-left =
+          drop-cons masks (made * 2) 0 (omega arith) ∙
+          ap (λ (x : List ℕ). getD masks (made * 2) 0 ∷ x)
+          (ap (λ (n : ℕ). drop n masks) (one made) ∙ drop-cons masks (made * 2 + 1) 0 (omega arith) ∙
+          ap (λ (n : ℕ). getD masks (made * 2 + 1) 0 ∷ drop n masks) (two made))
+        where
+          one : (n : ℕ) → suc (n * 2) ≡ n * 2 + 1
+          one n = omega arith
 
-    turn :
-        stepsOf 31 program booleans (drop (made * 2) masks) (groupOf l) ≡
-        goOn first (λ g. stepsOf 31 program booleans (drop ((made + 1) * 2) masks) g)
-    unfolding stepsOf ended
-    turn =
-        ap (λ (x : List ℕ). stepsOf 31 program booleans x (groupOf l)) two-left ∙ pick-no _ _ (lt-leb slots (getD l 7 0) goes)
+          two : (n : ℕ) → suc (n * 2 + 1) ≡ (n + 1) * 2
+          two n = omega arith
 
-    module _ {l' : List ℕ} {r : Walked} (d : WalkDone l' r (single first)) where
-      pub walk-refused : {why : Refusal} → r ≡ walked.Refused why → WalkDone l' (walked.Refused why) whole
-      walk-refused {why} e =
-          record {
-            told =
-              sym
-              (inv ∙ ap (plus made)
-              (turn ∙ breaks-off first (numberOf why) _ (sym (ap (λ (x : Walked). walkTold x l') e) ∙ d .told)));
-            made = d .made;
-          }
+      turn :
+          stepsOf 31 program booleans (drop (made * 2) masks) (groupOf l) ≡
+          goOn first (λ g. stepsOf 31 program booleans (drop ((made + 1) * 2) masks) g)
+      unfolding stepsOf ended
+      turn =
+          ap (λ (x : List ℕ). stepsOf 31 program booleans x (groupOf l)) two-left ∙ pick-no _ _ (lt-leb slots (getD l 7 0) goes)
 
-      pub walk-again :
-          {n : ℕ} → r ≡ walked.Made n →
-          whole ≡ plus (made + 1) (stepsOf 31 program booleans (drop ((made + 1) * 2) masks) (groupOf l'))
-      walk-again {n} e =
-          inv ∙
-          ap (plus made) (turn ∙ goes-on first n (groupOf l') _ (sym (ap (λ (x : Walked). walkTold x l') e) ∙ d .told)) ∙
-          plus-once made (stepsOf 31 program booleans (drop ((made + 1) * 2) masks) (groupOf l'))
+      module _ {l' : List ℕ} {r : Walked} (d : WalkDone l' r (single first)) where
+        pub walk-refused : {why : Refusal} → r ≡ walked.Refused why → WalkDone l' (walked.Refused why) whole
+        walk-refused {why} e =
+            record {
+              told =
+                  sym
+                  (inv ∙ ap (plus made)
+                  (turn ∙ breaks-off first (numberOf why) _ (sym (ap (λ (x : Walked). walkTold x l') e) ∙ d .told)));
+              made = d .made;
+            }
+
+        pub walk-again :
+            {n : ℕ} → r ≡ walked.Made n →
+            whole ≡ plus (made + 1) (stepsOf 31 program booleans (drop ((made + 1) * 2) masks) (groupOf l'))
+        walk-again {n} e =
+            inv ∙
+            ap (plus made) (turn ∙ goes-on first n (groupOf l') _ (sym (ap (λ (x : Walked). walkTold x l') e) ∙ d .told)) ∙
+            plus-once made (stepsOf 31 program booleans (drop ((made + 1) * 2) masks) (groupOf l'))
 
 -- the report: the masks' count and least bit are those of the processors
 module _ (l : List ℕ) (m : Made l) where
@@ -235,7 +236,7 @@ module _ (l firsts seconds : List ℕ) (slots booleans : ℕ) (masks : List ℕ)
         let o : Makes n (groupOf l') ≡ wholeRun = sym (ap (λ (x : Walked). walkTold x l') e) ∙ is-run in
         record {
           told =
-            ap₂ (λ (f a : ℕ). gives (n ∷ f ∷ a ∷ [])) (ef ∙ first-is l' (d .made)) (ea ∙ number-is l' (d .made)) ∙ ap runTold o;
+              ap₂ (λ (f a : ℕ). gives (n ∷ f ∷ a ∷ [])) (ef ∙ first-is l' (d .made)) (ea ∙ number-is l' (d .made)) ∙ ap runTold o;
           left = d .made .whole ∙ ap (runLeaves l) o;
         }
 
@@ -272,6 +273,7 @@ steps-cut limit program booleans (x ∷ (y ∷ a)) b g e =
   where
     even : suc (suc (length a)) % 2 ≡ 0 → length a % 2 ≡ 0
     even h = omega arith
+
     on-outcome :
         ((g' : Group) → length a % 2 ≡ 0 → stepsOf limit program booleans (a ++ b) g' ≡ afterwards (stepsOf limit program booleans a g') (λ h. stepsOf limit program booleans b h)) →
         (o : Outcome) →
@@ -279,6 +281,7 @@ steps-cut limit program booleans (x ∷ (y ∷ a)) b g e =
         afterwards (goOn o (λ g'. stepsOf limit program booleans a g')) (λ h. stepsOf limit program booleans b h)
     on-outcome ih (Steps jump g') = ap onceMore (ih g' (even e)) ∙ once-after (stepsOf limit program booleans a g') _
     on-outcome ih (Fails why) = refl
+
     by-step :
         ((g' : Group) → length a % 2 ≡ 0 → stepsOf limit program booleans (a ++ b) g' ≡ afterwards (stepsOf limit program booleans a g') (λ h. stepsOf limit program booleans b h)) →
         Tested (ended program g) →
@@ -311,6 +314,7 @@ run-cut limit program booleans a b g g' n e made = first (tested (ended program 
     second (holds t) =
         ap (plus n) (steps-ended limit program booleans b g' t) ∙ ap (λ (k : ℕ). Makes k g') (add-zero n) ∙ sym (pick-yes _ _ t)
     second (fails t) = sym (pick-no _ _ t ∙ ap (plus n) (pick-no _ _ t))
+
     first :
         Tested (ended program g) →
         pick (ended program g) (Breaks 16) (stepsOf limit program booleans (a ++ b) g) ≡
@@ -342,8 +346,8 @@ steps-sound limit program booleans (a ∷ []) g s = s
 steps-sound limit program booleans (a ∷ (b ∷ masks)) g s =
     by-test (SoundRun limit) (ended program g) (λ e. s)
     (λ e.
-      rest (steps-sound limit program booleans masks) (stepOf limit program a b booleans g)
-      (step-sound limit program a b booleans g s))
+    rest (steps-sound limit program booleans masks) (stepOf limit program a b booleans g)
+    (step-sound limit program a b booleans g s))
   where
     rest :
         ((g' : Group) → Sound limit g' → SoundRun limit (stepsOf limit program booleans masks g')) →

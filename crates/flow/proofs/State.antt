@@ -46,6 +46,7 @@ shows {procs} {live} {active} {p0} {p1} {p2} {p3} {p4} m out =
   where
     bit : {w : ℕ} (f : Proc → Bool) (i : ℕ) → i < 32 → w ≡ pack 32 (λ j. f (procs j)) → on i w ≡ f (procs i)
     bit f i h e = ap (on i) e ∙ on-pack 32 i (λ j. f (procs j)) h
+
     at :
         (i : ℕ) → Tested (ltb i 32) →
         procOf (on i live) (on i active) (counterOf (on i p0) (on i p1) (on i p2) (on i p3) (on i p4)) ≡ procs i
@@ -187,9 +188,9 @@ worked-within limit op k jump wish p w f =
     by-test (λ (q : Proc). within limit q ≡ true) (eqb op 1)
     (λ e. lowered-within limit k p w)
     (λ e.
-      by-test (λ (q : Proc). within limit q ≡ true) (eqb op 2)
-      (λ t. raised-within limit jump wish p w (f (eqb-true op 2 t)))
-      (λ t. w))
+    by-test (λ (q : Proc). within limit q ≡ true) (eqb op 2)
+    (λ t. raised-within limit jump wish p w (f (eqb-true op 2 t)))
+    (λ t. w))
 
 -- where a step may go on to
 abbrev pub SoundWay : Way → Type 0
@@ -211,17 +212,17 @@ unfolding wayOf areReturns
 way-sound aop jump position address rs p h e =
     by-test SoundWay jump
     (λ j.
-      by-test SoundWay (eqb aop 1) (λ a. popped-sound rs h e)
-      (λ a.
-        by-test SoundWay (eqb aop 2)
-        (λ b.
-          by-test SoundWay (ltb (length rs) 4)
-          (λ t.
-            let low : length rs < 4 = ltb-true (length rs) 4 t in
-            let fits : aReturn (position + 1) ≡ true = and-intro (le-leb 1 (position + 1) (omega arith)) (le-leb (position + 1) 512 (omega arith)) in
-            (low, and-intro fits e))
-          (λ t. tt))
-        (λ b. (h, e))))
+    by-test SoundWay (eqb aop 1) (λ a. popped-sound rs h e)
+    (λ a.
+    by-test SoundWay (eqb aop 2)
+    (λ b.
+    by-test SoundWay (ltb (length rs) 4)
+    (λ t.
+    let low : length rs < 4 = ltb-true (length rs) 4 t in
+    let fits : aReturn (position + 1) ≡ true = and-intro (le-leb 1 (position + 1) (omega arith)) (le-leb (position + 1) 512 (omega arith)) in
+    (low, and-intro fits e))
+    (λ t. tt))
+    (λ b. (h, e))))
     (λ j. (h, e))
 
 abbrev pub SoundAfter : ℕ → Outcome → Type 0
@@ -236,8 +237,8 @@ arrived-sound limit slots jump procs Stuck h out low w = tt
 arrived-sound limit slots jump procs (Goes next rs) h out low w =
     by-test (SoundAfter limit) (leb next slots)
     (λ e.
-      let n : next ≤ slots = leb-true next slots e in
-      record { outside = out; counters = low; place = omega arith; depth = w .0; slots = w .1 })
+    let n : next ≤ slots = leb-true next slots e in
+    record { outside = out; counters = low; place = omega arith; depth = w .0; slots = w .1 })
     (λ e. tt)
 
 -- nobody at the limit, where an increment is made
@@ -249,6 +250,7 @@ none-over limit op procs out e i two = at (tested (ltb i 32))
   where
     nobody : some 32 (λ j. atLimit limit (procs j)) ≡ false
     nobody = sym (and-yes _ (eq-eqb op 2 two)) ∙ e
+
     at : Tested (ltb i 32) → atLimit limit (procs i) ≡ false
     at (holds t) = none-at 32 (λ j. atLimit limit (procs j)) nobody i (ltb-true i 32 t)
     at (fails t) = ap (atLimit limit) (out i (ltb-false i 32 t))
@@ -263,11 +265,11 @@ settled-sound limit slots first second jump wish procs g hs hp hr he out low =
     let op = pick jump (field 27 26 first) (field 25 24 first) in
     by-test (SoundAfter limit) (overLimit limit op procs) (λ e. tt)
     (λ e.
-      arrived-sound limit slots jump (λ i. worked op (field 20 16 first) jump (wish i) (procs i))
-      (wayOf (field 7 6 first) jump (g .position) (field 24 16 second) (g .returns)) hs
-      (λ i h. worked-absent op (field 20 16 first) jump (wish i) (out i h))
-      (λ i. worked-within limit op (field 20 16 first) jump (wish i) (procs i) (low i) (none-over limit op procs out e i))
-      (way-sound (field 7 6 first) jump (g .position) (field 24 16 second) (g .returns) hp hr he))
+    arrived-sound limit slots jump (λ i. worked op (field 20 16 first) jump (wish i) (procs i))
+    (wayOf (field 7 6 first) jump (g .position) (field 24 16 second) (g .returns)) hs
+    (λ i h. worked-absent op (field 20 16 first) jump (wish i) (out i h))
+    (λ i. worked-within limit op (field 20 16 first) jump (wish i) (procs i) (low i) (none-over limit op procs out e i))
+    (way-sound (field 7 6 first) jump (g .position) (field 24 16 second) (g .returns) hp hr he))
 
 -- a step leads from a sound group to a sound one
 pub step-sound :
@@ -277,21 +279,21 @@ unfolding stepOf slotStep turnedIf ended
 step-sound limit program alu predicate booleans g s =
     by-test (SoundAfter limit) (leb (program .slots) (g .position)) (λ e. tt)
     (λ e.
-      let before : g .position < program .slots = leb-false (program .slots) (g .position) e in
-      by-test (SoundAfter limit) (leb (program .slots) 512)
-      (λ t.
-        let most : program .slots ≤ 512 = leb-true (program .slots) 512 t in
-        by-test (SoundAfter limit)
-        (allowed (getD (program .firsts) (g .position) 0) (getD (program .seconds) (g .position) 0))
-        (λ a.
-          settled-sound limit (program .slots) (getD (program .firsts) (g .position) 0) (getD (program .seconds) (g .position) 0) _ _ _ g most
-          (omega arith) (s .depth) (s .slots)
-          (λ i h. turned-absent (on 4 (getD (program .firsts) (g .position) 0)) (s .outside i h))
-          (λ i.
-            by-test (λ (p : Proc). within limit p ≡ true) (on 4 (getD (program .firsts) (g .position) 0))
-            (λ u. turned-within limit (g .procs i) (s .counters i)) (λ u. s .counters i)))
-        (λ a. tt))
-      (λ t. tt))
+    let before : g .position < program .slots = leb-false (program .slots) (g .position) e in
+    by-test (SoundAfter limit) (leb (program .slots) 512)
+    (λ t.
+    let most : program .slots ≤ 512 = leb-true (program .slots) 512 t in
+    by-test (SoundAfter limit)
+    (allowed (getD (program .firsts) (g .position) 0) (getD (program .seconds) (g .position) 0))
+    (λ a.
+    settled-sound limit (program .slots) (getD (program .firsts) (g .position) 0) (getD (program .seconds) (g .position) 0) _ _ _ g most
+    (omega arith) (s .depth) (s .slots)
+    (λ i h. turned-absent (on 4 (getD (program .firsts) (g .position) 0)) (s .outside i h))
+    (λ i.
+    by-test (λ (p : Proc). within limit p ≡ true) (on 4 (getD (program .firsts) (g .position) 0))
+    (λ u. turned-within limit (g .procs i) (s .counters i)) (λ u. s .counters i)))
+    (λ a. tt))
+    (λ t. tt))
 
 -- so do the cells that a step leaves
 pub left-made :

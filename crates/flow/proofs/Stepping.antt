@@ -87,6 +87,7 @@ live-worked op k jump wish p =
     low Active = refl
     low (Idle n) = by-test (λ (r : Proc). true ≡ isLive r) (ltb n k) (λ e. refl) (λ e. refl)
     low Absent = refl
+
     high : (q : Proc) → isLive q ≡ isLive (raised jump wish q)
     high Active = by-test (λ (r : Proc). true ≡ isLive r) (differ wish jump) (λ e. refl) (λ e. refl)
     high (Idle n) = refl
@@ -97,86 +98,86 @@ module _ (l : List ℕ) (first second slots active wish : ℕ) (jump : Bool) (m 
     {op : ℕ} (eop : op ≡ pick jump (field 27 26 first) (field 25 24 first))
     {over : Bool}
     (eover :
-      over ≡
-      (eqb op 2 and
-      some 32 (λ i. eqb (counterOf (on i (getD l 2 0)) (on i (getD l 3 0)) (on i (getD l 4 0)) (on i (getD l 5 0)) (on i (getD l 6 0))) 31)))
+    over ≡
+    (eqb op 2 and
+    some 32 (λ i. eqb (counterOf (on i (getD l 2 0)) (on i (getD l 3 0)) (on i (getD l 4 0)) (on i (getD l 5 0)) (on i (getD l 6 0))) 31)))
   where
-  abbrev outcome : Outcome
-  outcome = settled 31 slots first second jump (λ i. on i wish) (withActive l active) (groupOf l)
+    abbrev outcome : Outcome
+    outcome = settled 31 slots first second jump (λ i. on i wish) (withActive l active) (groupOf l)
 
-  over-is : over ≡ overLimit 31 (pick jump (field 27 26 first) (field 25 24 first)) (withActive l active)
-  unfolding overLimit
-  over-is = eover ∙ ap₂ (λ (n : ℕ) (b : Bool). eqb n 2 and b) eop (limit-shown k)
+    over-is : over ≡ overLimit 31 (pick jump (field 27 26 first) (field 25 24 first)) (withActive l active)
+    unfolding overLimit
+    over-is = eover ∙ ap₂ (λ (n : ℕ) (b : Bool). eqb n 2 and b) eop (limit-shown k)
 
-  pub settle-over : over ≡ true → StepDone l l (stepped.Refused AtLimit) outcome
-  unfolding settled
-  settle-over t = refused AtLimit (pick-yes _ _ (sym over-is ∙ t))
-
-  module _ (free : over ≡ false) where
-    abbrev wayHere : Way
-    wayHere = wayOf (field 7 6 first) jump (getD l 7 0) (field 24 16 second) (groupOf l .returns)
-
-    abbrev procsHere : ℕ → Proc
-    procsHere i =
-        worked (pick jump (field 27 26 first) (field 25 24 first)) (field 20 16 first) jump (on i wish) (withActive l active i)
-
-    on-way : outcome ≡ arrived slots jump procsHere wayHere
+    pub settle-over : over ≡ true → StepDone l l (stepped.Refused AtLimit) outcome
     unfolding settled
-    on-way = pick-no _ _ (sym over-is ∙ free)
+    settle-over t = refused AtLimit (pick-yes _ _ (sym over-is ∙ t))
 
-    pub settle-stuck : next.Stuck ≡ nextOf wayHere → StepDone l l (stepped.Refused AtLimit) outcome
-    settle-stuck e = refused AtLimit (on-way ∙ ap (arrived slots jump procsHere) (stopped wayHere e))
+    module _ (free : over ≡ false) where
+      abbrev wayHere : Way
+      wayHere = wayOf (field 7 6 first) jump (getD l 7 0) (field 24 16 second) (groupOf l .returns)
 
-    module _ {at r0 r1 r2 r3 : ℕ} (e : next.To at r0 r1 r2 r3 ≡ nextOf wayHere) where
-      w : Went wayHere at r0 r1 r2 r3
-      w = went wayHere e
+      abbrev procsHere : ℕ → Proc
+      procsHere i =
+          worked (pick jump (field 27 26 first) (field 25 24 first)) (field 20 16 first) jump (on i wish) (withActive l active i)
 
-      pub settle-past : slots < at → StepDone l l (stepped.Refused PastEnd) outcome
-      settle-past h =
-          refused PastEnd (on-way ∙ ap (arrived slots jump procsHere) (w .goes) ∙ pick-no _ _ (lt-leb at slots h))
+      on-way : outcome ≡ arrived slots jump procsHere wayHere
+      unfolding settled
+      on-way = pick-no _ _ (sym over-is ∙ free)
 
-      abbrev groupThen : Group
-      groupThen = record { procs = procsHere; position = at; returns = w .rest }
+      pub settle-stuck : next.Stuck ≡ nextOf wayHere → StepDone l l (stepped.Refused AtLimit) outcome
+      settle-stuck e = refused AtLimit (on-way ∙ ap (arrived slots jump procsHere) (stopped wayHere e))
 
-      steps : at ≤ slots → outcome ≡ Steps jump groupThen
-      steps h = on-way ∙ ap (arrived slots jump procsHere) (w .goes) ∙ pick-yes _ _ (le-leb at slots h)
+      module _ {at r0 r1 r2 r3 : ℕ} (e : next.To at r0 r1 r2 r3 ≡ nextOf wayHere) where
+        w : Went wayHere at r0 r1 r2 r3
+        w = went wayHere e
 
-      module _ {x : Worked} (ex : x ≡ shownAs (λ i. worked op (field 20 16 first) jump (on i wish) (withActive l active i))) where
-        shown-here : x ≡ shownAs procsHere
-        shown-here = ex ∙ ap (λ (n : ℕ). shownAs (λ i. worked n (field 20 16 first) jump (on i wish) (withActive l active i))) eop
+        pub settle-past : slots < at → StepDone l l (stepped.Refused PastEnd) outcome
+        settle-past h =
+            refused PastEnd (on-way ∙ ap (arrived slots jump procsHere) (w .goes) ∙ pick-no _ _ (lt-leb at slots h))
 
-        live-here : getD l 0 0 ≡ liveMask procsHere
-        live-here =
-            k .live-word ∙
-            pack-same 32 _ _
-            (λ i h. live-worked (pick jump (field 27 26 first) (field 25 24 first)) (field 20 16 first) jump (on i wish) (withActive l active i))
+        abbrev groupThen : Group
+        groupThen = record { procs = procsHere; position = at; returns = w .rest }
 
-        cells-then :
-            cellsWith (getD l 0 0) (x .active) (x .p0) (x .p1) (x .p2) (x .p3) (x .p4) at r0 r1 r2 r3 ≡ cellsOf groupThen
-        cells-then =
-            λ j. cellsWith (live-here j) (shown-here j .active) (shown-here j .p0) (shown-here j .p1) (shown-here j .p2) (shown-here j .p3) (shown-here j .p4) at (w .cell0 j) (w .cell1 j) (w .cell2 j) (w .cell3 j)
+        steps : at ≤ slots → outcome ≡ Steps jump groupThen
+        steps h = on-way ∙ ap (arrived slots jump procsHere) (w .goes) ∙ pick-yes _ _ (le-leb at slots h)
 
-        pub settle-jumped :
-            at ≤ slots → jump ≡ true →
-            StepDone l (cellsWith (getD l 0 0) (x .active) (x .p0) (x .p1) (x .p2) (x .p3) (x .p4) at r0 r1 r2 r3)
-            (stepped.Jumped (record { 0 = at })) outcome
-        unfolding digit
-        settle-jumped h t =
-            record {
-              told = sym (ap stepTold (steps h) ∙ ap (λ (b : Bool). gives (digit b ∷ at ∷ [])) t);
-              left = cells-then ∙ sym (ap (stepLeaves l) (steps h));
-            }
+        module _ {x : Worked} (ex : x ≡ shownAs (λ i. worked op (field 20 16 first) jump (on i wish) (withActive l active i))) where
+          shown-here : x ≡ shownAs procsHere
+          shown-here = ex ∙ ap (λ (n : ℕ). shownAs (λ i. worked n (field 20 16 first) jump (on i wish) (withActive l active i))) eop
 
-        pub settle-stayed :
-            at ≤ slots → jump ≡ false →
-            StepDone l (cellsWith (getD l 0 0) (x .active) (x .p0) (x .p1) (x .p2) (x .p3) (x .p4) at r0 r1 r2 r3)
-            (stepped.Stayed (record { 0 = at })) outcome
-        unfolding digit
-        settle-stayed h t =
-            record {
-              told = sym (ap stepTold (steps h) ∙ ap (λ (b : Bool). gives (digit b ∷ at ∷ [])) t);
-              left = cells-then ∙ sym (ap (stepLeaves l) (steps h));
-            }
+          live-here : getD l 0 0 ≡ liveMask procsHere
+          live-here =
+              k .live-word ∙
+              pack-same 32 _ _
+              (λ i h. live-worked (pick jump (field 27 26 first) (field 25 24 first)) (field 20 16 first) jump (on i wish) (withActive l active i))
+
+          cells-then :
+              cellsWith (getD l 0 0) (x .active) (x .p0) (x .p1) (x .p2) (x .p3) (x .p4) at r0 r1 r2 r3 ≡ cellsOf groupThen
+          cells-then =
+              λ j. cellsWith (live-here j) (shown-here j .active) (shown-here j .p0) (shown-here j .p1) (shown-here j .p2) (shown-here j .p3) (shown-here j .p4) at (w .cell0 j) (w .cell1 j) (w .cell2 j) (w .cell3 j)
+
+          pub settle-jumped :
+              at ≤ slots → jump ≡ true →
+              StepDone l (cellsWith (getD l 0 0) (x .active) (x .p0) (x .p1) (x .p2) (x .p3) (x .p4) at r0 r1 r2 r3)
+              (stepped.Jumped (record { 0 = at })) outcome
+          unfolding digit
+          settle-jumped h t =
+              record {
+                told = sym (ap stepTold (steps h) ∙ ap (λ (b : Bool). gives (digit b ∷ at ∷ [])) t);
+                left = cells-then ∙ sym (ap (stepLeaves l) (steps h));
+              }
+
+          pub settle-stayed :
+              at ≤ slots → jump ≡ false →
+              StepDone l (cellsWith (getD l 0 0) (x .active) (x .p0) (x .p1) (x .p2) (x .p3) (x .p4) at r0 r1 r2 r3)
+              (stepped.Stayed (record { 0 = at })) outcome
+          unfolding digit
+          settle-stayed h t =
+              record {
+                told = sym (ap stepTold (steps h) ∙ ap (λ (b : Bool). gives (digit b ∷ at ∷ [])) t);
+                left = cells-then ∙ sym (ap (stepLeaves l) (steps h));
+              }
 
 -- the first half: B_ELSE keeps everybody in the group and every bit of a counter
 live-turned : (p : Proc) → isLive p ≡ isLive (turned p)
@@ -217,7 +218,7 @@ module _ {procs : ℕ → Proc} {live old p0 p1 p2 p3 p4 : ℕ} (m : MasksOf pro
         word3 = m .word3 ∙ pack-same 32 _ _ (λ i h. kept-turned (counterBit 3) (bit-turned 3) else procs i);
         word4 = m .word4 ∙ pack-same 32 _ _ (λ i h. kept-turned (counterBit 4) (bit-turned 4) else procs i);
         counters =
-          λ i.
+            λ i.
             by-test (λ (q : Proc). within 31 q ≡ true) else (λ e. turned-within 31 (procs i) (m .counters i)) (λ e. m .counters i);
       }
 
@@ -241,8 +242,8 @@ settled-same limit slots first second jump v w procs g out h =
     let op = pick jump (field 27 26 first) (field 25 24 first) in
     ap
     (λ (f : ℕ → Proc).
-      pick (overLimit limit op procs) (Fails 14)
-      (arrived slots jump f (wayOf (field 7 6 first) jump (g .position) (field 24 16 second) (g .returns))))
+    pick (overLimit limit op procs) (Fails 14)
+    (arrived slots jump f (wayOf (field 7 6 first) jump (g .position) (field 24 16 second) (g .returns))))
     (fun-ext (λ i. at i (tested (ltb i 32))))
   where
     at :

@@ -38,7 +38,11 @@ pub enum Loaded {
 
 // A run's report: steps made, the first active processor (32 if none) and the number of active ones.
 pub enum Ran {
-    Report { steps: usize, first: u32, active: u32 },
+    Report {
+        steps: usize,
+        first: u32,
+        active: u32,
+    },
     Refused(Refusal),
 }
 
@@ -59,7 +63,15 @@ const PLAIN_SECOND: u32 = 0;
 
 // The rest of a step once B_ELSE, the wishes and the decision are known: branch counters, returns, next position. Nothing is
 // stored before every refusal is ruled out.
-fn settle(first: u32, second: u32, slots: u32, cells: &mut [u32; 20], active: u32, wish: u32, jump: bool) -> Stepped
+fn settle(
+    first: u32,
+    second: u32,
+    slots: u32,
+    cells: &mut [u32; 20],
+    active: u32,
+    wish: u32,
+    jump: bool,
+) -> Stepped
     requires { ⌜ (Made (now cells)) × (getD (now cells) 7 0 < 512) × (MarksIn (now cells) active) ⌝ }
     ensures { λ r. ⌜ StepDone (now (cells .entry)) (now (cells .exit)) r (settled 31 slots first second jump (λ i. on i wish) (withActive (now (cells .entry)) active) (groupOf (now (cells .entry)))) ⌝ }
 {
@@ -73,16 +85,56 @@ fn settle(first: u32, second: u32, slots: u32, cells: &mut [u32; 20], active: u3
     if planes::over_limit(op, p0, p1, p2, p3, p4) {
         return Stepped::Refused(Refusal::AtLimit);
     }
-    let way = slot::way(first / 64 % 4, jump, cells[7], second / 65536 % 512, cells[8], cells[9], cells[10], cells[11]);
+    let way = slot::way(
+        first / 64 % 4,
+        jump,
+        cells[7],
+        second / 65536 % 512,
+        cells[8],
+        cells[9],
+        cells[10],
+        cells[11],
+    );
     let Next::To { at, r0, r1, r2, r3 } = way else {
         return Stepped::Refused(Refusal::AtLimit);
     };
     if slots < at {
         return Stepped::Refused(Refusal::PastEnd);
     }
-    let w = planes::work(op, first / 65536 % 32, jump, live, active, wish, p0, p1, p2, p3, p4);
+    let w = planes::work(
+        op,
+        first / 65536 % 32,
+        jump,
+        live,
+        active,
+        wish,
+        p0,
+        p1,
+        p2,
+        p3,
+        p4,
+    );
     *cells = [
-        live, w.active, w.p0, w.p1, w.p2, w.p3, w.p4, at, r0, r1, r2, r3, 0, 0, 0, 0, 0, 0, 0, 0,
+        live,
+        w.active,
+        w.p0,
+        w.p1,
+        w.p2,
+        w.p3,
+        w.p4,
+        at,
+        r0,
+        r1,
+        r2,
+        r3,
+        0,
+        0,
+        0,
+        0,
+        0,
+        0,
+        0,
+        0,
     ];
     if jump {
         Stepped::Jumped(SlotNumber(at))
@@ -92,12 +144,29 @@ fn settle(first: u32, second: u32, slots: u32, cells: &mut [u32; 20], active: u3
 }
 
 // A step on the two words of the slot at the position.
-fn step_slot(first: u32, second: u32, slots: u32, cells: &mut [u32; 20], alu: u32, predicate: u32, booleans: u32) -> Stepped
+fn step_slot(
+    first: u32,
+    second: u32,
+    slots: u32,
+    cells: &mut [u32; 20],
+    alu: u32,
+    predicate: u32,
+    booleans: u32,
+) -> Stepped
     requires { ⌜ (Made (now cells)) × (getD (now cells) 7 0 < 512) ⌝ }
     ensures { λ r. ⌜ StepDone (now (cells .entry)) (now (cells .exit)) r (slotStep 31 slots first second alu predicate booleans (groupOf (now (cells .entry)))) ⌝ }
 {
     if slot::allowed(first, second) {
-        let active = planes::turn_if(first / 16 % 2 == 1, cells[0], cells[1], cells[2], cells[3], cells[4], cells[5], cells[6]);
+        let active = planes::turn_if(
+            first / 16 % 2 == 1,
+            cells[0],
+            cells[1],
+            cells[2],
+            cells[3],
+            cells[4],
+            cells[5],
+            cells[6],
+        );
         let boolean = (booleans >> (second % 32)) % 2;
         let wish = planes::wishes(first / 256 % 256, alu, boolean, predicate);
         let jump = planes::decides(first / 32 % 2 == 1, active, wish);
@@ -109,7 +178,15 @@ fn step_slot(first: u32, second: u32, slots: u32, cells: &mut [u32; 20], alu: u3
 // A step of the group under a program: the first and second words of its slots, and how many slots run. 16 where the program
 // has ended, 13 for a word that isn't allowed, 14 for a branch counter or the return stack at its limit, 15 for a jump past
 // the program's end (and where more than 512 slots are to run).
-pub fn step(firsts: &[u32; 512], seconds: &[u32; 512], slots: u32, cells: &mut [u32; 20], alu: u32, predicate: u32, booleans: u32) -> Stepped
+pub fn step(
+    firsts: &[u32; 512],
+    seconds: &[u32; 512],
+    slots: u32,
+    cells: &mut [u32; 20],
+    alu: u32,
+    predicate: u32,
+    booleans: u32,
+) -> Stepped
     requires { ⌜ Made (now cells) ⌝ }
     ensures { λ r. ⌜ StepDone (now (cells .entry)) (now (cells .exit)) r (stepOf 31 (programOf (now (firsts .entry)) (now (seconds .entry)) slots) alu predicate booleans (groupOf (now (cells .entry)))) ⌝ }
 {
@@ -121,7 +198,15 @@ pub fn step(firsts: &[u32; 512], seconds: &[u32; 512], slots: u32, cells: &mut [
         return Stepped::Refused(Refusal::PastEnd);
     }
     let at = position as usize;
-    step_slot(firsts[at], seconds[at], slots, cells, alu, predicate, booleans)
+    step_slot(
+        firsts[at],
+        seconds[at],
+        slots,
+        cells,
+        alu,
+        predicate,
+        booleans,
+    )
 }
 
 // A fresh group: all its processors active, position 0, no returns. 13 unless the size is from 1 to 32.
@@ -136,7 +221,28 @@ pub fn begin(size: u32, cells: &mut [u32; 20]) -> Begun
     }
     // From the top down, since 1 << 32 would not fit.
     let live = 4294967295u32 >> (32 - size);
-    *cells = [live, live, 0, 0, 0, 0, 0, 0, 0, 0, 0, 0, 0, 0, 0, 0, 0, 0, 0, 0];
+    *cells = [
+        live,
+        live,
+        0,
+        0,
+        0,
+        0,
+        0,
+        0,
+        0,
+        0,
+        0,
+        0,
+        0,
+        0,
+        0,
+        0,
+        0,
+        0,
+        0,
+        0,
+    ];
     Begun::Ready
 }
 
@@ -190,7 +296,15 @@ pub fn number_active(active: u32) -> u32
 }
 
 // One step, as a run of its own.
-fn one_step(firsts: &[u32; 512], seconds: &[u32; 512], slots: u32, cells: &mut [u32; 20], alu: u32, predicate: u32, booleans: u32) -> Walked
+fn one_step(
+    firsts: &[u32; 512],
+    seconds: &[u32; 512],
+    slots: u32,
+    cells: &mut [u32; 20],
+    alu: u32,
+    predicate: u32,
+    booleans: u32,
+) -> Walked
     requires { ⌜ Made (now cells) ⌝ }
     ensures { λ r. ⌜ WalkDone (now (cells .exit)) r (goOn (stepOf 31 (programOf (now (firsts .entry)) (now (seconds .entry)) slots) alu predicate booleans (groupOf (now (cells .entry)))) (λ g. Makes 0 g)) ⌝ }
 {
@@ -203,7 +317,14 @@ fn one_step(firsts: &[u32; 512], seconds: &[u32; 512], slots: u32, cells: &mut [
 }
 
 // Steps with two masks each, up to the end of the list or of the program. A last mask without its partner isn't read.
-fn walk(firsts: &[u32; 512], seconds: &[u32; 512], slots: u32, cells: &mut [u32; 20], masks: &[u32], booleans: u32) -> Walked
+fn walk(
+    firsts: &[u32; 512],
+    seconds: &[u32; 512],
+    slots: u32,
+    cells: &mut [u32; 20],
+    masks: &[u32],
+    booleans: u32,
+) -> Walked
     requires { ⌜ Made (now cells) ⌝ }
     ensures { λ r. ⌜ WalkDone (now (cells .exit)) r (stepsOf 31 (programOf (now (firsts .entry)) (now (seconds .entry)) slots) booleans (now (masks .entry)) (groupOf (now (cells .entry)))) ⌝ }
 {
@@ -213,7 +334,15 @@ fn walk(firsts: &[u32; 512], seconds: &[u32; 512], slots: u32, cells: &mut [u32;
         if slots <= cells[7] {
             return Walked::Made(made);
         }
-        let next = one_step(firsts, seconds, slots, cells, masks[made * 2], masks[made * 2 + 1], booleans);
+        let next = one_step(
+            firsts,
+            seconds,
+            slots,
+            cells,
+            masks[made * 2],
+            masks[made * 2 + 1],
+            booleans,
+        );
         if let Walked::Refused(why) = next {
             return Walked::Refused(why);
         }
@@ -225,7 +354,14 @@ fn walk(firsts: &[u32; 512], seconds: &[u32; 512], slots: u32, cells: &mut [u32;
 // A run over a list of masks, alu then predicate for each step, with one word of booleans. It ends with the list or with the
 // program. 16 where the program had ended before, whatever the list; where a step is refused, the run gets that number and
 // the state is as before the run.
-pub fn run(firsts: &[u32; 512], seconds: &[u32; 512], slots: u32, cells: &mut [u32; 20], masks: &[u32], booleans: u32) -> Ran
+pub fn run(
+    firsts: &[u32; 512],
+    seconds: &[u32; 512],
+    slots: u32,
+    cells: &mut [u32; 20],
+    masks: &[u32],
+    booleans: u32,
+) -> Ran
     requires { ⌜ Made (now cells) ⌝ }
     ensures { λ r. ⌜ RunDone (now (cells .entry)) (now (cells .exit)) r (runOf 31 (programOf (now (firsts .entry)) (now (seconds .entry)) slots) booleans (now (masks .entry)) (groupOf (now (cells .entry)))) ⌝ }
 {

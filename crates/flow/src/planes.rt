@@ -79,7 +79,16 @@ pub fn over_limit(op: u32, p0: u32, p1: u32, p2: u32, p3: u32, p4: u32) -> bool
 }
 
 // The active processors as the wishes see them: turned by B_ELSE where the slot has it.
-pub fn turn_if(otherwise: bool, live: u32, active: u32, p0: u32, p1: u32, p2: u32, p3: u32, p4: u32) -> u32
+pub fn turn_if(
+    otherwise: bool,
+    live: u32,
+    active: u32,
+    p0: u32,
+    p1: u32,
+    p2: u32,
+    p3: u32,
+    p4: u32,
+) -> u32
     requires { ⌜ Marks live active p0 p1 p2 p3 p4 ⌝ }
     ensures { λ r. ⌜ r ≡ activeMask (turnedIf otherwise (procAt live active p0 p1 p2 p3 p4)) ⌝ }
 {
@@ -91,7 +100,16 @@ pub fn turn_if(otherwise: bool, live: u32, active: u32, p0: u32, p1: u32, p2: u3
 
 // Decrement: idle counters lose `count`, plane by plane with a borrow; where a borrow is left over, the counter would go
 // below zero and the processor wakes with counter 0.
-pub fn lower(count: u32, live: u32, active: u32, p0: u32, p1: u32, p2: u32, p3: u32, p4: u32) -> Worked
+pub fn lower(
+    count: u32,
+    live: u32,
+    active: u32,
+    p0: u32,
+    p1: u32,
+    p2: u32,
+    p3: u32,
+    p4: u32,
+) -> Worked
     requires { ⌜ (count < 32) × Marks live active p0 p1 p2 p3 p4 ⌝ }
     ensures { λ r. ⌜ r ≡ shownAs (λ i. lowered count (procAt live active p0 p1 p2 p3 p4 i)) ⌝ }
 {
@@ -121,15 +139,21 @@ pub fn lower(count: u32, live: u32, active: u32, p0: u32, p1: u32, p2: u32, p3: 
 pub fn leaving(jump: bool, active: u32, wish: u32) -> u32
     ensures { λ r. ⌜ r ≡ pack 32 (λ i. on i active and differ (on i wish) jump) ⌝ }
 {
-    if jump {
-        active & !wish
-    } else {
-        active & wish
-    }
+    if jump { active & !wish } else { active & wish }
 }
 
 // Increment: idle counters gain 1, plane by plane with a carry; those who leave become idle with counter 0.
-pub fn lift(jump: bool, live: u32, active: u32, wish: u32, p0: u32, p1: u32, p2: u32, p3: u32, p4: u32) -> Worked
+pub fn lift(
+    jump: bool,
+    live: u32,
+    active: u32,
+    wish: u32,
+    p0: u32,
+    p1: u32,
+    p2: u32,
+    p3: u32,
+    p4: u32,
+) -> Worked
     requires { ⌜ Marks live active p0 p1 p2 p3 p4 ⌝ }
     ensures { λ r. ⌜ r ≡ shownAs (λ i. raised jump (on i wish) (procAt live active p0 p1 p2 p3 p4 i)) ⌝ }
 {
@@ -150,7 +174,19 @@ pub fn lift(jump: bool, live: u32, active: u32, wish: u32, p0: u32, p1: u32, p2:
 }
 
 // The branch operation: 1 decrement, 2 increment, else nothing.
-pub fn work(op: u32, count: u32, jump: bool, live: u32, active: u32, wish: u32, p0: u32, p1: u32, p2: u32, p3: u32, p4: u32) -> Worked
+pub fn work(
+    op: u32,
+    count: u32,
+    jump: bool,
+    live: u32,
+    active: u32,
+    wish: u32,
+    p0: u32,
+    p1: u32,
+    p2: u32,
+    p3: u32,
+    p4: u32,
+) -> Worked
     requires { ⌜ (count < 32) × Marks live active p0 p1 p2 p3 p4 ⌝ }
     ensures { λ r. ⌜ r ≡ shownAs (λ i. worked op count jump (on i wish) (procAt live active p0 p1 p2 p3 p4 i)) ⌝ }
 {

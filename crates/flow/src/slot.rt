@@ -9,7 +9,13 @@ ghost use Rattle.flow.specs.Answers.{Stack, nextOf};
 
 // Where a step goes on and the four cells of the returns then, or a return stack at its limit.
 pub enum Next {
-    To { at: u32, r0: u32, r1: u32, r2: u32, r3: u32 },
+    To {
+        at: u32,
+        r0: u32,
+        r1: u32,
+        r2: u32,
+        r3: u32,
+    },
     Stuck,
 }
 
@@ -87,7 +93,16 @@ pub fn push(position: u32, address: u32, r0: u32, r1: u32, r2: u32, r3: u32) -> 
 }
 
 // The next position and the returns stored then: 1 pops and 2 pushes on a jump; a stay goes on to the next slot.
-pub fn way(op: u32, jump: bool, position: u32, address: u32, r0: u32, r1: u32, r2: u32, r3: u32) -> Next
+pub fn way(
+    op: u32,
+    jump: bool,
+    position: u32,
+    address: u32,
+    r0: u32,
+    r1: u32,
+    r2: u32,
+    r3: u32,
+) -> Next
     requires { ⌜ (position < 512) × Stack (stored (r0 ∷ r1 ∷ r2 ∷ r3 ∷ [])) r0 r1 r2 r3 ⌝ }
     ensures { λ r. ⌜ r ≡ nextOf (wayOf op jump position address (stored (r0 ∷ r1 ∷ r2 ∷ r3 ∷ []))) ⌝ }
 {
@@ -95,7 +110,13 @@ pub fn way(op: u32, jump: bool, position: u32, address: u32, r0: u32, r1: u32, r
         return match op {
             1 => pop(r0, r1, r2, r3),
             2 => push(position, address, r0, r1, r2, r3),
-            _ => Next::To { at: address, r0, r1, r2, r3 },
+            _ => Next::To {
+                at: address,
+                r0,
+                r1,
+                r2,
+                r3,
+            },
         };
     }
     Next::To {

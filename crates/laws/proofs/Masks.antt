@@ -97,7 +97,7 @@ module _ {k a b : ℕ} {f g : ℕ → Bool} where
   pub xor-places : Places k f a → Places k g b → Places k (λ i. differ (f i) (g i)) (bitXor a b)
   xor-places p q =
       record {
-        word = ap₂ bitXor (p .word) (q .word) ∙ pack-op bitXor lib.Bits.differ differ xor-step refl differ-digits k f g
+        word = ap₂ bitXor (p .word) (q .word) ∙ pack-op bitXor lib.Bits.differ differ xor-step refl differ-digits k f g;
       }
 
 not-digit : (b : Bool) → digit b + digit (not b) ≡ 1
@@ -181,9 +181,11 @@ none-zero (suc k) f = go (f zero) (pack k (λ i. f (suc i))) (some k (λ i. f (s
   where
     odd : (n : ℕ) → digit true + n * 2 ≡ 0 → ⊥
     odd n h = omega arith
+
     even : (n : ℕ) → Tested (eqb n 0) → eqb (digit false + n * 2) 0 ≡ eqb n 0
     even n (holds e) = let z : n ≡ 0 = eqb-true n 0 e in eq-eqb (0 + n * 2) 0 (omega arith) ∙ sym e
     even n (fails e) = let z : n ≡ 0 → ⊥ = eqb-false n 0 e in ne-eqb (0 + n * 2) 0 (λ q. z (omega arith)) ∙ sym e
+
     go : (b : Bool) (n : ℕ) (t : Bool) → eqb n 0 ≡ not t → eqb (digit b + n * 2) 0 ≡ not (b or t)
     go true n t h = ne-eqb _ _ (odd n)
     go false n t h = even n (tested (eqb n 0)) ∙ h
