@@ -1,160 +1,102 @@
+-- `flow_worked::script` meets its contract. Loop: the cells are made. Assumes nothing.
+use native.Mathlib.Omega.{arith}
+use Prim.Native.Nat.{_-_, _/_, _≤_}
+use lib.ListN.{length}
+use Rattle.flow.specs.Cells.{Made}
+use borrow.Author.Needs.{needs}
 use Rattle.flow_worked.proofs.script.Statement.{statement}
 use Rattle.flow_worked.proofs.script.Tie as tie
-use Rattle.flow_worked.proofs.script.Reads as reads
-use Rattle.flow_worked.proofs.script.Lts as lts
-use Rattle.flow_worked.proofs.both.Reads as both-reads
-use Rattle.flow_worked.proofs.fresh.Reads as fresh-reads
-use Rattle.flow_worked.proofs.one.Reads as one-reads
 
 abbrev Inv-loop : tie.InvT-loop
-Inv-loop size rows cells₀ good₀ at₀ cells good at = ?
+Inv-loop size rows cells₀ good₀ at₀ cells good at =
+    (Made cells) × (good ≤ 1000) × (at ≤ length rows / 6)
 
 abbrev μ-loop : tie.MeasureT-loop
-μ-loop size rows cells₀ good₀ at₀ cells good at = ?
+μ-loop size rows cells₀ good₀ at₀ cells good at = length rows / 6 - at
 
--- src/main.rt:70:5
 fresh-requires : tie.Need-fresh-requires Inv-loop μ-loop
-fresh-requires c κs = ?
+fresh-requires c κs = search needs
 
--- src/main.rt:73:5
 loop-holds : tie.Need-loop-holds Inv-loop μ-loop
-loop-holds c = ?
+loop-holds c = ((c .fresh) .ensures, omega arith, omega arith)
 
--- src/main.rt:74:17
 mul-k : tie.Need-mul-k Inv-loop μ-loop
-mul-k c = ?
+mul-k c = omega arith
 
--- src/main.rt:76:13
 mul-one : tie.Need-mul-one Inv-loop μ-loop
-mul-one c = ?
+mul-one c = omega arith
 
--- src/main.rt:76:13
 shared-slice-read-one : tie.Need-shared-slice-read-one Inv-loop μ-loop
-shared-slice-read-one c = ?
+shared-slice-read-one c = omega arith
 
--- src/main.rt:77:18
 add-one : tie.Need-add-one Inv-loop μ-loop
-add-one c = ?
+add-one c = omega arith
 
--- src/main.rt:77:13
 mul-one-2 : tie.Need-mul-one-2 Inv-loop μ-loop
-mul-one-2 c = ?
+mul-one-2 c = omega arith
 
--- src/main.rt:77:13
 shared-slice-read-one-2 : tie.Need-shared-slice-read-one-2 Inv-loop μ-loop
-shared-slice-read-one-2 c = ?
+shared-slice-read-one-2 c = omega arith
 
--- src/main.rt:79:18
 add-one-2 : tie.Need-add-one-2 Inv-loop μ-loop
-add-one-2 c = ?
+add-one-2 c = omega arith
 
--- src/main.rt:79:13
 mul-one-3 : tie.Need-mul-one-3 Inv-loop μ-loop
-mul-one-3 c = ?
+mul-one-3 c = omega arith
 
--- src/main.rt:79:13
 shared-slice-read-one-3 : tie.Need-shared-slice-read-one-3 Inv-loop μ-loop
-shared-slice-read-one-3 c = ?
+shared-slice-read-one-3 c = omega arith
 
--- src/main.rt:80:18
 add-one-3 : tie.Need-add-one-3 Inv-loop μ-loop
-add-one-3 c = ?
+add-one-3 c = omega arith
 
--- src/main.rt:80:13
 mul-one-4 : tie.Need-mul-one-4 Inv-loop μ-loop
-mul-one-4 c = ?
+mul-one-4 c = omega arith
 
--- src/main.rt:80:13
 shared-slice-read-one-4 : tie.Need-shared-slice-read-one-4 Inv-loop μ-loop
-shared-slice-read-one-4 c = ?
+shared-slice-read-one-4 c = omega arith
 
--- src/main.rt:75:13
 one-requires : tie.Need-one-requires Inv-loop μ-loop
-one-requires c κs = ?
+one-requires c κs = (c .before .before .before .before .before .before .loop) .inv .0
 
--- src/main.rt:83:39
 add-both : tie.Need-add-both Inv-loop μ-loop
-add-both c = ?
+add-both c = omega arith
 
--- src/main.rt:83:34
 mul-both : tie.Need-mul-both Inv-loop μ-loop
-mul-both c = ?
+mul-both c = omega arith
 
--- src/main.rt:83:34
 shared-slice-read-both : tie.Need-shared-slice-read-both Inv-loop μ-loop
-shared-slice-read-both c = ?
+shared-slice-read-both c = omega arith
 
--- src/main.rt:83:47
 array-read-both : tie.Need-array-read-both Inv-loop μ-loop
-array-read-both c = ?
+array-read-both c = omega (arith, (c .before .one) .ensures .size)
 
--- src/main.rt:83:62
 add-both-2 : tie.Need-add-both-2 Inv-loop μ-loop
-add-both-2 c = ?
+add-both-2 c = omega arith
 
--- src/main.rt:83:57
 mul-both-2 : tie.Need-mul-both-2 Inv-loop μ-loop
-mul-both-2 c = ?
+mul-both-2 c = omega arith
 
--- src/main.rt:83:57
 shared-slice-read-both-2 : tie.Need-shared-slice-read-both-2 Inv-loop μ-loop
-shared-slice-read-both-2 c = ?
+shared-slice-read-both-2 c = omega arith
 
--- src/main.rt:83:13
 both-requires : tie.Need-both-requires Inv-loop μ-loop
-both-requires c κs = ?
+both-requires c κs = search needs
 
--- src/main.rt:85:13
-add-good : tie.Need-add-good Inv-loop μ-loop
-add-good c = ?
+more-requires : tie.Need-more-requires Inv-loop μ-loop
+more-requires c κs = omega arith
 
--- src/main.rt:87:9
 add-at : tie.Need-add-at Inv-loop μ-loop
-add-at c = ?
+add-at c = omega arith
 
--- src/main.rt:73:5
 loop-less : tie.Need-loop-less Inv-loop μ-loop
-loop-less c = ?
+loop-less c = omega arith
 
--- src/main.rt:73:5
 loop-again : tie.Need-loop-again Inv-loop μ-loop
-loop-again c = ?
+loop-again c = ((c .before .before .before .before .one) .ensures, omega arith, omega arith)
 
--- src/main.rt:66:1
 returns : tie.Need-returns Inv-loop μ-loop
-returns c = ?
+returns c = search needs
 
 pub script-spec : {M : Type 1} → statement M
-script-spec =
-    tie.close
-    (tie.spec
-    Inv-loop
-    μ-loop
-    fresh-requires
-    loop-holds
-    mul-k
-    mul-one
-    shared-slice-read-one
-    add-one
-    mul-one-2
-    shared-slice-read-one-2
-    add-one-2
-    mul-one-3
-    shared-slice-read-one-3
-    add-one-3
-    mul-one-4
-    shared-slice-read-one-4
-    one-requires
-    add-both
-    mul-both
-    shared-slice-read-both
-    array-read-both
-    add-both-2
-    mul-both-2
-    shared-slice-read-both-2
-    both-requires
-    add-good
-    add-at
-    loop-less
-    loop-again
-    returns)
+script-spec = tie.close (tie.spec Inv-loop μ-loop fresh-requires loop-holds mul-k mul-one shared-slice-read-one add-one mul-one-2 shared-slice-read-one-2 add-one-2 mul-one-3 shared-slice-read-one-3 add-one-3 mul-one-4 shared-slice-read-one-4 one-requires add-both mul-both shared-slice-read-both array-read-both add-both-2 mul-both-2 shared-slice-read-both-2 both-requires more-requires add-at loop-less loop-again returns)
