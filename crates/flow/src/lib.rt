@@ -157,10 +157,11 @@ fn step_slot(
     ensures { λ r. ⌜ StepDone (now (cells .entry)) (now (cells .exit)) r (slotStep 31 slots first second alu predicate booleans (groupOf (now (cells .entry)))) ⌝ }
 {
     if slot::allowed(first, second) {
+        let was = cells[1];
         let active = planes::turn_if(
             first / 16 % 2 == 1,
             cells[0],
-            cells[1],
+            was,
             cells[2],
             cells[3],
             cells[4],

@@ -9,6 +9,9 @@ use Rattle.flow.proofs.step_slot.Tie as tie
 allowed-requires : tie.Need-allowed-requires
 allowed-requires c κs = search needs
 
+element-copy-out-was : tie.Need-element-copy-out-was
+element-copy-out-was c = search needs
+
 element-copy-out-turn-if : tie.Need-element-copy-out-turn-if
 element-copy-out-turn-if c = search needs
 
@@ -26,9 +29,6 @@ element-copy-out-turn-if-5 c = search needs
 
 element-copy-out-turn-if-6 : tie.Need-element-copy-out-turn-if-6
 element-copy-out-turn-if-6 c = search needs
-
-element-copy-out-turn-if-7 : tie.Need-element-copy-out-turn-if-7
-element-copy-out-turn-if-7 c = search needs
 
 turn-if-requires : tie.Need-turn-if-requires
 turn-if-requires c κs = made-masks (now ((c .before .before .before .before .before .before .before .before .before .args) .cells)) ((c .before .before .before .before .before .before .before .before .before .pre) .0)
@@ -52,4 +52,4 @@ returns-2 : tie.Need-returns-2
 returns-2 c = slot-refused (now ((c .before .before .args) .cells)) ((c .before .before .args) .first) ((c .before .before .args) .second) ((c .before .before .args) .slots) ((c .before .before .args) .alu) ((c .before .before .args) .predicate) ((c .before .before .args) .booleans) ((c .before .before .pre) .0) ((c .before .allowed) .ensures) ((c .if1) .left)
 
 pub step-slot-spec : {M : Type 1} → statement M
-step-slot-spec = tie.close (tie.spec allowed-requires element-copy-out-turn-if element-copy-out-turn-if-2 element-copy-out-turn-if-3 element-copy-out-turn-if-4 element-copy-out-turn-if-5 element-copy-out-turn-if-6 element-copy-out-turn-if-7 turn-if-requires shr-boolean wishes-requires decides-requires settle-requires returns returns-2)
+step-slot-spec = tie.close (tie.spec allowed-requires element-copy-out-was element-copy-out-turn-if element-copy-out-turn-if-2 element-copy-out-turn-if-3 element-copy-out-turn-if-4 element-copy-out-turn-if-5 element-copy-out-turn-if-6 turn-if-requires shr-boolean wishes-requires decides-requires settle-requires returns returns-2)
