@@ -158,25 +158,25 @@ module _ (l : List ℕ) (first second slots active wish : ℕ) (jump : Bool) (m 
               λ j. cellsWith (live-here j) (shown-here j .active) (shown-here j .p0) (shown-here j .p1) (shown-here j .p2) (shown-here j .p3) (shown-here j .p4) at (w .cell0 j) (w .cell1 j) (w .cell2 j) (w .cell3 j)
 
           pub settle-jumped :
-              at ≤ slots → jump ≡ true →
-              StepDone l (cellsWith (getD l 0 0) (x .active) (x .p0) (x .p1) (x .p2) (x .p3) (x .p4) at r0 r1 r2 r3)
-              (stepped.Jumped (record { 0 = at })) outcome
+              {leaves : List ℕ} →
+              leaves ≡ cellsWith (getD l 0 0) (x .active) (x .p0) (x .p1) (x .p2) (x .p3) (x .p4) at r0 r1 r2 r3 →
+              at ≤ slots → jump ≡ true → StepDone l leaves (stepped.Jumped (record { 0 = at })) outcome
           unfolding digit
-          settle-jumped h t =
+          settle-jumped written h t =
               record {
                 told = sym (ap stepTold (steps h) ∙ ap (λ (b : Bool). gives (digit b ∷ at ∷ [])) t);
-                left = cells-then ∙ sym (ap (stepLeaves l) (steps h));
+                left = written ∙ cells-then ∙ sym (ap (stepLeaves l) (steps h));
               }
 
           pub settle-stayed :
-              at ≤ slots → jump ≡ false →
-              StepDone l (cellsWith (getD l 0 0) (x .active) (x .p0) (x .p1) (x .p2) (x .p3) (x .p4) at r0 r1 r2 r3)
-              (stepped.Stayed (record { 0 = at })) outcome
+              {leaves : List ℕ} →
+              leaves ≡ cellsWith (getD l 0 0) (x .active) (x .p0) (x .p1) (x .p2) (x .p3) (x .p4) at r0 r1 r2 r3 →
+              at ≤ slots → jump ≡ false → StepDone l leaves (stepped.Stayed (record { 0 = at })) outcome
           unfolding digit
-          settle-stayed h t =
+          settle-stayed written h t =
               record {
                 told = sym (ap stepTold (steps h) ∙ ap (λ (b : Bool). gives (digit b ∷ at ∷ [])) t);
-                left = cells-then ∙ sym (ap (stepLeaves l) (steps h));
+                left = written ∙ cells-then ∙ sym (ap (stepLeaves l) (steps h));
               }
 
 -- the first half: B_ELSE keeps everybody in the group and every bit of a counter

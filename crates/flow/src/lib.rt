@@ -3,6 +3,7 @@
 mod planes;
 mod slot;
 
+use planes::Worked;
 use refusal::Refusal;
 use slot::Next;
 ghost use mathlib.Core.Path.{_≡_};
@@ -10,7 +11,7 @@ ghost use Prim.Native.Nat.{_<_, _≤_};
 ghost use lib.ListN.{getD};
 ghost use Rattle.laws.specs.Masks.{on, count, least};
 ghost use Rattle.flow.specs.Group.{Makes, settled, slotStep, stepOf, goOn, stepsOf, runOf};
-ghost use Rattle.flow.specs.Cells.{withActive, groupOf, Made};
+ghost use Rattle.flow.specs.Cells.{withActive, groupOf, cellsWith, Made};
 ghost use Rattle.flow.specs.Masks.{MarksIn};
 ghost use Rattle.flow.specs.Answers.{StepDone, BeginDone, LoadDone, RunDone, WalkDone, programOf};
 
@@ -60,6 +61,34 @@ const PLAIN_SECOND: u32 = 0;
 // The state of a group is 20 cells: 0 the processors in the group and 1 the active ones, bit i for processor i; 2 to 6 the
 // branch counters, bit i of cell 2 + k being bit k of processor i's counter; 7 the position; 8 to 11 the stored returns, the
 // last one first, 0 for none. 12 to 19 are 0: room for the mode, the killed processors, the open loops and aL.
+
+// Stores a whole state: the processors in the group, what the branch operation left, the position and the returns.
+fn store(cells: &mut [u32; 20], live: u32, w: Worked, at: u32, r0: u32, r1: u32, r2: u32, r3: u32)
+    ensures { λ r. ⌜ now (cells .exit) ≡ cellsWith live (w .active) (w .p0) (w .p1) (w .p2) (w .p3) (w .p4) at r0 r1 r2 r3 ⌝ }
+{
+    *cells = [
+        live,
+        w.active,
+        w.p0,
+        w.p1,
+        w.p2,
+        w.p3,
+        w.p4,
+        at,
+        r0,
+        r1,
+        r2,
+        r3,
+        0,
+        0,
+        0,
+        0,
+        0,
+        0,
+        0,
+        0,
+    ];
+}
 
 // The rest of a step once B_ELSE, the wishes and the decision are known: branch counters, returns, next position. Nothing is
 // stored before every refusal is ruled out.
@@ -114,28 +143,7 @@ fn settle(
         p3,
         p4,
     );
-    *cells = [
-        live,
-        w.active,
-        w.p0,
-        w.p1,
-        w.p2,
-        w.p3,
-        w.p4,
-        at,
-        r0,
-        r1,
-        r2,
-        r3,
-        0,
-        0,
-        0,
-        0,
-        0,
-        0,
-        0,
-        0,
-    ];
+    store(cells, live, w, at, r0, r1, r2, r3);
     if jump {
         Stepped::Jumped(SlotNumber(at))
     } else {

@@ -66,11 +66,14 @@ returns-3 c = settle-past (now ((c .before .before .before .before .before .befo
 work-requires : tie.Need-work-requires
 work-requires c κs = search needs
 
+store-requires : tie.Need-store-requires
+store-requires c κs = search needs
+
 returns-4 : tie.Need-returns-4
-returns-4 c = settle-jumped (now ((c .before .before .before .before .before .before .before .before .before .before .before .before .before .before .before .before .before .before .before .before .before .before .args) .cells)) ((c .before .before .before .before .before .before .before .before .before .before .before .before .before .before .before .before .before .before .before .before .before .before .args) .first) ((c .before .before .before .before .before .before .before .before .before .before .before .before .before .before .before .before .before .before .before .before .before .before .args) .second) ((c .before .before .before .before .before .before .before .before .before .before .before .before .before .before .before .before .before .before .before .before .before .before .args) .slots) ((c .before .before .before .before .before .before .before .before .before .before .before .before .before .before .before .before .before .before .before .before .before .before .args) .active) ((c .before .before .before .before .before .before .before .before .before .before .before .before .before .before .before .before .before .before .before .before .before .before .args) .wish) ((c .before .before .before .before .before .before .before .before .before .before .before .before .before .before .before .before .before .before .before .before .before .before .args) .jump) ((c .before .before .before .before .before .before .before .before .before .before .before .before .before .before .before .before .before .before .before .before .before .before .pre) .0) ((c .before .before .before .before .before .before .before .before .before .before .before .before .before .before .before .before .before .before .before .before .before .before .pre) .2) ((c .before .before .before .before .before .before .before .before .before .before .before .before .before .before .before .branch-op) .ensures) ((c .before .before .before .before .before .before .before .before .before .before .before .before .before .before .over-limit) .ensures) ((c .before .before .before .before .before .before .before .before .before .before .before .before .before .if1) .left) (sym ((c .before .before .before .before .before .way2) .given .1) ∙ (c .before .before .before .before .before .before .before .way) .ensures) ((c .before .before .work) .ensures) ((c .before .before .before .if2) .left) ((c .if3) .taken)
+returns-4 c = settle-jumped (now ((c .before .before .before .before .before .before .before .before .before .before .before .before .before .before .before .before .before .before .before .before .before .before .before .args) .cells)) ((c .before .before .before .before .before .before .before .before .before .before .before .before .before .before .before .before .before .before .before .before .before .before .before .args) .first) ((c .before .before .before .before .before .before .before .before .before .before .before .before .before .before .before .before .before .before .before .before .before .before .before .args) .second) ((c .before .before .before .before .before .before .before .before .before .before .before .before .before .before .before .before .before .before .before .before .before .before .before .args) .slots) ((c .before .before .before .before .before .before .before .before .before .before .before .before .before .before .before .before .before .before .before .before .before .before .before .args) .active) ((c .before .before .before .before .before .before .before .before .before .before .before .before .before .before .before .before .before .before .before .before .before .before .before .args) .wish) ((c .before .before .before .before .before .before .before .before .before .before .before .before .before .before .before .before .before .before .before .before .before .before .before .args) .jump) ((c .before .before .before .before .before .before .before .before .before .before .before .before .before .before .before .before .before .before .before .before .before .before .before .pre) .0) ((c .before .before .before .before .before .before .before .before .before .before .before .before .before .before .before .before .before .before .before .before .before .before .before .pre) .2) ((c .before .before .before .before .before .before .before .before .before .before .before .before .before .before .before .before .branch-op) .ensures) ((c .before .before .before .before .before .before .before .before .before .before .before .before .before .before .before .over-limit) .ensures) ((c .before .before .before .before .before .before .before .before .before .before .before .before .before .before .if1) .left) (sym ((c .before .before .before .before .before .before .way2) .given .1) ∙ (c .before .before .before .before .before .before .before .before .way) .ensures) ((c .before .before .before .work) .ensures) ((c .before .store) .ensures) ((c .before .before .before .before .if2) .left) ((c .if3) .taken)
 
 returns-5 : tie.Need-returns-5
-returns-5 c = settle-stayed (now ((c .before .before .before .before .before .before .before .before .before .before .before .before .before .before .before .before .before .before .before .before .before .before .args) .cells)) ((c .before .before .before .before .before .before .before .before .before .before .before .before .before .before .before .before .before .before .before .before .before .before .args) .first) ((c .before .before .before .before .before .before .before .before .before .before .before .before .before .before .before .before .before .before .before .before .before .before .args) .second) ((c .before .before .before .before .before .before .before .before .before .before .before .before .before .before .before .before .before .before .before .before .before .before .args) .slots) ((c .before .before .before .before .before .before .before .before .before .before .before .before .before .before .before .before .before .before .before .before .before .before .args) .active) ((c .before .before .before .before .before .before .before .before .before .before .before .before .before .before .before .before .before .before .before .before .before .before .args) .wish) ((c .before .before .before .before .before .before .before .before .before .before .before .before .before .before .before .before .before .before .before .before .before .before .args) .jump) ((c .before .before .before .before .before .before .before .before .before .before .before .before .before .before .before .before .before .before .before .before .before .before .pre) .0) ((c .before .before .before .before .before .before .before .before .before .before .before .before .before .before .before .before .before .before .before .before .before .before .pre) .2) ((c .before .before .before .before .before .before .before .before .before .before .before .before .before .before .before .branch-op) .ensures) ((c .before .before .before .before .before .before .before .before .before .before .before .before .before .before .over-limit) .ensures) ((c .before .before .before .before .before .before .before .before .before .before .before .before .before .if1) .left) (sym ((c .before .before .before .before .before .way2) .given .1) ∙ (c .before .before .before .before .before .before .before .way) .ensures) ((c .before .before .work) .ensures) ((c .before .before .before .if2) .left) ((c .if3) .left)
+returns-5 c = settle-stayed (now ((c .before .before .before .before .before .before .before .before .before .before .before .before .before .before .before .before .before .before .before .before .before .before .before .args) .cells)) ((c .before .before .before .before .before .before .before .before .before .before .before .before .before .before .before .before .before .before .before .before .before .before .before .args) .first) ((c .before .before .before .before .before .before .before .before .before .before .before .before .before .before .before .before .before .before .before .before .before .before .before .args) .second) ((c .before .before .before .before .before .before .before .before .before .before .before .before .before .before .before .before .before .before .before .before .before .before .before .args) .slots) ((c .before .before .before .before .before .before .before .before .before .before .before .before .before .before .before .before .before .before .before .before .before .before .before .args) .active) ((c .before .before .before .before .before .before .before .before .before .before .before .before .before .before .before .before .before .before .before .before .before .before .before .args) .wish) ((c .before .before .before .before .before .before .before .before .before .before .before .before .before .before .before .before .before .before .before .before .before .before .before .args) .jump) ((c .before .before .before .before .before .before .before .before .before .before .before .before .before .before .before .before .before .before .before .before .before .before .before .pre) .0) ((c .before .before .before .before .before .before .before .before .before .before .before .before .before .before .before .before .before .before .before .before .before .before .before .pre) .2) ((c .before .before .before .before .before .before .before .before .before .before .before .before .before .before .before .before .branch-op) .ensures) ((c .before .before .before .before .before .before .before .before .before .before .before .before .before .before .before .over-limit) .ensures) ((c .before .before .before .before .before .before .before .before .before .before .before .before .before .before .if1) .left) (sym ((c .before .before .before .before .before .before .way2) .given .1) ∙ (c .before .before .before .before .before .before .before .before .way) .ensures) ((c .before .before .before .work) .ensures) ((c .before .store) .ensures) ((c .before .before .before .before .if2) .left) ((c .if3) .left)
 
 pub settle-spec : {M : Type 1} → statement M
-settle-spec = tie.close (tie.spec element-copy-out-live element-copy-out-p0 element-copy-out-p1 element-copy-out-p2 element-copy-out-p3 element-copy-out-p4 branch-op-requires over-limit-requires returns element-copy-out-way element-copy-out-way-2 element-copy-out-way-3 element-copy-out-way-4 element-copy-out-way-5 way-requires enum-known-way enum-told returns-2 returns-3 work-requires returns-4 returns-5)
+settle-spec = tie.close (tie.spec element-copy-out-live element-copy-out-p0 element-copy-out-p1 element-copy-out-p2 element-copy-out-p3 element-copy-out-p4 branch-op-requires over-limit-requires returns element-copy-out-way element-copy-out-way-2 element-copy-out-way-3 element-copy-out-way-4 element-copy-out-way-5 way-requires enum-known-way enum-told returns-2 returns-3 work-requires store-requires returns-4 returns-5)
