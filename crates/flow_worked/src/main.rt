@@ -229,256 +229,232 @@ fn line(label: &[u8], n: u32) {
     io::write_all(1, b"\n");
 }
 
-// Document 01's C9, C11 and C12 one after the other, and C10 by itself.
+// Rows for `script`: first word, second word, alu, predicate, answer, active mask.
+// C9, C11 and C12, one after the other.
+const C9_C11_C12: [u32; 18] = [
+    0x02000F00,
+    0,
+    3,
+    0,
+    100,
+    3,
+    0x10,
+    0,
+    0,
+    0,
+    100,
+    12,
+    0x01010020,
+    0,
+    0,
+    0,
+    100,
+    15,
+];
+
+const C10: [u32; 6] = [0x02000F00, 0, 0, 0, 101, 15];
+
+// Four calls; the fifth (14, though its address is past the end too), and the fifth with a reserved bit (13).
+const CALLS: [u32; 36] = [
+    0xFF80,
+    0,
+    0,
+    0,
+    101,
+    15,
+    0xFF80,
+    0,
+    0,
+    0,
+    101,
+    15,
+    0xFF80,
+    0,
+    0,
+    0,
+    101,
+    15,
+    0xFF80,
+    0,
+    0,
+    0,
+    101,
+    15,
+    0xFF80,
+    0x50000,
+    0,
+    0,
+    14,
+    15,
+    0xFF81,
+    0,
+    0,
+    0,
+    13,
+    15,
+];
+
+// Two calls, two returns and the third (14).
+const RETURNS: [u32; 30] = [
+    0xFF80,
+    0,
+    0,
+    0,
+    101,
+    15,
+    0xFF80,
+    0,
+    0,
+    0,
+    101,
+    15,
+    0xFF40,
+    0,
+    0,
+    0,
+    101,
+    15,
+    0xFF40,
+    0,
+    0,
+    0,
+    101,
+    15,
+    0xFF40,
+    0,
+    0,
+    0,
+    14,
+    15,
+];
+
+// A jump past the end (15), a jump to the end, and the step after it (16).
+const ENDS: [u32; 18] = [
+    0xFF00,
+    0x50000,
+    0,
+    0,
+    15,
+    15,
+    0xFF00,
+    0x40000,
+    0,
+    0,
+    101,
+    15,
+    0x20,
+    0,
+    0,
+    0,
+    16,
+    15,
+];
+
+// B_ELSE leaves nobody active: JUMP_ANY 0 then jumps whatever JUMP_FUNC is, JUMP_ANY 1 stays.
+const NOBODY: [u32; 18] = [
+    0x10,
+    0,
+    0,
+    0,
+    101,
+    0,
+    0,
+    0,
+    0,
+    0,
+    101,
+    0,
+    0xFF20,
+    0,
+    0,
+    0,
+    100,
+    0,
+];
+
+// Those that B_ELSE idled gain 1 in the same step, so that they wake with the second decrement.
+const IDLED: [u32; 18] = [
+    0x08000010,
+    0,
+    0,
+    0,
+    101,
+    0,
+    0x01010020,
+    0,
+    0,
+    0,
+    100,
+    0,
+    0x01010020,
+    0,
+    0,
+    0,
+    100,
+    15,
+];
+
+// Mask bits above the group are ignored.
+const ABOVE: [u32; 6] = [0x02000F00, 0, 0xFFFFFFF3, 0, 100, 3];
+
+// The code 3 of A_OP, B_OP0 and B_OP1.
+const CODES: [u32; 18] = [
+    0xC0,
+    0,
+    0,
+    0,
+    13,
+    15,
+    0x03000000,
+    0,
+    0,
+    0,
+    13,
+    15,
+    0x0C000000,
+    0,
+    0,
+    0,
+    13,
+    15,
+];
+
 fn worked() {
-    line(
-        b"C9, C11, C12: ",
-        script(
-            4,
-            &[
-                0x02000F00,
-                0,
-                3,
-                0,
-                100,
-                3,
-                0x10,
-                0,
-                0,
-                0,
-                100,
-                12,
-                0x01010020,
-                0,
-                0,
-                0,
-                100,
-                15,
-            ],
-        ),
-    );
-    line(b"C10: ", script(4, &[0x02000F00, 0, 0, 0, 101, 15]));
+    line(b"C9, C11, C12: ", script(4, &C9_C11_C12));
+    line(b"C10: ", script(4, &C10));
 }
 
-// Four calls and the fifth (14, also where its address is past the end), four returns and the fifth (14); a return from the
-// empty stack; a jump past the end (15), a jump to the end, and the step after it (16).
 fn limits() {
-    line(
-        b"calls and returns: ",
-        script(
-            4,
-            &[
-                0xFF80,
-                0,
-                0,
-                0,
-                101,
-                15,
-                0xFF80,
-                0,
-                0,
-                0,
-                101,
-                15,
-                0xFF80,
-                0,
-                0,
-                0,
-                101,
-                15,
-                0xFF80,
-                0,
-                0,
-                0,
-                101,
-                15,
-                0xFF80,
-                0x50000,
-                0,
-                0,
-                14,
-                15,
-                0xFF81,
-                0,
-                0,
-                0,
-                13,
-                15,
-                0xFF40,
-                0,
-                0,
-                0,
-                101,
-                15,
-                0xFF40,
-                0,
-                0,
-                0,
-                101,
-                15,
-                0xFF40,
-                0,
-                0,
-                0,
-                101,
-                15,
-                0xFF40,
-                0,
-                0,
-                0,
-                101,
-                15,
-                0xFF40,
-                0,
-                0,
-                0,
-                14,
-                15,
-            ],
-        ),
-    );
-    line(
-        b"return from empty: ",
-        script(4, &[0xFF40, 0, 0, 0, 14, 15]),
-    );
-    line(
-        b"to the end and past it: ",
-        script(
-            4,
-            &[
-                0xFF00,
-                0x50000,
-                0,
-                0,
-                15,
-                15,
-                0xFF00,
-                0x40000,
-                0,
-                0,
-                101,
-                15,
-                0x20,
-                0,
-                0,
-                0,
-                16,
-                15,
-            ],
-        ),
-    );
+    line(b"calls: ", script(4, &CALLS));
+    line(b"returns: ", script(4, &RETURNS));
+    line(b"to the end and past it: ", script(4, &ENDS));
     line(b"nested branches: ", nested());
 }
 
-// B_ELSE leaves nobody active: JUMP_ANY 0 then jumps whatever JUMP_FUNC is, JUMP_ANY 1 stays. Those that B_ELSE idled gain 1 in
-// the same step, so that they wake with the second decrement. Mask bits above the group are ignored.
 fn groups() {
-    line(
-        b"nobody active: ",
-        script(
-            4,
-            &[
-                0x10,
-                0,
-                0,
-                0,
-                101,
-                0,
-                0,
-                0,
-                0,
-                0,
-                101,
-                0,
-                0xFF20,
-                0,
-                0,
-                0,
-                100,
-                0,
-            ],
-        ),
-    );
-    line(
-        b"idled and counted up: ",
-        script(
-            4,
-            &[
-                0x08000010,
-                0,
-                0,
-                0,
-                101,
-                0,
-                0x01010020,
-                0,
-                0,
-                0,
-                100,
-                0,
-                0x01010020,
-                0,
-                0,
-                0,
-                100,
-                15,
-            ],
-        ),
-    );
-    line(
-        b"masks above the group: ",
-        script(4, &[0x02000F00, 0, 0xFFFFFFF3, 0, 100, 3]),
-    );
+    line(b"nobody active: ", script(4, &NOBODY));
+    line(b"idled and counted up: ", script(4, &IDLED));
+    line(b"masks above the group: ", script(4, &ABOVE));
+    let usual = agree(mask_of(1), 1)
+        + agree(mask_of(31), 0x7FFFFFFF)
+        + agree(mask_of(32), 0xFFFFFFFF);
     line(
         b"sizes of groups: ",
-        agree(mask_of(1), 1)
-            + agree(mask_of(31), 0x7FFFFFFF)
-            + agree(mask_of(32), 0xFFFFFFFF)
-            + agree(mask_of(0), 0)
-            + agree(mask_of(33), 0),
+        usual + agree(mask_of(0), 0) + agree(mask_of(33), 0),
     );
 }
 
-// The single bits that get 13 (3:0, 23:21 and 31:28 of the first word, 15:5 and 31:25 of the second), and the code 3 of A_OP,
-// B_OP0 and B_OP1.
+// The single bits that get 13 are 3:0, 23:21 and 31:28 of the first word, 15:5 and 31:25 of the second.
 fn words() {
     line(b"reserved bits of first words: ", reserved(true));
     line(b"reserved bits of second words: ", reserved(false));
-    line(
-        b"codes: ",
-        script(
-            4,
-            &[
-                0xC0,
-                0,
-                0,
-                0,
-                13,
-                15,
-                0x03000000,
-                0,
-                0,
-                0,
-                13,
-                15,
-                0x0C000000,
-                0,
-                0,
-                0,
-                13,
-                15,
-            ],
-        ),
-    );
+    line(b"codes: ", script(4, &CODES));
     let plain = [0u32; 1026];
+    let loaded = agree(slots_of(&plain[..1024]), 512) + agree(slots_of(&plain[..2]), 1);
+    let odd = agree(slots_of(&plain[..1025]), 1000) + agree(slots_of(&plain[..3]), 1000);
     line(
         b"lengths of programs: ",
-        agree(slots_of(&plain[..1024]), 512)
-            + agree(slots_of(&plain[..2]), 1)
-            + agree(slots_of(&plain[..0]), 1000)
-            + agree(slots_of(&plain), 1000)
-            + agree(slots_of(&plain[..1025]), 1000)
-            + agree(slots_of(&plain[..3]), 1000),
+        loaded + odd + agree(slots_of(&plain[..0]), 1000) + agree(slots_of(&plain), 1000),
     );
 }
 
