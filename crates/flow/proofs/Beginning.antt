@@ -1,12 +1,12 @@
 -- A fresh group as the code writes it, and the turns of the loop that finds the first active processor. Assumes nothing.
-use mathlib.Core.Path.{_≡_, refl, sym, ap, ap₂, _∙_, subst}
+use mathlib.Core.Path.{_≡_, refl, sym, ap, _∙_}
 use mathlib.Core.Bool.{Bool, true, false}
-use mathlib.Core.List.{List, [], _∷_}
-use Prim.Native.Nat.{ℕ, zero, suc, _+_, _-_, _*_, _/_, _%_, _^_, _<_, _≤_}
+use mathlib.Core.List.{List}
+use Prim.Native.Nat.{ℕ, suc, _+_, _-_, _/_, _%_, _^_, _<_, _≤_}
 use native.Mathlib.Omega.{arith}
-use lib.Dec.{eqb, leb, ltb}
+use lib.Dec.{eqb, ltb}
 use borrow.Author.Tests.{eqb-true, le-leb, lt-leb}
-use Rattle.laws.specs.Choice.{_and_, pick}
+use Rattle.laws.specs.Choice.{_and_}
 use Rattle.laws.specs.Masks.{digit, on, pack, every, least}
 use Rattle.laws.proofs.Choice.{pick-yes, pick-no, and-intro, and-no-left, and-no-right}
 use Rattle.laws.proofs.Split.{by-test}
@@ -15,8 +15,8 @@ use Rattle.refusal.specs.declared.Refusal.the-variants.{FlowField}
 use Rattle.flow.specs.declared.Begun.{Begun}
 use Rattle.flow.specs.declared.Begun.the-variants as begun
 use Rattle.flow.specs.Proc.{Proc, Active, Absent, isLive, isActive, counterBit}
-use Rattle.flow.specs.Group.{Group, fresh, isGroupSize, beginTold}
-use Rattle.flow.specs.Cells.{liveMask, activeMask, plane, cellsWith, cellsOf, beginLeaves, Made}
+use Rattle.flow.specs.Group.{fresh, isGroupSize, beginTold}
+use Rattle.flow.specs.Cells.{plane, cellsWith, cellsOf, beginLeaves, Made}
 use Rattle.flow.specs.Answers.{BeginDone}
 use Rattle.flow.proofs.State.{made-of, fresh-sound}
 

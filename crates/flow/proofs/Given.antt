@@ -3,10 +3,9 @@
 use mathlib.Core.Path.{_≡_, refl, sym, ap, _∙_, subst}
 use mathlib.Core.Bool.{Bool, true, false}
 use mathlib.Core.List.{List}
-use Prim.Native.Nat.{ℕ, _+_, _<_, _≤_}
+use Prim.Native.Nat.{ℕ, _<_, _≤_}
 use lib.ListN.{getD}
 use borrow.Author.Tests.{le-leb}
-use Rattle.laws.specs.Choice.{pick}
 use Rattle.laws.specs.Masks.{on, pack}
 use Rattle.laws.proofs.Choice.{pick-yes, and-intro}
 use Rattle.laws.proofs.Split.{by-test}
@@ -15,8 +14,8 @@ use Rattle.flow.specs.declared.Begun.{Begun}
 use Rattle.flow.specs.declared.Stepped.{Stepped}
 use Rattle.flow.specs.declared.Ran.{Ran}
 use Rattle.flow.specs.Proc.{Proc, Active, Idle, Absent, isLive, isActive, counterBit}
-use Rattle.flow.specs.Group.{Group, Program, Run, Makes, Breaks, isGroupSize, fresh, stepOf, stepsOf, runOf, ended}
-use Rattle.flow.specs.Cells.{groupOf, cellsOf, plane, Sound, Made, runLeaves, beginLeaves}
+use Rattle.flow.specs.Group.{Program, Run, Makes, Breaks, isGroupSize, stepOf, runOf, ended}
+use Rattle.flow.specs.Cells.{groupOf, Made, runLeaves, beginLeaves}
 use Rattle.flow.specs.Answers.{BeginDone, StepDone, RunDone}
 use Rattle.flow.proofs.State.{made-of, made-masks, left-made, step-sound}
 use Rattle.flow.proofs.Beginning.{begin-made}
@@ -71,8 +70,13 @@ module _ (l : List ℕ) (m : Made l) (i : ℕ) (h : i < 32) where
       (on i (getD l 2 0) ≡ false) × (on i (getD l 3 0) ≡ false) × (on i (getD l 4 0) ≡ false) ×
       (on i (getD l 5 0) ≡ false) × (on i (getD l 6 0) ≡ false)
   active-counts-zero e =
-      let q = made-masks l m in
-      (here (counterBit 0) (q .word0) ∙ none 0, here (counterBit 1) (q .word1) ∙ none 1, here (counterBit 2) (q .word2) ∙ none 2, here (counterBit 3) (q .word3) ∙ none 3, here (counterBit 4) (q .word4) ∙ none 4)
+      let q = made-masks l m in (
+        here (counterBit 0) (q .word0) ∙ none 0,
+        here (counterBit 1) (q .word1) ∙ none 1,
+        here (counterBit 2) (q .word2) ∙ none 2,
+        here (counterBit 3) (q .word3) ∙ none 3,
+        here (counterBit 4) (q .word4) ∙ none 4,
+      )
     where
       clear : (k : ℕ) (p : Proc) → isActive p ≡ true → counterBit k p ≡ false
       clear k Active q = refl
@@ -87,8 +91,13 @@ module _ (l : List ℕ) (m : Made l) (i : ℕ) (h : i < 32) where
       (on i (getD l 2 0) ≡ false) × (on i (getD l 3 0) ≡ false) × (on i (getD l 4 0) ≡ false) ×
       (on i (getD l 5 0) ≡ false) × (on i (getD l 6 0) ≡ false)
   outside-counts-zero e =
-      let q = made-masks l m in
-      (here (counterBit 0) (q .word0) ∙ none 0, here (counterBit 1) (q .word1) ∙ none 1, here (counterBit 2) (q .word2) ∙ none 2, here (counterBit 3) (q .word3) ∙ none 3, here (counterBit 4) (q .word4) ∙ none 4)
+      let q = made-masks l m in (
+        here (counterBit 0) (q .word0) ∙ none 0,
+        here (counterBit 1) (q .word1) ∙ none 1,
+        here (counterBit 2) (q .word2) ∙ none 2,
+        here (counterBit 3) (q .word3) ∙ none 3,
+        here (counterBit 4) (q .word4) ∙ none 4,
+      )
     where
       clear : (k : ℕ) (p : Proc) → isLive p ≡ false → counterBit k p ≡ false
       clear k Active q = refl

@@ -1,11 +1,11 @@
 -- What the functions on masks work out, processor by processor. A law of a processor is a test that is computed for an
 -- active and an absent one and for every counter from 0 to 31. Assumes nothing.
-use mathlib.Core.Path.{_≡_, refl, sym, ap, ap₂, _∙_, subst, fun-ext}
+use mathlib.Core.Path.{_≡_, refl, sym, ap, _∙_, fun-ext}
 use mathlib.Core.Bool.{Bool, true, false, not}
-use Prim.Native.Nat.{ℕ, zero, suc, _+_, _-_, _*_, _/_, _%_, _^_, _<_, _≤_}
+use Prim.Native.Nat.{ℕ, zero, suc, _-_, _*_, _/_, _%_, _^_, _<_, _≤_}
 use native.Mathlib.Nat.{div-one}
 use native.Mathlib.Omega.{arith}
-use lib.Dec.{eqb, leb, ltb}
+use lib.Dec.{eqb}
 use lib.Bits.{bitAnd, bitOr, bitXor}
 use borrow.Author.Tests.{leb-true, ne-eqb}
 use Rattle.laws.proofs.Choice.{pick-yes, pick-no, and-left, and-right}
@@ -15,8 +15,8 @@ use Rattle.laws.proofs.Masks.{pack-same, and-places, or-places, xor-places, not
 use Rattle.flow.specs.declared.planes.Worked.{Worked}
 use Rattle.flow.specs.Proc.{Proc, Active, Idle, Absent, isLive, isActive, counterBit, within, turned, wants, decided, lowered, raised, atLimit, worked}
 use Rattle.flow.specs.Group.{turnedIf, wishOf}
-use Rattle.flow.specs.Cells.{procAt, liveMask, activeMask, plane, counterOf}
-use Rattle.flow.specs.Masks.{MasksOf, Marks, shownAs}
+use Rattle.flow.specs.Cells.{activeMask, plane, counterOf}
+use Rattle.flow.specs.Masks.{MasksOf, shownAs}
 
 -- two tests agree
 abbrev same : Bool → Bool → Bool
@@ -537,14 +537,16 @@ module _ {procs : ℕ → Proc} {live active p0 p1 p2 p3 p4 : ℕ} (m : MasksOf 
 -- the branch operation by its code
 module _ (procs : ℕ → Proc) (op k wish : ℕ) (jump : Bool) where
   pub works-lower :
-      op ≡ 1 → shownAs (λ i. lowered k (procs i)) ≡ shownAs (λ i. worked op k jump (on i wish) (procs i))
+      {x : Worked} → x ≡ shownAs (λ i. lowered k (procs i)) → op ≡ 1 →
+      x ≡ shownAs (λ i. worked op k jump (on i wish) (procs i))
   unfolding worked pick
-  works-lower e = sym (ap (λ (n : ℕ). shownAs (λ i. worked n k jump (on i wish) (procs i))) e)
+  works-lower q e = q ∙ sym (ap (λ (n : ℕ). shownAs (λ i. worked n k jump (on i wish) (procs i))) e)
 
   pub works-lift :
-      op ≡ 2 → shownAs (λ i. raised jump (on i wish) (procs i)) ≡ shownAs (λ i. worked op k jump (on i wish) (procs i))
+      {x : Worked} → x ≡ shownAs (λ i. raised jump (on i wish) (procs i)) → op ≡ 2 →
+      x ≡ shownAs (λ i. worked op k jump (on i wish) (procs i))
   unfolding worked pick
-  works-lift e = sym (ap (λ (n : ℕ). shownAs (λ i. worked n k jump (on i wish) (procs i))) e)
+  works-lift q e = q ∙ sym (ap (λ (n : ℕ). shownAs (λ i. worked n k jump (on i wish) (procs i))) e)
 
   pub works-none : (op ≡ 1 → ⊥) → (op ≡ 2 → ⊥) → shownAs procs ≡ shownAs (λ i. worked op k jump (on i wish) (procs i))
   unfolding worked

@@ -1,23 +1,21 @@
 -- A run is its steps one after the other: the loop's turns as the code makes them, the report, and the law that a run's list
 -- may be cut in two at a step. Assumes nothing.
 use mathlib.Core.Path.{_≡_, refl, sym, ap, ap₂, _∙_, subst}
-use mathlib.Core.Bool.{Bool, true, false}
+use mathlib.Core.Bool.{true}
 use mathlib.Core.List.{List, [], _∷_, _++_}
-use Prim.Native.Nat.{ℕ, zero, suc, _+_, _-_, _*_, _/_, _%_, _^_, _<_, _≤_}
+use Prim.Native.Nat.{ℕ, suc, _+_, _*_, _/_, _%_, _<_, _≤_}
 use native.Mathlib.Nat.{zero-add, add-zero}
-use native.Mathlib.Numerals.{add-one}
 use native.Mathlib.Omega.{arith}
-use lib.Dec.{eqb, leb}
-use lib.ListN.{length, getD, take, drop, length-drop}
+use lib.ListN.{length, getD, drop, length-drop}
 use lib.Seq.{drop-cons}
 use borrow.Author.Tests.{le-leb, lt-leb}
 use Rattle.laws.specs.Choice.{pick}
-use Rattle.laws.specs.Masks.{on, pack, count, least}
+use Rattle.laws.specs.Masks.{on, count, least}
 use Rattle.laws.proofs.Choice.{Tested, holds, fails, tested, pick-yes, pick-no}
 use Rattle.laws.proofs.Split.{by-test}
 use Rattle.laws.proofs.Masks.{on-pack, count-same, least-same}
 use Rattle.refusal.specs.Number.{numberOf}
-use Rattle.refusal.specs.Told.{Told, gives, refuses}
+use Rattle.refusal.specs.Told.{gives, refuses}
 use Rattle.refusal.specs.declared.Refusal.{Refusal}
 use Rattle.refusal.specs.declared.Refusal.the-variants.{Ended}
 use Rattle.flow.specs.declared.SlotNumber.{SlotNumber}
@@ -29,8 +27,8 @@ use Rattle.flow.specs.declared.Walked.{Walked}
 use Rattle.flow.specs.declared.Walked.the-variants as walked
 use Rattle.flow.specs.Proc.{isActive}
 use Rattle.flow.specs.Group.{Group, Outcome, Steps, Fails, Program, Run, Makes, Breaks, ended, stepOf, stepTold, onceMore, goOn, stepsOf, runOf, runTold, firstActive, numberActive}
-use Rattle.flow.specs.Cells.{groupOf, cellsOf, Sound, Made, stepLeaves, runLeaves}
-use Rattle.flow.specs.Answers.{toldStepped, StepDone, toldRan, RunDone, walkTold, WalkDone, programOf}
+use Rattle.flow.specs.Cells.{groupOf, Sound, Made, stepLeaves, runLeaves}
+use Rattle.flow.specs.Answers.{toldStepped, StepDone, RunDone, walkTold, WalkDone, programOf}
 use Rattle.flow.proofs.State.{SoundAfter, made-of, group-back, made-masks, step-sound}
 
 -- a run of one step

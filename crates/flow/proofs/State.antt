@@ -1,22 +1,20 @@
 -- A group and its cells: a sound group is read back from its cells, cells handed in show their processors and their returns,
 -- and a step leads from a sound group to a sound one. Assumes nothing.
-use mathlib.Core.Path.{_≡_, refl, sym, ap, ap₂, _∙_, subst, fun-ext}
-use mathlib.Core.Bool.{Bool, true, false, not}
+use mathlib.Core.Path.{_≡_, refl, sym, ap, _∙_, subst, fun-ext}
+use mathlib.Core.Bool.{Bool, true, false}
 use mathlib.Core.List.{List, [], _∷_}
-use mathlib.Core.Logic.{_⊎_, inl, inr}
-use Prim.Native.Nat.{ℕ, zero, suc, _+_, _-_, _*_, _/_, _%_, _^_, _<_, _≤_, zero-le}
-use native.Mathlib.Nat.{le-of-suc-le-suc}
+use Prim.Native.Nat.{ℕ, zero, suc, _+_, _-_, _<_, _≤_, zero-le}
 use native.Mathlib.Omega.{arith}
 use lib.Dec.{eqb, leb, ltb}
 use lib.ListN.{length, getD}
 use borrow.Author.Tests.{leb-true, leb-false, ltb-true, ltb-false, le-leb, le-ltb, eq-eqb, ne-eqb, eqb-true}
 use Rattle.laws.specs.Choice.{_and_, pick}
-use Rattle.laws.specs.Masks.{_or_, differ, digit, on, pack, Places, some, every}
-use Rattle.laws.proofs.Choice.{Tested, holds, fails, tested, pick-yes, pick-no, and-left, and-right, and-intro, and-yes}
+use Rattle.laws.specs.Masks.{differ, digit, on, pack, some, every}
+use Rattle.laws.proofs.Choice.{Tested, holds, fails, tested, pick-no, and-left, and-right, and-intro, and-yes}
 use Rattle.laws.proofs.Split.{by-test, pick-same}
-use Rattle.laws.proofs.Masks.{pack-same, pack-lt, on-pack, on-above, none-at, every-at}
-use Rattle.flow.specs.Proc.{Proc, Active, Idle, Absent, isLive, isActive, counterBit, within, turned, lowered, raised, atLimit, worked, decided}
-use Rattle.flow.specs.Group.{Group, Outcome, Steps, Fails, Program, Way, Goes, Stuck, field, turnedIf, wishOf, overLimit, popped, wayOf, arrived, settled, slotStep, ended, stepOf, allowed, fresh}
+use Rattle.laws.proofs.Masks.{on-pack, on-above, none-at, every-at}
+use Rattle.flow.specs.Proc.{Proc, Active, Idle, Absent, isLive, isActive, counterBit, within, turned, lowered, raised, atLimit, worked}
+use Rattle.flow.specs.Group.{Group, Outcome, Steps, Fails, Program, Way, Goes, Stuck, field, turnedIf, overLimit, popped, wayOf, arrived, settled, slotStep, ended, stepOf, allowed, fresh}
 use Rattle.flow.specs.Cells.{liveMask, activeMask, plane, counterOf, procOf, procAt, stored, groupOf, cellsOf, aReturn, areReturns, Sound, Made, stepLeaves}
 use Rattle.flow.specs.Masks.{MasksOf}
 
@@ -52,8 +50,15 @@ shows {procs} {live} {active} {p0} {p1} {p2} {p3} {p4} m out =
         procOf (on i live) (on i active) (counterOf (on i p0) (on i p1) (on i p2) (on i p3) (on i p4)) ≡ procs i
     at i (holds e) =
         let h : i < 32 = ltb-true i 32 e in
-        rw
-        (bit isLive i h (m .live-word), bit isActive i h (m .active-word), bit (counterBit 0) i h (m .word0), bit (counterBit 1) i h (m .word1), bit (counterBit 2) i h (m .word2), bit (counterBit 3) i h (m .word3), bit (counterBit 4) i h (m .word4))
+        rw (
+          bit isLive i h (m .live-word),
+          bit isActive i h (m .active-word),
+          bit (counterBit 0) i h (m .word0),
+          bit (counterBit 1) i h (m .word1),
+          bit (counterBit 2) i h (m .word2),
+          bit (counterBit 3) i h (m .word3),
+          bit (counterBit 4) i h (m .word4),
+        )
         (read-back (procs i) (m .counters i))
     at i (fails e) =
         let h : 32 ≤ i = ltb-false i 32 e in

@@ -2,18 +2,18 @@
 use mathlib.Core.Path.{_≡_, refl, sym, ap, ap₂, _∙_, subst, fun-ext}
 use mathlib.Core.Bool.{Bool, true, false, not}
 use mathlib.Core.List.{List, [], _∷_}
-use Prim.Native.Nat.{ℕ, zero, suc, _+_, _/_, _%_, _^_, _<_, _≤_, zero-le}
+use Prim.Native.Nat.{ℕ, zero, suc, _/_, _%_, _^_, _<_, _≤_, zero-le}
 use native.Mathlib.Omega.{arith}
-use lib.Dec.{eqb, leb, ltb}
-use lib.ListN.{length, getD}
-use borrow.Author.Tests.{ltb-true, ltb-false, leb-true, le-leb, lt-leb}
+use lib.Dec.{eqb, ltb}
+use lib.ListN.{getD}
+use borrow.Author.Tests.{ltb-true, ltb-false, le-leb, lt-leb}
 use Rattle.laws.specs.Choice.{_and_, pick}
 use Rattle.laws.specs.Masks.{_or_, differ, digit, on, pack, some}
 use Rattle.laws.proofs.Choice.{Tested, holds, fails, tested, pick-yes, pick-no}
-use Rattle.laws.proofs.Split.{by-test, pick-same}
+use Rattle.laws.proofs.Split.{by-test}
 use Rattle.laws.proofs.Masks.{pack-same, on-pack, on-above, some-same, every-same}
 use Rattle.refusal.specs.Number.{numberOf}
-use Rattle.refusal.specs.Told.{Told, gives, refuses}
+use Rattle.refusal.specs.Told.{gives}
 use Rattle.refusal.specs.declared.Refusal.{Refusal}
 use Rattle.refusal.specs.declared.Refusal.the-variants.{AtLimit, PastEnd, FlowField, Ended}
 use Rattle.flow.specs.declared.planes.Worked.{Worked}
@@ -21,11 +21,11 @@ use Rattle.flow.specs.declared.Stepped.{Stepped}
 use Rattle.flow.specs.declared.Stepped.the-variants as stepped
 use Rattle.flow.specs.declared.slot.Next.{Next}
 use Rattle.flow.specs.declared.slot.Next.the-variants as next
-use Rattle.flow.specs.Proc.{Proc, Active, Idle, Absent, isLive, isActive, counterBit, within, turned, lowered, raised, worked, decided, atLimit}
-use Rattle.flow.specs.Group.{Group, Outcome, Steps, Fails, Program, Way, Goes, Stuck, field, allowed, turnedIf, wishOf, overLimit, wayOf, arrived, settled, slotStep, ended, stepOf, stepTold}
-use Rattle.flow.specs.Cells.{liveMask, plane, activeMask, counterOf, procAt, stored, withActive, groupOf, cellsWith, cellsOf, Made, stepLeaves}
+use Rattle.flow.specs.Proc.{Proc, Active, Idle, Absent, isLive, isActive, counterBit, within, turned, lowered, raised, worked, decided}
+use Rattle.flow.specs.Group.{Group, Outcome, Steps, Fails, Way, Goes, Stuck, field, allowed, turnedIf, wishOf, overLimit, wayOf, arrived, settled, slotStep, ended, stepOf, stepTold}
+use Rattle.flow.specs.Cells.{liveMask, activeMask, counterOf, withActive, groupOf, cellsWith, cellsOf, Made, stepLeaves}
 use Rattle.flow.specs.Masks.{MasksOf, MarksIn, shownAs}
-use Rattle.flow.specs.Answers.{toldStepped, StepDone, Stack, nextOf, programOf}
+use Rattle.flow.specs.Answers.{StepDone, Stack, nextOf, programOf}
 use Rattle.flow.proofs.Places.{limit-shown}
 use Rattle.flow.proofs.State.{made-masks, shows, turned-absent, turned-within, worked-absent}
 

@@ -1,17 +1,17 @@
 -- The words of a slot and the return stack, as the code finds them test by test. Assumes nothing.
-use mathlib.Core.Path.{_≡_, refl, sym, ap, ap₂, _∙_, subst}
+use mathlib.Core.Path.{_≡_, refl, sym, ap, _∙_}
 use mathlib.Core.Bool.{Bool, true, false}
 use mathlib.Core.List.{List, [], _∷_}
-use Prim.Native.Nat.{ℕ, zero, suc, _+_, _/_, _%_, _^_, _<_, _≤_}
+use Prim.Native.Nat.{ℕ, suc, _+_, _/_, _%_, _<_, _≤_}
 use native.Mathlib.Omega.{arith}
-use lib.Dec.{eqb, leb, ltb}
+use lib.Dec.{eqb, leb}
 use lib.ListN.{length, getD}
 use borrow.Author.Tests.{leb-true, lt-ltb, le-ltb, le-leb, lt-leb, eq-eqb, ne-eqb}
-use Rattle.laws.specs.Choice.{_and_, pick}
-use Rattle.laws.proofs.Choice.{pick-yes, pick-no, and-left, and-right, and-yes, and-no-left, and-no-right}
+use Rattle.laws.specs.Choice.{_and_}
+use Rattle.laws.proofs.Choice.{pick-yes, pick-no, and-left, and-right, and-yes, and-no-left}
 use Rattle.flow.specs.declared.slot.Next.{Next}
 use Rattle.flow.specs.declared.slot.Next.the-variants as next
-use Rattle.flow.specs.Group.{Way, Goes, Stuck, field, allowed, popped, pushed, wayOf}
+use Rattle.flow.specs.Group.{Goes, Stuck, field, allowed, popped, pushed, wayOf}
 use Rattle.flow.specs.Cells.{aReturn, areReturns}
 use Rattle.flow.specs.Answers.{Stack, nextOf}
 

@@ -1,11 +1,11 @@
 -- Document 01, "Stepping a group": the words of a slot, the state of a group, a step and a run. Assumes nothing.
-use mathlib.Core.Bool.{Bool, true, false}
+use mathlib.Core.Bool.{Bool}
 use mathlib.Core.List.{List, [], _∷_}
-use Prim.Native.Nat.{ℕ, zero, suc, _+_, _-_, _/_, _%_, _^_}
+use Prim.Native.Nat.{ℕ, suc, _+_, _-_, _/_, _%_, _^_}
 use lib.Dec.{eqb, leb, ltb}
 use lib.ListN.{length, getD}
 use Rattle.laws.specs.Choice.{_and_, pick}
-use Rattle.laws.specs.Masks.{_or_, digit, on, some, count, least}
+use Rattle.laws.specs.Masks.{digit, on, some, count, least}
 use Rattle.refusal.specs.Told.{Told, gives, refuses}
 use Rattle.flow.specs.Proc.{Proc, Active, Absent, isActive, turned, wants, decided, atLimit, worked}
 

@@ -1,7 +1,7 @@
 -- What the functions on masks take and give: seven words that are just the masks of the processors they show, and the words
 -- that an operation leaves. Assumes nothing.
 use mathlib.Core.Path.{_≡_}
-use mathlib.Core.Bool.{Bool, true}
+use mathlib.Core.Bool.{true}
 use mathlib.Core.List.{List}
 use Prim.Native.Nat.{ℕ}
 use lib.ListN.{getD}

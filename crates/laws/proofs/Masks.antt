@@ -1,17 +1,15 @@
 -- Laws of words as masks: what `&`, `|`, `^` and `!` do, they do to each place by itself; tests over all places.
 -- Assumes nothing.
-use mathlib.Core.Path.{_≡_, refl, sym, ap, ap₂, _∙_, subst, fun-ext}
+use mathlib.Core.Path.{_≡_, refl, sym, ap, ap₂, _∙_}
 use mathlib.Core.Bool.{Bool, true, false, not}
 use Prim.Native.Nat.{ℕ, zero, suc, _+_, _-_, _*_, _/_, _%_, _^_, _<_, _≤_, min, max, zero-le, suc-le-suc}
 use native.Mathlib.Nat.{pow-suc, zero-div, not-suc-le-zero, le-of-suc-le-suc}
-use native.Mathlib.Numerals.{add-one}
 use native.Mathlib.Omega.{arith}
 use lib.Dec.{eqb}
 use lib.Pow.{pow-pos, shr-shr}
 use lib.Bits.{bitAnd, bitOr, bitXor, and-step, or-step, xor-step}
 use lib.Count.{ones, onesIn, ones-step}
 use borrow.Author.Tests.{eqb-true, eqb-false, eq-eqb, ne-eqb}
-use Rattle.laws.specs.Bits.{bit}
 use Rattle.laws.specs.Choice.{_and_, pick}
 use Rattle.laws.specs.Masks.{_or_, differ, digit, on, pack, Places, some, every, count, least}
 use Rattle.laws.proofs.Choice.{Tested, holds, fails, tested, pick-yes, pick-no, and-left, and-right}
@@ -277,3 +275,34 @@ least-even k n e =
 -- the count of a word's ones is the number of its places
 pub ones-places : (k n : ℕ) → n < 2 ^ k → ones n ≡ count k (λ i. on i n)
 ones-places k n h = ap ones (pack-on k n h) ∙ ones-count k (λ i. on i n)
+
+-- the least place is one at which the test holds, and before it the test fails
+pub least-at : (k : ℕ) (f : ℕ → Bool) → least k f < k → f (least k f) ≡ true
+unfolding least
+least-at zero f h = absurd (not-suc-le-zero h)
+least-at (suc k) f h = go (least-at k (λ i. f (suc i))) (tested (f zero)) h
+  where
+    go :
+        (least k (λ i. f (suc i)) < k → f (suc (least k (λ i. f (suc i)))) ≡ true) → Tested (f zero) →
+        pick (f zero) 0 (suc (least k (λ i. f (suc i)))) < suc k →
+        f (pick (f zero) 0 (suc (least k (λ i. f (suc i))))) ≡ true
+    go r (holds e) q = rw (pick-yes 0 (suc (least k (λ i. f (suc i)))) e) e
+    go r (fails e) q =
+        rw (pick-no 0 (suc (least k (λ i. f (suc i)))) e)
+        (r (le-of-suc-le-suc (rw (pick-no 0 (suc (least k (λ i. f (suc i)))) e) at q)))
+
+pub least-before : (k : ℕ) (f : ℕ → Bool) (i : ℕ) → i < least k f → f i ≡ false
+unfolding least
+least-before zero f i h = absurd (not-suc-le-zero h)
+least-before (suc k) f zero h = go (tested (f zero)) h
+  where
+    go : Tested (f zero) → zero < pick (f zero) 0 (suc (least k (λ i. f (suc i)))) → f zero ≡ false
+    go (holds e) q = absurd (not-suc-le-zero (rw (pick-yes 0 (suc (least k (λ i. f (suc i)))) e) at q))
+    go (fails e) q = e
+least-before (suc k) f (suc i) h = go (least-before k (λ j. f (suc j)) i) (tested (f zero)) h
+  where
+    go :
+        (i < least k (λ j. f (suc j)) → f (suc i) ≡ false) → Tested (f zero) →
+        suc i < pick (f zero) 0 (suc (least k (λ j. f (suc j)))) → f (suc i) ≡ false
+    go r (holds e) q = absurd (not-suc-le-zero (rw (pick-yes 0 (suc (least k (λ j. f (suc j)))) e) at q))
+    go r (fails e) q = r (le-of-suc-le-suc (rw (pick-no 0 (suc (least k (λ j. f (suc j)))) e) at q))

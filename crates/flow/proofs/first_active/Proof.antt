@@ -16,10 +16,13 @@ abbrev μ-loop : tie.MeasureT-loop
 μ-loop active rest₀ i₀ rest i = 32 - i
 
 loop-holds : tie.Need-loop-holds Inv-loop μ-loop
-loop-holds c = (omega arith, sym (zero-add (least 32 (λ j. on j ((c .args) .active)))))
+loop-holds c = (omega arith, sym (zero-add (least 32 (λ j. on j (c .args .active)))))
 
 returns : tie.Need-returns Inv-loop μ-loop
-returns c = found-here ((c .before .before .before .args) .active) ((c .before .before .loop) .rest) ((c .before .before .loop) .i) ((c .before .before .loop) .inv .1) ((c .before .loop-test) .taken) ((c .if1) .taken)
+returns c =
+    let s = c .before .before .before in
+    found-here (s .args .active) (c .before .before .loop .rest) (c .before .before .loop .i)
+    (c .before .before .loop .inv .1) (c .before .loop-test .taken) (c .if1 .taken)
 
 add-i : tie.Need-add-i Inv-loop μ-loop
 add-i c = omega arith
@@ -28,10 +31,17 @@ loop-less : tie.Need-loop-less Inv-loop μ-loop
 loop-less c = omega arith
 
 loop-again : tie.Need-loop-again Inv-loop μ-loop
-loop-again c = (omega arith, look-on ((c .before .before .before .args) .active) ((c .before .before .loop) .rest) ((c .before .before .loop) .i) ((c .before .before .loop) .inv .1) ((c .before .loop-test) .taken) ((c .if1) .left))
+loop-again c =
+    let s = c .before .before .before in (
+      omega arith,
+      look-on (s .args .active) (c .before .before .loop .rest) (c .before .before .loop .i)
+          (c .before .before .loop .inv .1) (c .before .loop-test .taken) (c .if1 .left),
+    )
 
 returns-2 : tie.Need-returns-2 Inv-loop μ-loop
-returns-2 c = found-none ((c .before .before .args) .active) ((c .before .loop) .rest) ((c .before .loop) .i) ((c .before .loop) .inv .1) (omega arith)
+returns-2 c =
+    let s = c .before .before in
+    found-none (s .args .active) (c .before .loop .rest) (c .before .loop .i) (c .before .loop .inv .1) (omega arith)
 
 pub first-active-spec : {M : Type 1} → statement M
 first-active-spec = tie.close (tie.spec Inv-loop μ-loop loop-holds returns add-i loop-less loop-again returns-2)

@@ -18,16 +18,31 @@ abbrev μ-loop : tie.MeasureT-loop
 μ-loop words firsts₀ seconds₀ n k₀ firsts seconds k = n - k
 
 returns : tie.Need-returns Inv-loop μ-loop
-returns c = load-odd (now ((c .before .args) .words)) (now ((c .before .args) .firsts)) (now ((c .before .args) .seconds)) ((c .if1) .taken)
+returns c =
+    let s = c .before in
+    load-odd (now (s .args .words)) (now (s .args .firsts)) (now (s .args .seconds)) (c .if1 .taken)
 
 returns-2 : tie.Need-returns-2 Inv-loop μ-loop
-returns-2 c = load-none (now ((c .before .before .args) .words)) (now ((c .before .before .args) .firsts)) (now ((c .before .before .args) .seconds)) ((c .if2) .taken)
+returns-2 c =
+    let s = c .before .before in
+    load-none (now (s .args .words)) (now (s .args .firsts)) (now (s .args .seconds)) (c .if2 .taken)
 
 returns-3 : tie.Need-returns-3 Inv-loop μ-loop
-returns-3 c = load-many (now ((c .before .before .before .args) .words)) (now ((c .before .before .before .args) .firsts)) (now ((c .before .before .before .args) .seconds)) ((c .if3) .taken)
+returns-3 c =
+    let s = c .before .before .before in
+    load-many (now (s .args .words)) (now (s .args .firsts)) (now (s .args .seconds)) (c .if3 .taken)
 
 loop-holds : tie.Need-loop-holds Inv-loop μ-loop
-loop-holds c = (omega arith, refl, omega arith, length-replicate 512 plainFirst, length-replicate 512 plainSecond, partly-none plainFirst (firstWords (now ((c .before .before .before .before .before .args) .words))), partly-none plainSecond (secondWords (now ((c .before .before .before .before .before .args) .words))))
+loop-holds c =
+    let s = c .before .before .before .before .before in (
+      omega arith,
+      refl,
+      omega arith,
+      length-replicate 512 plainFirst,
+      length-replicate 512 plainSecond,
+      partly-none plainFirst (firstWords (now (s .args .words))),
+      partly-none plainSecond (secondWords (now (s .args .words))),
+    )
 
 mul-firsts : tie.Need-mul-firsts Inv-loop μ-loop
 mul-firsts c = omega arith
@@ -69,13 +84,53 @@ loop-less : tie.Need-loop-less Inv-loop μ-loop
 loop-less c = omega arith
 
 loop-again : tie.Need-loop-again Inv-loop μ-loop
-loop-again c = (omega arith, (c .before .before .before .loop) .inv .1, (c .before .before .before .loop) .inv .2, simp length-set ((c .before .before .before .loop) .inv .3), simp length-set ((c .before .before .before .loop) .inv .4), firsts-turn (now ((c .before .before .before .before .before .before .before .before .before .args) .words)) ((c .before .before .before .loop) .k) (omega arith) (omega arith) ((c .before .before .before .loop) .inv .5), seconds-turn (now ((c .before .before .before .before .before .before .before .before .before .args) .words)) ((c .before .before .before .loop) .k) (omega arith) (omega arith) ((c .before .before .before .loop) .inv .6))
+loop-again c =
+    let s = c .before .before .before .before .before .before .before .before .before in (
+      omega arith,
+      c .before .before .before .loop .inv .1,
+      c .before .before .before .loop .inv .2,
+      simp length-set (c .before .before .before .loop .inv .3),
+      simp length-set (c .before .before .before .loop .inv .4),
+      firsts-turn (now (s .args .words)) (c .before .before .before .loop .k) (omega arith) (omega arith)
+          (c .before .before .before .loop .inv .5),
+      seconds-turn (now (s .args .words)) (c .before .before .before .loop .k) (omega arith) (omega arith)
+          (c .before .before .before .loop .inv .6),
+    )
 
 cast-t24 : tie.Need-cast-t24 Inv-loop μ-loop
 cast-t24 c = omega arith
 
 returns-4 : tie.Need-returns-4 Inv-loop μ-loop
-returns-4 c = load-done (now ((c .before .before .before .before .before .before .before .args) .words)) (now ((c .before .before .before .before .before .before .before .args) .firsts)) (now ((c .before .before .before .before .before .before .before .args) .seconds)) ((c .before .loop) .k) ((c .before .before .before .before .before .before .if1) .left) ((c .before .before .before .before .before .if2) .left) ((c .before .before .before .before .if3) .left) (omega arith) ((c .before .loop) .inv .5) ((c .before .loop) .inv .6)
+returns-4 c =
+    let s = c .before .before .before .before .before .before .before in
+    load-done (now (s .args .words)) (now (s .args .firsts)) (now (s .args .seconds)) (c .before .loop .k)
+    (c .before .before .before .before .before .before .if1 .left)
+    (c .before .before .before .before .before .if2 .left) (c .before .before .before .before .if3 .left)
+    (omega arith) (c .before .loop .inv .5) (c .before .loop .inv .6)
 
 pub load-spec : {M : Type 1} → statement M
-load-spec = tie.close (tie.spec Inv-loop μ-loop returns returns-2 returns-3 loop-holds mul-firsts mul-firsts-2 shared-slice-read-firsts mul-firsts-3 element-write-firsts mul-seconds add-seconds mul-seconds-2 shared-slice-read-seconds mul-seconds-3 element-write-seconds add-k loop-less loop-again cast-t24 returns-4)
+load-spec =
+    tie.close
+    (tie.spec
+    Inv-loop
+    μ-loop
+    returns
+    returns-2
+    returns-3
+    loop-holds
+    mul-firsts
+    mul-firsts-2
+    shared-slice-read-firsts
+    mul-firsts-3
+    element-write-firsts
+    mul-seconds
+    add-seconds
+    mul-seconds-2
+    shared-slice-read-seconds
+    mul-seconds-3
+    element-write-seconds
+    add-k
+    loop-less
+    loop-again
+    cast-t24
+    returns-4)

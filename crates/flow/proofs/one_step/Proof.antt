@@ -18,13 +18,23 @@ enum-known-answer : tie.Need-enum-known-answer
 enum-known-answer c = search needs
 
 returns : tie.Need-returns
-returns c = one-jumped (now ((c .before .before .before .before .args) .cells)) (now ((c .before .before .before .before .args) .firsts)) (now ((c .before .before .before .before .args) .seconds)) ((c .before .before .before .before .args) .slots) ((c .before .before .before .before .args) .alu) ((c .before .before .before .before .args) .predicate) ((c .before .before .before .before .args) .booleans) (c .before .before .before .before .pre) ((c .before .before .step) .ensures) ((c .enum-told) .given .1)
+returns c =
+    let s = c .before .before .before .before in
+    one-jumped (now (s .args .cells)) (now (s .args .firsts)) (now (s .args .seconds)) (s .args .slots) (s .args .alu)
+    (s .args .predicate) (s .args .booleans) (s .pre) (c .before .before .step .ensures) (c .enum-told .given .1)
 
 returns-2 : tie.Need-returns-2
-returns-2 c = one-stayed (now ((c .before .before .before .before .args) .cells)) (now ((c .before .before .before .before .args) .firsts)) (now ((c .before .before .before .before .args) .seconds)) ((c .before .before .before .before .args) .slots) ((c .before .before .before .before .args) .alu) ((c .before .before .before .before .args) .predicate) ((c .before .before .before .before .args) .booleans) (c .before .before .before .before .pre) ((c .before .before .step) .ensures) ((c .enum-told2) .given .1)
+returns-2 c =
+    let s = c .before .before .before .before in
+    one-stayed (now (s .args .cells)) (now (s .args .firsts)) (now (s .args .seconds)) (s .args .slots) (s .args .alu)
+    (s .args .predicate) (s .args .booleans) (s .pre) (c .before .before .step .ensures) (c .enum-told2 .given .1)
 
 returns-3 : tie.Need-returns-3
-returns-3 c = one-stopped (now ((c .before .before .before .before .before .args) .cells)) (now ((c .before .before .before .before .before .args) .firsts)) (now ((c .before .before .before .before .before .args) .seconds)) ((c .before .before .before .before .before .args) .slots) ((c .before .before .before .before .before .args) .alu) ((c .before .before .before .before .before .args) .predicate) ((c .before .before .before .before .before .args) .booleans) (c .before .before .before .before .before .pre) ((c .before .before .before .step) .ensures) ((c .before .answer) .given .1)
+returns-3 c =
+    let s = c .before .before .before .before .before in
+    one-stopped (now (s .args .cells)) (now (s .args .firsts)) (now (s .args .seconds)) (s .args .slots)
+    (s .args .alu) (s .args .predicate) (s .args .booleans) (s .pre) (c .before .before .before .step .ensures)
+    (c .before .answer .given .1)
 
 pub one-step-spec : {M : Type 1} → statement M
 one-step-spec = tie.close (tie.spec step-requires enum-told enum-told-2 enum-known-answer returns returns-2 returns-3)

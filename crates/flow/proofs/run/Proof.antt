@@ -9,7 +9,10 @@ element-copy-out-if1 : tie.Need-element-copy-out-if1
 element-copy-out-if1 c = search needs
 
 returns : tie.Need-returns
-returns c = run-ended (now ((c .before .before .before .args) .cells)) (now ((c .before .before .before .args) .firsts)) (now ((c .before .before .before .args) .seconds)) ((c .before .before .before .args) .slots) ((c .before .before .before .args) .booleans) (now ((c .before .before .before .args) .masks)) ((c .if1) .taken)
+returns c =
+    let s = c .before .before .before in
+    run-ended (now (s .args .cells)) (now (s .args .firsts)) (now (s .args .seconds)) (s .args .slots)
+    (s .args .booleans) (now (s .args .masks)) (c .if1 .taken)
 
 walk-requires : tie.Need-walk-requires
 walk-requires c κs = search needs
@@ -30,10 +33,32 @@ enum-known-walked-2 : tie.Need-enum-known-walked-2
 enum-known-walked-2 c = search needs
 
 returns-2 : tie.Need-returns-2
-returns-2 c = run-made (now ((c .before .before .before .before .before .before .before .before .before .before .before .args) .cells)) (now ((c .before .before .before .before .before .before .before .before .before .before .before .args) .firsts)) (now ((c .before .before .before .before .before .before .before .before .before .before .before .args) .seconds)) ((c .before .before .before .before .before .before .before .before .before .before .before .args) .slots) ((c .before .before .before .before .before .before .before .before .before .before .before .args) .booleans) (now ((c .before .before .before .before .before .before .before .before .before .before .before .args) .masks)) ((c .before .before .before .before .before .before .before .before .if1) .left) ((c .before .before .before .before .before .walk) .ensures) ((c .before .before .before .walked) .given .1) ((c .before .first-active) .ensures) ((c .number-active) .ensures)
+returns-2 c =
+    let s = c .before .before .before .before .before .before .before .before .before .before .before in
+    run-made (now (s .args .cells)) (now (s .args .firsts)) (now (s .args .seconds)) (s .args .slots)
+    (s .args .booleans) (now (s .args .masks))
+    (c .before .before .before .before .before .before .before .before .if1 .left)
+    (c .before .before .before .before .before .walk .ensures) (c .before .before .before .walked .given .1)
+    (c .before .first-active .ensures) (c .number-active .ensures)
 
 returns-3 : tie.Need-returns-3
-returns-3 c = run-refused (now ((c .before .before .before .before .before .before .before .before .before .args) .cells)) (now ((c .before .before .before .before .before .before .before .before .before .args) .firsts)) (now ((c .before .before .before .before .before .before .before .before .before .args) .seconds)) ((c .before .before .before .before .before .before .before .before .before .args) .slots) ((c .before .before .before .before .before .before .before .before .before .args) .booleans) (now ((c .before .before .before .before .before .before .before .before .before .args) .masks)) ((c .before .before .before .before .before .before .if1) .left) ((c .before .before .before .walk) .ensures) ((c .before .walked2) .given .1)
+returns-3 c =
+    let s = c .before .before .before .before .before .before .before .before .before in
+    run-refused (now (s .args .cells)) (now (s .args .firsts)) (now (s .args .seconds)) (s .args .slots)
+    (s .args .booleans) (now (s .args .masks)) (c .before .before .before .before .before .before .if1 .left)
+    (c .before .before .before .walk .ensures) (c .before .walked2 .given .1)
 
 pub run-spec : {M : Type 1} → statement M
-run-spec = tie.close (tie.spec element-copy-out-if1 returns walk-requires enum-known-walked array-read-active first-active-requires number-active-requires enum-known-walked-2 returns-2 returns-3)
+run-spec =
+    tie.close
+    (tie.spec
+    element-copy-out-if1
+    returns
+    walk-requires
+    enum-known-walked
+    array-read-active
+    first-active-requires
+    number-active-requires
+    enum-known-walked-2
+    returns-2
+    returns-3)

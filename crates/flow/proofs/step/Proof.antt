@@ -9,10 +9,16 @@ element-copy-out-position : tie.Need-element-copy-out-position
 element-copy-out-position c = search needs
 
 returns : tie.Need-returns
-returns c = step-ended (now ((c .before .before .args) .cells)) (now ((c .before .before .args) .firsts)) (now ((c .before .before .args) .seconds)) ((c .before .before .args) .slots) ((c .before .before .args) .alu) ((c .before .before .args) .predicate) ((c .before .before .args) .booleans) ((c .if1) .taken)
+returns c =
+    let s = c .before .before in
+    step-ended (now (s .args .cells)) (now (s .args .firsts)) (now (s .args .seconds)) (s .args .slots) (s .args .alu)
+    (s .args .predicate) (s .args .booleans) (c .if1 .taken)
 
 returns-2 : tie.Need-returns-2
-returns-2 c = step-many (now ((c .before .before .before .args) .cells)) (now ((c .before .before .before .args) .firsts)) (now ((c .before .before .before .args) .seconds)) ((c .before .before .before .args) .slots) ((c .before .before .before .args) .alu) ((c .before .before .before .args) .predicate) ((c .before .before .before .args) .booleans) ((c .before .if1) .left) ((c .if2) .taken)
+returns-2 c =
+    let s = c .before .before .before in
+    step-many (now (s .args .cells)) (now (s .args .firsts)) (now (s .args .seconds)) (s .args .slots) (s .args .alu)
+    (s .args .predicate) (s .args .booleans) (c .before .if1 .left) (c .if2 .taken)
 
 cast-at : tie.Need-cast-at
 cast-at c = search needs
@@ -33,7 +39,23 @@ step-slot-requires : tie.Need-step-slot-requires
 step-slot-requires c κs = search needs
 
 returns-3 : tie.Need-returns-3
-returns-3 c = step-done (now ((c .before .before .before .before .before .before .before .args) .cells)) (now ((c .before .before .before .before .before .before .before .args) .firsts)) (now ((c .before .before .before .before .before .before .before .args) .seconds)) ((c .before .before .before .before .before .before .before .args) .slots) ((c .before .before .before .before .before .before .before .args) .alu) ((c .before .before .before .before .before .before .before .args) .predicate) ((c .before .before .before .before .before .before .before .args) .booleans) ((c .before .before .before .before .before .if1) .left) ((c .before .before .before .before .if2) .left) ((c .step-slot) .ensures)
+returns-3 c =
+    let s = c .before .before .before .before .before .before .before in
+    step-done (now (s .args .cells)) (now (s .args .firsts)) (now (s .args .seconds)) (s .args .slots) (s .args .alu)
+    (s .args .predicate) (s .args .booleans) (c .before .before .before .before .before .if1 .left)
+    (c .before .before .before .before .if2 .left) (c .step-slot .ensures)
 
 pub step-spec : {M : Type 1} → statement M
-step-spec = tie.close (tie.spec element-copy-out-position returns returns-2 cast-at mul-step-slot element-copy-out-step-slot mul-step-slot-2 element-copy-out-step-slot-2 step-slot-requires returns-3)
+step-spec =
+    tie.close
+    (tie.spec
+    element-copy-out-position
+    returns
+    returns-2
+    cast-at
+    mul-step-slot
+    element-copy-out-step-slot
+    mul-step-slot-2
+    element-copy-out-step-slot-2
+    step-slot-requires
+    returns-3)

@@ -26,7 +26,9 @@ slice-aggregate-run-2 : tie.Need-slice-aggregate-run-2
 slice-aggregate-run-2 c = search needs
 
 run-requires-2 : tie.Need-run-requires-2
-run-requires-2 c κs = run-gives _ _ _ ((c .before .before .before .before .before .before .before .before .before .fresh) .ensures) ((c .before .before .before .before .run) .ensures)
+run-requires-2 c κs =
+    run-gives _ _ _ (c .before .before .before .before .before .before .before .before .before .fresh .ensures)
+    (c .before .before .before .before .run .ensures)
 
 enum-told : tie.Need-enum-told
 enum-told c = search needs
@@ -44,4 +46,19 @@ returns-2 : tie.Need-returns-2
 returns-2 c = search needs
 
 pub again-spec : {M : Type 1} → statement M
-again-spec = tie.close (tie.spec slice-aggregate-load load-requires fresh-requires slice-aggregate-run run-requires array-share-prefix-masks slice-aggregate-run-2 run-requires-2 enum-told enum-known-why number-requires returns returns-2)
+again-spec =
+    tie.close
+    (tie.spec
+    slice-aggregate-load
+    load-requires
+    fresh-requires
+    slice-aggregate-run
+    run-requires
+    array-share-prefix-masks
+    slice-aggregate-run-2
+    run-requires-2
+    enum-told
+    enum-known-why
+    number-requires
+    returns
+    returns-2)

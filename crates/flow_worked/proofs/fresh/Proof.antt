@@ -8,7 +8,9 @@ begin-requires : tie.Need-begin-requires
 begin-requires c κs = search needs
 
 returns : tie.Need-returns
-returns c = begin-gives ((c .before .before .args) .size) ((c .begin) .ensures) ((c .before .before .pre) .0) ((c .before .before .pre) .1)
+returns c =
+    let s = c .before .before in
+    begin-gives (s .args .size) (c .begin .ensures) (s .pre .0) (s .pre .1)
 
 pub fresh-spec : {M : Type 1} → statement M
 fresh-spec = tie.close (tie.spec begin-requires returns)

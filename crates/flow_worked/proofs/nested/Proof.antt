@@ -41,4 +41,17 @@ returns-2 : tie.Need-returns-2 Inv-loop μ-loop
 returns-2 c = search needs
 
 pub nested-spec : {M : Type 1} → statement M
-nested-spec = tie.close (tie.spec Inv-loop μ-loop fresh-requires one-requires loop-holds one-requires-2 returns add-deeper loop-less loop-again returns-2)
+nested-spec =
+    tie.close
+    (tie.spec
+    Inv-loop
+    μ-loop
+    fresh-requires
+    one-requires
+    loop-holds
+    one-requires-2
+    returns
+    add-deeper
+    loop-less
+    loop-again
+    returns-2)

@@ -11,7 +11,7 @@ told-requires : tie.Need-told-requires
 told-requires c κs = search needs
 
 returns : tie.Need-returns
-returns c = step-gives _ _ _ _ (c .before .before .before .before .before .pre) ((c .before .step) .ensures)
+returns c = step-gives _ _ _ _ (c .before .before .before .before .before .pre) (c .before .step .ensures)
 
 pub one-spec : {M : Type 1} → statement M
 one-spec = tie.close (tie.spec step-requires told-requires returns)

@@ -40,4 +40,17 @@ returns : tie.Need-returns Inv-loop μ-loop
 returns c = search needs
 
 pub reserved-spec : {M : Type 1} → statement M
-reserved-spec = tie.close (tie.spec Inv-loop μ-loop loop-holds shl-one-word one-word-requires agree-requires add-refused add-bit loop-less loop-again returns)
+reserved-spec =
+    tie.close
+    (tie.spec
+    Inv-loop
+    μ-loop
+    loop-holds
+    shl-one-word
+    one-word-requires
+    agree-requires
+    add-refused
+    add-bit
+    loop-less
+    loop-again
+    returns)

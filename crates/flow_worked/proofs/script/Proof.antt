@@ -99,4 +99,36 @@ returns : tie.Need-returns Inv-loop μ-loop
 returns c = search needs
 
 pub script-spec : {M : Type 1} → statement M
-script-spec = tie.close (tie.spec Inv-loop μ-loop fresh-requires loop-holds mul-k mul-one shared-slice-read-one add-one mul-one-2 shared-slice-read-one-2 add-one-2 mul-one-3 shared-slice-read-one-3 add-one-3 mul-one-4 shared-slice-read-one-4 one-requires add-both mul-both shared-slice-read-both array-read-both add-both-2 mul-both-2 shared-slice-read-both-2 both-requires more-requires add-at loop-less loop-again returns)
+script-spec =
+    tie.close
+    (tie.spec
+    Inv-loop
+    μ-loop
+    fresh-requires
+    loop-holds
+    mul-k
+    mul-one
+    shared-slice-read-one
+    add-one
+    mul-one-2
+    shared-slice-read-one-2
+    add-one-2
+    mul-one-3
+    shared-slice-read-one-3
+    add-one-3
+    mul-one-4
+    shared-slice-read-one-4
+    one-requires
+    add-both
+    mul-both
+    shared-slice-read-both
+    array-read-both
+    add-both-2
+    mul-both-2
+    shared-slice-read-both-2
+    both-requires
+    more-requires
+    add-at
+    loop-less
+    loop-again
+    returns)

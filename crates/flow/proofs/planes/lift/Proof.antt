@@ -8,7 +8,7 @@ leaving-requires : tie.Need-leaving-requires
 leaving-requires c κs = search needs
 
 returns : tie.Need-returns
-returns c = lift-words (c .before .pre) ((c .before .args) .jump) ((c .before .args) .wish) ((c .leaving) .ensures)
+returns c = lift-words (c .before .pre) (c .before .args .jump) (c .before .args .wish) (c .leaving .ensures)
 
 pub lift-spec : {M : Type 1} → statement M
 lift-spec = tie.close (tie.spec leaving-requires returns)

@@ -20,7 +20,19 @@ spread-requires-5 : tie.Need-spread-requires-5
 spread-requires-5 c κs = search needs
 
 returns : tie.Need-returns
-returns c = lower-words ((c .before .before .before .before .before .pre) .1) ((c .before .before .before .before .before .args) .count) ((c .before .before .before .before .before .pre) .0) ((c .before .before .before .before .spread) .ensures) ((c .before .before .before .spread2) .ensures) ((c .before .before .spread3) .ensures) ((c .before .spread4) .ensures) ((c .spread5) .ensures)
+returns c =
+    let s = c .before .before .before .before .before in
+    lower-words (s .pre .1) (s .args .count) (s .pre .0) (c .before .before .before .before .spread .ensures)
+    (c .before .before .before .spread2 .ensures) (c .before .before .spread3 .ensures) (c .before .spread4 .ensures)
+    (c .spread5 .ensures)
 
 pub lower-spec : {M : Type 1} → statement M
-lower-spec = tie.close (tie.spec spread-requires spread-requires-2 spread-requires-3 spread-requires-4 spread-requires-5 returns)
+lower-spec =
+    tie.close
+    (tie.spec
+    spread-requires
+    spread-requires-2
+    spread-requires-3
+    spread-requires-4
+    spread-requires-5
+    returns)

@@ -10,10 +10,12 @@ at-limit-requires : tie.Need-at-limit-requires
 at-limit-requires c κs = search needs
 
 returns : tie.Need-returns
-returns c = (c .at-limit) .ensures ∙ sym (and-yes _ (eq-eqb ((c .before .before .args) .op) 2 ((c .before .if1) .taken)))
+returns c =
+    let s = c .before .before in
+    c .at-limit .ensures ∙ sym (and-yes _ (eq-eqb (s .args .op) 2 (c .before .if1 .taken)))
 
 returns-2 : tie.Need-returns-2
-returns-2 c = sym (and-no-left _ (ne-eqb ((c .before .args) .op) 2 ((c .if1) .left)))
+returns-2 c = sym (and-no-left _ (ne-eqb (c .before .args .op) 2 (c .if1 .left)))
 
 pub over-limit-spec : {M : Type 1} → statement M
 over-limit-spec = tie.close (tie.spec at-limit-requires returns returns-2)

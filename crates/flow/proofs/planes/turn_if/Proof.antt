@@ -10,10 +10,18 @@ turn-requires : tie.Need-turn-requires
 turn-requires c κs = search needs
 
 returns : tie.Need-returns
-returns c = (c .turn) .ensures ∙ turned-yes (procAt ((c .before .before .args) .live) ((c .before .before .args) .active) ((c .before .before .args) .p0) ((c .before .before .args) .p1) ((c .before .before .args) .p2) ((c .before .before .args) .p3) ((c .before .before .args) .p4)) ((c .before .if1) .taken)
+returns c =
+    let s = c .before .before in
+    c .turn .ensures ∙ turned-yes
+    (procAt (s .args .live) (s .args .active) (s .args .p0) (s .args .p1) (s .args .p2) (s .args .p3) (s .args .p4))
+    (c .before .if1 .taken)
 
 returns-2 : tie.Need-returns-2
-returns-2 c = (c .before .pre) .active-word ∙ turned-no (procAt ((c .before .args) .live) ((c .before .args) .active) ((c .before .args) .p0) ((c .before .args) .p1) ((c .before .args) .p2) ((c .before .args) .p3) ((c .before .args) .p4)) ((c .if1) .left)
+returns-2 c =
+    let s = c .before in
+    s .pre .active-word ∙ turned-no
+    (procAt (s .args .live) (s .args .active) (s .args .p0) (s .args .p1) (s .args .p2) (s .args .p3) (s .args .p4))
+    (c .if1 .left)
 
 pub turn-if-spec : {M : Type 1} → statement M
 turn-if-spec = tie.close (tie.spec turn-requires returns returns-2)

@@ -22,7 +22,18 @@ spread-requires-4 c κs = search needs
 returns : tie.Need-returns
 returns c =
     let a = (c .before .before .before .before .args) in
-    wishes-word (a .func) (a .alu) (a .boolean) (a .predicate) (c .before .before .before .before .pre) ((c .before .before .before .before .fits) .alu .fits) ((c .before .before .before .before .fits) .predicate .fits) ((c .before .before .before .spread) .ensures) ((c .before .before .spread2) .ensures) ((c .before .spread3) .ensures) ((c .spread4) .ensures)
+    wishes-word (a .func) (a .alu) (a .boolean) (a .predicate) (c .before .before .before .before .pre)
+    (c .before .before .before .before .fits .alu .fits) (c .before .before .before .before .fits .predicate .fits)
+    (c .before .before .before .spread .ensures) (c .before .before .spread2 .ensures) (c .before .spread3 .ensures)
+    (c .spread4 .ensures)
 
 pub wishes-spec : {M : Type 1} → statement M
-wishes-spec = tie.close (tie.spec shr-rule spread-requires spread-requires-2 spread-requires-3 spread-requires-4 returns)
+wishes-spec =
+    tie.close
+    (tie.spec
+    shr-rule
+    spread-requires
+    spread-requires-2
+    spread-requires-3
+    spread-requires-4
+    returns)

@@ -6,10 +6,14 @@ use Rattle.flow.proofs.slot.pop.Statement.{statement}
 use Rattle.flow.proofs.slot.pop.Tie as tie
 
 returns : tie.Need-returns
-returns c = pop-empty (stored ((c .before .args) .r0 ∷ (c .before .args) .r1 ∷ (c .before .args) .r2 ∷ (c .before .args) .r3 ∷ [])) (c .before .pre) ((c .if1) .taken)
+returns c =
+    let s = c .before in
+    pop-empty (stored (s .args .r0 ∷ s .args .r1 ∷ s .args .r2 ∷ s .args .r3 ∷ [])) (s .pre) (c .if1 .taken)
 
 returns-2 : tie.Need-returns-2
-returns-2 c = pop-last (stored ((c .before .args) .r0 ∷ (c .before .args) .r1 ∷ (c .before .args) .r2 ∷ (c .before .args) .r3 ∷ [])) (c .before .pre) ((c .if1) .left)
+returns-2 c =
+    let s = c .before in
+    pop-last (stored (s .args .r0 ∷ s .args .r1 ∷ s .args .r2 ∷ s .args .r3 ∷ [])) (s .pre) (c .if1 .left)
 
 pub pop-spec : {M : Type 1} → statement M
 pop-spec = tie.close (tie.spec returns returns-2)

@@ -15,19 +15,36 @@ push-requires : tie.Need-push-requires
 push-requires c κs = search needs
 
 returns : tie.Need-returns
-returns c = (c .pop) .ensures ∙ way-pop ((c .before .before .before .args) .op) ((c .before .before .before .args) .position) ((c .before .before .before .args) .address) (stored ((c .before .before .before .args) .r0 ∷ (c .before .before .before .args) .r1 ∷ (c .before .before .before .args) .r2 ∷ (c .before .before .before .args) .r3 ∷ [])) ((c .before .before .if1) .taken) ((c .before .match) .keys1)
+returns c =
+    let s = c .before .before .before in
+    c .pop .ensures ∙ way-pop (s .args .op) (s .args .position) (s .args .address)
+    (stored (s .args .r0 ∷ s .args .r1 ∷ s .args .r2 ∷ s .args .r3 ∷ [])) (c .before .before .if1 .taken)
+    (c .before .match .keys1)
 
 returns-2 : tie.Need-returns-2
-returns-2 c = (c .push) .ensures ∙ way-push ((c .before .before .before .args) .op) ((c .before .before .before .args) .position) ((c .before .before .before .args) .address) (stored ((c .before .before .before .args) .r0 ∷ (c .before .before .before .args) .r1 ∷ (c .before .before .before .args) .r2 ∷ (c .before .before .before .args) .r3 ∷ [])) ((c .before .before .if1) .taken) ((c .before .match) .keys2)
+returns-2 c =
+    let s = c .before .before .before in
+    c .push .ensures ∙ way-push (s .args .op) (s .args .position) (s .args .address)
+    (stored (s .args .r0 ∷ s .args .r1 ∷ s .args .r2 ∷ s .args .r3 ∷ [])) (c .before .before .if1 .taken)
+    (c .before .match .keys2)
 
 returns-3 : tie.Need-returns-3
-returns-3 c = standing ((c .before .before .args) .address) (stored ((c .before .before .args) .r0 ∷ (c .before .before .args) .r1 ∷ (c .before .before .args) .r2 ∷ (c .before .before .args) .r3 ∷ [])) ((c .before .before .pre) .1) ∙ way-address ((c .before .before .args) .op) ((c .before .before .args) .position) ((c .before .before .args) .address) (stored ((c .before .before .args) .r0 ∷ (c .before .before .args) .r1 ∷ (c .before .before .args) .r2 ∷ (c .before .before .args) .r3 ∷ [])) ((c .before .if1) .taken) ((c .match) .rest .0 .1) ((c .match) .rest .1)
+returns-3 c =
+    let s = c .before .before in
+    standing (s .args .address) (stored (s .args .r0 ∷ s .args .r1 ∷ s .args .r2 ∷ s .args .r3 ∷ []))
+    (s .pre .1) ∙ way-address (s .args .op) (s .args .position) (s .args .address)
+    (stored (s .args .r0 ∷ s .args .r1 ∷ s .args .r2 ∷ s .args .r3 ∷ [])) (c .before .if1 .taken)
+    (c .match .rest .0 .1) (c .match .rest .1)
 
 add-t11 : tie.Need-add-t11
 add-t11 c = search needs
 
 returns-4 : tie.Need-returns-4
-returns-4 c = standing ((c .before .args) .position + 1) (stored ((c .before .args) .r0 ∷ (c .before .args) .r1 ∷ (c .before .args) .r2 ∷ (c .before .args) .r3 ∷ [])) ((c .before .pre) .1) ∙ way-on ((c .before .args) .op) ((c .before .args) .position) ((c .before .args) .address) (stored ((c .before .args) .r0 ∷ (c .before .args) .r1 ∷ (c .before .args) .r2 ∷ (c .before .args) .r3 ∷ [])) ((c .if1) .left)
+returns-4 c =
+    let s = c .before in
+    standing (s .args .position + 1) (stored (s .args .r0 ∷ s .args .r1 ∷ s .args .r2 ∷ s .args .r3 ∷ []))
+    (s .pre .1) ∙ way-on (s .args .op) (s .args .position) (s .args .address)
+    (stored (s .args .r0 ∷ s .args .r1 ∷ s .args .r2 ∷ s .args .r3 ∷ [])) (c .if1 .left)
 
 pub way-spec : {M : Type 1} → statement M
 way-spec = tie.close (tie.spec pop-requires push-requires returns returns-2 returns-3 add-t11 returns-4)
