@@ -21,6 +21,25 @@ allowed first second =
     eqb (field 3 0 first) 0 and leb (field 7 6 first) 2 and eqb (field 23 21 first) 0 and leb (field 25 24 first) 2 and
     leb (field 27 26 first) 2 and eqb (field 31 28 first) 0 and eqb (field 15 5 second) 0 and eqb (field 31 25 second) 0
 
+-- the fields by name: A_OP, JUMP_FUNC, B_POP_CNT, B_OP1 on a jump and B_OP0 on a stay, boolean number, jump address
+abbrev pub aOp : ℕ → ℕ
+aOp first = field 7 6 first
+
+abbrev pub jumpFunc : ℕ → ℕ
+jumpFunc first = field 15 8 first
+
+abbrev pub popCount : ℕ → ℕ
+popCount first = field 20 16 first
+
+abbrev pub branchOp : Bool → ℕ → ℕ
+branchOp jump first = pick jump (field 27 26 first) (field 25 24 first)
+
+abbrev pub booleanNumber : ℕ → ℕ
+booleanNumber second = field 4 0 second
+
+abbrev pub jumpAddress : ℕ → ℕ
+jumpAddress second = field 24 16 second
+
 -- the state of a group: processor `i`, absent from 32 on; the position; the stored returns, the last one first
 pub record Group : Type 0 where
   pub procs : ℕ → Proc
@@ -84,16 +103,16 @@ arrived slots jump procs (Goes next returns) =
 -- 4. to 6., once the decision is made; `procs` are those after B_ELSE
 unfoldable pub settled : ℕ → ℕ → ℕ → ℕ → Bool → (ℕ → Bool) → (ℕ → Proc) → Group → Outcome
 settled limit slots first second jump wish procs g =
-    let op = pick jump (field 27 26 first) (field 25 24 first) in
+    let op = branchOp jump first in
     pick (overLimit limit op procs) (Fails 14)
-    (arrived slots jump (λ i. worked op (field 20 16 first) jump (wish i) (procs i))
-    (wayOf (field 7 6 first) jump (g .position) (field 24 16 second) (g .returns)))
+    (arrived slots jump (λ i. worked op (popCount first) jump (wish i) (procs i))
+    (wayOf (aOp first) jump (g .position) (jumpAddress second) (g .returns)))
 
 -- 1. to 3., on the slot's two words
 unfoldable pub slotStep : ℕ → ℕ → ℕ → ℕ → ℕ → ℕ → ℕ → Group → Outcome
 slotStep limit slots first second alu predicate booleans g =
     let procs = turnedIf (on 4 first) (g .procs) in
-    let wish = wishOf (field 15 8 first) alu (on (field 4 0 second) booleans) predicate in
+    let wish = wishOf (jumpFunc first) alu (on (booleanNumber second) booleans) predicate in
     pick (allowed first second)
     (settled limit slots first second (decided (on 5 first) (λ i. isActive (procs i)) wish) wish procs g)
     (Fails 13)
