@@ -246,7 +246,7 @@ module _ (func alu boolean predicate : ℕ) (low : boolean < 2) (ha : alu < 2 ^ 
       bitOr
       (bitOr (bitOr (bitAnd (bitAnd (4294967295 - alu) (4294967295 - predicate)) s0) (bitAnd (bitAnd (4294967295 - alu) predicate) s1))
       (bitAnd (bitAnd alu (4294967295 - predicate)) s2)) (bitAnd (bitAnd alu predicate) s3) ≡
-      pack 32 (wishOf func alu (eqb boolean 1) predicate)
+      pack 32 (wishOf func (eqb boolean 1) alu predicate)
   unfolding wishOf
   wishes-word =
       let a = own alu ha in

@@ -280,10 +280,10 @@ module _ (l : List ℕ) (first second slots alu predicate booleans : ℕ) (m : M
         (sym procs-turned) (turned-masks (made-masks l m) (eqb (first / 16 % 2) 1) ea)
 
     module _ (good : ok ≡ true) {wish : ℕ}
-        (ew : wish ≡ pack 32 (wishOf (first / 256 % 256) alu (eqb (booleans / 2 ^ (second % 32) % 2) 1) predicate))
+        (ew : wish ≡ pack 32 (wishOf (first / 256 % 256) (eqb (booleans / 2 ^ (second % 32) % 2) 1) alu predicate))
         {jump : Bool} (ej : jump ≡ decided (eqb (first / 32 % 2) 1) (λ i. on i active) (λ i. on i wish)) where
       abbrev wishHere : ℕ → Bool
-      wishHere = wishOf (field 15 8 first) alu (on (field 4 0 second) booleans) predicate
+      wishHere = wishOf (field 15 8 first) (on (field 4 0 second) booleans) alu predicate
 
       abbrev procsThere : ℕ → Proc
       procsThere = turnedIf (on 4 first) (groupOf l .procs)
@@ -291,7 +291,7 @@ module _ (l : List ℕ) (first second slots alu predicate booleans : ℕ) (m : M
       wish-is : (i : ℕ) → i < 32 → on i wish ≡ wishHere i
       unfolding on
       wish-is i h =
-          ap (on i) (ew ∙ ap (λ (n : ℕ). pack 32 (wishOf (first / 256 % 256) alu (on n booleans) predicate)) (boolean-field second)) ∙
+          ap (on i) (ew ∙ ap (λ (n : ℕ). pack 32 (wishOf (first / 256 % 256) (on n booleans) alu predicate)) (boolean-field second)) ∙
           on-pack 32 i wishHere h
 
       active-is : (i : ℕ) → i < 32 → on i active ≡ isActive (procsThere i)

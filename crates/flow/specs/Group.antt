@@ -64,8 +64,8 @@ unfoldable pub turnedIf : Bool → (ℕ → Proc) → ℕ → Proc
 turnedIf else procs i = pick else (turned (procs i)) (procs i)
 
 -- 2. each processor's wish, by its bits of the two masks and the step's boolean
-unfoldable pub wishOf : ℕ → ℕ → Bool → ℕ → ℕ → Bool
-wishOf func alu boolean predicate i = wants func (on i alu) (on i predicate) boolean
+unfoldable pub wishOf : ℕ → Bool → ℕ → ℕ → ℕ → Bool
+wishOf func boolean alu predicate i = wants func (on i alu) (on i predicate) boolean
 
 -- 4. "Increment: each inactive counter gains 1 (from 31: 14)": one at the limit is enough
 unfoldable pub overLimit : ℕ → ℕ → (ℕ → Proc) → Bool
@@ -112,7 +112,7 @@ settled limit slots first second jump wish procs g =
 unfoldable pub slotStep : ℕ → ℕ → ℕ → ℕ → ℕ → ℕ → ℕ → Group → Outcome
 slotStep limit slots first second alu predicate booleans g =
     let procs = turnedIf (on 4 first) (g .procs) in
-    let wish = wishOf (jumpFunc first) alu (on (booleanNumber second) booleans) predicate in
+    let wish = wishOf (jumpFunc first) (on (booleanNumber second) booleans) alu predicate in
     pick (allowed first second)
     (settled limit slots first second (decided (on 5 first) (λ i. isActive (procs i)) wish) wish procs g)
     (Fails 13)

@@ -177,7 +177,7 @@ fn step_slot(
             cells[6],
         );
         let boolean = (booleans >> (second % 32)) % 2;
-        let wish = planes::wishes(first / 256 % 256, alu, boolean, predicate);
+        let wish = planes::wishes(first / 256 % 256, boolean, alu, predicate);
         let jump = planes::decides(first / 32 % 2 == 1, active, wish);
         return settle(first, second, slots, cells, active, wish, jump);
     }

@@ -38,9 +38,9 @@ pub fn spread(bit: u32) -> u32
 }
 
 // The processors that want to jump. The boolean is one bit for all of them, so it picks four of JUMP_FUNC's eight bits.
-pub fn wishes(func: u32, alu: u32, boolean: u32, predicate: u32) -> u32
+pub fn wishes(func: u32, boolean: u32, alu: u32, predicate: u32) -> u32
     requires { ⌜ boolean < 2 ⌝ }
-    ensures { λ r. ⌜ r ≡ pack 32 (wishOf func alu (eqb boolean 1) predicate) ⌝ }
+    ensures { λ r. ⌜ r ≡ pack 32 (wishOf func (eqb boolean 1) alu predicate) ⌝ }
 {
     let rule = func >> boolean;
     let neither = !alu & !predicate & spread(rule % 2);
