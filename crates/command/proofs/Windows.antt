@@ -1,0 +1,101 @@
+-- Laws of a format word's fields, and the window that base, format and height describe: words that passed their checks get
+-- no 3 from it. Assumes nothing.
+use mathlib.Core.Path.{_≡_, refl, sym, ap, _∙_}
+use mathlib.Core.Bool.{Bool, true, false}
+use mathlib.Core.List.{List, [], _∷_}
+use Prim.Native.Nat.{ℕ, _+_, _*_, _/_, _%_, _^_, _<_, _≤_}
+use native.Mathlib.Omega.{arith}
+use lib.Dec.{eqb, leb, ltb}
+use lib.ListN.{getD, List·getD-eq-default}
+use borrow.Author.Tests.{eqb-true, leb-true, eq-eqb, le-leb}
+use Rattle.laws.specs.Choice.{_and_, pick, placeOf}
+use Rattle.laws.proofs.Choice.{pick-yes, and-intro, and-left, and-right}
+use Rattle.laws.proofs.Table.{everyBelow, every, NoneOf}
+use Rattle.refusal.specs.Told.{Told, gives, refuses}
+use Rattle.layout.specs.Sizes.{isSize}
+use Rattle.layout.specs.Layout.{wellFormed, windowRule, rowStep, spanOf, judgeOf}
+use Rattle.command.specs.Format.{pitchOf, tiledOf, codeOf, sizeOf, channelsOf, windowOf}
+use Rattle.command.specs.Kinds.{formatAllowed, allowed}
+use Rattle.command.specs.declared.kinds.Kind.the-variants.{Base, Format, InputFormat}
+
+-- codes above 4 have no size and no channels
+pub code-past : (code : ℕ) → NoneOf Unit (0 ∷ 1 ∷ 2 ∷ 3 ∷ 4 ∷ []) code → 5 ≤ code
+code-past code r =
+    let n0 : code ≡ 0 → ⊥ = r .0 .0 .0 .0 .1 in
+    let n1 : code ≡ 1 → ⊥ = r .0 .0 .0 .1 in
+    let n2 : code ≡ 2 → ⊥ = r .0 .0 .1 in
+    let n3 : code ≡ 3 → ⊥ = r .0 .1 in
+    let n4 : code ≡ 4 → ⊥ = r .1 in
+    omega arith
+
+pub size-past : (code : ℕ) → NoneOf Unit (0 ∷ 1 ∷ 2 ∷ 3 ∷ 4 ∷ []) code → sizeOf code ≡ 0
+unfolding sizeOf
+size-past code r = List·getD-eq-default (2 ∷ 4 ∷ 4 ∷ 8 ∷ 16 ∷ []) 0 {n = code} (code-past code r)
+
+pub channels-past : (code : ℕ) → NoneOf Unit (0 ∷ 1 ∷ 2 ∷ 3 ∷ 4 ∷ []) code → channelsOf code ≡ 0
+unfolding channelsOf
+channels-past code r = List·getD-eq-default (1 ∷ 4 ∷ 1 ∷ 2 ∷ 4 ∷ []) 0 {n = code} (code-past code r)
+
+-- the window from the fields as the code reads them
+pub window-read :
+    (base format height pitch code size : ℕ) (tiled : Bool) → pitch ≡ pitchOf format → code ≡ codeOf format →
+    size ≡ sizeOf code → tiled ≡ tiledOf format → judgeOf base pitch height size tiled ≡ windowOf base format height
+unfolding windowOf
+window-read base format height pitch code size tiled p c s t = cc
+
+-- what an allowed format word has
+pub record Allowed (w : ℕ) : Type 0 where
+  pub low : w % 2 ^ 2 ≡ 0
+  pub code : codeOf w ≤ 4
+
+allowed-format : (w : ℕ) → formatAllowed w ≡ true → Allowed w
+unfolding formatAllowed
+allowed-format w e =
+    record {
+      low = eqb-true _ _ (and-left _ _ e);
+      code = leb-true _ _ (and-right _ _ (and-right _ _ (and-right _ _ (and-right _ _ e))));
+    }
+
+-- each code that is allowed has one of the five sizes
+sized : ℕ → Bool
+sized code = isSize (sizeOf code)
+
+sizes-right : (code : ℕ) → code < 5 → sized code ≡ true
+unfolding sized isSize sizeOf placeOf everyBelow pick _and_
+sizes-right = every sized 5 refl
+
+six-or-given : (values : List ℕ) (t : Bool) → pick t (gives values) (refuses 6) ≡ refuses 3 → ⊥
+unfolding pick
+six-or-given values true q = let z : _≡_ {A = ℕ} 0 1 = cc in omega arith
+six-or-given values false q = let z : _≡_ {A = ℕ} 6 3 = cc in omega arith
+
+-- an input's format word is allowed as any format word is
+pub input-format : (w : ℕ) → allowed InputFormat w ≡ true → allowed Format w ≡ true
+unfolding allowed
+input-format w e = and-left _ _ e
+
+-- allowed words make a well-formed layout: what their window gets is 6 or its row step and span, never 3
+module _ (base format height : ℕ) (b : allowed Base base ≡ true) (f : allowed Format format ≡ true) where
+  pub window-formed : wellFormed base (pitchOf format) (sizeOf (codeOf format)) ≡ true
+  unfolding wellFormed allowed pitchOf sized
+  window-formed =
+      let a = allowed-format format f in
+      let l : format % 2 ^ 2 ≡ 0 = a .low in
+      let k : codeOf format ≤ 4 = a .code in
+      and-intro b
+      (and-intro (eq-eqb (format % 2 ^ 13 % 4) 0 (omega arith))
+      (and-intro (le-leb (format % 2 ^ 13) 8188 (omega arith)) (sizes-right (codeOf format) (omega arith))))
+
+  pub window-ruled :
+      let e : ℕ = rowStep (tiledOf format) (sizeOf (codeOf format)) (pitchOf format) in
+      windowOf base format height ≡
+      pick (windowRule base (tiledOf format) (sizeOf (codeOf format)) e height)
+      (gives (e ∷ spanOf (tiledOf format) (sizeOf (codeOf format)) e height ∷ []))
+      (refuses 6)
+  unfolding windowOf judgeOf
+  window-ruled = pick-yes _ _ window-formed
+
+  pub window-not-three : windowOf base format height ≡ refuses 3 → ⊥
+  window-not-three e =
+      six-or-given _ (windowRule base (tiledOf format) (sizeOf (codeOf format)) (rowStep (tiledOf format) (sizeOf (codeOf format)) (pitchOf format)) height)
+      (sym window-ruled ∙ e)

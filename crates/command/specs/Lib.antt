@@ -1,0 +1,6 @@
+pub mod Commands
+pub mod Format
+pub mod Kinds
+pub mod Rules
+pub mod Table
+pub mod Writer

@@ -1,0 +1,143 @@
+// The commands. Places are whole words, as they were read and as they are written back; nothing is asked of them here.
+ghost use mathlib.Core.Path.{_≡_};
+ghost use Prim.Native.Nat.{_<_};
+ghost use Rattle.command.specs.Commands.{noEffectLine, storedLine, lineOf, placesOf, commandOf};
+
+// The commands that have no effect on settings: their one parameter is reserved.
+pub enum NoEffect {
+    Wait,
+    InvalidateInstructions,
+    InvalidateFloats,
+    InvalidateIntegers,
+    InvalidateBooleans,
+    InvalidateConditional,
+    InvalidateInputs,
+    FlushOutputs,
+    FlushConditional,
+}
+
+// What is stored in a window of height 1: the instructions, and the float, integer and boolean constants.
+pub enum Stored {
+    Instructions,
+    Floats,
+    Integers,
+    Booleans,
+}
+
+// Fields stand in document 01's order.
+pub enum Command {
+    // set_domain: i0, j0, i1, j1; pairs from (i0, j0) to (i1, j1), both ends included.
+    Domain(u32, u32, u32, u32),
+    // start_program.
+    Start,
+    // wait_for_idle, the invalidations and the flushes.
+    Quiet(NoEffect),
+    // set_inst_fmt, set_constf_fmt, set_consti_fmt, set_constb_fmt: base, format.
+    Store(Stored, u32, u32),
+    // set_inp_fmt, set_out_fmt: number, base, format, height.
+    Input(u32, u32, u32, u32),
+    Output(u32, u32, u32, u32),
+    // set_cond_out_fmt: base, format, height.
+    Conditional(u32, u32, u32),
+    // set_out_mask, set_cond_out_mask, set_cond_test.
+    OutputMask(u32),
+    ConditionalMask(u32),
+    Test(u32),
+}
+
+// A command's parameters in four places; 0 where it has none.
+pub struct Places(pub u32, pub u32, pub u32, pub u32);
+
+// The command of a line, with the line's parameters in the first places.
+pub fn build(line: u32, p0: u32, p1: u32, p2: u32, p3: u32) -> Command
+    requires { ⌜ line < 21 ⌝ }
+    ensures { λ r. ⌜ r ≡ commandOf line p0 p1 p2 p3 ⌝ }
+{
+    match line {
+        0 => Command::Domain(p0, p1, p2, p3),
+        1 => Command::Start,
+        2 => Command::Quiet(NoEffect::Wait),
+        3 => Command::Store(Stored::Instructions, p0, p1),
+        4 => Command::Input(p0, p1, p2, p3),
+        5 => Command::Output(p0, p1, p2, p3),
+        6 => Command::Conditional(p0, p1, p2),
+        7 => Command::Store(Stored::Floats, p0, p1),
+        8 => Command::Store(Stored::Integers, p0, p1),
+        9 => Command::Store(Stored::Booleans, p0, p1),
+        10 => Command::Quiet(NoEffect::InvalidateInstructions),
+        11 => Command::Quiet(NoEffect::InvalidateFloats),
+        12 => Command::Quiet(NoEffect::InvalidateIntegers),
+        13 => Command::Quiet(NoEffect::InvalidateBooleans),
+        14 => Command::Quiet(NoEffect::InvalidateConditional),
+        15 => Command::Quiet(NoEffect::InvalidateInputs),
+        16 => Command::Quiet(NoEffect::FlushOutputs),
+        17 => Command::Quiet(NoEffect::FlushConditional),
+        18 => Command::OutputMask(p0),
+        19 => Command::ConditionalMask(p0),
+        _ => Command::Test(p0),
+    }
+}
+
+// The line of each command without effect, and of each store.
+pub fn no_effect_line(what: NoEffect) -> u32
+    ensures { λ r. ⌜ r ≡ noEffectLine what ⌝ }
+{
+    match what {
+        NoEffect::Wait => 2,
+        NoEffect::InvalidateInstructions => 10,
+        NoEffect::InvalidateFloats => 11,
+        NoEffect::InvalidateIntegers => 12,
+        NoEffect::InvalidateBooleans => 13,
+        NoEffect::InvalidateConditional => 14,
+        NoEffect::InvalidateInputs => 15,
+        NoEffect::FlushOutputs => 16,
+        NoEffect::FlushConditional => 17,
+    }
+}
+
+pub fn stored_line(what: Stored) -> u32
+    ensures { λ r. ⌜ r ≡ storedLine what ⌝ }
+{
+    match what {
+        Stored::Instructions => 3,
+        Stored::Floats => 7,
+        Stored::Integers => 8,
+        Stored::Booleans => 9,
+    }
+}
+
+// The line of a command in the table.
+pub fn line(command: Command) -> u32
+    ensures { λ r. ⌜ r ≡ lineOf command ⌝ }
+{
+    match command {
+        Command::Domain(..) => 0,
+        Command::Start => 1,
+        Command::Quiet(what) => no_effect_line(what),
+        Command::Store(what, ..) => stored_line(what),
+        Command::Input(..) => 4,
+        Command::Output(..) => 5,
+        Command::Conditional(..) => 6,
+        Command::OutputMask(_) => 18,
+        Command::ConditionalMask(_) => 19,
+        Command::Test(_) => 20,
+    }
+}
+
+// The command's parameters; a reserved parameter is 0.
+pub fn fields(command: Command) -> Places
+    ensures { λ r. ⌜ r ≡ placesOf command ⌝ }
+{
+    match command {
+        Command::Domain(i0, j0, i1, j1) => Places(i0, j0, i1, j1),
+        Command::Start => Places(0, 0, 0, 0),
+        Command::Quiet(_) => Places(0, 0, 0, 0),
+        Command::Store(_, base, format) => Places(base, format, 0, 0),
+        Command::Input(number, base, format, height) => Places(number, base, format, height),
+        Command::Output(number, base, format, height) => Places(number, base, format, height),
+        Command::Conditional(base, format, height) => Places(base, format, height, 0),
+        Command::OutputMask(mask) => Places(mask, 0, 0, 0),
+        Command::ConditionalMask(mask) => Places(mask, 0, 0, 0),
+        Command::Test(test) => Places(test, 0, 0, 0),
+    }
+}
