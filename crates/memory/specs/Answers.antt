@@ -1,7 +1,7 @@
 -- What a reading tells, with every one of its bytes stated. Assumes nothing.
 use mathlib.Core.Path.{_≡_}
 use mathlib.Core.List.{List, _++_}
-use Prim.Native.Nat.{ℕ, _-_, _≤_}
+use Prim.Native.Nat.{ℕ, _+_, _-_, _≤_}
 use lib.ListN.{length, take, replicate}
 use Rattle.refusal.specs.Number.{numberOf}
 use Rattle.refusal.specs.Told.{Told, gives, refuses}
@@ -26,6 +26,11 @@ filled (refuses number) = replicate 16 0
 pub record Answered (t : Told) (r : Reading) : Type 0 where
   pub told : toldReading r ≡ t
   pub bytes : r .bytes ≡ filled t
+
+-- a part with room for it at a place of a reading's 16 bytes
+pub record PutAsked (bytes : List ℕ) (at : ℕ) (part : List ℕ) : Type 0 where
+  pub whole : length bytes ≡ 16
+  pub room : at + length part ≤ 16
 
 -- four parts of one length, with room for all of them in a reading
 pub record FourAsked (a b c d : List ℕ) : Type 0 where

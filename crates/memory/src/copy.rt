@@ -8,7 +8,8 @@ ghost use Prim.Native.Nat.{_≤_};
 ghost use lib.ListN.{length};
 ghost use Rattle.refusal.specs.Number.{numberOf};
 ghost use Rattle.refusal.specs.Told.{gives, refuses};
-ghost use Rattle.memory.specs.Answers.{Answered, FourAsked};
+ghost use Rattle.memory.specs.Answers.{Answered, PutAsked, FourAsked};
+ghost use Rattle.memory.specs.Elements.{stored};
 
 // Given bytes into a part of memory that is as long.
 pub fn store(part: &mut [u8], given: &[u8])
@@ -31,16 +32,25 @@ pub fn refused(why: Refusal) -> Reading
     }
 }
 
+// Bytes of a reading with a part of memory put in place `at`.
+fn put(bytes: [u8; 16], at: usize, part: &[u8]) -> [u8; 16]
+    requires { ⌜ PutAsked bytes at (now part) ⌝ }
+    ensures { λ r. ⌜ r ≡ stored at (now (part .entry)) bytes ⌝ }
+{
+    let mut room = bytes;
+    let n = part.len();
+    store(&mut room[at..at + n], part);
+    room
+}
+
 // A reading of one element.
 pub fn one(element: &[u8]) -> Reading
     requires { ⌜ length (now element) ≤ 16 ⌝ }
     ensures { λ r. ⌜ Answered (gives (now (element .entry))) r ⌝ }
 {
-    let n = element.len();
-    let mut bytes = [0u8; 16];
-    store(&mut bytes[0..n], element);
+    let bytes = put([0; 16], 0, element);
     Reading {
-        answer: Answer::Bytes(n),
+        answer: Answer::Bytes(element.len()),
         bytes,
     }
 }
@@ -51,11 +61,10 @@ pub fn four(a: &[u8], b: &[u8], c: &[u8], d: &[u8]) -> Reading
     ensures { λ r. ⌜ Answered (gives (now (a .entry) ++ (now (b .entry) ++ (now (c .entry) ++ now (d .entry))))) r ⌝ }
 {
     let n = a.len();
-    let mut bytes = [0u8; 16];
-    store(&mut bytes[0..n], a);
-    store(&mut bytes[n..n * 2], b);
-    store(&mut bytes[n * 2..n * 3], c);
-    store(&mut bytes[n * 3..n * 4], d);
+    let bytes = put([0; 16], 0, a);
+    let bytes = put(bytes, n, b);
+    let bytes = put(bytes, n * 2, c);
+    let bytes = put(bytes, n * 3, d);
     Reading {
         answer: Answer::Bytes(n * 4),
         bytes,
