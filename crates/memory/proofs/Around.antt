@@ -1,14 +1,13 @@
 -- The four addresses of a superfine read: one law a return of the code. Assumes nothing.
-use mathlib.Core.Path.{_≡_, refl, sym, ap, _∙_}
-use mathlib.Core.Bool.{Bool, true, false}
-use mathlib.Core.List.{List, [], _∷_}
+use mathlib.Core.Path.{_≡_, _∙_}
+use mathlib.Core.Bool.{true, false}
+use mathlib.Core.List.{[], _∷_}
 use Prim.Native.Nat.{ℕ, _+_, _^_, _<_}
-use Rattle.laws.specs.Choice.{_and_, pick}
+use Rattle.laws.specs.Choice.{_and_}
 use Rattle.laws.proofs.Choice.{pick-yes, pick-no, and-intro, and-right, and-no-left, and-no-right}
-use Rattle.refusal.specs.Told.{Told, gives, refuses}
+use Rattle.refusal.specs.Told.{gives, refuses}
 use Rattle.layout.specs.declared.Layout.{Layout}
-use Rattle.address.specs.Address.{inside, addressOf, translateOf}
-use Rattle.address.specs.Inverse.{Accepted}
+use Rattle.address.specs.Address.{inside, translateOf}
 use Rattle.address.proofs.Inverse.{answered}
 use Rattle.memory.specs.Superfine.{fourInside, cornersOf}
 use Rattle.memory.proofs.Pairs.{In, goes-to, grows, stays-out, out-of-window}

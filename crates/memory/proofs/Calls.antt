@@ -1,11 +1,9 @@
 -- What reads and writes answer, as far as the place of the element decides it: one law a return of the code, with memory at
 -- return. Assumes nothing.
 use mathlib.Core.Path.{_≡_, refl, sym, ap, ap₂, _∙_, subst}
-use mathlib.Core.Bool.{Bool, true, false}
 use mathlib.Core.List.{List, [], _∷_, _++_}
 use Prim.Native.Nat.{ℕ, _+_, _-_, _^_, _<_, _≤_}
 use native.Mathlib.Omega.{arith}
-use lib.Dec.{eqb}
 use lib.ListN.{length, take, drop}
 use borrow.Author.Tests.{eq-eqb, ne-eqb}
 use borrow.Rule.Slice.PartMut.{postOf, mid-len}
@@ -13,9 +11,8 @@ use Rattle.laws.specs.Choice.{_and_}
 use Rattle.laws.proofs.Choice.{and-intro, and-right, and-no-left}
 use Rattle.refusal.specs.Told.{Told, gives, refuses}
 use Rattle.layout.specs.declared.Layout.{Layout}
-use Rattle.address.specs.Address.{addressOf}
 use Rattle.memory.specs.Answers.{Answered}
-use Rattle.memory.specs.Elements.{heldAt, bytesAt, readOf, writeOf, stored, memoryAfter, Wrote, findOf}
+use Rattle.memory.specs.Elements.{bytesAt, readOf, writeOf, stored, memoryAfter, Wrote, findOf}
 use Rattle.memory.specs.declared.Reading.{Reading}
 use Rattle.memory.proofs.Copies.{put-back}
 use Rattle.memory.proofs.Places.{found, not-found}

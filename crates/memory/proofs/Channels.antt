@@ -1,20 +1,20 @@
 -- What a superfine read answers: one law a return of the code. Assumes nothing.
-use mathlib.Core.Path.{_≡_, refl, sym, ap, ap₂, _∙_, subst}
+use mathlib.Core.Path.{_≡_, sym, ap, ap₂, _∙_}
 use mathlib.Core.Bool.{Bool, true, false}
 use mathlib.Core.List.{List, [], _∷_, _++_}
 use Prim.Native.Nat.{ℕ, _+_, _-_, _^_, _<_, _≤_}
 use native.Mathlib.Omega.{arith}
 use lib.ListN.{length, take, drop}
 use borrow.Rule.Slice.PartMut.{mid-len}
-use Rattle.laws.specs.Choice.{_and_, pick}
+use Rattle.laws.specs.Choice.{_and_}
 use Rattle.laws.proofs.Choice.{pick-yes, pick-no, and-intro, and-no-left, and-no-right}
-use Rattle.refusal.specs.Told.{Told, gives, refuses}
+use Rattle.refusal.specs.Told.{gives, refuses}
 use Rattle.layout.specs.declared.Layout.{Layout}
 use Rattle.layout.specs.declared.ByteAddress.{ByteAddress}
-use Rattle.address.specs.Address.{ifAccepted, addressOf}
+use Rattle.address.specs.Address.{addressOf}
 use Rattle.command.specs.Format.{pitchOf, tiledOf, codeOf, sizeOf}
 use Rattle.memory.specs.Answers.{FourAsked}
-use Rattle.memory.specs.Elements.{isHeld, bytesAt, startOf}
+use Rattle.memory.specs.Elements.{bytesAt, startOf}
 use Rattle.memory.specs.Superfine.{superfineWord, layoutOf, fourInside, fourHeld, fourBytes, fourOf, fourAtOf, superfineReadOf, cornersOf}
 use Rattle.memory.proofs.Pairs.{given, passed}
 use Rattle.memory.proofs.Places.{not-held, begins}

@@ -3,14 +3,13 @@ use mathlib.Core.Path.{_≡_, refl, sym, ap, _∙_}
 use mathlib.Core.Bool.{Bool, true, false}
 use mathlib.Core.List.{List, _++_}
 use Prim.Native.Nat.{ℕ, _+_}
-use lib.ListN.{length}
 use Rattle.laws.specs.Choice.{_and_, pick}
-use Rattle.laws.proofs.Choice.{pick-yes, pick-no, Tested, tested, holds, fails}
+use Rattle.laws.proofs.Choice.{pick-yes}
 use Rattle.refusal.specs.Told.{Told, gives, refuses}
 use Rattle.layout.specs.Layout.{wellFormed, windowRule}
 use Rattle.layout.specs.declared.Layout.{Layout}
-use Rattle.address.specs.Address.{stepOf, ifAccepted, inside}
-use Rattle.memory.specs.Elements.{heldAt, elementOf, inOrder, readOf}
+use Rattle.address.specs.Address.{stepOf, ifAccepted}
+use Rattle.memory.specs.Elements.{inOrder, readOf}
 use Rattle.memory.specs.Reads.{joined}
 use Rattle.memory.specs.Superfine.{superfineWord, layoutOf, fourInside, fourHeld, fourBytes, fourOf, fourAtOf, superfineReadOf}
 

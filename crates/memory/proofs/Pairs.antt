@@ -5,10 +5,9 @@ use mathlib.Core.Bool.{Bool, true, false}
 use mathlib.Core.List.{List, [], _∷_}
 use Prim.Native.Nat.{ℕ, _+_, _^_, _<_}
 use native.Mathlib.Omega.{arith}
-use lib.Dec.{ltb}
-use borrow.Author.Tests.{lt-ltb, ltb-true}
+use borrow.Author.Tests.{ltb-true}
 use Rattle.laws.specs.Choice.{_and_, pick}
-use Rattle.laws.proofs.Choice.{pick-yes, pick-no, and-intro, and-left, and-right, Tested, tested, holds, fails}
+use Rattle.laws.proofs.Choice.{pick-yes, pick-no, and-left, and-right, Tested, tested, holds, fails}
 use Rattle.refusal.specs.Told.{Told, gives, refuses}
 use Rattle.layout.specs.Layout.{wellFormed, windowRule}
 use Rattle.layout.specs.declared.Layout.{Layout}
@@ -22,6 +21,9 @@ told-apart h = let z : _≡_ {A = ℕ} 0 1 = cc in omega arith
 
 same-values : {v w : List ℕ} → gives v ≡ gives w → v ≡ w
 same-values h = cc
+
+pub same-one : {b c : ℕ} → gives (b ∷ []) ≡ gives (c ∷ []) → b ≡ c
+same-one h = cc
 
 -- a test that asks more than one that fails
 pub more-fails : (u t : Bool) → (u ≡ true → t ≡ true) → t ≡ false → u ≡ false
@@ -95,12 +97,9 @@ module _ (l : Layout) (x y : ℕ) where
         accepted = g .accepted;
         test = g .test;
         pair = is-inside (g .test);
-        address = first (g .same);
+        address = same-one (ap gives (g .same));
         told = g .told;
       }
-    where
-      first : {b c : ℕ} → _≡_ {A = List ℕ} (b ∷ []) (c ∷ []) → b ≡ c
-      first h = cc
 
   -- a refused translation's number is the answer of whatever asks at least that the pair is inside
   pub stays-out :

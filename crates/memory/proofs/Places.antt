@@ -1,10 +1,9 @@
 -- Where elements begin in lent memory: one law a return of the code, and what a place shows. Assumes nothing.
-use mathlib.Core.Path.{_≡_, refl, sym, ap, _∙_}
+use mathlib.Core.Path.{_≡_, sym, ap, _∙_}
 use mathlib.Core.Bool.{Bool, true, false}
-use mathlib.Core.List.{List, [], _∷_}
+use mathlib.Core.List.{[], _∷_}
 use Prim.Native.Nat.{ℕ, _+_, _-_, _^_, _<_, _≤_}
 use native.Mathlib.Omega.{arith}
-use lib.Dec.{leb}
 use borrow.Author.Tests.{le-leb, lt-leb, leb-true}
 use Rattle.laws.specs.Choice.{_and_, pick}
 use Rattle.laws.proofs.Choice.{pick-yes, pick-no, and-intro, and-left, and-right, and-no-left, and-no-right, Tested, tested, holds, fails}
@@ -14,7 +13,7 @@ use Rattle.layout.proofs.Window.{size-most, form-size}
 use Rattle.address.specs.Address.{ifAccepted, inside, addressOf, translateOf}
 use Rattle.address.specs.Inverse.{Accepted, Inside}
 use Rattle.memory.specs.Elements.{isHeld, heldAt, inOrder, startOf, findOf}
-use Rattle.memory.proofs.Pairs.{told-apart, more-fails, Outcome, outcome, goes, stays, is-inside, goes-to, stays-out}
+use Rattle.memory.proofs.Pairs.{told-apart, same-one, more-fails, Outcome, outcome, goes, stays, is-inside, goes-to, stays-out}
 
 -- what a held element has, of memory of `n` bytes at `first` and an element of `s` bytes at `a`
 pub record Held (first n a s : ℕ) : Type 0 where
@@ -81,13 +80,10 @@ module _ (first n a s : ℕ) where
   unfolding startOf
   begins p told = go (tested (isHeld first n a s))
     where
-      first-of : {b c : ℕ} → gives (b ∷ []) ≡ gives (c ∷ []) → b ≡ c
-      first-of h = cc
-
       go : Tested (isHeld first n a s) → Starts p
       go (holds t) =
           let h = is-held t in
-          let e : p ≡ a - first = first-of (sym told ∙ pick-yes _ _ t) in
+          let e : p ≡ a - first = same-one (sym told ∙ pick-yes _ _ t) in
           record {
             test = t;
             place = e;
@@ -146,12 +142,9 @@ module _ (l : Layout) (x y first n : ℕ) where
   unfolding findOf
   found p told = go course
     where
-      only : {b c : ℕ} → gives (b ∷ []) ≡ gives (c ∷ []) → b ≡ c
-      only h = cc
-
       go : Course → Found p
       go (serves accepted i h same unfit) =
-          let e : p ≡ addressOf l x y - first = only (sym told ∙ same _ _ h) in
+          let e : p ≡ addressOf l x y - first = same-one (sym told ∙ same _ _ h) in
           let k = is-held first n (addressOf l x y) (l .size) h in
           record {
             accepted = accepted;

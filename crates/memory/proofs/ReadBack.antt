@@ -1,8 +1,8 @@
 -- A read after a write: the bytes given at that pair, and at every other pair what stood there before, since two pairs of a
 -- window never share a byte. Assumes nothing.
-use mathlib.Core.Path.{_≡_, refl, sym, ap, ap₂, _∙_, subst}
-use mathlib.Core.Bool.{Bool, true, false}
-use mathlib.Core.List.{List, [], _∷_}
+use mathlib.Core.Path.{_≡_, sym, ap, _∙_, subst}
+use mathlib.Core.Bool.{true}
+use mathlib.Core.List.{List, []}
 use mathlib.Core.Logic.{_⊎_, inl, inr}
 use Prim.Native.Nat.{ℕ, _+_, _-_, _<_, _≤_}
 use native.Mathlib.Omega.{arith}
@@ -10,13 +10,13 @@ use lib.Dec.{leb, eqb}
 use lib.ListN.{length, take, drop}
 use borrow.Author.Tests.{eqb-true, leb-true, leb-false}
 use Rattle.laws.specs.Choice.{_and_}
-use Rattle.laws.proofs.Choice.{and-left, and-right, and-no-left, Tested, tested, holds, fails}
-use Rattle.refusal.specs.Told.{Told, gives, refuses}
+use Rattle.laws.proofs.Choice.{and-right, and-no-left, Tested, tested, holds, fails}
+use Rattle.refusal.specs.Told.{Told, gives}
 use Rattle.layout.specs.declared.Layout.{Layout}
 use Rattle.address.specs.Address.{ifAccepted, inside, addressOf}
-use Rattle.address.specs.Inverse.{Accepted, Inside, Owns}
+use Rattle.address.specs.Inverse.{Accepted, Inside}
 use Rattle.address.proofs.Inverse.{inverse}
-use Rattle.memory.specs.Elements.{isHeld, heldAt, bytesAt, elementOf, inOrder, readOf, writeOf, stored, memoryAfter, Wrote}
+use Rattle.memory.specs.Elements.{heldAt, bytesAt, elementOf, inOrder, readOf, writeOf, stored, memoryAfter, Wrote}
 use Rattle.memory.specs.Reads.{ReadBack}
 use Rattle.memory.proofs.Pairs.{told-apart, is-inside}
 use Rattle.memory.proofs.Places.{Held, is-held, asked, Course, course, serves, denies}

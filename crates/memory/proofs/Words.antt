@@ -1,14 +1,12 @@
 -- The format word of a superfine read: one law a return of the code, and the sizes that are left. Assumes nothing.
-use mathlib.Core.Path.{_≡_, refl, sym, ap, _∙_}
-use mathlib.Core.Bool.{Bool, true, false}
-use mathlib.Core.List.{List, [], _∷_}
+use mathlib.Core.Path.{_≡_, sym, ap, _∙_}
+use mathlib.Core.Bool.{true, false}
 use Prim.Native.Nat.{ℕ, zero, suc, _≤_}
 use native.Mathlib.Omega.{arith}
 use lib.Dec.{eqb, lit≤}
-use lib.ListN.{getD}
 use borrow.Author.Tests.{eqb-true}
 use Rattle.laws.specs.Choice.{_and_}
-use Rattle.laws.proofs.Choice.{and-yes, and-left, and-right, and-no-left, and-no-right}
+use Rattle.laws.proofs.Choice.{and-yes, and-right, and-no-left, and-no-right}
 use Rattle.command.specs.Format.{superfineOf, codeOf, sizeOf, channelsOf}
 use Rattle.command.specs.Kinds.{allowed}
 use Rattle.command.specs.declared.kinds.Kind.the-variants.{Base, Format}

@@ -14,7 +14,7 @@ use Rattle.address.specs.Address.{ifAccepted, inside, addressOf}
 use Rattle.command.specs.Format.{pitchOf, tiledOf, superfineOf, codeOf, sizeOf, channelsOf}
 use Rattle.command.specs.Kinds.{allowed}
 use Rattle.command.specs.declared.kinds.Kind.the-variants.{Base, Format}
-use Rattle.memory.specs.Elements.{isHeld, bytesAt, inOrder}
+use Rattle.memory.specs.Elements.{isHeld, bytesAt}
 use Rattle.memory.specs.declared.corners.Corners.{Corners}
 use Rattle.memory.specs.declared.corners.Corners.the-variants.{At, Refused}
 

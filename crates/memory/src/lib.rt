@@ -11,7 +11,7 @@ use layout::ByteAddress;
 use layout::Layout;
 use refusal::Refusal;
 ghost use mathlib.Core.Path.{_≡_};
-ghost use Prim.Native.Nat.{_≤_, _*_};
+ghost use Prim.Native.Nat.{_≤_};
 ghost use Rattle.memory.specs.Answers.{Answered};
 ghost use Rattle.memory.specs.Elements.{readOf, Wrote, toldWritten};
 ghost use Rattle.memory.specs.Superfine.{superfineReadOf, superfineWord, fourOf};
@@ -22,7 +22,8 @@ pub enum Answer {
     Refused(Refusal),
 }
 
-// What a read answers. The bytes stand at the front, in the order of their addresses, and zeros after them. A refusal has zeros alone.
+// What a read answers. The bytes stand at the front, in the order of their addresses, and zeros after them. A refusal has
+// zeros alone.
 pub struct Reading {
     pub answer: Answer,
     pub bytes: [u8; 16],

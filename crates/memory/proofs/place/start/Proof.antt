@@ -1,5 +1,4 @@
 -- `memory::place::start` meets its contract: a law for each return. Assumes nothing.
-use native.Mathlib.Omega.{arith}
 use mathlib.Core.Path.{sym}
 use Rattle.memory.proofs.Places.{too-long, too-high, below-first, past-end, starts}
 use borrow.Author.Needs.{needs}
