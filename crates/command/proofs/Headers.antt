@@ -1,17 +1,17 @@
 -- Laws of the table of commands: each header is made of its line's operation and number of parameters, a header is found
 -- exactly where it stands in the table, and the line of a header is its operation less 7. Assumes nothing.
-use mathlib.Core.Path.{_≡_, refl, sym, ap, _∙_, subst}
-use mathlib.Core.Bool.{Bool, true, false}
+use mathlib.Core.Path.{_≡_, refl, sym, ap, _∙_}
+use mathlib.Core.Bool.{Bool, true}
 use mathlib.Core.List.{List, [], _∷_}
 use Prim.Native.Nat.{ℕ, _+_, _-_, _*_, _/_, _%_, _^_, _<_, _≤_}
 use native.Mathlib.Omega.{arith}
 use lib.Dec.{eqb, leb, ltb}
-use lib.ListN.{length, getD, List·getD-eq-default}
+use lib.ListN.{List·getD-eq-default}
 use borrow.Author.Tests.{eqb-true, leb-true, ltb-true, lt-ltb, le-ltb}
 use Rattle.laws.specs.Choice.{_and_, pick, placeOf}
 use Rattle.laws.proofs.Choice.{Tested, holds, fails, tested, pick-yes, pick-no, place-found, and-left, and-right}
 use Rattle.laws.proofs.Table.{everyBelow, every, NoneOf, namedOr, otherwise}
-use Rattle.refusal.specs.Told.{Told, gives, refuses}
+use Rattle.refusal.specs.Told.{gives, refuses}
 use Rattle.command.specs.Table.{headers, counts, headerOf, countOf, lineWith}
 
 -- what a header says of its line, computed at each line: parameters minus one in bits 29:16, the operation in 15:8, and

@@ -2,10 +2,9 @@
 -- that document 01's order gives, 3 before 4 before 5 and 6. Assumes nothing.
 use mathlib.Core.Path.{_≡_, refl, sym, ap, ap₂, _∙_}
 use mathlib.Core.Bool.{Bool, true, false}
-use mathlib.Core.List.{List, [], _∷_}
+use mathlib.Core.List.{List, []}
 use Prim.Native.Nat.{ℕ, _<_}
 use lib.Dec.{eqb}
-use lib.ListN.{getD}
 use borrow.Author.Tests.{eqb-true}
 use Rattle.laws.specs.Choice.{_and_, pick}
 use Rattle.laws.proofs.Choice.{and-left, and-right}
@@ -31,7 +30,6 @@ use Rattle.command.specs.declared.kinds.Kind.the-variants.{
   TestBits,
 }
 use Rattle.command.specs.declared.commands.Places.{Places}
-use Rattle.command.specs.declared.commands.NoEffect.{NoEffect}
 use Rattle.command.specs.declared.commands.NoEffect.the-variants.{
   Wait,
   InvalidateInstructions,
@@ -43,7 +41,6 @@ use Rattle.command.specs.declared.commands.NoEffect.the-variants.{
   FlushOutputs,
   FlushConditional,
 }
-use Rattle.command.specs.declared.commands.Stored.{Stored}
 use Rattle.command.specs.declared.commands.Stored.the-variants.{Instructions, Floats, Integers, Booleans}
 use Rattle.command.specs.declared.commands.Command.{Command}
 use Rattle.command.specs.declared.commands.Command.the-variants.{

@@ -1,6 +1,6 @@
 -- What the writer writes, a reader takes again: exactly the commands whose fields are each allowed by their kinds and whose
 -- rules are kept are written, and their words lead back to them. Assumes nothing.
-use mathlib.Core.Path.{_≡_, refl, sym, ap, _∙_}
+use mathlib.Core.Path.{_≡_, refl, _∙_}
 use mathlib.Core.Bool.{Bool, true, false}
 use mathlib.Core.List.{List, [], _∷_}
 use Prim.Native.Nat.{ℕ, zero, suc, _<_, zero-le, suc-le-suc}

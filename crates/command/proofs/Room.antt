@@ -1,20 +1,17 @@
 -- The writer's room: what stores at its front make of it, and each answer of the writer with the room at return.
 -- Assumes nothing.
 use mathlib.Core.Path.{_≡_, refl, sym, ap, ap₂, _∙_}
-use mathlib.Core.Bool.{Bool, true, false}
 use mathlib.Core.List.{List, [], _∷_, _++_}
-use Prim.Native.Nat.{ℕ, suc, _+_, _<_, _≤_}
+use Prim.Native.Nat.{ℕ, _+_, _<_, _≤_}
 use native.Mathlib.Omega.{arith}
-use lib.Dec.{leb}
 use lib.ListN.{length, take, drop}
 use lib.Seq.{sets, sets-eq, length-take-le}
 use borrow.Author.Tests.{le-leb, lt-leb}
-use Rattle.laws.specs.Choice.{pick}
 use Rattle.laws.proofs.Choice.{pick-yes, pick-no}
 use Rattle.refusal.specs.Told.{Told, gives, refuses}
 use Rattle.command.specs.Table.{headerOf, countOf}
 use Rattle.command.specs.Commands.{lineOf, fieldsOf, wordsOf, placesOf}
-use Rattle.command.specs.Writer.{thenTold, judgeCommandOf, writeOf, roomAfter, Wrote}
+use Rattle.command.specs.Writer.{judgeCommandOf, writeOf, roomAfter, Wrote}
 use Rattle.command.specs.declared.commands.Places.{Places}
 use Rattle.command.specs.declared.commands.Command.{Command}
 use Rattle.command.proofs.Headers.{count-least, count-most}

@@ -1,12 +1,13 @@
 -- The rules on a whole command, case by case as the code finds them. Assumes nothing.
 use mathlib.Core.Path.{_≡_, refl, sym, ap, _∙_}
 use mathlib.Core.Bool.{Bool, true, false}
-use mathlib.Core.List.{List, [], _∷_}
+use mathlib.Core.List.{[], _∷_}
 use Prim.Native.Nat.{ℕ, _<_, _≤_}
 use lib.Dec.{leb}
 use borrow.Author.Tests.{le-leb, lt-leb}
 use denote.Enum.Declared.{tagOf}
 use types.Run.{OneOf, miss}
+use Rattle.laws.specs.Choice.{pick}
 use Rattle.laws.proofs.Choice.{pick-yes, pick-no, and-yes, and-no-left}
 use Rattle.refusal.specs.Told.{Told, gives, refuses}
 use Rattle.command.specs.Rules.{domainKept, windowKept, lastRuleOf}
@@ -62,3 +63,18 @@ module _ (c : Command) where
   pub rule-fine : domainKept c ≡ true → windowKept c ≡ true → lastRuleOf c ≡ gives []
   unfolding lastRuleOf
   rule-fine d w = pick-yes _ _ d ∙ pick-yes _ _ w
+
+-- a command as a whole is fine or gets 5 or 6, and nothing else
+pub data Ruled : Told → Type 0 where
+  fine : Ruled (gives [])
+  five : Ruled (refuses 5)
+  six : Ruled (refuses 6)
+
+pub ruled : (c : Command) → Ruled (lastRuleOf c)
+unfolding lastRuleOf pick
+ruled c = go (domainKept c) (windowKept c)
+  where
+    go : (d w : Bool) → Ruled (pick d (pick w (gives []) (refuses 6)) (refuses 5))
+    go true true = fine
+    go true false = six
+    go false w = five

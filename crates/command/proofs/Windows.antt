@@ -3,19 +3,19 @@
 use mathlib.Core.Path.{_≡_, refl, sym, ap, _∙_}
 use mathlib.Core.Bool.{Bool, true, false}
 use mathlib.Core.List.{List, [], _∷_}
-use Prim.Native.Nat.{ℕ, _+_, _*_, _/_, _%_, _^_, _<_, _≤_}
+use Prim.Native.Nat.{ℕ, _%_, _^_, _<_, _≤_}
 use native.Mathlib.Omega.{arith}
-use lib.Dec.{eqb, leb, ltb}
-use lib.ListN.{getD, List·getD-eq-default}
+use lib.ListN.{List·getD-eq-default}
 use borrow.Author.Tests.{eqb-true, leb-true, eq-eqb, le-leb}
 use Rattle.laws.specs.Choice.{_and_, pick, placeOf}
 use Rattle.laws.proofs.Choice.{pick-yes, and-intro, and-left, and-right}
 use Rattle.laws.proofs.Table.{everyBelow, every, NoneOf}
-use Rattle.refusal.specs.Told.{Told, gives, refuses}
+use Rattle.refusal.specs.Told.{gives, refuses}
 use Rattle.layout.specs.Sizes.{isSize}
 use Rattle.layout.specs.Layout.{wellFormed, windowRule, rowStep, spanOf, judgeOf}
 use Rattle.command.specs.Format.{pitchOf, tiledOf, codeOf, sizeOf, channelsOf, windowOf}
 use Rattle.command.specs.Kinds.{formatAllowed, allowed}
+use Rattle.command.specs.Rules.{isGiven}
 use Rattle.command.specs.declared.kinds.Kind.the-variants.{Base, Format, InputFormat}
 
 -- codes above 4 have no size and no channels
@@ -69,6 +69,11 @@ unfolding pick
 six-or-given values true q = let z : _≡_ {A = ℕ} 0 1 = cc in omega arith
 six-or-given values false q = let z : _≡_ {A = ℕ} 6 3 = cc in omega arith
 
+six-else : (values : List ℕ) (t : Bool) → isGiven (pick t (gives values) (refuses 6)) ≡ false → pick t (gives values) (refuses 6) ≡ refuses 6
+unfolding pick isGiven
+six-else values true q = absurd (let z : _≡_ {A = Bool} true false = q in let y : _≡_ {A = ℕ} 0 1 = cc in omega arith)
+six-else values false q = refl
+
 -- an input's format word is allowed as any format word is
 pub input-format : (w : ℕ) → allowed InputFormat w ≡ true → allowed Format w ≡ true
 unfolding allowed
@@ -94,6 +99,10 @@ module _ (base format height : ℕ) (b : allowed Base base ≡ true) (f : allowe
       (refuses 6)
   unfolding windowOf judgeOf
   window-ruled = pick-yes _ _ window-formed
+
+  -- so a window that isn't accepted gets 6
+  pub window-six : isGiven (windowOf base format height) ≡ false → windowOf base format height ≡ refuses 6
+  window-six e = window-ruled ∙ six-else _ _ (sym (ap isGiven window-ruled) ∙ e)
 
   pub window-not-three : windowOf base format height ≡ refuses 3 → ⊥
   window-not-three e =

@@ -3,7 +3,7 @@
 use mathlib.Core.Path.{_≡_, refl, sym, ap, _∙_}
 use mathlib.Core.Bool.{Bool, true, false}
 use mathlib.Core.List.{List, [], _∷_}
-use Prim.Native.Nat.{ℕ, _+_, _*_, _/_, _%_, _^_, _<_, _≤_}
+use Prim.Native.Nat.{ℕ, _+_, _*_, _/_, _%_, _<_}
 use native.Mathlib.Omega.{arith}
 use lib.Dec.{leb}
 use denote.Enum.Declared.{tagOf}
@@ -11,7 +11,7 @@ use types.Run.{OneOf, miss}
 use Rattle.laws.specs.Choice.{_and_, pick, placeOf}
 use Rattle.laws.proofs.Choice.{pick-yes, pick-no}
 use Rattle.laws.proofs.Table.{everyBelow, NoneOf, namedOr, otherwise}
-use Rattle.refusal.specs.Told.{Told, gives, refuses}
+use Rattle.refusal.specs.Told.{gives, refuses}
 use Rattle.command.proofs.kinds.Kind.{the-type}
 use Rattle.command.specs.Format.{superfineOf, codeOf, channelsOf}
 use Rattle.command.specs.Kinds.{superfineAllowed, allowed, faultOf, checkOf, kindOf}
@@ -57,6 +57,16 @@ fault-other MaskBits e = refl
 fault-other ConditionalMaskBit e = refl
 fault-other TestBits e = refl
 
+given-chosen : (t : Bool) (n : ℕ) → pick t (gives []) (refuses n) ≡ gives [] → t ≡ true
+unfolding pick
+given-chosen true n e = refl
+given-chosen false n e = let z : _≡_ {A = ℕ} 0 1 = cc in absurd (omega arith)
+
+refused-chosen : (t : Bool) (m n : ℕ) → pick t (gives []) (refuses m) ≡ refuses n → n ≡ m
+unfolding pick
+refused-chosen true m n e = cc
+refused-chosen false m n e = cc
+
 module _ (k : Kind) (w : ℕ) where
   pub check-fine : allowed k w ≡ true → checkOf k w ≡ gives []
   unfolding checkOf
@@ -65,6 +75,15 @@ module _ (k : Kind) (w : ℕ) where
   pub check-refused : (n : ℕ) → allowed k w ≡ false → n ≡ faultOf k → checkOf k w ≡ refuses n
   unfolding checkOf
   check-refused n e f = pick-no _ _ e ∙ ap refuses (sym f)
+
+  -- the other way: what passed is allowed, and a refusal is the kind's
+  pub fine-allowed : checkOf k w ≡ gives [] → allowed k w ≡ true
+  unfolding checkOf
+  fine-allowed e = given-chosen (allowed k w) (faultOf k) e
+
+  pub refused-by-kind : (n : ℕ) → checkOf k w ≡ refuses n → n ≡ faultOf k
+  unfolding checkOf
+  refused-by-kind n e = refused-chosen (allowed k w) (faultOf k) n e
 
 -- the kind at a place of the table, four places to a line
 unfoldable pub kindAt : ℕ → Kind

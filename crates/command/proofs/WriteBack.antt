@@ -2,7 +2,7 @@
 -- from, every command is the one that its own line and parameters make, and two commands with the same words are the same.
 -- Assumes nothing.
 use mathlib.Core.Path.{_≡_, refl, sym, ap, ap₂, _∙_}
-use mathlib.Core.Bool.{Bool, true}
+use mathlib.Core.Bool.{true}
 use mathlib.Core.List.{List, [], _∷_}
 use Prim.Native.Nat.{ℕ, _<_}
 use native.Mathlib.Omega.{arith}
@@ -10,13 +10,12 @@ use lib.Dec.{lit<}
 use lib.ListN.{length, take, getD}
 use borrow.Author.Tests.{eqb-true}
 use Rattle.laws.specs.Choice.{placeOf}
-use Rattle.laws.proofs.Table.{EachBelow, _&_, each}
+use Rattle.laws.proofs.Table.{_&_, each}
 use Rattle.command.specs.Table.{headers, headerOf, countOf}
 use Rattle.command.specs.Kinds.{allowed, kindOf}
 use Rattle.command.specs.Commands.{noEffectLine, storedLine, lineOf, fieldsOf, wordsOf, placesOf, commandOf, EachAllowed}
 use Rattle.command.proofs.Headers.{place-of-line}
 use Rattle.command.specs.declared.kinds.Kind.the-variants.{Reserved}
-use Rattle.command.specs.declared.commands.NoEffect.{NoEffect}
 use Rattle.command.specs.declared.commands.NoEffect.the-variants.{
   Wait,
   InvalidateInstructions,
@@ -28,7 +27,6 @@ use Rattle.command.specs.declared.commands.NoEffect.the-variants.{
   FlushOutputs,
   FlushConditional,
 }
-use Rattle.command.specs.declared.commands.Stored.{Stored}
 use Rattle.command.specs.declared.commands.Stored.the-variants.{Instructions, Floats, Integers, Booleans}
 use Rattle.command.specs.declared.commands.Command.{Command}
 use Rattle.command.specs.declared.commands.Command.the-variants.{

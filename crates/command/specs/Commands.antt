@@ -1,7 +1,7 @@
 -- Document 01, "The command words": a command's line in the table, its words, and the command that a line and its parameters
 -- make. Places are whole words, so that a command writes back to the words that it came from. Assumes nothing.
 use mathlib.Core.Path.{_≡_}
-use mathlib.Core.Bool.{Bool, true}
+use mathlib.Core.Bool.{true}
 use mathlib.Core.List.{List, [], _∷_}
 use Prim.Native.Nat.{ℕ, _<_}
 use lib.ListN.{getD}

@@ -1,7 +1,6 @@
 -- Document 01's rules on a whole command, judged at its last parameter: 5 and 6. Assumes nothing.
 use mathlib.Core.Bool.{Bool, true, false}
 use mathlib.Core.List.{[]}
-use Prim.Native.Nat.{ℕ}
 use lib.Dec.{leb}
 use Rattle.laws.specs.Choice.{_and_, pick}
 use Rattle.refusal.specs.Told.{Told, gives, refuses}

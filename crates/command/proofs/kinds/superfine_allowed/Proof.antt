@@ -1,7 +1,5 @@
 -- `command::kinds::superfine_allowed` meets its contract: the two cases of the definition. Assumes nothing.
-use mathlib.Core.Path.{sym, ap, _∙_}
-use Prim.Native.Nat.{ℕ}
-use lib.Dec.{leb}
+use mathlib.Core.Path.{sym, _∙_}
 use borrow.Author.Needs.{needs}
 use Rattle.command.proofs.Words.{superfine-asked, superfine-free}
 use Rattle.command.proofs.kinds.superfine_allowed.Statement.{statement}

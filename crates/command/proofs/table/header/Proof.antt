@@ -1,6 +1,5 @@
 -- `command::table::header` meets its contract: a header is made of its line's operation and number of parameters.
 -- Assumes nothing.
-use mathlib.Core.Path.{sym}
 use native.Mathlib.Omega.{arith}
 use borrow.Author.Needs.{needs}
 use Rattle.command.proofs.Headers.{header-rule, count-least, count-most}
