@@ -18,6 +18,17 @@ fn value(x: u32, y: u32, k: usize) -> u8 {
     ((x as usize % 256 * 7 + y as usize % 256 * 13 + k % 16 * 31 + 1) % 256) as u8
 }
 
+// What memory has before it is written, so that a byte that changed shows.
+fn pattern(k: usize) -> u8 {
+    (k % 1999 * 7 / 5 % 256) as u8
+}
+
+fn fill(memory: &mut [u8]) {
+    for k in 0..memory.len() {
+        memory[k] = pattern(k);
+    }
+}
+
 fn element(x: u32, y: u32) -> [u8; 16] {
     let mut bytes = [0u8; 16];
     for k in 0..16 {
@@ -129,7 +140,7 @@ fn untouched(layout: Layout, memory: &[u8], first: u32) -> Tally {
     for k in 0..memory.len() {
         let at = std::num::wrapping_add_u32(first, (k % 65536) as u32);
         if let Located::Refused(_) = address::locate(layout, ByteAddress(at)) {
-            if memory[k] != 0 {
+            if memory[k] != pattern(k) {
                 differed = std::num::wrapping_add_u64(differed, 1);
             }
         }
@@ -138,25 +149,34 @@ fn untouched(layout: Layout, memory: &[u8], first: u32) -> Tally {
 }
 
 // A window in memory at a first address: every pair written, then every pair read.
-fn window(layout: Layout, first: u32) -> Tally {
-    let mut memory = [0u8; 65536];
+fn written(layout: Layout, memory: &mut [u8], first: u32) -> Tally {
+    fill(memory);
     match layout::judge(layout) {
         Judged::Accepted { step, span: _ } => {
-            let t = rows(layout, step, &mut memory, first);
-            let t = t.and(rows_again(layout, step, &memory, first));
-            t.and(untouched(layout, &memory, first))
+            let t = rows(layout, step, memory, first);
+            let t = t.and(rows_again(layout, step, memory, first));
+            t.and(untouched(layout, memory, first))
         }
         Judged::Refused(_) => Tally::new().with(false),
     }
 }
 
+// The same in the first 65,536 bytes of a longer memory.
+fn window(layout: Layout, memory: &mut [u8], first: u32) -> Tally {
+    if memory.len() < 65536 {
+        return Tally::new().with(false);
+    }
+    written(layout, &mut memory[0..65536], first)
+}
+
 // The windows of the address tests, which are up to 105,600 bytes long: memory 1,000 bytes below the base, and 1,001 above
 // it, where it cuts elements in two.
-fn windows() -> Tally {
+fn windows(memory: &mut [u8]) -> Tally {
     let mut t = Tally::new();
     for k in 0..90 {
         let layout = window_of(k);
-        t = t.and(window(layout, 3096)).and(window(layout, 5097));
+        t = t.and(window(layout, memory, 3096));
+        t = t.and(window(layout, memory, 5097));
     }
     t
 }
@@ -237,17 +257,12 @@ fn front(t: Trial, memory: &mut [u8]) -> Tally {
     lent(t, &mut memory[0..length])
 }
 
-fn all_trials(memory: &mut [u8]) -> Tally {
+fn trials(memory: &mut [u8]) -> Tally {
     let mut t = Tally::new();
     for k in 0..5040 {
         t = t.and(front(trial_of(k), memory));
     }
     t
-}
-
-fn trials() -> Tally {
-    let mut memory = [3u8; 65537];
-    all_trials(&mut memory)
 }
 
 // A superfine read's arguments: what a format word is made of, and a pair. Of each list below the first value is good.
@@ -385,24 +400,24 @@ fn superfine(f: Fine, memory: &[u8]) -> bool {
     }
 }
 
-fn fill(memory: &mut [u8]) {
-    for k in 0..memory.len() {
-        memory[k] = (k % 1999 * 7 / 5 % 256) as u8;
-    }
-}
-
-fn superfines() -> Tally {
-    let mut memory = [0u8; 2000];
-    fill(&mut memory);
+// In the first 2,000 bytes of a longer memory.
+fn superfines(memory: &[u8]) -> Tally {
     let mut t = Tally::new();
+    if memory.len() < 2000 {
+        return t.with(false);
+    }
+    let front = &memory[0..2000];
     for k in 0..18432 {
-        t = t.with(superfine(fine_of(k), &memory));
+        t = t.with(superfine(fine_of(k), front));
     }
     t
 }
 
+// One memory for all: an array of that length is long to prove with.
 pub fn run() {
-    windows().print(b"elements written and read");
-    trials().print(b"memory and data of every length");
-    superfines().print(b"superfine reads");
+    let mut memory = [0u8; 65537];
+    windows(&mut memory).print(b"elements written and read");
+    trials(&mut memory).print(b"memory and data of every length");
+    fill(&mut memory);
+    superfines(&memory).print(b"superfine reads");
 }

@@ -5,19 +5,28 @@ use Rattle.worked.proofs.elements.superfines.Statement.{statement}
 use Rattle.worked.proofs.elements.superfines.Tie as tie
 
 abbrev Inv-loop : tie.InvT-loop
-Inv-loop memory t₀ k₀ t k = Unit {0}
+Inv-loop memory t₀ front k₀ t k = Unit {0}
 
 abbrev μ-loop : tie.MeasureT-loop
-μ-loop memory t₀ k₀ t k = 18432 - k
-
-slice-aggregate-fill : tie.Need-slice-aggregate-fill Inv-loop μ-loop
-slice-aggregate-fill c = search needs
-
-fill-requires : tie.Need-fill-requires Inv-loop μ-loop
-fill-requires c κs = search needs
+μ-loop memory t₀ front k₀ t k = 18432 - k
 
 new-requires : tie.Need-new-requires Inv-loop μ-loop
 new-requires c κs = search needs
+
+with-requires : tie.Need-with-requires Inv-loop μ-loop
+with-requires c κs = search needs
+
+returns : tie.Need-returns Inv-loop μ-loop
+returns c = search needs
+
+sub-front : tie.Need-sub-front Inv-loop μ-loop
+sub-front c = search needs
+
+part-front-start : tie.Need-part-front-start Inv-loop μ-loop
+part-front-start c = search needs
+
+part-front-end : tie.Need-part-front-end Inv-loop μ-loop
+part-front-end c = search needs
 
 loop-holds : tie.Need-loop-holds Inv-loop μ-loop
 loop-holds c = search needs
@@ -25,14 +34,11 @@ loop-holds c = search needs
 fine-of-requires : tie.Need-fine-of-requires Inv-loop μ-loop
 fine-of-requires c κs = search needs
 
-slice-aggregate-superfine : tie.Need-slice-aggregate-superfine Inv-loop μ-loop
-slice-aggregate-superfine c = search needs
-
 superfine-requires : tie.Need-superfine-requires Inv-loop μ-loop
 superfine-requires c κs = search needs
 
-with-requires : tie.Need-with-requires Inv-loop μ-loop
-with-requires c κs = search needs
+with-requires-2 : tie.Need-with-requires-2 Inv-loop μ-loop
+with-requires-2 c κs = search needs
 
 add-k : tie.Need-add-k Inv-loop μ-loop
 add-k c = search needs
@@ -43,8 +49,8 @@ loop-less c = search needs
 loop-again : tie.Need-loop-again Inv-loop μ-loop
 loop-again c = search needs
 
-returns : tie.Need-returns Inv-loop μ-loop
-returns c = search needs
+returns-2 : tie.Need-returns-2 Inv-loop μ-loop
+returns-2 c = search needs
 
 pub superfines-spec : {M : Type 1} → statement M
 superfines-spec =
@@ -52,15 +58,17 @@ superfines-spec =
     (tie.spec
     Inv-loop
     μ-loop
-    slice-aggregate-fill
-    fill-requires
     new-requires
+    with-requires
+    returns
+    sub-front
+    part-front-start
+    part-front-end
     loop-holds
     fine-of-requires
-    slice-aggregate-superfine
     superfine-requires
-    with-requires
+    with-requires-2
     add-k
     loop-less
     loop-again
-    returns)
+    returns-2)

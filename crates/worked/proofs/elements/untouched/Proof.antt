@@ -28,6 +28,9 @@ enum-told c = search needs
 shared-slice-read-if1 : tie.Need-shared-slice-read-if1 Inv-loop μ-loop
 shared-slice-read-if1 c = search needs
 
+pattern-requires : tie.Need-pattern-requires Inv-loop μ-loop
+pattern-requires c κs = search needs
+
 wrapping-add-u64-requires : tie.Need-wrapping-add-u64-requires Inv-loop μ-loop
 wrapping-add-u64-requires c κs = search needs
 
@@ -64,6 +67,7 @@ untouched-spec =
     locate-requires
     enum-told
     shared-slice-read-if1
+    pattern-requires
     wrapping-add-u64-requires
     enum-told-2
     add-k

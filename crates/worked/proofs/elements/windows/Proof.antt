@@ -1,14 +1,16 @@
--- `worked::elements::windows` is safe and ends: it counts up to its end. Assumes nothing.
+-- `worked::elements::windows` is safe and ends: it counts up to its end, and the bytes that it writes to stay as many. Assumes nothing.
 use Prim.Native.Nat.{_-_}
 use borrow.Author.Needs.{needs}
+use mathlib.Core.Path.{_≡_}
+use lib.ListN.{length}
 use Rattle.worked.proofs.elements.windows.Statement.{statement}
 use Rattle.worked.proofs.elements.windows.Tie as tie
 
 abbrev Inv-loop : tie.InvT-loop
-Inv-loop t₀ k₀ t k = Unit {0}
+Inv-loop memory₀ t₀ k₀ memory t k = length memory ≡ length memory₀
 
 abbrev μ-loop : tie.MeasureT-loop
-μ-loop t₀ k₀ t k = 90 - k
+μ-loop memory₀ t₀ k₀ memory t k = 90 - k
 
 new-requires : tie.Need-new-requires Inv-loop μ-loop
 new-requires c κs = search needs
@@ -40,6 +42,9 @@ loop-less c = search needs
 loop-again : tie.Need-loop-again Inv-loop μ-loop
 loop-again c = search needs
 
+same-length : tie.Need-same-length Inv-loop μ-loop
+same-length c = search needs
+
 returns : tie.Need-returns Inv-loop μ-loop
 returns c = search needs
 
@@ -59,4 +64,5 @@ windows-spec =
     add-k
     loop-less
     loop-again
+    same-length
     returns)

@@ -1,10 +1,10 @@
--- `worked::elements::all_trials` is safe and ends: it counts up to its end, and the bytes that it writes to stay as many. Assumes nothing.
+-- `worked::elements::trials` is safe and ends: it counts up to its end, and the bytes that it writes to stay as many. Assumes nothing.
 use Prim.Native.Nat.{_-_}
 use borrow.Author.Needs.{needs}
 use mathlib.Core.Path.{_≡_}
 use lib.ListN.{length}
-use Rattle.worked.proofs.elements.all_trials.Statement.{statement}
-use Rattle.worked.proofs.elements.all_trials.Tie as tie
+use Rattle.worked.proofs.elements.trials.Statement.{statement}
+use Rattle.worked.proofs.elements.trials.Tie as tie
 
 abbrev Inv-loop : tie.InvT-loop
 Inv-loop memory₀ t₀ k₀ memory t k = length memory ≡ length memory₀
@@ -42,8 +42,8 @@ same-length c = search needs
 returns : tie.Need-returns Inv-loop μ-loop
 returns c = search needs
 
-pub all-trials-spec : {M : Type 1} → statement M
-all-trials-spec =
+pub trials-spec : {M : Type 1} → statement M
+trials-spec =
     tie.close
     (tie.spec
     Inv-loop
