@@ -413,7 +413,7 @@ fn superfines(memory: &[u8]) -> Tally {
     t
 }
 
-// One memory for all: an array of that length is long to prove with.
+// One memory for all of them.
 pub fn run() {
     let mut memory = [0u8; 65537];
     windows(&mut memory).print(b"elements written and read");
