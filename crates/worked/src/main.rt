@@ -1,10 +1,12 @@
 // Runs document 01's worked values and the tests around them, and prints how many agreed and how many differed. Its stdout
 // file holds what it must print; every line ends in '0 differed'.
 mod addresses;
+mod elements;
 mod refusals;
 mod tally;
 
 fn main() {
     addresses::run();
     refusals::run();
+    elements::run();
 }
