@@ -1,7 +1,7 @@
 -- The page of top theorems. Each has its statement in words, and a proof that cites the crate that has it.
 -- Assumes nothing.
 use mathlib.Core.Path.{_≡_, refl}
-use mathlib.Core.List.{List, _++_}
+use mathlib.Core.List.{List, [], _++_}
 use Prim.Native.Nat.{ℕ, _+_, _≤_}
 use lib.ListN.{length}
 use Rattle.laws.specs.Bits.{xor}
@@ -14,6 +14,10 @@ use Rattle.address.specs.Offset.{cellWidth, cellHeight, codeOf, insideOf, tiled
 use Rattle.address.specs.Address.{ifAccepted, inside, addressOf, translateOf}
 use Rattle.address.specs.Inverse.{Accepted, Inverse}
 use Rattle.address.proofs.Inverse.{inverse}
+use Rattle.refusal.specs.Told.{gives}
+use Rattle.memory.specs.Elements.{Wrote}
+use Rattle.memory.specs.Reads.{ReadBack}
+use Rattle.memory.proofs.ReadBack.{read-back}
 use Rattle.session.specs.State.{Session}
 use Rattle.session.specs.Step.{refused, limit, stepOf}
 use Rattle.session.specs.Feed.{nothing, feedOf, written, fedPieces, uncut}
@@ -56,6 +60,13 @@ demand2-read-again = read-again
 -- Demand 2: runs and claims are those of the accepted words.
 pub demand2-tallies : (s : Session) (ws : List ℕ) → Tallied s (feedOf s ws .commands) (feedOf s ws .session)
 demand2-tallies = tallied
+
+-- Elements in lent memory: after a write, a read of that pair gives what was written, and a read of any other pair of the
+-- window answers as before.
+pub written-elements :
+    (l : Layout) (x y first : ℕ) (given before now : List ℕ) → Wrote l x y first given (gives []) before now →
+    ReadBack l x y first given before now
+written-elements = read-back
 
 -- Demand 3: address translation has an exact inverse, for every accepted layout.
 pub demand3 : (l : Layout) → Accepted l → Inverse l
