@@ -2,9 +2,11 @@
 // file holds what it must print; every line ends in '0 differed'.
 mod addresses;
 mod refusals;
+mod streams;
 mod tally;
 
 fn main() {
     addresses::run();
     refusals::run();
+    streams::run();
 }
