@@ -1,24 +1,82 @@
 -- The page of top theorems. Each has its statement in words, and a proof that cites the crate that has it.
 -- Assumes nothing.
-use mathlib.Core.Path.{refl}
+use mathlib.Core.Path.{_≡_, refl}
+use mathlib.Core.List.{List, [], _++_}
+use Prim.Native.Nat.{ℕ, _+_, _≤_}
+use lib.ListN.{length}
+use Rattle.laws.specs.Bits.{xor}
 use Rattle.laws.specs.Choice.{_and_, pick, placeOf}
+use Rattle.laws.specs.Masks.{_or_, differ, digit, on, pack, some, every}
 use Rattle.layout.specs.Sizes.{isSize, widthOf, heightOf}
 use Rattle.layout.specs.Layout.{wellFormed, unitOf, rowStep, tileRows, spanOf, inBounds, windowRule, judgeOf}
 use Rattle.layout.specs.declared.Layout.{Layout}
-use Rattle.laws.specs.Bits.{xor}
 use Rattle.address.specs.Offset.{cellWidth, cellHeight, codeOf, insideOf, tiledOffset, linearOffset, offsetOf}
 use Rattle.address.specs.Address.{ifAccepted, inside, addressOf, translateOf}
 use Rattle.address.specs.Inverse.{Accepted, Inverse}
 use Rattle.address.proofs.Inverse.{inverse}
+use Rattle.refusal.specs.Told.{gives}
+use Rattle.memory.specs.Elements.{Wrote}
+use Rattle.memory.specs.Reads.{ReadBack}
+use Rattle.memory.proofs.ReadBack.{read-back}
+use Rattle.session.specs.State.{Session}
+use Rattle.session.specs.Step.{refused, limit, stepOf}
+use Rattle.session.specs.Feed.{nothing, feedOf, written, fedPieces, uncut}
+use Rattle.session.specs.Valid.{Valid, heldOf}
+use Rattle.session.specs.Refusals.{RefusedTo}
+use Rattle.session.specs.Again.{Idle, SameSettings, ReadAgain}
+use Rattle.session.proofs.Cut.{cut-anywhere}
+use Rattle.session.proofs.WriteBack.{fed-back}
+use Rattle.session.proofs.ReadAgain.{read-again}
+use Rattle.session.proofs.Refusals.{refused-word}
+use Rattle.session.proofs.Tallies.{Tallied, tallied}
+use Rattle.flow.specs.Proc.{wants, decided, worked}
+use Rattle.flow.specs.Group.{allowed, fresh, turnedIf, wishOf, overLimit, wayOf, settled, slotStep, ended, stepOf as flowStep}
+use Rattle.flow.specs.Cases.{oneWord, c9, c10, c11, c12}
 use Rattle.demands.specs.Cases.{Agree, cases}
+
+-- Demand 1, for sessions: a refused word changes no setting and no tally; it stops the session and drops the open command, and
+-- on a stopped session it changes nothing at all. (The calls that are lent memory, room or a group's state say the same in
+-- their contracts.)
+pub demand1 : (s : Session) (w n : ℕ) → stepOf s w .reply ≡ refused n → RefusedTo s n (stepOf s w .session)
+demand1 = refused-word
+
+-- Demand 2: a stream cut anywhere, even inside a command, gives the same commands, settings and tallies as the uncut stream.
+pub demand2-cut : (s : Session) (ps : List (List ℕ)) → fedPieces s ps ≡ feedOf s (uncut ps)
+demand2-cut = cut-anywhere
+
+-- Demand 2: accepted commands write back to the words they came from; what is left over is the open command's words.
+pub demand2-write-back :
+    (s : Session) (ws : List ℕ) → Valid s → feedOf s ws .refusal ≡ nothing →
+    heldOf (s .party .opened) ++ ws ≡ written (feedOf s ws .commands) ++ heldOf (feedOf s ws .session .party .opened)
+demand2-write-back = fed-back
+
+-- Demand 2: these words, read again from the settings they first met, give the same commands and the same settings.
+pub demand2-read-again :
+    (s : Session) (ws : List ℕ) → Valid s → (u : Session) → SameSettings s u → Idle u →
+    u .party .taken + length (written (feedOf s ws .commands)) ≤ limit →
+    ReadAgain (feedOf s ws .commands) (feedOf s ws .session) (feedOf u (written (feedOf s ws .commands)))
+demand2-read-again = read-again
+
+-- Demand 2: runs and claims are those of the accepted words.
+pub demand2-tallies : (s : Session) (ws : List ℕ) → Tallied s (feedOf s ws .commands) (feedOf s ws .session)
+demand2-tallies = tallied
+
+-- Elements in lent memory: after a write, a read of that pair gives what was written, and a read of any other pair of the
+-- window answers as before.
+pub written-elements :
+    (l : Layout) (x y first : ℕ) (given before now : List ℕ) → Wrote l x y first given (gives []) before now →
+    ReadBack l x y first given before now
+written-elements = read-back
 
 -- Demand 3: address translation has an exact inverse, for every accepted layout.
 pub demand3 : (l : Layout) → Accepted l → Inverse l
 demand3 = inverse
 
--- The worked cases of document 01, all together.
-pub worked : Agree cases
+-- The worked cases C1 to C12 of document 01, all together.
+pub worked-cases : Agree cases
 unfolding
     _and_ pick placeOf isSize widthOf heightOf wellFormed unitOf rowStep tileRows spanOf inBounds windowRule judgeOf xor cellWidth
-    cellHeight codeOf insideOf tiledOffset linearOffset offsetOf ifAccepted inside addressOf translateOf
-worked = (refl, (refl, (refl, (refl, (refl, (refl, (refl, (refl, (refl, (refl, (refl, tt)))))))))))
+    cellHeight codeOf insideOf tiledOffset linearOffset offsetOf ifAccepted inside addressOf translateOf _or_ differ digit on pack
+    some every wants decided worked allowed fresh turnedIf wishOf overLimit wayOf settled slotStep ended flowStep oneWord c9 c10 c11 c12
+worked-cases =
+    (refl, (refl, (refl, (refl, (refl, (refl, (refl, (refl, (refl, (refl, (refl, (refl, (refl, (refl, (refl, tt)))))))))))))))

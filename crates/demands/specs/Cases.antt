@@ -8,6 +8,7 @@ use Rattle.refusal.specs.Told.{Told, gives, refuses}
 use Rattle.layout.specs.Layout.{rowStep, judgeOf}
 use Rattle.layout.specs.declared.Layout.{Layout}
 use Rattle.address.specs.Address.{translateOf}
+use Rattle.flow.specs.Cases.{c9, c10, c11, c12, seen}
 
 -- a layout by its numbers
 abbrev layout : Bool → ℕ → ℕ → ℕ → ℕ → Layout
@@ -48,4 +49,12 @@ cases =
     -- C8 linear, s 4, pitch 8, base 4294965248: H 64 accepted, H 65 gets 6
     (judgeOf 4294965248 8 64 4 false is gives (8 ∷ 2048 ∷ [])) ∷
     (judgeOf 4294965248 8 65 4 false is refuses 6) ∷
+    -- C9 four processors, fresh group, first word 02000F00, alu 0011 binary: stay, active 0011
+    (seen c9 is gives (0 ∷ 3 ∷ [])) ∷
+    -- C10 the same with alu 0: jump, active 1111
+    (seen c10 is gives (1 ∷ 15 ∷ [])) ∷
+    -- C11 after C9, 00000010: stay, active 1100
+    (seen c11 is gives (0 ∷ 12 ∷ [])) ∷
+    -- C12 then 01010020: active 1111
+    (seen c12 is gives (0 ∷ 15 ∷ [])) ∷
     []

@@ -1,6 +1,7 @@
 pub mod Accepting
 pub mod Cells
 pub mod Cut
+pub mod Feeding
 pub mod Handed
 pub mod Kept
 pub mod OwnPuts
@@ -10,6 +11,7 @@ pub mod ReadAgain
 pub mod ReadBack
 pub mod Readiness
 pub mod Refusals
+pub mod Seen
 pub mod SharedPuts
 pub mod Stepping
 pub mod Taking

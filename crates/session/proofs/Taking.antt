@@ -102,7 +102,7 @@ module _ (l t s : List ℕ) (w : ℕ) (g : Given l t s) where
   abbrev sg : Session
   sg = sessionOf l t s
 
-  same : Held sg l t s
+  pub same : Held sg l t s
   same =
       record {
         own-cells = sym (own-canon l t (g .sized .own-length));

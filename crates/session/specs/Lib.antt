@@ -3,6 +3,7 @@ pub mod Answers
 pub mod Asked
 pub mod Cells
 pub mod Feed
+pub mod Queries
 pub mod Refusals
 pub mod Start
 pub mod State

@@ -3,6 +3,7 @@
 // A word is refused with 1 to 9 or 17; all but 1 stop the session for good and drop the open command.
 pub mod accept;
 pub mod own;
+pub mod queries;
 pub mod settings;
 pub mod start;
 pub mod stream;

@@ -211,7 +211,7 @@ fn window(layout: Layout) -> Tally {
 }
 
 // Window k of 90: each size, linear and tiled, three pitches and three heights.
-fn window_of(k: u32) -> Layout {
+pub fn window_of(k: u32) -> Layout {
     let sizes: [u32; 5] = [1, 2, 4, 8, 16];
     let pitches: [u32; 3] = [64, 132, 200];
     let heights: [u32; 3] = [1, 9, 33];

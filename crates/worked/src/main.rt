@@ -1,6 +1,7 @@
 // Runs document 01's worked values and the tests around them, and prints how many agreed and how many differed. Its stdout
 // file holds what it must print; every line ends in '0 differed'.
 mod addresses;
+mod elements;
 mod refusals;
 mod streams;
 mod tally;
@@ -8,5 +9,6 @@ mod tally;
 fn main() {
     addresses::run();
     refusals::run();
+    elements::run();
     streams::run();
 }

@@ -1,0 +1,110 @@
+-- A fresh group as the code writes it, and the turns of the loop that finds the first active processor. Assumes nothing.
+use mathlib.Core.Path.{_≡_, refl, sym, ap, _∙_}
+use mathlib.Core.Bool.{Bool, true, false}
+use mathlib.Core.List.{List}
+use Prim.Native.Nat.{ℕ, suc, _+_, _-_, _/_, _%_, _^_, _<_, _≤_}
+use native.Mathlib.Omega.{arith}
+use lib.Dec.{eqb, ltb}
+use borrow.Author.Tests.{eqb-true, le-leb, lt-leb}
+use Rattle.laws.specs.Choice.{_and_}
+use Rattle.laws.specs.Masks.{digit, on, pack, every, least}
+use Rattle.laws.proofs.Choice.{pick-yes, pick-no, and-intro, and-no-left, and-no-right}
+use Rattle.laws.proofs.Split.{by-test}
+use Rattle.laws.proofs.Masks.{pack-same, every-at, least-odd, least-even}
+use Rattle.refusal.specs.declared.Refusal.the-variants.{FlowField}
+use Rattle.flow.specs.declared.Begun.{Begun}
+use Rattle.flow.specs.declared.Begun.the-variants as begun
+use Rattle.flow.specs.Proc.{Proc, Active, Absent, isLive, isActive, counterBit}
+use Rattle.flow.specs.Group.{fresh, isGroupSize, beginTold}
+use Rattle.flow.specs.Cells.{plane, cellsWith, cellsOf, beginLeaves, Made}
+use Rattle.flow.specs.Answers.{BeginDone}
+use Rattle.flow.proofs.State.{made-of, fresh-sound}
+
+-- the mask of the first processors, made from the top down
+full-mask : (size : ℕ) → size ≤ 32 → 4294967295 / 2 ^ (32 - size) ≡ pack 32 (λ i. ltb i size)
+unfolding pack digit every _and_
+full-mask size h =
+    eqb-true _ _
+    (every-at 33 (λ s. eqb (4294967295 / 2 ^ (32 - s)) (pack 32 (λ i. ltb i s))) refl size (omega arith))
+
+module _ (size : ℕ) where
+  in-size : (f : Proc → Bool) → f Active ≡ true → f Absent ≡ false → pack 32 (λ i. ltb i size) ≡ pack 32 (λ i. f (fresh size .procs i))
+  unfolding fresh
+  in-size f a b =
+      pack-same 32 _ _ (λ i h. by-test (λ (p : Proc). ltb i size ≡ f p) (ltb i size) (λ e. e ∙ sym a) (λ e. e ∙ sym b))
+
+  none-set : (k : ℕ) → 0 ≡ plane k (fresh size .procs)
+  unfolding fresh pack digit
+  none-set k =
+      nothing ∙
+      pack-same 32 (λ i. false) (λ i. counterBit k (fresh size .procs i))
+      (λ i h. by-test (λ (p : Proc). false ≡ counterBit k p) (ltb i size) {a = Active} {b = Absent} (λ e. refl) (λ e. refl))
+    where
+      nothing : 0 ≡ pack 32 (λ i. false)
+      nothing = refl
+
+  fresh-cells :
+      size ≤ 32 →
+      cellsWith (4294967295 / 2 ^ (32 - size)) (4294967295 / 2 ^ (32 - size)) 0 0 0 0 0 0 0 0 0 0 ≡ cellsOf (fresh size)
+  unfolding fresh
+  fresh-cells h =
+      λ j.
+      cellsWith ((full-mask size h ∙ in-size isLive refl refl) j) ((full-mask size h ∙ in-size isActive refl refl) j)
+      (none-set 0 j) (none-set 1 j) (none-set 2 j) (none-set 3 j) (none-set 4 j) 0 0 0 0 0
+
+  module _ (l : List ℕ) where
+    refused-size : isGroupSize size ≡ false → BeginDone l l (begun.Refused FlowField) size
+    unfolding beginTold beginLeaves
+    refused-size e = record { told = sym (pick-no _ _ e); left = sym (pick-no _ _ e) }
+
+    pub begin-small : size < 1 → BeginDone l l (begun.Refused FlowField) size
+    unfolding isGroupSize
+    begin-small h = refused-size (and-no-left _ (lt-leb 1 size h))
+
+    pub begin-large : 32 < size → BeginDone l l (begun.Refused FlowField) size
+    unfolding isGroupSize
+    begin-large h = refused-size (and-no-right _ (lt-leb size 32 h))
+
+    pub begin-ready :
+        1 ≤ size → size ≤ 32 →
+        BeginDone l (cellsWith (4294967295 / 2 ^ (32 - size)) (4294967295 / 2 ^ (32 - size)) 0 0 0 0 0 0 0 0 0 0) begun.Ready size
+    unfolding beginTold beginLeaves isGroupSize
+    begin-ready h k =
+        let e : isGroupSize size ≡ true = and-intro (le-leb 1 size h) (le-leb size 32 k) in
+        record { told = sym (pick-yes _ _ e); left = fresh-cells k ∙ sym (pick-yes _ _ e) }
+
+-- the cells of a fresh group are such as these entries give out
+pub begin-made : (size : ℕ) → size ≤ 32 → Made (cellsOf (fresh size))
+begin-made size h = made-of (fresh size) (fresh-sound 31 size h)
+
+-- the loop over a mask's bits: what is found, and what is left to look at
+module _ (active rest i : ℕ) (e : least 32 (λ j. on j active) ≡ i + least (32 - i) (λ j. on j rest)) where
+  pub found-here : i < 32 → rest % 2 ≡ 1 → i ≡ least 32 (λ j. on j active)
+  found-here h odd =
+      let n : least (32 - i) (λ j. on j rest) ≡ 0 = ap (λ (k : ℕ). least k (λ j. on j rest)) (room h) ∙ least-odd (31 - i) rest odd in
+      omega arith
+    where
+      room : i < 32 → 32 - i ≡ suc (31 - i)
+      room h = omega arith
+
+  pub look-on :
+      i < 32 → (rest % 2 ≡ 1 → ⊥) →
+      least 32 (λ j. on j active) ≡ i + 1 + least (32 - (i + 1)) (λ j. on j (rest / 2))
+  look-on h even =
+      let n : least (32 - i) (λ j. on j rest) ≡ suc (least (31 - i) (λ j. on j (rest / 2))) =
+      ap (λ (k : ℕ). least k (λ j. on j rest)) (room h) ∙ least-even (31 - i) rest even in
+      let q : least (32 - (i + 1)) (λ j. on j (rest / 2)) ≡ least (31 - i) (λ j. on j (rest / 2)) =
+      ap (λ (k : ℕ). least k (λ j. on j (rest / 2))) (less h) in
+      omega arith
+    where
+      room : i < 32 → 32 - i ≡ suc (31 - i)
+      room h = omega arith
+
+      less : i < 32 → 32 - (i + 1) ≡ 31 - i
+      less h = omega arith
+
+  pub found-none : i ≡ 32 → i ≡ least 32 (λ j. on j active)
+  unfolding least
+  found-none z =
+      let n : least (32 - i) (λ j. on j rest) ≡ 0 = ap (λ (k : ℕ). least (32 - k) (λ j. on j rest)) z in
+      omega arith

@@ -1,0 +1,64 @@
+-- `flow::run` meets its contract: the steps on a copy, which takes the place of the cells where none is refused. Assumes nothing.
+use denote.Ref.{now}
+use Rattle.flow.proofs.Running.{run-ended, run-made, run-refused}
+use borrow.Author.Needs.{needs}
+use Rattle.flow.proofs.run.Statement.{statement}
+use Rattle.flow.proofs.run.Tie as tie
+
+element-copy-out-if1 : tie.Need-element-copy-out-if1
+element-copy-out-if1 c = search needs
+
+returns : tie.Need-returns
+returns c =
+    let s = c .before .before .before in
+    run-ended (now (s .args .cells)) (now (s .args .firsts)) (now (s .args .seconds)) (s .args .slots)
+    (s .args .booleans) (now (s .args .masks)) (c .if1 .taken)
+
+walk-requires : tie.Need-walk-requires
+walk-requires c κs = search needs
+
+enum-known-walked : tie.Need-enum-known-walked
+enum-known-walked c = search needs
+
+array-read-active : tie.Need-array-read-active
+array-read-active c = search needs
+
+first-active-requires : tie.Need-first-active-requires
+first-active-requires c κs = search needs
+
+number-active-requires : tie.Need-number-active-requires
+number-active-requires c κs = search needs
+
+enum-known-walked-2 : tie.Need-enum-known-walked-2
+enum-known-walked-2 c = search needs
+
+returns-2 : tie.Need-returns-2
+returns-2 c =
+    let s = c .before .before .before .before .before .before .before .before .before .before .before in
+    run-made (now (s .args .cells)) (now (s .args .firsts)) (now (s .args .seconds)) (s .args .slots)
+    (s .args .booleans) (now (s .args .masks))
+    (c .before .before .before .before .before .before .before .before .if1 .left)
+    (c .before .before .before .before .before .walk .ensures) (c .before .before .before .walked .given .1)
+    (c .before .first-active .ensures) (c .number-active .ensures)
+
+returns-3 : tie.Need-returns-3
+returns-3 c =
+    let s = c .before .before .before .before .before .before .before .before .before in
+    run-refused (now (s .args .cells)) (now (s .args .firsts)) (now (s .args .seconds)) (s .args .slots)
+    (s .args .booleans) (now (s .args .masks)) (c .before .before .before .before .before .before .if1 .left)
+    (c .before .before .before .walk .ensures) (c .before .walked2 .given .1)
+
+pub run-spec : {M : Type 1} → statement M
+run-spec =
+    tie.close
+    (tie.spec
+    element-copy-out-if1
+    returns
+    walk-requires
+    enum-known-walked
+    array-read-active
+    first-active-requires
+    number-active-requires
+    enum-known-walked-2
+    returns-2
+    returns-3)

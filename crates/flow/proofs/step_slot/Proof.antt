@@ -1,0 +1,92 @@
+-- `flow::step_slot` meets its contract: the first half of the step, and the second by its callee. Assumes nothing.
+use denote.Ref.{now}
+use Rattle.flow.proofs.State.{made-masks}
+use Rattle.flow.proofs.Stepping.{slot-refused, slot-marks, slot-done}
+use borrow.Author.Needs.{needs}
+use Rattle.flow.proofs.step_slot.Statement.{statement}
+use Rattle.flow.proofs.step_slot.Tie as tie
+
+allowed-requires : tie.Need-allowed-requires
+allowed-requires c κs = search needs
+
+element-copy-out-was : tie.Need-element-copy-out-was
+element-copy-out-was c = search needs
+
+element-copy-out-turn-if : tie.Need-element-copy-out-turn-if
+element-copy-out-turn-if c = search needs
+
+element-copy-out-turn-if-2 : tie.Need-element-copy-out-turn-if-2
+element-copy-out-turn-if-2 c = search needs
+
+element-copy-out-turn-if-3 : tie.Need-element-copy-out-turn-if-3
+element-copy-out-turn-if-3 c = search needs
+
+element-copy-out-turn-if-4 : tie.Need-element-copy-out-turn-if-4
+element-copy-out-turn-if-4 c = search needs
+
+element-copy-out-turn-if-5 : tie.Need-element-copy-out-turn-if-5
+element-copy-out-turn-if-5 c = search needs
+
+element-copy-out-turn-if-6 : tie.Need-element-copy-out-turn-if-6
+element-copy-out-turn-if-6 c = search needs
+
+turn-if-requires : tie.Need-turn-if-requires
+turn-if-requires c κs =
+    let s = c .before .before .before .before .before .before .before .before .before in
+    made-masks (now (s .args .cells)) (s .pre .0)
+
+shr-boolean : tie.Need-shr-boolean
+shr-boolean c = search needs
+
+wishes-requires : tie.Need-wishes-requires
+wishes-requires c κs = search needs
+
+decides-requires : tie.Need-decides-requires
+decides-requires c κs = search needs
+
+settle-requires : tie.Need-settle-requires
+settle-requires c κs =
+    let s = c .before .before .before .before .before .before .before .before .before .before .before .before .before in (
+      s .pre .0,
+      s .pre .1,
+      slot-marks (now (s .args .cells)) (s .args .first) (s .args .second) (s .args .slots) (s .args .alu)
+          (s .args .predicate) (s .args .booleans) (s .pre .0)
+          (c .before .before .before .before .before .before .before .before .before .before .before .before .allowed .ensures)
+          (c .before .before .before .turn-if .ensures),
+    )
+
+returns : tie.Need-returns
+returns c =
+    let s = c .before .before .before .before .before .before .before .before .before .before .before .before .before .before in
+    slot-done (now (s .args .cells)) (s .args .first) (s .args .second) (s .args .slots) (s .args .alu)
+    (s .args .predicate) (s .args .booleans) (s .pre .0)
+    (c .before .before .before .before .before .before .before .before .before .before .before .before .before .allowed .ensures)
+    (c .before .before .before .before .turn-if .ensures)
+    (c .before .before .before .before .before .before .before .before .before .before .before .before .if1 .taken)
+    (c .before .before .before .wishes .ensures) (c .before .before .decides .ensures) (c .settle .ensures)
+
+returns-2 : tie.Need-returns-2
+returns-2 c =
+    let s = c .before .before in
+    slot-refused (now (s .args .cells)) (s .args .first) (s .args .second) (s .args .slots) (s .args .alu)
+    (s .args .predicate) (s .args .booleans) (s .pre .0) (c .before .allowed .ensures) (c .if1 .left)
+
+pub step-slot-spec : {M : Type 1} → statement M
+step-slot-spec =
+    tie.close
+    (tie.spec
+    allowed-requires
+    element-copy-out-was
+    element-copy-out-turn-if
+    element-copy-out-turn-if-2
+    element-copy-out-turn-if-3
+    element-copy-out-turn-if-4
+    element-copy-out-turn-if-5
+    element-copy-out-turn-if-6
+    turn-if-requires
+    shr-boolean
+    wishes-requires
+    decides-requires
+    settle-requires
+    returns
+    returns-2)

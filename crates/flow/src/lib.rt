@@ -1,0 +1,394 @@
+// Flow words for one group of up to 32 processors: the program store, the group's state, a step and a run, as document 01
+// has them. Every routine answers an enum; a refusal (13 to 16) leaves what was lent as it was.
+mod planes;
+mod slot;
+
+use planes::Worked;
+use refusal::Refusal;
+use slot::Next;
+ghost use mathlib.Core.Path.{_≡_};
+ghost use Prim.Native.Nat.{_<_, _≤_};
+ghost use lib.ListN.{getD};
+ghost use Rattle.laws.specs.Masks.{on, count, least};
+ghost use Rattle.flow.specs.Group.{Makes, settled, slotStep, stepOf, goOn, stepsOf, runOf};
+ghost use Rattle.flow.specs.Cells.{withActive, groupOf, cellsWith, Made};
+ghost use Rattle.flow.specs.Masks.{MarksIn};
+ghost use Rattle.flow.specs.Answers.{StepDone, BeginDone, LoadDone, RunDone, WalkDone, programOf};
+
+// The number of a slot: one of document 01's three kinds of number, never a byte address or a word's position.
+pub struct SlotNumber(pub u32);
+
+// The answer of a step: the group jumped or stayed, and goes on at a slot.
+pub enum Stepped {
+    Jumped(SlotNumber),
+    Stayed(SlotNumber),
+    Refused(Refusal),
+}
+
+// A fresh group stands in the cells, or its size isn't allowed.
+pub enum Begun {
+    Ready,
+    Refused(Refusal),
+}
+
+// How many slots of a loaded program run (document 01's N), or the refusal.
+pub enum Loaded {
+    Slots(u32),
+    Refused(Refusal),
+}
+
+// A run's report: steps made, the first active processor (32 if none) and the number of active ones.
+pub enum Ran {
+    Report {
+        steps: usize,
+        first: u32,
+        active: u32,
+    },
+    Refused(Refusal),
+}
+
+// How many steps were made one after the other, or the refusal of the next.
+enum Walked {
+    Made(usize),
+    Refused(Refusal),
+}
+
+// The plain slot, which fills a store before its program is loaded.
+const PLAIN_FIRST: u32 = 0x20;
+
+const PLAIN_SECOND: u32 = 0;
+
+// The state of a group is 20 cells: 0 the processors in the group and 1 the active ones, bit i for processor i; 2 to 6 the
+// branch counters, bit i of cell 2 + k being bit k of processor i's counter; 7 the position; 8 to 11 the stored returns, the
+// last one first, 0 for none. 12 to 19 are 0: room for the mode, the killed processors, the open loops and aL.
+
+// Stores a whole state: the processors in the group, what the branch operation left, the position and the returns.
+fn store(cells: &mut [u32; 20], live: u32, w: Worked, at: u32, r0: u32, r1: u32, r2: u32, r3: u32)
+    ensures { λ r. ⌜ now (cells .exit) ≡ cellsWith live (w .active) (w .p0) (w .p1) (w .p2) (w .p3) (w .p4) at r0 r1 r2 r3 ⌝ }
+{
+    *cells = [
+        live,
+        w.active,
+        w.p0,
+        w.p1,
+        w.p2,
+        w.p3,
+        w.p4,
+        at,
+        r0,
+        r1,
+        r2,
+        r3,
+        0,
+        0,
+        0,
+        0,
+        0,
+        0,
+        0,
+        0,
+    ];
+}
+
+// The rest of a step once B_ELSE, the wishes and the decision are known: branch counters, returns, next position. Nothing is
+// stored before every refusal is ruled out.
+fn settle(
+    first: u32,
+    second: u32,
+    slots: u32,
+    cells: &mut [u32; 20],
+    active: u32,
+    wish: u32,
+    jump: bool,
+) -> Stepped
+    requires { ⌜ (Made (now cells)) × (getD (now cells) 7 0 < 512) × (MarksIn (now cells) active) ⌝ }
+    ensures { λ r. ⌜ StepDone (now (cells .entry)) (now (cells .exit)) r (settled 31 slots first second jump (λ i. on i wish) (withActive (now (cells .entry)) active) (groupOf (now (cells .entry)))) ⌝ }
+{
+    let live = cells[0];
+    let p0 = cells[2];
+    let p1 = cells[3];
+    let p2 = cells[4];
+    let p3 = cells[5];
+    let p4 = cells[6];
+    let op = slot::branch_op(first, jump);
+    if planes::over_limit(op, p0, p1, p2, p3, p4) {
+        return Stepped::Refused(Refusal::AtLimit);
+    }
+    let way = slot::way(
+        first / 64 % 4,
+        jump,
+        cells[7],
+        second / 65536 % 512,
+        cells[8],
+        cells[9],
+        cells[10],
+        cells[11],
+    );
+    let Next::To { at, r0, r1, r2, r3 } = way else {
+        return Stepped::Refused(Refusal::AtLimit);
+    };
+    if slots < at {
+        return Stepped::Refused(Refusal::PastEnd);
+    }
+    let w = planes::work(
+        op,
+        first / 65536 % 32,
+        jump,
+        live,
+        active,
+        wish,
+        p0,
+        p1,
+        p2,
+        p3,
+        p4,
+    );
+    store(cells, live, w, at, r0, r1, r2, r3);
+    if jump {
+        Stepped::Jumped(SlotNumber(at))
+    } else {
+        Stepped::Stayed(SlotNumber(at))
+    }
+}
+
+// A step on the two words of the slot at the position.
+fn step_slot(
+    first: u32,
+    second: u32,
+    slots: u32,
+    cells: &mut [u32; 20],
+    alu: u32,
+    predicate: u32,
+    booleans: u32,
+) -> Stepped
+    requires { ⌜ (Made (now cells)) × (getD (now cells) 7 0 < 512) ⌝ }
+    ensures { λ r. ⌜ StepDone (now (cells .entry)) (now (cells .exit)) r (slotStep 31 slots first second alu predicate booleans (groupOf (now (cells .entry)))) ⌝ }
+{
+    if slot::allowed(first, second) {
+        let was = cells[1];
+        let active = planes::turn_if(
+            first / 16 % 2 == 1,
+            cells[0],
+            was,
+            cells[2],
+            cells[3],
+            cells[4],
+            cells[5],
+            cells[6],
+        );
+        let boolean = (booleans >> (second % 32)) % 2;
+        let wish = planes::wishes(first / 256 % 256, boolean, alu, predicate);
+        let jump = planes::decides(first / 32 % 2 == 1, active, wish);
+        return settle(first, second, slots, cells, active, wish, jump);
+    }
+    Stepped::Refused(Refusal::FlowField)
+}
+
+// A step of the group under a program: the first and second words of its slots, and how many slots run. 16 where the program
+// has ended, 13 for a word that isn't allowed, 14 for a branch counter or the return stack at its limit, 15 for a jump past
+// the program's end (and where more than 512 slots are to run).
+pub fn step(
+    firsts: &[u32; 512],
+    seconds: &[u32; 512],
+    slots: u32,
+    cells: &mut [u32; 20],
+    alu: u32,
+    predicate: u32,
+    booleans: u32,
+) -> Stepped
+    requires { ⌜ Made (now cells) ⌝ }
+    ensures { λ r. ⌜ StepDone (now (cells .entry)) (now (cells .exit)) r (stepOf 31 (programOf (now (firsts .entry)) (now (seconds .entry)) slots) alu predicate booleans (groupOf (now (cells .entry)))) ⌝ }
+{
+    let position = cells[7];
+    if slots <= position {
+        return Stepped::Refused(Refusal::Ended);
+    }
+    if 512 < slots {
+        return Stepped::Refused(Refusal::PastEnd);
+    }
+    let at = position as usize;
+    step_slot(
+        firsts[at],
+        seconds[at],
+        slots,
+        cells,
+        alu,
+        predicate,
+        booleans,
+    )
+}
+
+// A fresh group: all its processors active, position 0, no returns. 13 unless the size is from 1 to 32.
+pub fn begin(size: u32, cells: &mut [u32; 20]) -> Begun
+    ensures { λ r. ⌜ BeginDone (now (cells .entry)) (now (cells .exit)) r size ⌝ }
+{
+    if size < 1 {
+        return Begun::Refused(Refusal::FlowField);
+    }
+    if 32 < size {
+        return Begun::Refused(Refusal::FlowField);
+    }
+    // From the top down, since 1 << 32 would not fit.
+    let live = 4294967295u32 >> (32 - size);
+    *cells = [
+        live,
+        live,
+        0,
+        0,
+        0,
+        0,
+        0,
+        0,
+        0,
+        0,
+        0,
+        0,
+        0,
+        0,
+        0,
+        0,
+        0,
+        0,
+        0,
+        0,
+    ];
+    Begun::Ready
+}
+
+// Loads a program into the store, two words a slot, and answers how many slots it has. 15 for no slot, more than 512 or an
+// odd number of words. Any words are taken: they are judged when stepped.
+pub fn load(words: &[u32], firsts: &mut [u32; 512], seconds: &mut [u32; 512]) -> Loaded
+    ensures { λ r. ⌜ LoadDone (now (words .entry)) (now (firsts .entry)) (now (firsts .exit)) (now (seconds .entry)) (now (seconds .exit)) r ⌝ }
+{
+    let n = words.len() / 2;
+    if words.len() % 2 != 0 {
+        return Loaded::Refused(Refusal::PastEnd);
+    }
+    if n < 1 {
+        return Loaded::Refused(Refusal::PastEnd);
+    }
+    if 512 < n {
+        return Loaded::Refused(Refusal::PastEnd);
+    }
+    *firsts = [PLAIN_FIRST; 512];
+    *seconds = [PLAIN_SECOND; 512];
+    let mut k = 0;
+    while k < n {
+        firsts[k] = words[k * 2];
+        seconds[k] = words[k * 2 + 1];
+        k += 1;
+    }
+    Loaded::Slots(n as u32)
+}
+
+// The first active processor: the lowest bit of the mask, 32 where it has none.
+pub fn first_active(active: u32) -> u32
+    ensures { λ r. ⌜ r ≡ least 32 (λ i. on i active) ⌝ }
+{
+    let mut rest = active;
+    let mut i = 0;
+    while i < 32 {
+        if rest % 2 == 1 {
+            return i;
+        }
+        rest = rest / 2;
+        i += 1;
+    }
+    i
+}
+
+// The number of active processors: the ones of the mask.
+pub fn number_active(active: u32) -> u32
+    ensures { λ r. ⌜ r ≡ count 32 (λ i. on i active) ⌝ }
+{
+    u32::count_ones(active)
+}
+
+// One step, as a run of its own.
+fn one_step(
+    firsts: &[u32; 512],
+    seconds: &[u32; 512],
+    slots: u32,
+    cells: &mut [u32; 20],
+    alu: u32,
+    predicate: u32,
+    booleans: u32,
+) -> Walked
+    requires { ⌜ Made (now cells) ⌝ }
+    ensures { λ r. ⌜ WalkDone (now (cells .exit)) r (goOn (stepOf 31 (programOf (now (firsts .entry)) (now (seconds .entry)) slots) alu predicate booleans (groupOf (now (cells .entry)))) (λ g. Makes 0 g)) ⌝ }
+{
+    let answer = step(firsts, seconds, slots, cells, alu, predicate, booleans);
+    match answer {
+        Stepped::Jumped(_) => Walked::Made(1),
+        Stepped::Stayed(_) => Walked::Made(1),
+        Stepped::Refused(why) => Walked::Refused(why),
+    }
+}
+
+// Steps with two masks each, up to the end of the list or of the program. A last mask without its partner isn't read.
+fn walk(
+    firsts: &[u32; 512],
+    seconds: &[u32; 512],
+    slots: u32,
+    cells: &mut [u32; 20],
+    masks: &[u32],
+    booleans: u32,
+) -> Walked
+    requires { ⌜ Made (now cells) ⌝ }
+    ensures { λ r. ⌜ WalkDone (now (cells .exit)) r (stepsOf 31 (programOf (now (firsts .entry)) (now (seconds .entry)) slots) booleans (now (masks .entry)) (groupOf (now (cells .entry)))) ⌝ }
+{
+    let pairs = masks.len() / 2;
+    let mut made = 0;
+    while made < pairs {
+        if slots <= cells[7] {
+            return Walked::Made(made);
+        }
+        let next = one_step(
+            firsts,
+            seconds,
+            slots,
+            cells,
+            masks[made * 2],
+            masks[made * 2 + 1],
+            booleans,
+        );
+        if let Walked::Refused(why) = next {
+            return Walked::Refused(why);
+        }
+        made += 1;
+    }
+    Walked::Made(made)
+}
+
+// A run over a list of masks, alu then predicate for each step, with one word of booleans. It ends with the list or with the
+// program. 16 where the program had ended before, whatever the list; where a step is refused, the run gets that number and
+// the state is as before the run.
+pub fn run(
+    firsts: &[u32; 512],
+    seconds: &[u32; 512],
+    slots: u32,
+    cells: &mut [u32; 20],
+    masks: &[u32],
+    booleans: u32,
+) -> Ran
+    requires { ⌜ Made (now cells) ⌝ }
+    ensures { λ r. ⌜ RunDone (now (cells .entry)) (now (cells .exit)) r (runOf 31 (programOf (now (firsts .entry)) (now (seconds .entry)) slots) booleans (now (masks .entry)) (groupOf (now (cells .entry)))) ⌝ }
+{
+    if slots <= cells[7] {
+        return Ran::Refused(Refusal::Ended);
+    }
+    let mut trial = *cells;
+    let walked = walk(firsts, seconds, slots, &mut trial, masks, booleans);
+    match walked {
+        Walked::Made(steps) => {
+            *cells = trial;
+            let active = trial[1];
+            Ran::Report {
+                steps,
+                first: first_active(active),
+                active: number_active(active),
+            }
+        }
+        Walked::Refused(why) => Ran::Refused(why),
+    }
+}

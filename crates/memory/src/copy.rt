@@ -1,0 +1,72 @@
+// Readings made of bytes, and the copying of bytes.
+use crate::Answer;
+use crate::Reading;
+use refusal::Refusal;
+ghost use mathlib.Core.Path.{_≡_};
+ghost use mathlib.Core.List.{_++_};
+ghost use Prim.Native.Nat.{_≤_};
+ghost use lib.ListN.{length};
+ghost use Rattle.refusal.specs.Number.{numberOf};
+ghost use Rattle.refusal.specs.Told.{gives, refuses};
+ghost use Rattle.memory.specs.Answers.{Answered, PutAsked, FourAsked};
+ghost use Rattle.memory.specs.Elements.{stored};
+
+// Given bytes into a part of memory that is as long.
+pub fn store(part: &mut [u8], given: &[u8])
+    requires { ⌜ length (now part) ≡ length (now given) ⌝ }
+    ensures { λ _. ⌜ now (part .exit) ≡ now (given .entry) ⌝ }
+{
+    let mut i = 0;
+    while i < given.len() {
+        part[i] = given[i];
+        i += 1;
+    }
+}
+
+pub fn refused(why: Refusal) -> Reading
+    ensures { λ r. ⌜ Answered (refuses (numberOf why)) r ⌝ }
+{
+    Reading {
+        answer: Answer::Refused(why),
+        bytes: [0; 16],
+    }
+}
+
+// Bytes of a reading with a part of memory put in place `at`.
+fn put(bytes: [u8; 16], at: usize, part: &[u8]) -> [u8; 16]
+    requires { ⌜ PutAsked bytes at (now part) ⌝ }
+    ensures { λ r. ⌜ r ≡ stored at (now (part .entry)) bytes ⌝ }
+{
+    let mut room = bytes;
+    let n = part.len();
+    store(&mut room[at..at + n], part);
+    room
+}
+
+// A reading of one element.
+pub fn one(element: &[u8]) -> Reading
+    requires { ⌜ length (now element) ≤ 16 ⌝ }
+    ensures { λ r. ⌜ Answered (gives (now (element .entry))) r ⌝ }
+{
+    let bytes = put([0; 16], 0, element);
+    Reading {
+        answer: Answer::Bytes(element.len()),
+        bytes,
+    }
+}
+
+// A reading of four elements of one size, one after the other.
+pub fn four(a: &[u8], b: &[u8], c: &[u8], d: &[u8]) -> Reading
+    requires { ⌜ FourAsked (now a) (now b) (now c) (now d) ⌝ }
+    ensures { λ r. ⌜ Answered (gives (now (a .entry) ++ (now (b .entry) ++ (now (c .entry) ++ now (d .entry))))) r ⌝ }
+{
+    let n = a.len();
+    let bytes = put([0; 16], 0, a);
+    let bytes = put(bytes, n, b);
+    let bytes = put(bytes, n * 2, c);
+    let bytes = put(bytes, n * 3, d);
+    Reading {
+        answer: Answer::Bytes(n * 4),
+        bytes,
+    }
+}

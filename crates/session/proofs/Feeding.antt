@@ -1,0 +1,146 @@
+-- A piece, word by word as the code feeds it, is the definition's fold. Assumes nothing.
+use mathlib.Core.Path.{_≡_, refl, sym, ap, ap₂, _∙_, subst}
+use mathlib.Core.List.{List, [], _∷_, _++_, append-assoc, append-nil}
+use Prim.Native.Nat.{ℕ, zero, suc, _+_, _<_, _≤_}
+use native.Mathlib.Nat.{zero-add, add-zero}
+use native.Mathlib.Numerals.{add-one}
+use native.Mathlib.Omega.{arith}
+use lib.ListN.{length, getD, drop, length-append, drop-of-length-le}
+use lib.Seq.{drop-cons}
+use denote.Enum.Declared.{tagOf}
+use types.Run.{OneOf, miss}
+use Rattle.refusal.specs.Number.{numberOf}
+use Rattle.refusal.specs.declared.Refusal.{Refusal}
+use Rattle.command.specs.declared.commands.Command.{Command}
+use Rattle.session.specs.State.{Session}
+use Rattle.session.specs.Step.{Reply, stillOpen, completed, refused, Stepped, stepOf}
+use Rattle.session.specs.Feed.{First, nothing, first, onward, ended, proceed, feedOf}
+use Rattle.session.specs.Feed as piece
+use Rattle.session.specs.Answers.{replyOf, completedBy, PieceLeft}
+use Rattle.session.specs.Asked.{Given, Held, Left}
+use Rattle.session.specs.Cells.{Sized, sessionOf}
+use Rattle.session.specs.declared.stream.Answer.{Answer}
+use Rattle.session.specs.declared.stream.Answer.the-variants.{Open, Done, Refused}
+use Rattle.session.specs.declared.stream.First as firsts
+use Rattle.session.specs.declared.stream.First.the-variants as firstly
+use Rattle.session.specs.declared.stream.Fed.{Fed}
+use Rattle.session.specs.declared.stream.WordPosition.{WordPosition}
+use Rattle.session.proofs.stream.Answer.{the-type}
+use Rattle.session.proofs.Cells.{held-view}
+use Rattle.session.proofs.Handed.{word-given}
+use Rattle.session.proofs.Kept.{kept}
+use Rattle.session.proofs.Taking.{same}
+
+-- an answer to the rest, with the words taken and the commands completed before it
+abbrev ahead : ℕ → List Command → piece.Fed → piece.Fed
+ahead i cs f = record { taken = i + f .taken; commands = cs ++ f .commands; refusal = f .refusal; session = f .session }
+
+fed-path : {m n : ℕ} {c d : List Command} {r : First} {s : Session} → m ≡ n → c ≡ d →
+    _≡_ {A = piece.Fed} (record { taken = m; commands = c; refusal = r; session = s }) (record { taken = n; commands = d; refusal = r; session = s })
+fed-path {r = r} {s = s} p q = λ k. record { taken = p k; commands = q k; refusal = r; session = s }
+
+pub completed-most : (y : Reply) → completedBy y ≤ 1
+completed-most stillOpen = omega arith
+completed-most (completed x) = omega arith
+completed-most (refused n) = omega arith
+
+-- `i` words were taken and completed `n` commands; the cells hold the session that they left
+pub record Fold (s : Session) (ws l t c : List ℕ) (i n : ℕ) : Type 0 where
+  pub done : List Command
+  pub given : Given l t c
+  pub within : i ≤ length ws
+  pub number : length done ≡ n
+  pub fewer : n ≤ i
+  pub rest : feedOf s ws ≡ ahead i done (feedOf (sessionOf l t c) (drop i ws))
+
+pub fold-begins : (ws l t c : List ℕ) → Given l t c → Fold (sessionOf l t c) ws l t c 0 0
+fold-begins ws l t c g =
+    record {
+      done = [];
+      given = g;
+      within = omega arith;
+      number = refl;
+      fewer = omega arith;
+      rest = fed-path (sym (zero-add _)) refl;
+    }
+
+abbrev answered : ℕ → ℕ → firsts.First → Fed
+answered i n r = record { taken = record { 0 = i }; commands = n; refusal = r }
+
+module _ (s : Session) (ws l t c : List ℕ) (i n : ℕ) (f : Fold s ws l t c i n) where
+  -- the piece's end
+  pub fold-ends : length ws ≤ i → PieceLeft (feedOf s ws) (answered i n firstly.Nothing) l t c
+  fold-ends h =
+      subst (λ (x : piece.Fed). PieceLeft x (answered i n firstly.Nothing) l t c) (sym (f .rest ∙ ap (λ (r : List ℕ). ahead i (f .done) (feedOf (sessionOf l t c) r)) (drop-of-length-le ws h)))
+      (unfold feedOf in
+      record {
+        taken = sym (add-zero i);
+        commands = sym (ap length (append-nil (f .done)) ∙ f .number);
+        refusal = refl;
+        held = same l t c 0 (f .given);
+      })
+
+  module _ (less : i < length ws) (l1 t1 c1 : List ℕ) where
+    abbrev w : ℕ
+    w = getD ws i 0
+
+    abbrev step : Stepped
+    step = stepOf (sessionOf l t c) w
+
+    here : feedOf s ws ≡ ahead i (f .done) (proceed (step .reply) (step .session) (feedOf (step .session) (drop (suc i) ws)))
+    here =
+        f .rest ∙
+        ap (λ (r : List ℕ). ahead i (f .done) (feedOf (sessionOf l t c) r)) (drop-cons ws i 0 less) ∙ unfold feedOf in refl
+
+    -- a word that is refused
+    stopping : (why : Refusal) → Left step (refused (numberOf why)) l1 t1 c1 →
+        PieceLeft (feedOf s ws) (answered i n (firstly.Refused why)) l1 t1 c1
+    stopping why h =
+        subst (λ (x : piece.Fed). PieceLeft x (answered i n (firstly.Refused why)) l1 t1 c1)
+        (sym (here ∙ ap (λ (r : Reply). ahead i (f .done) (proceed r (step .session) (feedOf (step .session) (drop (suc i) ws)))) (sym (h .reply))))
+        (unfold proceed in
+        record {
+          taken = sym (add-zero i);
+          commands = sym (ap length (append-nil (f .done)) ∙ f .number);
+          refusal = refl;
+          held = h .held;
+        })
+
+    pub fold-refused : (a : Answer) (why : Refusal) → a ≡ Refused why → Left step (replyOf a) l1 t1 c1 →
+        PieceLeft (feedOf s ws) (answered i n (firstly.Refused why)) l1 t1 c1
+    fold-refused a why e h = stopping why (subst (λ (b : Answer). Left step (replyOf b) l1 t1 c1) e h)
+
+    -- a word that is taken
+    goes : (y : Reply) → Left step y l1 t1 c1 → (cs : List Command) → length cs ≡ completedBy y →
+        ((r : piece.Fed) → proceed y (step .session) r ≡ onward cs r) → Fold s ws l1 t1 c1 (i + 1) (n + completedBy y)
+    goes y h cs e p =
+        record {
+          done = f .done ++ cs;
+          given = word-given w y (f .given) h;
+          within = omega (arith, less);
+          number = length-append (f .done) cs ∙ ap₂ (λ (a b : ℕ). a + b) (f .number) e;
+          fewer = omega (arith, f .fewer, completed-most y);
+          rest =
+              here ∙ ap (λ (r : Reply). ahead i (f .done) (proceed r (step .session) later)) (sym (h .reply)) ∙
+              ap (ahead i (f .done)) (p later) ∙ fed-path (plus i (later .taken)) (sym (append-assoc (f .done) cs (later .commands))) ∙
+              ap (ahead (i + 1) (f .done ++ cs)) (ap₂ feedOf (sym view) (ap (λ (m : ℕ). drop m ws) (sym (add-one i))));
+        }
+      where
+        later : piece.Fed
+        later = feedOf (step .session) (drop (suc i) ws)
+
+        view : sessionOf l1 t1 c1 ≡ step .session
+        view = held-view (step .session) (kept (sessionOf l t c) w (f .given .valid)) l1 t1 c1 (h .held)
+
+        plus : (a b : ℕ) → a + suc b ≡ a + 1 + b
+        plus a b = omega arith
+
+    accepted : (a : Answer) → OneOf (0 ∷ 1 ∷ []) (tagOf the-type a) → Left step (replyOf a) l1 t1 c1 →
+        Fold s ws l1 t1 c1 (i + 1) (n + completedBy (replyOf a))
+    accepted Open o h = goes stillOpen h [] refl (λ r. unfold proceed in refl)
+    accepted (Done x) o h = goes (completed x) h (x ∷ []) refl (λ r. unfold proceed in refl)
+    accepted (Refused why) o h = absurd (miss (0 ∷ 1 ∷ []) 2 tt o)
+
+    pub fold-goes : (a : Answer) → OneOf (0 ∷ 1 ∷ []) (tagOf the-type a) → Left step (replyOf a) l1 t1 c1 →
+        (m : ℕ) → m ≡ completedBy (replyOf a) → Fold s ws l1 t1 c1 (i + 1) (n + m)
+    fold-goes a o h m e = subst (λ (k : ℕ). Fold s ws l1 t1 c1 (i + 1) (n + k)) (sym e) (accepted a o h)

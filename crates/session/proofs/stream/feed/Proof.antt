@@ -1,0 +1,73 @@
+-- `session::stream::feed` meets its contract: each turn takes one word. Assumes nothing.
+use Prim.Native.Nat.{_-_}
+use native.Mathlib.Omega.{arith}
+use lib.ListN.{length}
+use borrow.Author.Needs.{needs}
+use Rattle.session.specs.Cells.{sessionOf}
+use Rattle.session.specs.Answers.{replyOf}
+use Rattle.session.proofs.Feeding.{Fold, fold-begins, fold-refused, fold-goes, fold-ends, completed-most}
+use Rattle.session.proofs.stream.feed.Statement.{statement}
+use Rattle.session.proofs.stream.feed.Tie as tie
+
+abbrev Inv-loop : tie.InvT-loop
+Inv-loop own₀ tallies₀ shared₀ words i₀ commands₀ own tallies shared i commands =
+    Fold (sessionOf own₀ tallies₀ shared₀) words own tallies shared i commands
+
+abbrev μ-loop : tie.MeasureT-loop
+μ-loop own₀ tallies₀ shared₀ words i₀ commands₀ own tallies shared i commands = length words - i
+
+loop-holds : tie.Need-loop-holds Inv-loop μ-loop
+loop-holds c = fold-begins (c .before .args .words .now) (c .before .args .own .now) (c .before .args .tallies .now) (c .before .args .shared .now) (c .before .pre)
+
+mul-word : tie.Need-mul-word Inv-loop μ-loop
+mul-word c = search needs
+
+shared-slice-read-word : tie.Need-shared-slice-read-word Inv-loop μ-loop
+shared-slice-read-word c = search needs
+
+word-requires : tie.Need-word-requires Inv-loop μ-loop
+word-requires c κs = c .before .before .before .before .before .loop .inv .given
+
+enum-known-answer : tie.Need-enum-known-answer Inv-loop μ-loop
+enum-known-answer c = search needs
+
+returns : tie.Need-returns Inv-loop μ-loop
+returns c = fold-refused _ _ _ _ _ _ _ (c .before .before .before .before .before .before .before .before .before .loop .inv) (c .before .before .before .before .before .before .before .before .loop-test .taken) _ _ _ _ _ (c .before .answer .given .1) (c .before .before .before .word .ensures)
+
+completed-by-requires : tie.Need-completed-by-requires Inv-loop μ-loop
+completed-by-requires c κs = search needs
+
+add-commands : tie.Need-add-commands Inv-loop μ-loop
+add-commands c = omega (arith, c .before .before .before .before .before .before .before .before .loop .inv .fewer, c .before .before .before .before .before .before .before .loop-test .taken, completed-most (replyOf (c .before .before .word .result)), c .completed-by .ensures)
+
+add-i : tie.Need-add-i Inv-loop μ-loop
+add-i c = search needs
+
+loop-less : tie.Need-loop-less Inv-loop μ-loop
+loop-less c = search needs
+
+loop-again : tie.Need-loop-again Inv-loop μ-loop
+loop-again c =
+    fold-goes _ _ _ _ _ _ _ (c .before .before .before .before .before .before .before .before .loop .inv) (c .before .before .before .before .before .before .before .loop-test .taken) _ _ _ (c .before .before .word .result) (c .before .match .keys2) (c .before .before .word .ensures) _ (c .completed-by .ensures)
+
+returns-2 : tie.Need-returns-2 Inv-loop μ-loop
+returns-2 c = fold-ends _ _ _ _ _ _ _ (c .before .loop .inv) (c .loop-test .left)
+
+pub feed-spec : {M : Type 1} → statement M
+feed-spec =
+    tie.close
+    (tie.spec
+    Inv-loop
+    μ-loop
+    loop-holds
+    mul-word
+    shared-slice-read-word
+    word-requires
+    enum-known-answer
+    returns
+    completed-by-requires
+    add-commands
+    add-i
+    loop-less
+    loop-again
+    returns-2)

@@ -1,0 +1,220 @@
+// Queries of a session's settings and tallies. They read the cells and change nothing, stopped or not.
+use crate::stream::WordPosition;
+ghost use mathlib.Core.Path.{_≡_};
+ghost use mathlib.Core.List.{[]};
+ghost use Prim.Native.Nat.{_<_};
+ghost use lib.Dec.{eqb};
+ghost use lib.ListN.{getD, length};
+ghost use Rattle.session.specs.State.{unset};
+ghost use Rattle.session.specs.Cells.{bufferAt, partyOf, sharedOf};
+ghost use Rattle.session.specs.Queries.{boundsOf, settingOf};
+
+// A format as it was set: base, format word and height; all 0 where it is not set.
+pub struct Setting {
+    pub present: bool,
+    pub base: u32,
+    pub format: u32,
+    pub height: u32,
+}
+
+// The domain, both ends included.
+pub struct Bounds {
+    pub present: bool,
+    pub i0: u32,
+    pub j0: u32,
+    pub i1: u32,
+    pub j1: u32,
+}
+
+fn wide(n: u32) -> u64
+    ensures { λ r. ⌜ r ≡ n ⌝ }
+{
+    n as u64
+}
+
+// Words taken since the session began.
+pub fn taken(own: &[u32; 17]) -> WordPosition
+    requires { ⌜ length (now own) ≡ 17 ⌝ }
+    ensures { λ r. ⌜ r .0 ≡ partyOf (now (own .entry)) [] .taken ⌝ }
+{
+    WordPosition(wide(own[1]))
+}
+
+pub fn is_stopped(own: &[u32; 17]) -> bool
+    requires { ⌜ length (now own) ≡ 17 ⌝ }
+    ensures { λ r. ⌜ r ≡ eqb (partyOf (now (own .entry)) [] .stopped) 1 ⌝ }
+{
+    own[0] == 1
+}
+
+// The line of the open command in the command table, 21 where none is open, and how many parameters were taken.
+pub fn open_line(own: &[u32; 17]) -> u32
+    requires { ⌜ length (now own) ≡ 17 ⌝ }
+    ensures { λ r. ⌜ r ≡ partyOf (now (own .entry)) [] .opened .line ⌝ }
+{
+    own[2]
+}
+
+pub fn open_count(own: &[u32; 17]) -> u32
+    requires { ⌜ length (now own) ≡ 17 ⌝ }
+    ensures { λ r. ⌜ r ≡ partyOf (now (own .entry)) [] .opened .count ⌝ }
+{
+    own[3]
+}
+
+pub fn domain(own: &[u32; 17]) -> Bounds
+    requires { ⌜ length (now own) ≡ 17 ⌝ }
+    ensures { λ r. ⌜ r ≡ boundsOf (partyOf (now (own .entry)) [] .domain) ⌝ }
+{
+    let present = own[8] == 1;
+    Bounds {
+        present,
+        i0: own[9],
+        j0: own[10],
+        i1: own[11],
+        j1: own[12],
+    }
+}
+
+pub fn instructions(own: &[u32; 17]) -> Setting
+    requires { ⌜ length (now own) ≡ 17 ⌝ }
+    ensures { λ r. ⌜ r ≡ settingOf (partyOf (now (own .entry)) [] .instructions) ⌝ }
+{
+    let present = own[13] == 1;
+    Setting {
+        present,
+        base: own[14],
+        format: own[15],
+        height: own[16],
+    }
+}
+
+// Starts that passed, and the elements that they claimed.
+pub fn runs(tallies: &[u64; 2]) -> u64
+    requires { ⌜ length (now tallies) ≡ 2 ⌝ }
+    ensures { λ r. ⌜ r ≡ partyOf [] (now (tallies .entry)) .tally .runs ⌝ }
+{
+    tallies[0]
+}
+
+pub fn claims(tallies: &[u64; 2]) -> u64
+    requires { ⌜ length (now tallies) ≡ 2 ⌝ }
+    ensures { λ r. ⌜ r ≡ partyOf [] (now (tallies .entry)) .tally .claims ⌝ }
+{
+    tallies[1]
+}
+
+// The output mask: bit 4n + c for channel c of output n.
+pub fn mask(shared: &[u32; 101]) -> u32
+    requires { ⌜ length (now shared) ≡ 101 ⌝ }
+    ensures { λ r. ⌜ r ≡ sharedOf (now (shared .entry)) .mask ⌝ }
+{
+    shared[0]
+}
+
+// Whether the conditional mask and the test are set, and their values.
+pub fn has_conditional_mask(shared: &[u32; 101]) -> bool
+    requires { ⌜ length (now shared) ≡ 101 ⌝ }
+    ensures { λ r. ⌜ r ≡ eqb (sharedOf (now (shared .entry)) .conditionalMaskSet) 1 ⌝ }
+{
+    shared[1] == 1
+}
+
+pub fn conditional_mask(shared: &[u32; 101]) -> u32
+    requires { ⌜ length (now shared) ≡ 101 ⌝ }
+    ensures { λ r. ⌜ r ≡ sharedOf (now (shared .entry)) .conditionalMask ⌝ }
+{
+    shared[2]
+}
+
+pub fn has_test(shared: &[u32; 101]) -> bool
+    requires { ⌜ length (now shared) ≡ 101 ⌝ }
+    ensures { λ r. ⌜ r ≡ eqb (sharedOf (now (shared .entry)) .testSet) 1 ⌝ }
+{
+    shared[3] == 1
+}
+
+pub fn test(shared: &[u32; 101]) -> u32
+    requires { ⌜ length (now shared) ≡ 101 ⌝ }
+    ensures { λ r. ⌜ r ≡ sharedOf (now (shared .entry)) .test ⌝ }
+{
+    shared[4]
+}
+
+// The buffer whose cells begin at a place.
+fn setting_at(shared: &[u32; 101], at: usize) -> Setting
+    requires { ⌜ (length (now shared) ≡ 101) × (at < 98) ⌝ }
+    ensures { λ r. ⌜ r ≡ settingOf (bufferAt (now (shared .entry)) at) ⌝ }
+{
+    let present = shared[at] == 1;
+    Setting {
+        present,
+        base: shared[at + 1],
+        format: shared[at + 2],
+        height: shared[at + 3],
+    }
+}
+
+pub fn floats(shared: &[u32; 101]) -> Setting
+    requires { ⌜ length (now shared) ≡ 101 ⌝ }
+    ensures { λ r. ⌜ r ≡ settingOf (sharedOf (now (shared .entry)) .floats) ⌝ }
+{
+    setting_at(shared, 5)
+}
+
+pub fn integers(shared: &[u32; 101]) -> Setting
+    requires { ⌜ length (now shared) ≡ 101 ⌝ }
+    ensures { λ r. ⌜ r ≡ settingOf (sharedOf (now (shared .entry)) .integers) ⌝ }
+{
+    setting_at(shared, 9)
+}
+
+pub fn booleans(shared: &[u32; 101]) -> Setting
+    requires { ⌜ length (now shared) ≡ 101 ⌝ }
+    ensures { λ r. ⌜ r ≡ settingOf (sharedOf (now (shared .entry)) .booleans) ⌝ }
+{
+    setting_at(shared, 13)
+}
+
+pub fn conditional(shared: &[u32; 101]) -> Setting
+    requires { ⌜ length (now shared) ≡ 101 ⌝ }
+    ensures { λ r. ⌜ r ≡ settingOf (sharedOf (now (shared .entry)) .conditional) ⌝ }
+{
+    setting_at(shared, 17)
+}
+
+// What isn't set, as what a number past the last output or input tells.
+fn not_set() -> Setting
+    ensures { λ r. ⌜ r ≡ settingOf unset ⌝ }
+{
+    Setting {
+        present: false,
+        base: 0,
+        format: 0,
+        height: 0,
+    }
+}
+
+// Output `number`, 0 to 3.
+pub fn output(shared: &[u32; 101], number: u32) -> Setting
+    requires { ⌜ length (now shared) ≡ 101 ⌝ }
+    ensures { λ r. ⌜ r ≡ settingOf (getD (sharedOf (now (shared .entry)) .outputs) number unset) ⌝ }
+{
+    if number < 4 {
+        setting_at(shared, 21 + 4 * number as usize)
+    } else {
+        not_set()
+    }
+}
+
+// Input `number`, 0 to 15.
+pub fn input(shared: &[u32; 101], number: u32) -> Setting
+    requires { ⌜ length (now shared) ≡ 101 ⌝ }
+    ensures { λ r. ⌜ r ≡ settingOf (getD (sharedOf (now (shared .entry)) .inputs) number unset) ⌝ }
+{
+    if number < 16 {
+        setting_at(shared, 37 + 4 * number as usize)
+    } else {
+        not_set()
+    }
+}
