@@ -92,15 +92,17 @@ fn last_answer(words: &[u32]) -> Answer {
     answer
 }
 
-// A stream in two pieces, cut after `cut` words, and a wait_for_idle after it. A cut past the end is the end.
+// A stream in two pieces, cut after `cut` words, and a wait_for_idle after it. A cut past the end is none.
 fn in_two(words: &[u32], cut: usize) -> Came {
+    if cut > words.len() {
+        return by_word(words);
+    }
     let mut own: [u32; 17] = [0; 17];
     let mut tallies: [u64; 2] = [0; 2];
     let mut shared: [u32; 101] = [0; 101];
     stream::begin(&mut own, &mut tallies, &mut shared);
-    let at = if cut < words.len() { cut } else { words.len() };
-    let a = stream::feed(&mut own, &mut tallies, &mut shared, &words[..at]);
-    let b = stream::feed(&mut own, &mut tallies, &mut shared, &words[at..]);
+    let a = stream::feed(&mut own, &mut tallies, &mut shared, &words[..cut]);
+    let b = stream::feed(&mut own, &mut tallies, &mut shared, &words[cut..]);
     let taken = own[1];
     let next = number_of(stream::word(&mut own, &mut tallies, &mut shared, 0xC0000900));
     let refused = a.refusal;
@@ -326,9 +328,10 @@ fn overlapping() -> Tally {
     let t = Tally::new()
         .with(earns(&one_base, 9))
         .with(earns(&above, 9));
+    let t = t.with(earns(&below, 9));
     let came = by_word(&touching);
     let passed = came.first == 0 && (came.runs == 1 && came.claims == 3456);
-    t.with(earns(&below, 9)).with(passed)
+    t.with(passed)
 }
 
 // What was taken, run and claimed before a refusal stands after it.
@@ -466,6 +469,14 @@ fn writes(command: Command, words: &[u32; 5]) -> bool {
     same_five(&room, words)
 }
 
+// The answer to the last of the room's first words; still open where the room has fewer.
+fn answer_to(room: &[u32; 5], count: usize) -> Answer {
+    if count > 5 {
+        return Answer::Open;
+    }
+    last_answer(&room[..count])
+}
+
 // Whether a command, written and read by a new session, is answered by a command that writes the same.
 fn back(command: Command) -> bool {
     let mut room: [u32; 5] = [0; 5];
@@ -473,10 +484,7 @@ fn back(command: Command) -> bool {
     let Written::Words(count) = written else {
         return false;
     };
-    if count > 5 {
-        return false;
-    }
-    let answer = last_answer(&room[..count]);
+    let answer = answer_to(&room, count);
     let Answer::Done(found) = answer else {
         return false;
     };
