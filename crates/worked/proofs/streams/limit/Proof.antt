@@ -26,7 +26,7 @@ begin-requires c κs = search needs
 
 -- src/streams.rt:584:5
 loop-holds : tie.Need-loop-holds Inv-loop μ-loop
-loop-holds c = begun-given ({begin} .ensures)
+loop-holds c = begun-given (c .begin .ensures)
 
 -- src/streams.rt:585:69
 slice-aggregate-feed : tie.Need-slice-aggregate-feed Inv-loop μ-loop
@@ -34,7 +34,7 @@ slice-aggregate-feed c = search needs
 
 -- src/streams.rt:585:13
 feed-requires : tie.Need-feed-requires Inv-loop μ-loop
-feed-requires c κs = {loop} .inv
+feed-requires c κs = c .before .before .before .before .before .loop .inv
 
 -- src/streams.rt:586:9
 wrapping-add-u64-requires : tie.Need-wrapping-add-u64-requires Inv-loop μ-loop
@@ -54,7 +54,7 @@ loop-less c = search needs
 
 -- src/streams.rt:584:5
 loop-again : tie.Need-loop-again Inv-loop μ-loop
-loop-again c = piece-given _ ({loop} .inv) ({feed} .ensures .held)
+loop-again c = piece-given _ (c .before .before .before .before .before .before .before .before .loop .inv) (c .before .before .feed .ensures .held)
 
 -- src/streams.rt:589:13
 new-requires : tie.Need-new-requires Inv-loop μ-loop
@@ -70,7 +70,7 @@ with-requires-2 c κs = search needs
 
 -- src/streams.rt:592:26
 word-requires : tie.Need-word-requires Inv-loop μ-loop
-word-requires c κs = {loop} .inv
+word-requires c κs = c .before .before .before .before .before .before .before .loop .inv
 
 -- src/streams.rt:592:9
 number-of-requires : tie.Need-number-of-requires Inv-loop μ-loop
@@ -78,7 +78,7 @@ number-of-requires c κs = search needs
 
 -- src/streams.rt:593:27
 word-requires-2 : tie.Need-word-requires-2 Inv-loop μ-loop
-word-requires-2 c κs = word-given _ _ ({loop} .inv) ({word} .ensures)
+word-requires-2 c κs = word-given _ _ (c .before .before .before .before .before .before .before .before .before .before .before .before .loop .inv) (c .before .before .before .before .word .ensures)
 
 -- src/streams.rt:593:9
 number-of-requires-2 : tie.Need-number-of-requires-2 Inv-loop μ-loop
