@@ -470,8 +470,8 @@ fn writes(command: Command, words: &[u32; 5]) -> bool {
 }
 
 // The answer to the last of the room's first words; still open where the room has fewer.
-fn answer_to(room: &[u32; 5], count: usize) -> Answer {
-    if count > 5 {
+fn answer_to(room: &[u32], count: usize) -> Answer {
+    if count > room.len() {
         return Answer::Open;
     }
     last_answer(&room[..count])
