@@ -3,10 +3,12 @@
 mod addresses;
 mod elements;
 mod refusals;
+mod streams;
 mod tally;
 
 fn main() {
     addresses::run();
     refusals::run();
     elements::run();
+    streams::run();
 }
