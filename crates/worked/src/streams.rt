@@ -589,7 +589,7 @@ fn limit() -> Tally {
     stream::begin(&mut own, &mut tallies, &mut shared);
     let mut taken: u64 = 0;
     let mut commands: u64 = 0;
-    for k in 0..25000000 {
+    for k in 0u32..25000000 {
         let fed = stream::feed(&mut own, &mut tallies, &mut shared, &words);
         taken = std::num::wrapping_add_u64(taken, fed.taken.0);
         commands = std::num::wrapping_add_u64(commands, fed.commands);

@@ -1,3 +1,4 @@
+-- `worked::streams::by_word` is safe and ends; what it hands on came from the entries. Assumes nothing.
 use lib.ListN.{length}
 use Prim.Native.Nat.{_-_}
 use borrow.Author.Needs.{needs}
@@ -6,14 +7,6 @@ use Rattle.session.specs.Step.{stepOf}
 use Rattle.session.proofs.Handed.{begun-given, word-given}
 use Rattle.worked.proofs.streams.by_word.Statement.{statement}
 use Rattle.worked.proofs.streams.by_word.Tie as tie
-use Rattle.worked.proofs.streams.by_word.Reads as reads
-use Rattle.worked.proofs.streams.by_word.Lts as lts
-use Rattle.session.proofs.stream.begin.Reads as begin-reads
-use Rattle.session.proofs.stream.word.Reads as word-reads
-use Rattle.std.proofs.num.wrapping_add_u64.Reads as wrapping-add-u64-reads
-use Rattle.worked.proofs.streams.completed.Reads as completed-reads
-use Rattle.worked.proofs.streams.earlier.Reads as earlier-reads
-use Rattle.worked.proofs.streams.number_of.Reads as number-of-reads
 
 abbrev Inv-loop : tie.InvT-loop
 Inv-loop words own₀ tallies₀ shared₀ first₀ commands₀ i₀ own tallies shared first commands i = Given own tallies shared
@@ -21,75 +14,57 @@ Inv-loop words own₀ tallies₀ shared₀ first₀ commands₀ i₀ own tallies
 abbrev μ-loop : tie.MeasureT-loop
 μ-loop words own₀ tallies₀ shared₀ first₀ commands₀ i₀ own tallies shared first commands i = length words - i
 
--- src/streams.rt:58:5
 begin-requires : tie.Need-begin-requires Inv-loop μ-loop
 begin-requires c κs = search needs
 
--- src/streams.rt:62:5
 loop-holds : tie.Need-loop-holds Inv-loop μ-loop
 loop-holds c = begun-given (c .begin .ensures)
 
--- src/streams.rt:63:72
 mul-word : tie.Need-mul-word Inv-loop μ-loop
 mul-word c = search needs
 
--- src/streams.rt:63:72
 shared-slice-read-word : tie.Need-shared-slice-read-word Inv-loop μ-loop
 shared-slice-read-word c = search needs
 
--- src/streams.rt:63:13
 word-requires : tie.Need-word-requires Inv-loop μ-loop
 word-requires c κs = c .before .before .before .before .before .loop .inv
 
--- src/streams.rt:64:32
 number-of-requires : tie.Need-number-of-requires Inv-loop μ-loop
 number-of-requires c κs = search needs
 
--- src/streams.rt:64:9
 earlier-requires : tie.Need-earlier-requires Inv-loop μ-loop
 earlier-requires c κs = search needs
 
--- src/streams.rt:65:57
 completed-requires : tie.Need-completed-requires Inv-loop μ-loop
 completed-requires c κs = search needs
 
--- src/streams.rt:65:9
 wrapping-add-u64-requires : tie.Need-wrapping-add-u64-requires Inv-loop μ-loop
 wrapping-add-u64-requires c κs = search needs
 
--- src/streams.rt:66:13
 add-i : tie.Need-add-i Inv-loop μ-loop
 add-i c = search needs
 
--- src/streams.rt:62:5
 loop-less : tie.Need-loop-less Inv-loop μ-loop
 loop-less c = search needs
 
--- src/streams.rt:62:5
 loop-again : tie.Need-loop-again Inv-loop μ-loop
 loop-again c = word-given _ _ (c .before .before .before .before .before .before .before .before .before .before .loop .inv) (c .before .before .before .before .word .ensures)
 
--- src/streams.rt:68:17
 array-read-taken : tie.Need-array-read-taken Inv-loop μ-loop
 array-read-taken c = search needs
 
--- src/streams.rt:69:26
 word-requires-2 : tie.Need-word-requires-2 Inv-loop μ-loop
 word-requires-2 c κs = c .before .before .before .before .loop .inv
 
--- src/streams.rt:69:9
 number-of-requires-2 : tie.Need-number-of-requires-2 Inv-loop μ-loop
 number-of-requires-2 c κs = search needs
 
--- src/streams.rt:75:15
 array-read-t32 : tie.Need-array-read-t32 Inv-loop μ-loop
 array-read-t32 c = search needs
 
--- src/streams.rt:76:17
 array-read-t35 : tie.Need-array-read-t35 Inv-loop μ-loop
 array-read-t35 c = search needs
 
--- src/streams.rt:54:1
 returns : tie.Need-returns Inv-loop μ-loop
 returns c = search needs
 

@@ -1,3 +1,4 @@
+-- `worked::streams::last_answer` is safe and ends; what it hands on came from the entries. Assumes nothing.
 use lib.ListN.{length}
 use Prim.Native.Nat.{_-_}
 use borrow.Author.Needs.{needs}
@@ -6,10 +7,6 @@ use Rattle.session.specs.Step.{stepOf}
 use Rattle.session.proofs.Handed.{begun-given, word-given}
 use Rattle.worked.proofs.streams.last_answer.Statement.{statement}
 use Rattle.worked.proofs.streams.last_answer.Tie as tie
-use Rattle.worked.proofs.streams.last_answer.Reads as reads
-use Rattle.worked.proofs.streams.last_answer.Lts as lts
-use Rattle.session.proofs.stream.begin.Reads as begin-reads
-use Rattle.session.proofs.stream.word.Reads as word-reads
 
 abbrev Inv-loop : tie.InvT-loop
 Inv-loop words own₀ tallies₀ shared₀ answer₀ i₀ own tallies shared answer i = Given own tallies shared
@@ -17,39 +14,30 @@ Inv-loop words own₀ tallies₀ shared₀ answer₀ i₀ own tallies shared ans
 abbrev μ-loop : tie.MeasureT-loop
 μ-loop words own₀ tallies₀ shared₀ answer₀ i₀ own tallies shared answer i = length words - i
 
--- src/streams.rt:85:5
 begin-requires : tie.Need-begin-requires Inv-loop μ-loop
 begin-requires c κs = search needs
 
--- src/streams.rt:88:5
 loop-holds : tie.Need-loop-holds Inv-loop μ-loop
 loop-holds c = begun-given (c .begin .ensures)
 
--- src/streams.rt:89:68
 mul-word : tie.Need-mul-word Inv-loop μ-loop
 mul-word c = search needs
 
--- src/streams.rt:89:68
 shared-slice-read-word : tie.Need-shared-slice-read-word Inv-loop μ-loop
 shared-slice-read-word c = search needs
 
--- src/streams.rt:89:9
 word-requires : tie.Need-word-requires Inv-loop μ-loop
 word-requires c κs = c .before .before .before .before .before .loop .inv
 
--- src/streams.rt:90:13
 add-i : tie.Need-add-i Inv-loop μ-loop
 add-i c = search needs
 
--- src/streams.rt:88:5
 loop-less : tie.Need-loop-less Inv-loop μ-loop
 loop-less c = search needs
 
--- src/streams.rt:88:5
 loop-again : tie.Need-loop-again Inv-loop μ-loop
 loop-again c = word-given _ _ (c .before .before .before .before .before .before .loop .inv) (c .word .ensures)
 
--- src/streams.rt:81:1
 returns : tie.Need-returns Inv-loop μ-loop
 returns c = search needs
 

@@ -1,18 +1,10 @@
+-- `worked::streams::limit` is safe and ends; what it hands on came from the entries. Assumes nothing.
 use borrow.Author.Needs.{needs}
 use Prim.Native.Nat.{_-_}
 use Rattle.session.specs.Asked.{Given}
 use Rattle.session.proofs.Handed.{begun-given, word-given, piece-given}
 use Rattle.worked.proofs.streams.limit.Statement.{statement}
 use Rattle.worked.proofs.streams.limit.Tie as tie
-use Rattle.worked.proofs.streams.limit.Reads as reads
-use Rattle.worked.proofs.streams.limit.Lts as lts
-use Rattle.session.proofs.stream.begin.Reads as begin-reads
-use Rattle.session.proofs.stream.feed.Reads as feed-reads
-use Rattle.session.proofs.stream.word.Reads as word-reads
-use Rattle.std.proofs.num.wrapping_add_u64.Reads as wrapping-add-u64-reads
-use Rattle.worked.proofs.streams.number_of.Reads as number-of-reads
-use Rattle.worked.proofs.tally.Tally.new.Reads as new-reads
-use Rattle.worked.proofs.tally.Tally.with.Reads as with-reads
 
 abbrev Inv-loop : tie.InvT-loop
 Inv-loop words own₀ tallies₀ shared₀ taken₀ commands₀ k₀ own tallies shared taken commands k = Given own tallies shared
@@ -20,87 +12,66 @@ Inv-loop words own₀ tallies₀ shared₀ taken₀ commands₀ k₀ own tallies
 abbrev μ-loop : tie.MeasureT-loop
 μ-loop words own₀ tallies₀ shared₀ taken₀ commands₀ k₀ own tallies shared taken commands k = 25000000 - k
 
--- src/streams.rt:581:5
 begin-requires : tie.Need-begin-requires Inv-loop μ-loop
 begin-requires c κs = search needs
 
--- src/streams.rt:584:5
 loop-holds : tie.Need-loop-holds Inv-loop μ-loop
 loop-holds c = begun-given (c .begin .ensures)
 
--- src/streams.rt:585:69
 slice-aggregate-feed : tie.Need-slice-aggregate-feed Inv-loop μ-loop
 slice-aggregate-feed c = search needs
 
--- src/streams.rt:585:13
 feed-requires : tie.Need-feed-requires Inv-loop μ-loop
 feed-requires c κs = c .before .before .before .before .before .loop .inv
 
--- src/streams.rt:586:9
 wrapping-add-u64-requires : tie.Need-wrapping-add-u64-requires Inv-loop μ-loop
 wrapping-add-u64-requires c κs = search needs
 
--- src/streams.rt:587:9
 wrapping-add-u64-requires-2 : tie.Need-wrapping-add-u64-requires-2 Inv-loop μ-loop
 wrapping-add-u64-requires-2 c κs = search needs
 
--- src/streams.rt:584:9
 add-k : tie.Need-add-k Inv-loop μ-loop
 add-k c = search needs
 
--- src/streams.rt:584:5
 loop-less : tie.Need-loop-less Inv-loop μ-loop
 loop-less c = search needs
 
--- src/streams.rt:584:5
 loop-again : tie.Need-loop-again Inv-loop μ-loop
 loop-again c = piece-given _ (c .before .before .before .before .before .before .before .before .loop .inv) (c .before .before .feed .ensures .held)
 
--- src/streams.rt:589:13
 new-requires : tie.Need-new-requires Inv-loop μ-loop
 new-requires c κs = search needs
 
--- src/streams.rt:589:13
 with-requires : tie.Need-with-requires Inv-loop μ-loop
 with-requires c κs = search needs
 
--- src/streams.rt:589:9
 with-requires-2 : tie.Need-with-requires-2 Inv-loop μ-loop
 with-requires-2 c κs = search needs
 
--- src/streams.rt:592:26
 word-requires : tie.Need-word-requires Inv-loop μ-loop
 word-requires c κs = c .before .before .before .before .before .before .before .loop .inv
 
--- src/streams.rt:592:9
 number-of-requires : tie.Need-number-of-requires Inv-loop μ-loop
 number-of-requires c κs = search needs
 
--- src/streams.rt:593:27
 word-requires-2 : tie.Need-word-requires-2 Inv-loop μ-loop
 word-requires-2 c κs = word-given _ _ (c .before .before .before .before .before .before .before .before .before .before .before .before .loop .inv) (c .before .before .before .before .word .ensures)
 
--- src/streams.rt:593:9
 number-of-requires-2 : tie.Need-number-of-requires-2 Inv-loop μ-loop
 number-of-requires-2 c κs = search needs
 
--- src/streams.rt:594:5
 with-requires-3 : tie.Need-with-requires-3 Inv-loop μ-loop
 with-requires-3 c κs = search needs
 
--- src/streams.rt:594:5
 with-requires-4 : tie.Need-with-requires-4 Inv-loop μ-loop
 with-requires-4 c κs = search needs
 
--- src/streams.rt:596:15
 array-read-with : tie.Need-array-read-with Inv-loop μ-loop
 array-read-with c = search needs
 
--- src/streams.rt:594:5
 with-requires-5 : tie.Need-with-requires-5 Inv-loop μ-loop
 with-requires-5 c κs = search needs
 
--- src/streams.rt:535:1
 returns : tie.Need-returns Inv-loop μ-loop
 returns c = search needs
 

@@ -1,15 +1,8 @@
+-- `worked::streams::whole` is safe and ends; what it hands on came from the entries. Assumes nothing.
 use borrow.Author.Needs.{needs}
 use Prim.Native.Nat.{_-_}
 use Rattle.worked.proofs.streams.whole.Statement.{statement}
 use Rattle.worked.proofs.streams.whole.Tie as tie
-use Rattle.worked.proofs.streams.whole.Reads as reads
-use Rattle.worked.proofs.streams.whole.Lts as lts
-use Rattle.worked.proofs.streams.by_word.Reads as by-word-reads
-use Rattle.worked.proofs.streams.in_two.Reads as in-two-reads
-use Rattle.worked.proofs.streams.is_whole.Reads as is-whole-reads
-use Rattle.worked.proofs.streams.whole_stream.Reads as whole-stream-reads
-use Rattle.worked.proofs.tally.Tally.new.Reads as new-reads
-use Rattle.worked.proofs.tally.Tally.with.Reads as with-reads
 
 abbrev Inv-loop : tie.InvT-loop
 Inv-loop words t₀ cut₀ t cut = Unit {0}
@@ -17,63 +10,48 @@ Inv-loop words t₀ cut₀ t cut = Unit {0}
 abbrev μ-loop : tie.MeasureT-loop
 μ-loop words t₀ cut₀ t cut = 16 - cut
 
--- src/streams.rt:147:17
 whole-stream-requires : tie.Need-whole-stream-requires Inv-loop μ-loop
 whole-stream-requires c κs = search needs
 
--- src/streams.rt:148:17
 new-requires : tie.Need-new-requires Inv-loop μ-loop
 new-requires c κs = search needs
 
--- src/streams.rt:148:52
 slice-aggregate-by-word : tie.Need-slice-aggregate-by-word Inv-loop μ-loop
 slice-aggregate-by-word c = search needs
 
--- src/streams.rt:148:44
 by-word-requires : tie.Need-by-word-requires Inv-loop μ-loop
 by-word-requires c κs = search needs
 
--- src/streams.rt:148:35
 is-whole-requires : tie.Need-is-whole-requires Inv-loop μ-loop
 is-whole-requires c κs = search needs
 
--- src/streams.rt:148:9
 with-requires : tie.Need-with-requires Inv-loop μ-loop
 with-requires c κs = search needs
 
--- src/streams.rt:149:5
 loop-holds : tie.Need-loop-holds Inv-loop μ-loop
 loop-holds c = search needs
 
--- src/streams.rt:150:36
 slice-aggregate-in-two : tie.Need-slice-aggregate-in-two Inv-loop μ-loop
 slice-aggregate-in-two c = search needs
 
--- src/streams.rt:150:29
 in-two-requires : tie.Need-in-two-requires Inv-loop μ-loop
 in-two-requires c κs = search needs
 
--- src/streams.rt:150:20
 is-whole-requires-2 : tie.Need-is-whole-requires-2 Inv-loop μ-loop
 is-whole-requires-2 c κs = search needs
 
--- src/streams.rt:150:9
 with-requires-2 : tie.Need-with-requires-2 Inv-loop μ-loop
 with-requires-2 c κs = search needs
 
--- src/streams.rt:149:9
 add-cut : tie.Need-add-cut Inv-loop μ-loop
 add-cut c = search needs
 
--- src/streams.rt:149:5
 loop-less : tie.Need-loop-less Inv-loop μ-loop
 loop-less c = search needs
 
--- src/streams.rt:149:5
 loop-again : tie.Need-loop-again Inv-loop μ-loop
 loop-again c = search needs
 
--- src/streams.rt:146:1
 returns : tie.Need-returns Inv-loop μ-loop
 returns c = search needs
 
