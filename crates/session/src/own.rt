@@ -16,11 +16,31 @@ pub const LINE: usize = 2;
 
 pub const COUNT: usize = 3;
 
-pub const PARAMETERS: usize = 4;
+pub const PARAMETER_0: usize = 4;
+
+pub const PARAMETER_1: usize = 5;
+
+pub const PARAMETER_2: usize = 6;
+
+pub const PARAMETER_3: usize = 7;
 
 pub const DOMAIN: usize = 8;
 
+pub const DOMAIN_I0: usize = 9;
+
+pub const DOMAIN_J0: usize = 10;
+
+pub const DOMAIN_I1: usize = 11;
+
+pub const DOMAIN_J1: usize = 12;
+
 pub const INSTRUCTIONS: usize = 13;
+
+pub const INSTRUCTIONS_BASE: usize = 14;
+
+pub const INSTRUCTIONS_FORMAT: usize = 15;
+
+pub const INSTRUCTIONS_HEIGHT: usize = 16;
 
 // The line that stands for no open command: one past the table.
 pub const NO_LINE: u32 = 21;
@@ -30,12 +50,12 @@ pub fn close(own: &mut [u32; 17])
     requires { ⌜ length (now own) ≡ 17 ⌝ }
     ensures { λ _. ⌜ now (own .exit) ≡ partyCells (opening none (partyOf (now (own .entry)) [])) ⌝ }
 {
-    own[2] = 21;
-    own[3] = 0;
-    own[4] = 0;
-    own[5] = 0;
-    own[6] = 0;
-    own[7] = 0;
+    own[LINE] = NO_LINE;
+    own[COUNT] = 0;
+    own[PARAMETER_0] = 0;
+    own[PARAMETER_1] = 0;
+    own[PARAMETER_2] = 0;
+    own[PARAMETER_3] = 0;
 }
 
 // The session is stopped and its open command dropped.
@@ -43,7 +63,7 @@ pub fn stop(own: &mut [u32; 17])
     requires { ⌜ length (now own) ≡ 17 ⌝ }
     ensures { λ _. ⌜ now (own .exit) ≡ partyCells (stopped (partyOf (now (own .entry)) [])) ⌝ }
 {
-    own[0] = 1;
+    own[STOPPED] = 1;
     close(own);
 }
 
@@ -52,7 +72,7 @@ pub fn count_word(own: &mut [u32; 17])
     requires { ⌜ (length (now own) ≡ 17) × (partyOf (now own) [] .taken < 1000000000) ⌝ }
     ensures { λ _. ⌜ now (own .exit) ≡ partyCells (took (partyOf (now (own .entry)) [])) ⌝ }
 {
-    own[1] = own[1] + 1;
+    own[TAKEN] = own[TAKEN] + 1;
 }
 
 // A header is taken: the command of this line is open.
@@ -60,7 +80,7 @@ pub fn open_line(own: &mut [u32; 17], line: u32)
     requires { ⌜ (length (now own) ≡ 17) × ((partyOf (now own) [] .taken < 1000000000) × (partyOf (now own) [] .opened ≡ none)) ⌝ }
     ensures { λ _. ⌜ now (own .exit) ≡ partyCells (took (opening (atLine line) (partyOf (now (own .entry)) []))) ⌝ }
 {
-    own[2] = line;
+    own[LINE] = line;
     count_word(own);
 }
 
@@ -69,28 +89,28 @@ pub fn place(own: &mut [u32; 17], count: u32, word: u32)
     requires { ⌜ (length (now own) ≡ 17) × ((count < 4) × (partyOf (now own) [] .opened .count ≡ count)) ⌝ }
     ensures { λ _. ⌜ now (own .exit) ≡ partyCells (opening (withParameter (partyOf (now (own .entry)) [] .opened) word) (partyOf (now (own .entry)) [])) ⌝ }
 {
-    let at = 4 + count as usize;
+    let at = PARAMETER_0 + count as usize;
     own[at] = word;
-    own[3] = count + 1;
+    own[COUNT] = count + 1;
 }
 
 pub fn set_domain(own: &mut [u32; 17], i0: u32, j0: u32, i1: u32, j1: u32)
     requires { ⌜ length (now own) ≡ 17 ⌝ }
     ensures { λ _. ⌜ now (own .exit) ≡ partyCells (withDomain (domainFrom i0 j0 i1 j1) (partyOf (now (own .entry)) [])) ⌝ }
 {
-    own[8] = 1;
-    own[9] = i0;
-    own[10] = j0;
-    own[11] = i1;
-    own[12] = j1;
+    own[DOMAIN] = 1;
+    own[DOMAIN_I0] = i0;
+    own[DOMAIN_J0] = j0;
+    own[DOMAIN_I1] = i1;
+    own[DOMAIN_J1] = j1;
 }
 
 pub fn set_instructions(own: &mut [u32; 17], base: u32, format: u32)
     requires { ⌜ length (now own) ≡ 17 ⌝ }
     ensures { λ _. ⌜ now (own .exit) ≡ partyCells (withInstructions (buffer base format 1) (partyOf (now (own .entry)) [])) ⌝ }
 {
-    own[13] = 1;
-    own[14] = base;
-    own[15] = format;
-    own[16] = 1;
+    own[INSTRUCTIONS] = 1;
+    own[INSTRUCTIONS_BASE] = base;
+    own[INSTRUCTIONS_FORMAT] = format;
+    own[INSTRUCTIONS_HEIGHT] = 1;
 }

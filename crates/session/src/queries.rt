@@ -1,4 +1,6 @@
 // Queries of a session's settings and tallies. They read the cells and change nothing, stopped or not.
+use crate::own;
+use crate::settings;
 use crate::stream::WordPosition;
 ghost use mathlib.Core.Path.{_≡_};
 ghost use mathlib.Core.List.{[]};
@@ -37,14 +39,14 @@ pub fn taken(own: &[u32; 17]) -> WordPosition
     requires { ⌜ length (now own) ≡ 17 ⌝ }
     ensures { λ r. ⌜ r .0 ≡ partyOf (now (own .entry)) [] .taken ⌝ }
 {
-    WordPosition(wide(own[1]))
+    WordPosition(wide(own[own::TAKEN]))
 }
 
 pub fn is_stopped(own: &[u32; 17]) -> bool
     requires { ⌜ length (now own) ≡ 17 ⌝ }
     ensures { λ r. ⌜ r ≡ eqb (partyOf (now (own .entry)) [] .stopped) 1 ⌝ }
 {
-    own[0] == 1
+    own[own::STOPPED] == 1
 }
 
 // The line of the open command in the command table, 21 where none is open, and how many parameters were taken.
@@ -52,27 +54,27 @@ pub fn open_line(own: &[u32; 17]) -> u32
     requires { ⌜ length (now own) ≡ 17 ⌝ }
     ensures { λ r. ⌜ r ≡ partyOf (now (own .entry)) [] .opened .line ⌝ }
 {
-    own[2]
+    own[own::LINE]
 }
 
 pub fn open_count(own: &[u32; 17]) -> u32
     requires { ⌜ length (now own) ≡ 17 ⌝ }
     ensures { λ r. ⌜ r ≡ partyOf (now (own .entry)) [] .opened .count ⌝ }
 {
-    own[3]
+    own[own::COUNT]
 }
 
 pub fn domain(own: &[u32; 17]) -> Bounds
     requires { ⌜ length (now own) ≡ 17 ⌝ }
     ensures { λ r. ⌜ r ≡ boundsOf (partyOf (now (own .entry)) [] .domain) ⌝ }
 {
-    let present = own[8] == 1;
+    let present = own[own::DOMAIN] == 1;
     Bounds {
         present,
-        i0: own[9],
-        j0: own[10],
-        i1: own[11],
-        j1: own[12],
+        i0: own[own::DOMAIN_I0],
+        j0: own[own::DOMAIN_J0],
+        i1: own[own::DOMAIN_I1],
+        j1: own[own::DOMAIN_J1],
     }
 }
 
@@ -80,12 +82,12 @@ pub fn instructions(own: &[u32; 17]) -> Setting
     requires { ⌜ length (now own) ≡ 17 ⌝ }
     ensures { λ r. ⌜ r ≡ settingOf (partyOf (now (own .entry)) [] .instructions) ⌝ }
 {
-    let present = own[13] == 1;
+    let present = own[own::INSTRUCTIONS] == 1;
     Setting {
         present,
-        base: own[14],
-        format: own[15],
-        height: own[16],
+        base: own[own::INSTRUCTIONS_BASE],
+        format: own[own::INSTRUCTIONS_FORMAT],
+        height: own[own::INSTRUCTIONS_HEIGHT],
     }
 }
 
@@ -109,7 +111,7 @@ pub fn mask(shared: &[u32; 101]) -> u32
     requires { ⌜ length (now shared) ≡ 101 ⌝ }
     ensures { λ r. ⌜ r ≡ sharedOf (now (shared .entry)) .mask ⌝ }
 {
-    shared[0]
+    shared[settings::MASK]
 }
 
 // Whether the conditional mask and the test are set, and their values.
@@ -117,28 +119,28 @@ pub fn has_conditional_mask(shared: &[u32; 101]) -> bool
     requires { ⌜ length (now shared) ≡ 101 ⌝ }
     ensures { λ r. ⌜ r ≡ eqb (sharedOf (now (shared .entry)) .conditionalMaskSet) 1 ⌝ }
 {
-    shared[1] == 1
+    shared[settings::CONDITIONAL_MASK_SET] == 1
 }
 
 pub fn conditional_mask(shared: &[u32; 101]) -> u32
     requires { ⌜ length (now shared) ≡ 101 ⌝ }
     ensures { λ r. ⌜ r ≡ sharedOf (now (shared .entry)) .conditionalMask ⌝ }
 {
-    shared[2]
+    shared[settings::CONDITIONAL_MASK]
 }
 
 pub fn has_test(shared: &[u32; 101]) -> bool
     requires { ⌜ length (now shared) ≡ 101 ⌝ }
     ensures { λ r. ⌜ r ≡ eqb (sharedOf (now (shared .entry)) .testSet) 1 ⌝ }
 {
-    shared[3] == 1
+    shared[settings::TEST_SET] == 1
 }
 
 pub fn test(shared: &[u32; 101]) -> u32
     requires { ⌜ length (now shared) ≡ 101 ⌝ }
     ensures { λ r. ⌜ r ≡ sharedOf (now (shared .entry)) .test ⌝ }
 {
-    shared[4]
+    shared[settings::TEST]
 }
 
 // The buffer whose cells begin at a place.
@@ -159,28 +161,28 @@ pub fn floats(shared: &[u32; 101]) -> Setting
     requires { ⌜ length (now shared) ≡ 101 ⌝ }
     ensures { λ r. ⌜ r ≡ settingOf (sharedOf (now (shared .entry)) .floats) ⌝ }
 {
-    setting_at(shared, 5)
+    setting_at(shared, settings::FLOATS)
 }
 
 pub fn integers(shared: &[u32; 101]) -> Setting
     requires { ⌜ length (now shared) ≡ 101 ⌝ }
     ensures { λ r. ⌜ r ≡ settingOf (sharedOf (now (shared .entry)) .integers) ⌝ }
 {
-    setting_at(shared, 9)
+    setting_at(shared, settings::INTEGERS)
 }
 
 pub fn booleans(shared: &[u32; 101]) -> Setting
     requires { ⌜ length (now shared) ≡ 101 ⌝ }
     ensures { λ r. ⌜ r ≡ settingOf (sharedOf (now (shared .entry)) .booleans) ⌝ }
 {
-    setting_at(shared, 13)
+    setting_at(shared, settings::BOOLEANS)
 }
 
 pub fn conditional(shared: &[u32; 101]) -> Setting
     requires { ⌜ length (now shared) ≡ 101 ⌝ }
     ensures { λ r. ⌜ r ≡ settingOf (sharedOf (now (shared .entry)) .conditional) ⌝ }
 {
-    setting_at(shared, 17)
+    setting_at(shared, settings::CONDITIONAL)
 }
 
 // What isn't set, as what a number past the last output or input tells.
@@ -201,7 +203,7 @@ pub fn output(shared: &[u32; 101], number: u32) -> Setting
     ensures { λ r. ⌜ r ≡ settingOf (getD (sharedOf (now (shared .entry)) .outputs) number unset) ⌝ }
 {
     if number < 4 {
-        setting_at(shared, 21 + 4 * number as usize)
+        setting_at(shared, settings::OUTPUTS + 4 * number as usize)
     } else {
         not_set()
     }
@@ -213,7 +215,7 @@ pub fn input(shared: &[u32; 101], number: u32) -> Setting
     ensures { λ r. ⌜ r ≡ settingOf (getD (sharedOf (now (shared .entry)) .inputs) number unset) ⌝ }
 {
     if number < 16 {
-        setting_at(shared, 37 + 4 * number as usize)
+        setting_at(shared, settings::INPUTS + 4 * number as usize)
     } else {
         not_set()
     }

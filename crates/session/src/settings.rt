@@ -11,9 +11,13 @@ ghost use Rattle.session.specs.Cells.{setBuffer, sharedCells, sharedOf};
 // Places of the cells. A buffer takes four: whether it is set, base, format and height.
 pub const MASK: usize = 0;
 
-pub const CONDITIONAL_MASK: usize = 1;
+pub const CONDITIONAL_MASK_SET: usize = 1;
 
-pub const TEST: usize = 3;
+pub const CONDITIONAL_MASK: usize = 2;
+
+pub const TEST_SET: usize = 3;
+
+pub const TEST: usize = 4;
 
 pub const FLOATS: usize = 5;
 
@@ -23,6 +27,14 @@ pub const BOOLEANS: usize = 13;
 
 pub const CONDITIONAL: usize = 17;
 
+pub const OUTPUT_0: usize = 21;
+
+pub const OUTPUT_1: usize = 25;
+
+pub const OUTPUT_2: usize = 29;
+
+pub const OUTPUT_3: usize = 33;
+// Outputs and inputs by number, four cells each.
 pub const OUTPUTS: usize = 21;
 
 pub const INPUTS: usize = 37;
@@ -45,9 +57,9 @@ fn store(shared: &mut [u32; 101], what: Stored, base: u32, format: u32)
 {
     match what {
         Stored::Instructions => {}
-        Stored::Floats => put(shared, 5, base, format, 1),
-        Stored::Integers => put(shared, 9, base, format, 1),
-        Stored::Booleans => put(shared, 13, base, format, 1),
+        Stored::Floats => put(shared, FLOATS, base, format, 1),
+        Stored::Integers => put(shared, INTEGERS, base, format, 1),
+        Stored::Booleans => put(shared, BOOLEANS, base, format, 1),
     }
 }
 
@@ -62,20 +74,26 @@ pub fn apply(shared: &mut [u32; 101], command: Command)
         Command::Quiet(_) => {}
         Command::Store(what, base, format) => store(shared, what, base, format),
         Command::Input(number, base, format, height) => {
-            put(shared, 37 + 4 * number as usize, base, format, height)
+            put(shared, INPUTS + 4 * number as usize, base, format, height)
         }
         Command::Output(number, base, format, height) => {
-            put(shared, 21 + 4 * number as usize, base, format, height)
+            put(shared, OUTPUTS + 4 * number as usize, base, format, height)
         }
-        Command::Conditional(base, format, height) => put(shared, 17, base, format, height),
-        Command::OutputMask(mask) => shared[0] = mask,
+        Command::Conditional(base, format, height) => put(
+            shared,
+            CONDITIONAL,
+            base,
+            format,
+            height,
+        ),
+        Command::OutputMask(mask) => shared[MASK] = mask,
         Command::ConditionalMask(mask) => {
-            shared[1] = 1;
-            shared[2] = mask;
+            shared[CONDITIONAL_MASK_SET] = 1;
+            shared[CONDITIONAL_MASK] = mask;
         }
         Command::Test(test) => {
-            shared[3] = 1;
-            shared[4] = test;
+            shared[TEST_SET] = 1;
+            shared[TEST] = test;
         }
     }
 }

@@ -1,4 +1,6 @@
 // What a start asks of the settings alone, 7, 8 and 9, and how many elements it claims. Nothing here changes a cell.
+use crate::own;
+use crate::settings;
 use command::format::window;
 use command::kinds::Checked;
 use layout::Judged;
@@ -149,12 +151,15 @@ pub fn ready(own: &[u32; 17], shared: &[u32; 101]) -> Checked
     requires { ⌜ (length (now own) ≡ 17) × (length (now shared) ≡ 101) ⌝ }
     ensures { λ r. ⌜ toldChecked r ≡ readyOf (partyOf (now (own .entry)) [] .domain) (partyOf (now (own .entry)) [] .instructions) (sharedOf (now (shared .entry)) .outputs) ⌝ }
 {
-    let a = output_at(shared, 21);
-    let b = output_at(shared, 25);
-    let c = output_at(shared, 29);
-    let d = output_at(shared, 33);
-    let complete = both(own[8] == 1, both(own[13] == 1, some_counts(a, b, c, d)));
-    let covered = each_holds(a, b, c, d, own[11], own[12]);
+    let a = output_at(shared, settings::OUTPUT_0);
+    let b = output_at(shared, settings::OUTPUT_1);
+    let c = output_at(shared, settings::OUTPUT_2);
+    let d = output_at(shared, settings::OUTPUT_3);
+    let complete = both(
+        own[own::DOMAIN] == 1,
+        both(own[own::INSTRUCTIONS] == 1, some_counts(a, b, c, d)),
+    );
+    let covered = each_holds(a, b, c, d, own[own::DOMAIN_I1], own[own::DOMAIN_J1]);
     verdict(complete, covered, each_apart(a, b, c, d))
 }
 
@@ -180,7 +185,10 @@ fn set_outputs(shared: &[u32; 101]) -> u64
     requires { ⌜ length (now shared) ≡ 101 ⌝ }
     ensures { λ r. ⌜ (r ≡ sumBelow 4 (λ n. pick (counts (sharedOf (now (shared .entry)) .outputs) n) 1 0)) × (r ≤ 4) ⌝ }
 {
-    one(shared[21]) + one(shared[25]) + one(shared[29]) + one(shared[33])
+    one(shared[settings::OUTPUT_0])
+        + one(shared[settings::OUTPUT_1])
+        + one(shared[settings::OUTPUT_2])
+        + one(shared[settings::OUTPUT_3])
 }
 
 // The elements that a start claims: the domain's pairs, for each output that is set.
@@ -188,5 +196,11 @@ pub fn claim(own: &[u32; 17], shared: &[u32; 101]) -> u64
     requires { ⌜ ((length (now own) ≡ 17) × (length (now shared) ≡ 101)) × DomainValid (partyOf (now own) [] .domain) ⌝ }
     ensures { λ r. ⌜ (r ≡ claimOf (partyOf (now (own .entry)) [] .domain) (sharedOf (now (shared .entry)) .outputs)) × (r ≤ 67108864) ⌝ }
 {
-    pairs(own[9], own[10], own[11], own[12]) * set_outputs(shared)
+    pairs(
+        own[own::DOMAIN_I0],
+        own[own::DOMAIN_J0],
+        own[own::DOMAIN_I1],
+        own[own::DOMAIN_J1],
+    )
+        * set_outputs(shared)
 }

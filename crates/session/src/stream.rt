@@ -1,6 +1,7 @@
 // The words of a stream, one by one and in pieces.
 use crate::accept;
 use crate::own;
+use crate::settings;
 use crate::start;
 use command::commands;
 use command::commands::Command;
@@ -23,6 +24,9 @@ ghost use Rattle.session.specs.Cells.{Sized, partyOf, sessionOf};
 ghost use Rattle.session.specs.Asked.{CompleteAsked, Given, Held, Left, OpenAsked, ParameterAsked};
 ghost use Rattle.session.specs.Answers.{PieceLeft, completedBy, replyOf};
 ghost use Rattle.session.specs.Feed.{feedOf};
+
+// Words that a session takes before it answers 17.
+const WORD_LIMIT: u32 = 1000000000;
 
 // What a word is answered: the command is still open, the command that the word completed, or the refusal.
 pub enum Answer {
@@ -52,7 +56,13 @@ fn complete(own: &mut [u32; 17], tallies: &mut [u64; 2], shared: &mut [u32; 101]
     requires { ⌜ CompleteAsked (now own) (now tallies) (now shared) ⌝ }
     ensures { λ r. ⌜ Left (completing (partyOf (now (own .entry)) [] .opened) (sessionOf (now (own .entry)) (now (tallies .entry)) (now (shared .entry)))) (replyOf r) (now (own .exit)) (now (tallies .exit)) (now (shared .exit)) ⌝ }
 {
-    let command = commands::build(own[2], own[4], own[5], own[6], own[7]);
+    let command = commands::build(
+        own[own::LINE],
+        own[own::PARAMETER_0],
+        own[own::PARAMETER_1],
+        own[own::PARAMETER_2],
+        own[own::PARAMETER_3],
+    );
     let rule = whole_rule(own, shared, command);
     match rule {
         Checked::Refused(why) => {
@@ -71,8 +81,8 @@ fn placed(own: &mut [u32; 17], tallies: &mut [u64; 2], shared: &mut [u32; 101], 
     requires { ⌜ ParameterAsked (now own) (now tallies) (now shared) word ⌝ }
     ensures { λ r. ⌜ Left (placing (withParameter (partyOf (now (own .entry)) [] .opened) word) (sessionOf (now (own .entry)) (now (tallies .entry)) (now (shared .entry)))) (replyOf r) (now (own .exit)) (now (tallies .exit)) (now (shared .exit)) ⌝ }
 {
-    let line = own[2];
-    let count = own[3];
+    let line = own[own::LINE];
+    let count = own[own::COUNT];
     own::place(own, count, word);
     if count + 1 < table::parameters(line) {
         own::count_word(own);
@@ -91,7 +101,7 @@ fn parameter(
     requires { ⌜ OpenAsked (now own) (now tallies) (now shared) ⌝ }
     ensures { λ r. ⌜ Left (parameterStep (sessionOf (now (own .entry)) (now (tallies .entry)) (now (shared .entry))) word) (replyOf r) (now (own .exit)) (now (tallies .exit)) (now (shared .exit)) ⌝ }
 {
-    let kind = kinds::kind_at(own[2], own[3]);
+    let kind = kinds::kind_at(own[own::LINE], own[own::COUNT]);
     let checked = kinds::check(kind, word);
     match checked {
         Checked::Refused(why) => {
@@ -112,14 +122,14 @@ pub fn word(
     requires { ⌜ Given (now own) (now tallies) (now shared) ⌝ }
     ensures { λ r. ⌜ Left (stepOf (sessionOf (now (own .entry)) (now (tallies .entry)) (now (shared .entry))) word) (replyOf r) (now (own .exit)) (now (tallies .exit)) (now (shared .exit)) ⌝ }
 {
-    if own[0] == 1 {
+    if own[own::STOPPED] == 1 {
         return Answer::Refused(Refusal::Stopped);
     }
-    if 1000000000 <= own[1] {
+    if WORD_LIMIT <= own[own::TAKEN] {
         own::stop(own);
         return Answer::Refused(Refusal::WordLimit);
     }
-    if own[2] != 21 {
+    if own[own::LINE] != own::NO_LINE {
         return parameter(own, tallies, shared, word);
     }
     match table::line_of(word) {
@@ -139,10 +149,10 @@ pub fn begin(own: &mut [u32; 17], tallies: &mut [u64; 2], shared: &mut [u32; 101
     ensures { λ _. ⌜ Held newSession (now (own .exit)) (now (tallies .exit)) (now (shared .exit)) ⌝ }
 {
     *own = [0; 17];
-    own[2] = 21;
+    own[own::LINE] = own::NO_LINE;
     *tallies = [0; 2];
     *shared = [0; 101];
-    shared[0] = 65535;
+    shared[settings::MASK] = 65535;
 }
 
 // A word's place in a piece or in a session, counted from 0: one of document 01's three kinds of number, never a byte
