@@ -538,58 +538,17 @@ fn start_back() -> Tally {
     t.with(writes(found, &start))
 }
 
-// A session takes 1,000,000,000 words of wait_for_idle, in pieces of 40; the next gets 17 before it is looked at, and the
+// A session takes 1,000,000,000 words of wait_for_idle, in pieces of 8; the next gets 17 before it is looked at, and the
 // one after that 1.
 fn limit() -> Tally {
-    let words: [u32; 40] = [
-        0xC0000900,
-        0,
-        0xC0000900,
-        0,
-        0xC0000900,
-        0,
-        0xC0000900,
-        0,
-        0xC0000900,
-        0,
-        0xC0000900,
-        0,
-        0xC0000900,
-        0,
-        0xC0000900,
-        0,
-        0xC0000900,
-        0,
-        0xC0000900,
-        0,
-        0xC0000900,
-        0,
-        0xC0000900,
-        0,
-        0xC0000900,
-        0,
-        0xC0000900,
-        0,
-        0xC0000900,
-        0,
-        0xC0000900,
-        0,
-        0xC0000900,
-        0,
-        0xC0000900,
-        0,
-        0xC0000900,
-        0,
-        0xC0000900,
-        0,
-    ];
+    let words: [u32; 8] = [0xC0000900, 0, 0xC0000900, 0, 0xC0000900, 0, 0xC0000900, 0];
     let mut own: [u32; 17] = [0; 17];
     let mut tallies: [u64; 2] = [0; 2];
     let mut shared: [u32; 101] = [0; 101];
     stream::begin(&mut own, &mut tallies, &mut shared);
     let mut taken: u64 = 0;
     let mut commands: u64 = 0;
-    for k in 0u32..25000000 {
+    for k in 0u32..125000000 {
         let fed = stream::feed(&mut own, &mut tallies, &mut shared, &words);
         taken = std::num::wrapping_add_u64(taken, fed.taken.0);
         commands = std::num::wrapping_add_u64(commands, fed.commands);

@@ -10,7 +10,7 @@ abbrev Inv-loop : tie.InvT-loop
 Inv-loop words own₀ tallies₀ shared₀ taken₀ commands₀ k₀ own tallies shared taken commands k = Given own tallies shared
 
 abbrev μ-loop : tie.MeasureT-loop
-μ-loop words own₀ tallies₀ shared₀ taken₀ commands₀ k₀ own tallies shared taken commands k = 25000000 - k
+μ-loop words own₀ tallies₀ shared₀ taken₀ commands₀ k₀ own tallies shared taken commands k = 125000000 - k
 
 begin-requires : tie.Need-begin-requires Inv-loop μ-loop
 begin-requires c κs = search needs
