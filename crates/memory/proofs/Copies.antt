@@ -76,8 +76,16 @@ unfolding filled
 reading-of v b n en fits eb =
     record {
       told = ap gives (ap₂ (λ (k : ℕ) (l : List ℕ). take k l) en eb ∙ take-append-seam v (drop (length v) (zeros 16)));
-      bytes = eb ∙ ap (λ (q : List ℕ). v ++ q) (zeros-left (length v) 16 fits);
+      count = ap (λ (k : ℕ). gives (k ∷ [])) en;
+      whole = ap length filled-up ∙ length-append v (zeros (16 - length v)) ∙ sixteen;
+      bytes = filled-up;
     }
+  where
+    filled-up : b ≡ v ++ zeros (16 - length v)
+    filled-up = eb ∙ ap (λ (q : List ℕ). v ++ q) (zeros-left (length v) 16 fits)
+
+    sixteen : length v + length (zeros (16 - length v)) ≡ 16
+    sixteen = let e : length (zeros (16 - length v)) ≡ 16 - length v = length-replicate (16 - length v) 0 in omega arith
 
 pub reading-of-one :
     (v b : List ℕ) → length v ≤ 16 → b ≡ stored 0 v (zeros 16) →

@@ -1,6 +1,6 @@
 -- What a reading tells, with every one of its bytes stated. Assumes nothing.
 use mathlib.Core.Path.{_≡_}
-use mathlib.Core.List.{List, _++_}
+use mathlib.Core.List.{List, [], _∷_, _++_}
 use Prim.Native.Nat.{ℕ, _+_, _-_, _≤_}
 use lib.ListN.{length, take, replicate}
 use Rattle.refusal.specs.Number.{numberOf}
@@ -22,9 +22,20 @@ unfoldable pub filled : Told → List ℕ
 filled (gives values) = values ++ replicate (16 - length values) 0
 filled (refuses number) = replicate 16 0
 
+-- how many bytes an answer says that it has, and how many values are told
+abbrev pub countSaid : Answer → Told
+countSaid (Bytes n) = gives (n ∷ [])
+countSaid (Refused why) = refuses (numberOf why)
+
+abbrev pub countTold : Told → Told
+countTold (gives values) = gives (length values ∷ [])
+countTold (refuses number) = refuses number
+
 -- a reading that tells `t`, and nothing besides
 pub record Answered (t : Told) (r : Reading) : Type 0 where
   pub told : toldReading r ≡ t
+  pub count : countSaid (r .answer) ≡ countTold t
+  pub whole : length (r .bytes) ≡ 16
   pub bytes : r .bytes ≡ filled t
 
 -- a part with room for it at a place of a reading's 16 bytes

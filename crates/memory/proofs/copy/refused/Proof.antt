@@ -6,7 +6,7 @@ use Rattle.memory.proofs.copy.refused.Tie as tie
 
 returns : tie.Need-returns
 unfolding filled
-returns c = record { told = refl; bytes = refl }
+returns c = record { told = refl; count = refl; whole = refl; bytes = refl }
 
 pub refused-spec : {M : Type 1} → statement M
 refused-spec = tie.close (tie.spec returns)

@@ -1,0 +1,4 @@
+pub mod Crossings
+pub mod Formats
+pub mod Known
+pub mod Numbers

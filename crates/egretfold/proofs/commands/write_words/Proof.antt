@@ -1,0 +1,50 @@
+-- `egretfold::commands::write_words` meets its contract: each answer crosses as it is told. Assumes nothing.
+use mathlib.Core.Path.{sym, ap, _∙_}
+use native.Mathlib.Omega.{arith}
+use Rattle.command.specs.Writer.{toldWritten}
+use Rattle.egretfold.proofs.Crossings.{crosses-gives, crosses-refuses}
+use Rattle.egretfold.proofs.Numbers.{words-few}
+use borrow.Author.Needs.{needs}
+use Rattle.egretfold.proofs.commands.write_words.Statement.{statement}
+use Rattle.egretfold.proofs.commands.write_words.Tie as tie
+
+write-requires : tie.Need-write-requires
+write-requires c κs = search needs
+
+enum-known-why : tie.Need-enum-known-why
+enum-known-why c = search needs
+
+number-requires : tie.Need-number-requires
+number-requires c κs = search needs
+
+enum-known-n : tie.Need-enum-known-n
+enum-known-n c = search needs
+
+cast-t10 : tie.Need-cast-t10
+cast-t10 c = record { fits = omega (arith, words-few _ _ _ (sym (c .before .before .before .before .before .write .ensures .answer) ∙ ap toldWritten (c .before .n .given .1))) }
+
+same-length : tie.Need-same-length
+same-length c = search needs
+
+returns : tie.Need-returns
+returns c = record { answer = crosses-refuses _ _ _ _ (c .number .ensures) (sym (c .before .before .before .before .before .before .write .ensures .answer) ∙ ap toldWritten (c .before .before .why .given .1)); room = c .before .before .before .before .before .before .write .ensures .room }
+
+same-length-2 : tie.Need-same-length-2
+same-length-2 c = search needs
+
+returns-2 : tie.Need-returns-2
+returns-2 c = record { answer = crosses-gives _ _ _ (sym (c .before .before .before .before .before .before .write .ensures .answer) ∙ ap toldWritten (c .before .before .n .given .1)); room = c .before .before .before .before .before .before .write .ensures .room }
+
+pub write-words-spec : {M : Type 1} → statement M
+write-words-spec =
+    tie.close
+    (tie.spec
+    write-requires
+    enum-known-why
+    number-requires
+    enum-known-n
+    cast-t10
+    same-length
+    returns
+    same-length-2
+    returns-2)

@@ -1,0 +1,44 @@
+-- `egretfold::groups::egretfold_group_step` meets its contract: each answer crosses as it is told. Assumes nothing.
+use mathlib.Core.Path.{sym, ap, _∙_}
+use Rattle.flow.specs.Answers.{toldStepped}
+use Rattle.egretfold.proofs.Crossings.{crosses-gives, crosses-refuses}
+use borrow.Author.Needs.{needs}
+use Rattle.egretfold.proofs.groups.egretfold_group_step.Statement.{statement}
+use Rattle.egretfold.proofs.groups.egretfold_group_step.Tie as tie
+
+step-requires : tie.Need-step-requires
+step-requires c κs = search needs
+
+enum-known-why : tie.Need-enum-known-why
+enum-known-why c = search needs
+
+number-requires : tie.Need-number-requires
+number-requires c κs = search needs
+
+enum-known-at : tie.Need-enum-known-at
+enum-known-at c = search needs
+
+enum-known-at-2 : tie.Need-enum-known-at-2
+enum-known-at-2 c = search needs
+
+returns : tie.Need-returns
+returns c = record { answer = crosses-refuses _ _ _ _ (c .number .ensures) (sym (c .before .before .before .before .step .ensures .told) ∙ ap toldStepped (c .before .before .why .given .1)); left = c .before .before .before .before .step .ensures .left }
+
+returns-2 : tie.Need-returns-2
+returns-2 c = record { answer = crosses-gives _ _ _ (sym (c .before .before .before .before .step .ensures .told) ∙ ap toldStepped (c .before .before .at .given .1)); left = c .before .before .before .before .step .ensures .left }
+
+returns-3 : tie.Need-returns-3
+returns-3 c = record { answer = crosses-gives _ _ _ (sym (c .before .before .before .before .step .ensures .told) ∙ ap toldStepped (c .before .before .at2 .given .1)); left = c .before .before .before .before .step .ensures .left }
+
+pub egretfold-group-step-spec : {M : Type 1} → statement M
+egretfold-group-step-spec =
+    tie.close
+    (tie.spec
+    step-requires
+    enum-known-why
+    number-requires
+    enum-known-at
+    enum-known-at-2
+    returns
+    returns-2
+    returns-3)

@@ -1,0 +1,59 @@
+-- `egretfold::sessions::egretfold_session_word` meets its contract: each answer crosses as it is told. Assumes nothing.
+use mathlib.Core.Path.{sym, ap, _∙_}
+use Rattle.command.proofs.WriteBack.{lined}
+use Rattle.session.specs.Answers.{replyOf}
+use Rattle.egretfold.specs.Sessions.{replyTold}
+use Rattle.egretfold.proofs.Crossings.{crosses-gives, crosses-refuses}
+use Rattle.egretfold.proofs.Formats.{done-told}
+use borrow.Author.Needs.{needs}
+use Rattle.egretfold.proofs.sessions.egretfold_session_word.Statement.{statement}
+use Rattle.egretfold.proofs.sessions.egretfold_session_word.Tie as tie
+
+word-requires : tie.Need-word-requires
+word-requires c κs = search needs
+
+enum-known-why : tie.Need-enum-known-why
+enum-known-why c = search needs
+
+number-requires : tie.Need-number-requires
+number-requires c κs = search needs
+
+enum-told : tie.Need-enum-told
+enum-told c = search needs
+
+enum-known-done : tie.Need-enum-known-done
+enum-known-done c = search needs
+
+fields-requires : tie.Need-fields-requires
+fields-requires c κs = search needs
+
+line-requires : tie.Need-line-requires
+line-requires c κs = search needs
+
+header-requires : tie.Need-header-requires
+header-requires c κs = rw (c .line .ensures) (lined _ .line-most)
+
+returns : tie.Need-returns
+returns c = record { answer = crosses-refuses _ _ _ _ (c .number .ensures) (ap replyTold (sym (c .before .before .before .before .word .ensures .reply) ∙ ap replyOf (c .before .before .why .given .1))); held = c .before .before .before .before .word .ensures .held }
+
+returns-2 : tie.Need-returns-2
+returns-2 c = record { answer = crosses-gives _ _ _ (ap replyTold (sym (c .before .before .before .word .ensures .reply) ∙ ap replyOf (c .before .enum-told .given .1))); held = c .before .before .before .word .ensures .held }
+
+returns-3 : tie.Need-returns-3
+returns-3 c = record { answer = crosses-gives _ _ _ (ap replyTold (sym (c .before .before .before .before .before .before .before .word .ensures .reply) ∙ ap replyOf (c .before .before .before .before .before .done .given .1)) ∙ done-told _ _ _ _ (c .before .header .ensures) (c .before .before .line .ensures) (c .before .before .before .fields .ensures)); held = c .before .before .before .before .before .before .before .word .ensures .held }
+
+pub egretfold-session-word-spec : {M : Type 1} → statement M
+egretfold-session-word-spec =
+    tie.close
+    (tie.spec
+    word-requires
+    enum-known-why
+    number-requires
+    enum-told
+    enum-known-done
+    fields-requires
+    line-requires
+    header-requires
+    returns
+    returns-2
+    returns-3)

@@ -1,0 +1,96 @@
+// Layouts and addresses.
+use address::Located;
+use address::Translated;
+use layout::ByteAddress;
+use layout::Judged;
+use layout::Layout;
+ghost use Rattle.layout.specs.Layout.{judgeOf};
+ghost use Rattle.address.specs.Address.{translateOf, locateOf};
+ghost use Rattle.egretfold.specs.Crossing.{Crosses, layoutOf};
+
+// The row step and the span of a layout; 3 or 6.
+#[no_mangle]
+pub extern "C" fn egretfold_layout(
+    base: u32,
+    pitch: u32,
+    height: u32,
+    size: u32,
+    tiled: bool,
+    room: &mut [u32; 2],
+) -> u32
+    ensures { λ r. ⌜ Crosses (judgeOf base pitch height size tiled) r (now (room .entry)) (now (room .exit)) ⌝ }
+{
+    let layout = Layout {
+        base: ByteAddress(base),
+        pitch,
+        height,
+        size,
+        tiled,
+    };
+    match layout::judge(layout) {
+        Judged::Refused(why) => refusal::number(why),
+        Judged::Accepted { step, span } => {
+            *room = [step, span];
+            0
+        }
+    }
+}
+
+// The address of the element at (x, y); 3, 6 or 10.
+#[no_mangle]
+pub extern "C" fn egretfold_translate(
+    base: u32,
+    pitch: u32,
+    height: u32,
+    size: u32,
+    tiled: bool,
+    x: u32,
+    y: u32,
+    room: &mut [u32; 1],
+) -> u32
+    ensures { λ r. ⌜ Crosses (translateOf (layoutOf base pitch height size tiled) x y) r (now (room .entry)) (now (room .exit)) ⌝ }
+{
+    let layout = Layout {
+        base: ByteAddress(base),
+        pitch,
+        height,
+        size,
+        tiled,
+    };
+    match address::translate(layout, x, y) {
+        Translated::Refused(why) => refusal::number(why),
+        Translated::At { address } => {
+            *room = [address.0];
+            0
+        }
+    }
+}
+
+// The pair that owns the byte at an address, and the byte's place in its element; 3, 6 or 12.
+#[no_mangle]
+pub extern "C" fn egretfold_locate(
+    base: u32,
+    pitch: u32,
+    height: u32,
+    size: u32,
+    tiled: bool,
+    address: u32,
+    room: &mut [u32; 3],
+) -> u32
+    ensures { λ r. ⌜ Crosses (locateOf (layoutOf base pitch height size tiled) address) r (now (room .entry)) (now (room .exit)) ⌝ }
+{
+    let layout = Layout {
+        base: ByteAddress(base),
+        pitch,
+        height,
+        size,
+        tiled,
+    };
+    match address::locate(layout, ByteAddress(address)) {
+        Located::Refused(why) => refusal::number(why),
+        Located::Pair { x, y, place } => {
+            *room = [x, y, place];
+            0
+        }
+    }
+}

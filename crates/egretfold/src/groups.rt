@@ -1,0 +1,94 @@
+// Flow words for one group: programs, groups, steps and runs.
+use flow::Begun;
+use flow::Loaded;
+use flow::Ran;
+use flow::Stepped;
+ghost use Rattle.flow.specs.Answers.{programOf};
+ghost use Rattle.flow.specs.Cells.{Made, groupOf};
+ghost use Rattle.flow.specs.Group.{stepOf, runOf};
+ghost use Rattle.egretfold.specs.Groups.{BeginCrosses, LoadCrosses, RunCrosses, StepCrosses};
+
+// Loads a program, two words a slot, and says how many slots run; 15.
+#[no_mangle]
+pub extern "C" fn egretfold_program_load(
+    words: &[u32],
+    firsts: &mut [u32; 512],
+    seconds: &mut [u32; 512],
+    slots: &mut [u32; 1],
+) -> u32
+    ensures { λ r. ⌜ LoadCrosses (now (words .entry)) r (now (firsts .entry)) (now (firsts .exit)) (now (seconds .entry)) (now (seconds .exit)) (now (slots .entry)) (now (slots .exit)) ⌝ }
+{
+    match flow::load(words, firsts, seconds) {
+        Loaded::Refused(why) => refusal::number(why),
+        Loaded::Slots(n) => {
+            *slots = [n];
+            0
+        }
+    }
+}
+
+// A fresh group of 1 to 32 processors; 13.
+#[no_mangle]
+pub extern "C" fn egretfold_group_begin(size: u32, cells: &mut [u32; 20]) -> u32
+    ensures { λ r. ⌜ BeginCrosses size r (now (cells .entry)) (now (cells .exit)) ⌝ }
+{
+    match flow::begin(size, cells) {
+        Begun::Refused(why) => refusal::number(why),
+        Begun::Ready => 0,
+    }
+}
+
+// One step: 1 for a jump or 0 for a stay, and the next position; 13 to 16.
+#[no_mangle]
+pub extern "C" fn egretfold_group_step(
+    firsts: &[u32; 512],
+    seconds: &[u32; 512],
+    slots: u32,
+    cells: &mut [u32; 20],
+    alu: u32,
+    predicate: u32,
+    booleans: u32,
+    taken: &mut [u32; 2],
+) -> u32
+    requires { ⌜ Made (now cells) ⌝ }
+    ensures { λ r. ⌜ StepCrosses (stepOf 31 (programOf (now (firsts .entry)) (now (seconds .entry)) slots) alu predicate booleans (groupOf (now (cells .entry)))) r (now (cells .entry)) (now (cells .exit)) (now (taken .entry)) (now (taken .exit)) ⌝ }
+{
+    match flow::step(firsts, seconds, slots, cells, alu, predicate, booleans) {
+        Stepped::Refused(why) => refusal::number(why),
+        Stepped::Jumped(at) => {
+            *taken = [1, at.0];
+            0
+        }
+        Stepped::Stayed(at) => {
+            *taken = [0, at.0];
+            0
+        }
+    }
+}
+
+// A run over a list of masks: the steps made, the first active processor and how many are active; 13 to 16.
+#[no_mangle]
+pub extern "C" fn egretfold_group_run(
+    firsts: &[u32; 512],
+    seconds: &[u32; 512],
+    slots: u32,
+    cells: &mut [u32; 20],
+    masks: &[u32],
+    booleans: u32,
+    report: &mut [u64; 3],
+) -> u32
+    requires { ⌜ Made (now cells) ⌝ }
+    ensures { λ r. ⌜ RunCrosses (runOf 31 (programOf (now (firsts .entry)) (now (seconds .entry)) slots) booleans (now (masks .entry)) (groupOf (now (cells .entry)))) r (now (cells .entry)) (now (cells .exit)) (now (report .entry)) (now (report .exit)) ⌝ }
+{
+    match flow::run(firsts, seconds, slots, cells, masks, booleans) {
+        Ran::Refused(why) => refusal::number(why),
+        Ran::Report {
+            steps,
+            first,
+            active,
+        } => {
+            *report = [steps as u64, first as u64, active as u64];
+            0
+        }
+    }
+}

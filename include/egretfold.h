@@ -1,0 +1,152 @@
+/* Egretfold: CTM command streams, tile addresses, elements in lent memory, and flow words for one group.
+ *
+ * Every function returns 0, or the number of a refusal of document 01; a refusal touches no room and no state except where
+ * its function says so. Nothing is allocated and nothing is kept between calls: all state lies in arrays that the caller
+ * lends. Arguments may be any numbers. Arrays have just the lengths shown, except where a length is an argument of its own.
+ *
+ *      1  the session is stopped
+ *      2  a header word stands in no line of the command table
+ *      3  a reserved bit or code is set, or a layout argument is malformed
+ *      4  input number over 15, output number over 3
+ *      5  i0 > i1 or j0 > j1
+ *      6  window rule broken
+ *      7  start without a domain, an instruction format or any output set
+ *      8  the domain is not inside every set output's window
+ *      9  spans of two set outputs share a byte
+ *     10  a pair is outside its window
+ *     11  room, element data or memory of a wrong length or place
+ *     12  no pair of the window owns the address
+ *     13  flow word field or group size not allowed
+ *     14  branch counter or return stack at its limit
+ *     15  a jump past the program's end, or a program of a wrong length
+ *     16  the program has already ended
+ *     17  the session has taken 1,000,000,000 words
+ *
+ * What the caller owes: pointers to arrays of the lengths shown, no two of them overlapping where one is written (a session's
+ * three arrays, rooms and memory are apart), and states as these functions left them: a session's arrays from
+ * egretfold_session_begin on, a group's cells from an egretfold_group_begin that returned 0 on. A state may be copied and
+ * kept (on disk, say) as it is. A pointer that comes with a length of 0 is not read, but is not null. */
+#ifndef EGRETFOLD_H
+#define EGRETFOLD_H
+
+#include <stdbool.h>
+#include <stddef.h>
+#include <stdint.h>
+
+#ifdef __cplusplus
+extern "C" {
+#endif
+
+/* A session's state: its own numbers, its tallies, and the settings. */
+enum { EGRETFOLD_OWN = 17, EGRETFOLD_TALLIES = 2, EGRETFOLD_SHARED = 101 };
+
+/* A program's store, and a group's cells:
+ *   0        the processors in the group, bit i for processor i
+ *   1        the active ones
+ *   2 to 6   the branch counters of the inactive ones: bit i of cell 2 + k is bit k of processor i's counter
+ *   7        the position
+ *   8 to 11  the stored returns, the last one first, 0 where there is none
+ *   12 to 19 zeros */
+enum { EGRETFOLD_SLOTS = 512, EGRETFOLD_CELLS = 20 };
+
+/* ---- Sessions ---- */
+
+/* A new session: nothing set, mask 65535. Returns 0. */
+uint32_t egretfold_session_begin(uint32_t own[17], uint64_t tallies[2], uint32_t shared[101]);
+
+/* One word. command: 0 where a command is still open, else 1; then the completed command's header and its four parameters,
+ * 0 past its last (and all 0 where a command is open). 1 to 9 or 17; all but 1 stop the session and drop the open command. */
+uint32_t egretfold_session_word(uint32_t own[17], uint64_t tallies[2], uint32_t shared[101], uint32_t word,
+                                uint32_t command[6]);
+
+/* A piece of words, one after another up to the first refused one. Returns that word's refusal, or 0. fed, written in any
+ * case: the words taken (where a word is refused, its place in the piece) and the commands that they completed. */
+uint32_t egretfold_session_feed(uint32_t own[17], uint64_t tallies[2], uint32_t shared[101], const uint32_t *words,
+                                size_t length, uint64_t fed[2]);
+
+/* status: the words taken since the session began; 1 if it is stopped, else 0; the open command's header, 0 if none is open;
+ * and how many of its parameters were taken. Returns 0. */
+uint32_t egretfold_session_status(const uint32_t own[17], uint32_t status[4]);
+
+/* counts: runs (starts that passed) and the elements that they claimed. Returns 0. */
+uint32_t egretfold_session_tallies(const uint64_t tallies[2], uint64_t counts[2]);
+
+/* domain: 1 if it is set, else 0; then i0, j0, i1, j1, both ends included. Returns 0. */
+uint32_t egretfold_session_domain(const uint32_t own[17], uint32_t domain[5]);
+
+/* The format that the command with this header set (set_inst_fmt, set_inp_fmt, set_out_fmt, set_cond_out_fmt,
+ * set_constf_fmt, set_consti_fmt or set_constb_fmt; for inputs and outputs the one with this number, else the number is not
+ * looked at). format: 1 if it is set, else 0; then base, format word and height. 2 for any other header; 4. */
+uint32_t egretfold_session_format(const uint32_t own[17], const uint32_t shared[101], uint32_t header, uint32_t number,
+                                  uint32_t format[4]);
+
+/* masks: the output mask; 1 if the conditional mask is set, else 0, and the mask; 1 if the test is set, else 0, and the
+ * test. Returns 0. */
+uint32_t egretfold_session_masks(const uint32_t shared[101], uint32_t masks[5]);
+
+/* ---- Commands by themselves ---- */
+
+/* count: how many parameters a header announces, 1 to 4. 2. */
+uint32_t egretfold_command_parameters(uint32_t header, uint32_t count[1]);
+
+/* The words of the command with this header and these fields, in document 01's order, to the front of the room, which has
+ * room for `length` words; what stands behind them isn't touched. Fields past the command's last are not looked at, nor is
+ * the reserved parameter of wait_for_idle, the invalidations, the flushes and start_program, which is written as 0.
+ * written: the number of words. 2; then 3, 4, 5, 6, and 11 where the room is too short. */
+uint32_t egretfold_command_write(uint32_t header, const uint32_t fields[4], uint32_t *room, size_t length,
+                                 uint32_t written[1]);
+
+/* ---- Layouts and addresses ---- */
+
+/* window: the row step in elements and the span in bytes. 3 or 6. */
+uint32_t egretfold_layout(uint32_t base, uint32_t pitch, uint32_t height, uint32_t size, bool tiled, uint32_t window[2]);
+
+/* address: where the element at (x, y) begins. 3, 6 or 10. */
+uint32_t egretfold_translate(uint32_t base, uint32_t pitch, uint32_t height, uint32_t size, bool tiled, uint32_t x,
+                             uint32_t y, uint32_t address[1]);
+
+/* pair: x and y of the pair that owns the byte at the address, and the byte's place in its element. 3, 6 or 12. */
+uint32_t egretfold_locate(uint32_t base, uint32_t pitch, uint32_t height, uint32_t size, bool tiled, uint32_t address,
+                          uint32_t pair[3]);
+
+/* ---- Elements in lent memory: `length` bytes, the first of which stands at address `first` ---- */
+
+/* bytes: the bytes of the element at (x, y), then zeros. 3, 6, 10 or 11. */
+uint32_t egretfold_element_read(uint32_t base, uint32_t pitch, uint32_t height, uint32_t size, bool tiled, uint32_t x,
+                                uint32_t y, const uint8_t *memory, size_t length, uint32_t first, uint8_t bytes[16]);
+
+/* Stores `data` as the element at (x, y) and touches no other byte of memory. 3, 6, 10 or 11. */
+uint32_t egretfold_element_write(uint32_t base, uint32_t pitch, uint32_t height, uint32_t size, bool tiled, uint32_t x,
+                                 uint32_t y, uint8_t *memory, size_t length, uint32_t first, const uint8_t *data,
+                                 size_t data_length);
+
+/* The elements at (x + 1, y), (x, y + 1), (x + 1, y + 1) and (x, y), one after the other, of the window that base, format word
+ * and height describe. bytes: theirs, then zeros; count: how many are theirs. 3, 6, 10 or 11. */
+uint32_t egretfold_element_superfine(uint32_t base, uint32_t format, uint32_t height, uint32_t x, uint32_t y,
+                                     const uint8_t *memory, size_t length, uint32_t first, uint8_t bytes[16],
+                                     uint32_t count[1]);
+
+/* ---- Flow words for one group ---- */
+
+/* Loads a program, two words a slot, into a store of 512 slots. slots: how many of them run. 15. */
+uint32_t egretfold_program_load(const uint32_t *words, size_t length, uint32_t firsts[512], uint32_t seconds[512],
+                                uint32_t slots[1]);
+
+/* A fresh group of 1 to 32 processors. 13. */
+uint32_t egretfold_group_begin(uint32_t size, uint32_t cells[20]);
+
+/* One step under a program of `slots` running slots. taken: 1 for a jump, 0 for a stay; and the next position. 13 to 16. */
+uint32_t egretfold_group_step(const uint32_t firsts[512], const uint32_t seconds[512], uint32_t slots, uint32_t cells[20],
+                              uint32_t alu, uint32_t predicate, uint32_t booleans, uint32_t taken[2]);
+
+/* Steps up to the end of the list of masks (alu, then predicate, for each step) or of the program. report: the steps made,
+ * the first active processor (32 if none), and how many are active. 13 to 16; a refused step leaves the group as it was
+ * before the run. */
+uint32_t egretfold_group_run(const uint32_t firsts[512], const uint32_t seconds[512], uint32_t slots, uint32_t cells[20],
+                             const uint32_t *masks, size_t length, uint32_t booleans, uint64_t report[3]);
+
+#ifdef __cplusplus
+}
+#endif
+
+#endif
