@@ -12,7 +12,6 @@ use session::stream::Answer;
 use session::stream::First;
 ghost use mathlib.Core.Path.{_≡_};
 ghost use mathlib.Core.List.{[]};
-ghost use lib.ListN.{length};
 ghost use Rattle.session.specs.Asked.{Given};
 ghost use Rattle.session.specs.Cells.{partyOf, sessionOf, sharedOf};
 ghost use Rattle.session.specs.Feed.{feedOf};
@@ -97,7 +96,6 @@ fn open_header(line: u32) -> u32
 // Words taken, stopped or not, the open command's header and how many of its parameters were taken.
 #[no_mangle]
 pub extern "C" fn egretfold_session_status(own: &[u32; 17], status: &mut [u32; 4]) -> u32
-    requires { ⌜ length (now own) ≡ 17 ⌝ }
     ensures { λ r. ⌜ Shows (statusOf (partyOf (now (own .entry)) [])) r (now (status .exit)) ⌝ }
 {
     let stopped = flag_of(queries::is_stopped(own));
@@ -109,7 +107,6 @@ pub extern "C" fn egretfold_session_status(own: &[u32; 17], status: &mut [u32; 4
 // Runs and claimed elements.
 #[no_mangle]
 pub extern "C" fn egretfold_session_tallies(tallies: &[u64; 2], counts: &mut [u64; 2]) -> u32
-    requires { ⌜ length (now tallies) ≡ 2 ⌝ }
     ensures { λ r. ⌜ Shows (countsOf (partyOf [] (now (tallies .entry)))) r (now (counts .exit)) ⌝ }
 {
     *counts = [queries::runs(tallies), queries::claims(tallies)];
@@ -119,7 +116,6 @@ pub extern "C" fn egretfold_session_tallies(tallies: &[u64; 2], counts: &mut [u6
 // Whether the domain is set, and its bounds.
 #[no_mangle]
 pub extern "C" fn egretfold_session_domain(own: &[u32; 17], domain: &mut [u32; 5]) -> u32
-    requires { ⌜ length (now own) ≡ 17 ⌝ }
     ensures { λ r. ⌜ Shows (domainOf (partyOf (now (own .entry)) [])) r (now (domain .exit)) ⌝ }
 {
     let bounds = queries::domain(own);
@@ -131,7 +127,6 @@ pub extern "C" fn egretfold_session_domain(own: &[u32; 17], domain: &mut [u32; 5
 // The output mask, whether the conditional mask is set and the mask, whether the test is set and the test.
 #[no_mangle]
 pub extern "C" fn egretfold_session_masks(shared: &[u32; 101], masks: &mut [u32; 5]) -> u32
-    requires { ⌜ length (now shared) ≡ 101 ⌝ }
     ensures { λ r. ⌜ Shows (masksOf (sharedOf (now (shared .entry)))) r (now (masks .exit)) ⌝ }
 {
     let conditional = flag_of(queries::has_conditional_mask(shared));
@@ -154,7 +149,6 @@ enum Found {
 
 // The format that a line of the command table sets.
 fn at_line(own: &[u32; 17], shared: &[u32; 101], line: u32, number: u32) -> Found
-    requires { ⌜ (length (now own) ≡ 17) × (length (now shared) ≡ 101) ⌝ }
     ensures { λ r. ⌜ toldFound r ≡ formatAt (partyOf (now (own .entry)) []) (sharedOf (now (shared .entry))) line number ⌝ }
 {
     match line {
@@ -190,7 +184,6 @@ pub extern "C" fn egretfold_session_format(
     number: u32,
     format: &mut [u32; 4],
 ) -> u32
-    requires { ⌜ (length (now own) ≡ 17) × (length (now shared) ≡ 101) ⌝ }
     ensures { λ r. ⌜ Crosses (formatOf (partyOf (now (own .entry)) []) (sharedOf (now (shared .entry))) header number) r (now (format .entry)) (now (format .exit)) ⌝ }
 {
     match table::line_of(header) {

@@ -6,7 +6,7 @@ ghost use mathlib.Core.Path.{_≡_};
 ghost use mathlib.Core.List.{[]};
 ghost use Prim.Native.Nat.{_<_};
 ghost use lib.Dec.{eqb};
-ghost use lib.ListN.{getD, length};
+ghost use lib.ListN.{getD};
 ghost use Rattle.session.specs.State.{unset};
 ghost use Rattle.session.specs.Cells.{bufferAt, partyOf, sharedOf};
 ghost use Rattle.session.specs.Queries.{boundsOf, settingOf};
@@ -36,14 +36,12 @@ fn wide(n: u32) -> u64
 
 // Words taken since the session began.
 pub fn taken(own: &[u32; 17]) -> WordPosition
-    requires { ⌜ length (now own) ≡ 17 ⌝ }
     ensures { λ r. ⌜ r .0 ≡ partyOf (now (own .entry)) [] .taken ⌝ }
 {
     WordPosition(wide(own[own::TAKEN]))
 }
 
 pub fn is_stopped(own: &[u32; 17]) -> bool
-    requires { ⌜ length (now own) ≡ 17 ⌝ }
     ensures { λ r. ⌜ r ≡ eqb (partyOf (now (own .entry)) [] .stopped) 1 ⌝ }
 {
     own[own::STOPPED] == 1
@@ -51,21 +49,18 @@ pub fn is_stopped(own: &[u32; 17]) -> bool
 
 // The line of the open command in the command table, 21 where none is open, and how many parameters were taken.
 pub fn open_line(own: &[u32; 17]) -> u32
-    requires { ⌜ length (now own) ≡ 17 ⌝ }
     ensures { λ r. ⌜ r ≡ partyOf (now (own .entry)) [] .opened .line ⌝ }
 {
     own[own::LINE]
 }
 
 pub fn open_count(own: &[u32; 17]) -> u32
-    requires { ⌜ length (now own) ≡ 17 ⌝ }
     ensures { λ r. ⌜ r ≡ partyOf (now (own .entry)) [] .opened .count ⌝ }
 {
     own[own::COUNT]
 }
 
 pub fn domain(own: &[u32; 17]) -> Bounds
-    requires { ⌜ length (now own) ≡ 17 ⌝ }
     ensures { λ r. ⌜ r ≡ boundsOf (partyOf (now (own .entry)) [] .domain) ⌝ }
 {
     let present = own[own::DOMAIN] == 1;
@@ -79,7 +74,6 @@ pub fn domain(own: &[u32; 17]) -> Bounds
 }
 
 pub fn instructions(own: &[u32; 17]) -> Setting
-    requires { ⌜ length (now own) ≡ 17 ⌝ }
     ensures { λ r. ⌜ r ≡ settingOf (partyOf (now (own .entry)) [] .instructions) ⌝ }
 {
     let present = own[own::INSTRUCTIONS] == 1;
@@ -93,14 +87,12 @@ pub fn instructions(own: &[u32; 17]) -> Setting
 
 // Starts that passed, and the elements that they claimed.
 pub fn runs(tallies: &[u64; 2]) -> u64
-    requires { ⌜ length (now tallies) ≡ 2 ⌝ }
     ensures { λ r. ⌜ r ≡ partyOf [] (now (tallies .entry)) .tally .runs ⌝ }
 {
     tallies[0]
 }
 
 pub fn claims(tallies: &[u64; 2]) -> u64
-    requires { ⌜ length (now tallies) ≡ 2 ⌝ }
     ensures { λ r. ⌜ r ≡ partyOf [] (now (tallies .entry)) .tally .claims ⌝ }
 {
     tallies[1]
@@ -108,7 +100,6 @@ pub fn claims(tallies: &[u64; 2]) -> u64
 
 // The output mask: bit 4n + c for channel c of output n.
 pub fn mask(shared: &[u32; 101]) -> u32
-    requires { ⌜ length (now shared) ≡ 101 ⌝ }
     ensures { λ r. ⌜ r ≡ sharedOf (now (shared .entry)) .mask ⌝ }
 {
     shared[settings::MASK]
@@ -116,28 +107,24 @@ pub fn mask(shared: &[u32; 101]) -> u32
 
 // Whether the conditional mask and the test are set, and their values.
 pub fn has_conditional_mask(shared: &[u32; 101]) -> bool
-    requires { ⌜ length (now shared) ≡ 101 ⌝ }
     ensures { λ r. ⌜ r ≡ eqb (sharedOf (now (shared .entry)) .conditionalMaskSet) 1 ⌝ }
 {
     shared[settings::CONDITIONAL_MASK_SET] == 1
 }
 
 pub fn conditional_mask(shared: &[u32; 101]) -> u32
-    requires { ⌜ length (now shared) ≡ 101 ⌝ }
     ensures { λ r. ⌜ r ≡ sharedOf (now (shared .entry)) .conditionalMask ⌝ }
 {
     shared[settings::CONDITIONAL_MASK]
 }
 
 pub fn has_test(shared: &[u32; 101]) -> bool
-    requires { ⌜ length (now shared) ≡ 101 ⌝ }
     ensures { λ r. ⌜ r ≡ eqb (sharedOf (now (shared .entry)) .testSet) 1 ⌝ }
 {
     shared[settings::TEST_SET] == 1
 }
 
 pub fn test(shared: &[u32; 101]) -> u32
-    requires { ⌜ length (now shared) ≡ 101 ⌝ }
     ensures { λ r. ⌜ r ≡ sharedOf (now (shared .entry)) .test ⌝ }
 {
     shared[settings::TEST]
@@ -145,7 +132,7 @@ pub fn test(shared: &[u32; 101]) -> u32
 
 // The buffer whose cells begin at a place.
 fn setting_at(shared: &[u32; 101], at: usize) -> Setting
-    requires { ⌜ (length (now shared) ≡ 101) × (at < 98) ⌝ }
+    requires { ⌜ at < 98 ⌝ }
     ensures { λ r. ⌜ r ≡ settingOf (bufferAt (now (shared .entry)) at) ⌝ }
 {
     let present = shared[at] == 1;
@@ -158,28 +145,24 @@ fn setting_at(shared: &[u32; 101], at: usize) -> Setting
 }
 
 pub fn floats(shared: &[u32; 101]) -> Setting
-    requires { ⌜ length (now shared) ≡ 101 ⌝ }
     ensures { λ r. ⌜ r ≡ settingOf (sharedOf (now (shared .entry)) .floats) ⌝ }
 {
     setting_at(shared, settings::FLOATS)
 }
 
 pub fn integers(shared: &[u32; 101]) -> Setting
-    requires { ⌜ length (now shared) ≡ 101 ⌝ }
     ensures { λ r. ⌜ r ≡ settingOf (sharedOf (now (shared .entry)) .integers) ⌝ }
 {
     setting_at(shared, settings::INTEGERS)
 }
 
 pub fn booleans(shared: &[u32; 101]) -> Setting
-    requires { ⌜ length (now shared) ≡ 101 ⌝ }
     ensures { λ r. ⌜ r ≡ settingOf (sharedOf (now (shared .entry)) .booleans) ⌝ }
 {
     setting_at(shared, settings::BOOLEANS)
 }
 
 pub fn conditional(shared: &[u32; 101]) -> Setting
-    requires { ⌜ length (now shared) ≡ 101 ⌝ }
     ensures { λ r. ⌜ r ≡ settingOf (sharedOf (now (shared .entry)) .conditional) ⌝ }
 {
     setting_at(shared, settings::CONDITIONAL)
@@ -199,7 +182,6 @@ fn not_set() -> Setting
 
 // Output `number`, 0 to 3.
 pub fn output(shared: &[u32; 101], number: u32) -> Setting
-    requires { ⌜ length (now shared) ≡ 101 ⌝ }
     ensures { λ r. ⌜ r ≡ settingOf (getD (sharedOf (now (shared .entry)) .outputs) number unset) ⌝ }
 {
     if number < 4 {
@@ -211,7 +193,6 @@ pub fn output(shared: &[u32; 101], number: u32) -> Setting
 
 // Input `number`, 0 to 15.
 pub fn input(shared: &[u32; 101], number: u32) -> Setting
-    requires { ⌜ length (now shared) ≡ 101 ⌝ }
     ensures { λ r. ⌜ r ≡ settingOf (getD (sharedOf (now (shared .entry)) .inputs) number unset) ⌝ }
 {
     if number < 16 {
