@@ -1,0 +1,20 @@
+//! Document 01 as a Rust programmer would write it for speed: sessions, the writer, addresses, elements and flow words.
+//!
+//! Every entry that stands for one call of the product is marked `#[inline(never)]`. A host reaches the product through a
+//! call that nothing inlines; without the mark the compiler could melt these entries into the timing loop and move the work
+//! on a constant layout out of it, and the two sides would no longer do the same. Nothing else here is held back.
+
+pub mod address;
+pub mod command;
+pub mod element;
+pub mod layout;
+pub mod planes;
+pub mod processors;
+pub mod program;
+pub mod refusal;
+pub mod session;
+
+#[cfg(test)]
+mod worked;
+
+pub use refusal::Answer;

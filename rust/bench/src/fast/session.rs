@@ -1,0 +1,385 @@
+//! Sessions: words taken one by one or in pieces, the settings that they leave, and the tallies.
+//!
+//! A piece is taken by whole commands wherever it holds them: all parameters are judged at once, with one dispatch a
+//! command. What is cut by a piece's end, and a command that is refused, goes word by word, which finds the word at fault.
+
+use super::command::{line_of, Command, Domain, Format, Kind, Line};
+use super::layout::Window;
+use super::refusal::{
+    Answer, DOMAIN_OUTSIDE, FULL, MALFORMED, NOT_READY, SPANS_SHARED, STOPPED, UNKNOWN_HEADER,
+};
+
+/// How many words a session takes.
+const MOST_WORDS: usize = 1_000_000_000;
+/// The words of the longest command.
+const LONGEST: usize = 5;
+
+/// A set output, with its row step and its span's last byte, which were found when its format was judged.
+#[derive(Clone, Copy, Debug)]
+struct Output {
+    format: Format,
+    step: u32,
+    last: u32,
+}
+
+/// What an accepted word answers.
+#[derive(Clone, Copy, Debug, PartialEq, Eq)]
+pub enum Reply {
+    Open,
+    Done(Command),
+}
+
+/// What a piece of words answers.
+#[derive(Clone, Copy, Debug, PartialEq, Eq)]
+pub struct Fed {
+    pub taken: u64,
+    pub commands: u64,
+    pub refusal: Option<u32>,
+}
+
+#[derive(Clone)]
+pub struct Session {
+    taken: usize,
+    stopped: bool,
+    /// The open command's line, and its parameters so far.
+    open: Option<&'static Line>,
+    index: usize,
+    fields: [u32; 4],
+    runs: u64,
+    claims: u64,
+    domain: Option<Domain>,
+    instructions: Option<Format>,
+    floats: Option<Format>,
+    integers: Option<Format>,
+    booleans: Option<Format>,
+    conditional: Option<Format>,
+    inputs: [Option<Format>; 16],
+    outputs: [Option<Output>; 4],
+    output_mask: u32,
+    conditional_mask: Option<u32>,
+    test: Option<u32>,
+}
+
+impl Default for Session {
+    fn default() -> Session {
+        Session::new()
+    }
+}
+
+impl Session {
+    /// A new session: nothing set, mask 65535.
+    #[inline(never)]
+    pub fn new() -> Session {
+        Session {
+            taken: 0,
+            stopped: false,
+            open: None,
+            index: 0,
+            fields: [0; 4],
+            runs: 0,
+            claims: 0,
+            domain: None,
+            instructions: None,
+            floats: None,
+            integers: None,
+            booleans: None,
+            conditional: None,
+            inputs: [None; 16],
+            outputs: [None; 4],
+            output_mask: 0xFFFF,
+            conditional_mask: None,
+            test: None,
+        }
+    }
+
+    /// A new session that counts this many words as taken, so that a test can come to the last ones.
+    #[cfg(test)]
+    pub(super) fn new_after(taken: usize) -> Session {
+        Session {
+            taken,
+            ..Session::new()
+        }
+    }
+
+    /// Takes one word. 1 to 9 or 17; all but 1 stop the session and drop the open command.
+    #[inline(never)]
+    pub fn word(&mut self, word: u32) -> Answer<Reply> {
+        self.take(word)
+    }
+
+    /// Takes a piece of words, one after another up to the first refused one.
+    #[inline(never)]
+    pub fn feed(&mut self, words: &[u32]) -> Fed {
+        let mut rest = words;
+        let mut commands = 0;
+        let mut refusal = None;
+        loop {
+            if rest.len() >= LONGEST && self.open.is_none() && !self.stopped {
+                let (after, whole) = self.take_whole_commands(rest);
+                rest = after;
+                commands += whole;
+            }
+            let (&word, after) = match rest.split_first() {
+                Some(split) => split,
+                None => break,
+            };
+            match self.take(word) {
+                Ok(Reply::Open) => {}
+                Ok(Reply::Done(_)) => commands += 1,
+                Err(number) => {
+                    refusal = Some(number);
+                    break;
+                }
+            }
+            rest = after;
+        }
+        Fed {
+            taken: (words.len() - rest.len()) as u64,
+            commands,
+            refusal,
+        }
+    }
+
+    /// Takes accepted commands off the front while as many words are there to look at as the longest has. Gives what is left
+    /// and how many commands there were.
+    fn take_whole_commands<'a>(&mut self, words: &'a [u32]) -> (&'a [u32], u64) {
+        // no whole command may go past the session's last word
+        let (mut rest, beyond) = words.split_at(words.len().min(MOST_WORDS - self.taken));
+        let mut commands = 0;
+        while let [header, p0, p1, p2, p3, ..] = *rest {
+            let line = match line_of(header) {
+                Some(line) => line,
+                None => break,
+            };
+            let [r0, r1, r2, r3] = line.refused;
+            if p0 & r0 | p1 & r1 | p2 & r2 | p3 & r3 != 0 {
+                break;
+            }
+            let command = match self.complete(line, [p0, p1, p2, p3]) {
+                Ok(command) => command,
+                Err(_) => break,
+            };
+            commands += 1;
+            // by the command and not by the table: a guessed branch is sooner there than a loaded number
+            rest = &rest[1 + command.parameters()..];
+        }
+        let left = rest.len() + beyond.len();
+        self.taken += words.len() - left;
+        (&words[words.len() - left..], commands)
+    }
+
+    #[inline(always)]
+    fn take(&mut self, word: u32) -> Answer<Reply> {
+        if self.stopped {
+            return Err(STOPPED);
+        }
+        let answer = self.judge(word);
+        if answer.is_ok() {
+            self.taken += 1;
+        } else {
+            self.stopped = true;
+            self.open = None;
+        }
+        answer
+    }
+
+    #[inline(always)]
+    fn judge(&mut self, word: u32) -> Answer<Reply> {
+        if self.taken == MOST_WORDS {
+            return Err(FULL);
+        }
+        let line = match self.open {
+            Some(line) => line,
+            None => {
+                self.open = Some(line_of(word).ok_or(UNKNOWN_HEADER)?);
+                self.index = 0;
+                return Ok(Reply::Open);
+            }
+        };
+        line.judge(self.index, word)?;
+        self.fields[self.index] = word;
+        self.index += 1;
+        if self.index < usize::from(line.parameters) {
+            return Ok(Reply::Open);
+        }
+        let command = self.complete(line, self.fields)?;
+        self.open = None;
+        Ok(Reply::Done(command))
+    }
+
+    /// Settles a command whose parameters' reserved bits were judged: its format's code, refusals 5 to 9, and its effect.
+    #[inline(always)]
+    fn complete(&mut self, line: &Line, fields: [u32; 4]) -> Answer<Command> {
+        let [p0, p1, p2, p3] = fields;
+        let short_format = format_of(p0, p1, 1);
+        Ok(match line.kind {
+            Kind::SetInstructions => {
+                Command::SetInstructions(set(&mut self.instructions, short_format)?)
+            }
+            Kind::SetFloats => Command::SetFloats(set(&mut self.floats, short_format)?),
+            Kind::SetIntegers => Command::SetIntegers(set(&mut self.integers, short_format)?),
+            Kind::SetBooleans => Command::SetBooleans(set(&mut self.booleans, short_format)?),
+            Kind::SetInput => self.set_input(line, p0, format_of(p1, p2, p3))?,
+            Kind::SetOutput => self.set_output(p0, format_of(p1, p2, p3))?,
+            Kind::SetConditional => {
+                Command::SetConditional(set(&mut self.conditional, format_of(p0, p1, p2))?)
+            }
+            Kind::SetOutputMask => {
+                self.output_mask = p0;
+                Command::SetOutputMask(p0)
+            }
+            Kind::SetConditionalMask => {
+                self.conditional_mask = Some(p0);
+                Command::SetConditionalMask(p0)
+            }
+            Kind::SetTest => {
+                self.test = Some(p0);
+                Command::SetTest(p0)
+            }
+            Kind::SetDomain => self.set_domain(fields)?,
+            Kind::Start => self.start()?,
+            Kind::WaitForIdle => Command::WaitForIdle,
+            Kind::InvalidateInstructions => Command::InvalidateInstructions,
+            Kind::InvalidateFloats => Command::InvalidateFloats,
+            Kind::InvalidateIntegers => Command::InvalidateIntegers,
+            Kind::InvalidateBooleans => Command::InvalidateBooleans,
+            Kind::InvalidateConditional => Command::InvalidateConditional,
+            Kind::InvalidateInputs => Command::InvalidateInputs,
+            Kind::FlushOutputs => Command::FlushOutputs,
+            Kind::FlushConditional => Command::FlushConditional,
+        })
+    }
+
+    #[inline(always)]
+    fn set_input(&mut self, line: &Line, number: u32, format: Format) -> Answer<Command> {
+        if !line.allows_format(format.word) {
+            return Err(MALFORMED);
+        }
+        set(&mut self.inputs[(number & 15) as usize], format)?;
+        Ok(Command::SetInput(number, format))
+    }
+
+    #[inline(always)]
+    fn set_output(&mut self, number: u32, format: Format) -> Answer<Command> {
+        let Window { step, span } = format.window()?;
+        // a window ends at 2^32 at the latest, so its last byte's address fits
+        let last = format.base + (span - 1);
+        self.outputs[(number & 3) as usize] = Some(Output { format, step, last });
+        Ok(Command::SetOutput(number, format))
+    }
+
+    #[inline(always)]
+    fn set_domain(&mut self, [i0, j0, i1, j1]: [u32; 4]) -> Answer<Command> {
+        let domain = Domain { i0, j0, i1, j1 };
+        domain.in_order()?;
+        self.domain = Some(domain);
+        Ok(Command::SetDomain(domain))
+    }
+
+    /// 7, 8, 9, or one more run and its claim.
+    #[inline(always)]
+    fn start(&mut self) -> Answer<Command> {
+        let domain = match (self.domain, self.instructions) {
+            (Some(domain), Some(_)) => domain,
+            _ => return Err(NOT_READY),
+        };
+        let mut set = self.outputs.iter().flatten();
+        let outputs = set.clone().count() as u64;
+        if outputs == 0 {
+            return Err(NOT_READY);
+        }
+        if !set.all(|output| output.holds(&domain)) {
+            return Err(DOMAIN_OUTSIDE);
+        }
+        if self.outputs_share_a_byte() {
+            return Err(SPANS_SHARED);
+        }
+        self.runs += 1;
+        self.claims += domain.pairs() * outputs;
+        Ok(Command::Start)
+    }
+
+    #[inline(always)]
+    fn outputs_share_a_byte(&self) -> bool {
+        self.outputs.iter().enumerate().any(|(place, output)| {
+            let mut later = self.outputs[place + 1..].iter().flatten();
+            output.map_or(false, |output| later.any(|other| output.shares_with(other)))
+        })
+    }
+
+    pub fn taken(&self) -> usize {
+        self.taken
+    }
+
+    pub fn stopped(&self) -> bool {
+        self.stopped
+    }
+
+    /// The open command's header, and how many of its parameters were taken.
+    pub fn open(&self) -> Option<(u32, u32)> {
+        self.open.map(|line| (line.header, self.index as u32))
+    }
+
+    pub fn runs(&self) -> u64 {
+        self.runs
+    }
+
+    pub fn claims(&self) -> u64 {
+        self.claims
+    }
+
+    pub fn domain(&self) -> Option<Domain> {
+        self.domain
+    }
+
+    /// The format that the command with this header set, for inputs and outputs the one with this number.
+    pub fn format(&self, header: u32, number: usize) -> Option<Format> {
+        match line_of(header)?.kind {
+            Kind::SetInstructions => self.instructions,
+            Kind::SetFloats => self.floats,
+            Kind::SetIntegers => self.integers,
+            Kind::SetBooleans => self.booleans,
+            Kind::SetConditional => self.conditional,
+            Kind::SetInput => *self.inputs.get(number)?,
+            Kind::SetOutput => self.outputs.get(number)?.map(|output| output.format),
+            _ => None,
+        }
+    }
+
+    pub fn output_mask(&self) -> u32 {
+        self.output_mask
+    }
+
+    pub fn conditional_mask(&self) -> Option<u32> {
+        self.conditional_mask
+    }
+
+    pub fn test(&self) -> Option<u32> {
+        self.test
+    }
+}
+
+impl Output {
+    #[inline(always)]
+    fn holds(&self, domain: &Domain) -> bool {
+        domain.i1 < self.step && domain.j1 < self.format.height
+    }
+
+    #[inline(always)]
+    fn shares_with(&self, other: &Output) -> bool {
+        self.format.base <= other.last && other.format.base <= self.last
+    }
+}
+
+#[inline(always)]
+fn format_of(base: u32, word: u32, height: u32) -> Format {
+    Format { base, word, height }
+}
+
+/// Keeps a format that passes the window rule.
+#[inline(always)]
+fn set(setting: &mut Option<Format>, format: Format) -> Answer<Format> {
+    format.window()?;
+    *setting = Some(format);
+    Ok(format)
+}

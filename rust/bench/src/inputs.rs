@@ -1,0 +1,195 @@
+//! The benchmark's inputs: made from fixed seeds, so that every run times the same.
+
+use bench::fast::address::translate;
+use bench::fast::layout::{judge, Layout};
+
+pub const WAIT_FOR_IDLE: u32 = 0xC000_0900;
+pub const SET_INST_FMT: u32 = 0xC001_0A00;
+pub const SET_INP_FMT: u32 = 0xC003_0B00;
+pub const SET_OUT_FMT: u32 = 0xC003_0C00;
+pub const SET_COND_OUT_FMT: u32 = 0xC002_0D00;
+pub const SET_DOMAIN: u32 = 0xC003_0700;
+pub const START: u32 = 0xC000_0800;
+const CONSTANTS: [u32; 3] = [0xC001_0E00, 0xC001_0F00, 0xC001_1000];
+const INVALIDATE_INSTRUCTIONS: u32 = 0xC000_1100;
+const INVALIDATE_CONSTANTS: [u32; 3] = [0xC000_1200, 0xC000_1300, 0xC000_1400];
+const INVALIDATE_CONDITIONAL: u32 = 0xC000_1500;
+const INVALIDATE_INPUTS: u32 = 0xC000_1600;
+const FLUSH_OUTPUTS: u32 = 0xC000_1700;
+const FLUSH_CONDITIONAL: u32 = 0xC000_1800;
+const SET_OUT_MASK: u32 = 0xC000_1900;
+const SET_COND_OUT_MASK: u32 = 0xC000_1A00;
+const SET_COND_TEST: u32 = 0xC000_1B00;
+
+const TILED: u32 = 1 << 16;
+const SUPERFINE: u32 = 1 << 17;
+
+/// How many pairs or addresses a line asks for in one pass.
+const ASKED: usize = 2048;
+/// One in this many of them is outside.
+const OUTSIDE: u32 = 64;
+
+/// Pseudo-random numbers (xorshift).
+pub struct Random(u64);
+
+impl Random {
+    pub fn new(seed: u64) -> Random {
+        Random(seed.wrapping_mul(0x9E37_79B9_7F4A_7C15) | 1)
+    }
+
+    pub fn word(&mut self) -> u32 {
+        self.0 ^= self.0 << 13;
+        self.0 ^= self.0 >> 7;
+        self.0 ^= self.0 << 17;
+        (self.0 >> 32) as u32
+    }
+
+    /// A number below `end`.
+    pub fn below(&mut self, end: u32) -> u32 {
+        ((u64::from(self.word()) * u64::from(end)) >> 32) as u32
+    }
+
+    /// True once in `times`.
+    pub fn once_in(&mut self, times: u32) -> bool {
+        self.below(times) == 0
+    }
+}
+
+/// A stream of about this many words in which every command stands: jobs that set formats, a domain and masks, start a run,
+/// and wait.
+pub fn mixed_stream(words: usize) -> Vec<u32> {
+    let mut random = Random::new(1);
+    let mut stream = settings(1);
+    while stream.len() < words {
+        job(&mut stream, &mut random);
+    }
+    stream
+}
+
+fn job(stream: &mut Vec<u32>, random: &mut Random) {
+    if random.once_in(2) {
+        stream.extend([INVALIDATE_INSTRUCTIONS, 0]);
+        stream.extend([SET_INST_FMT, base(random, 8), 0x0400_0000 | pitch(random)]);
+    }
+    for (set, invalidate) in CONSTANTS.into_iter().zip(INVALIDATE_CONSTANTS) {
+        if random.once_in(3) {
+            stream.extend([invalidate, 0]);
+            stream.extend([set, base(random, 8), 0x0400_0000 | pitch(random)]);
+        }
+    }
+    for _ in 0..1 + random.below(4) {
+        let number = random.below(16);
+        let (base, format) = (base(random, 9), input_format(random));
+        stream.extend([SET_INP_FMT, number, base, format, height(random)]);
+    }
+    stream.extend([INVALIDATE_INPUTS, 0]);
+    if random.once_in(2) {
+        let number = random.below(4);
+        stream.extend(output(random, number));
+    }
+    if random.once_in(3) {
+        stream.extend([SET_OUT_MASK, random.below(1 << 16)]);
+    }
+    if random.once_in(6) {
+        conditional(stream, random);
+    }
+    if !random.once_in(4) {
+        stream.extend(domain(random));
+    }
+    for _ in 0..1 + random.below(2) {
+        stream.extend([START, 0]);
+    }
+    if random.once_in(2) {
+        stream.extend([FLUSH_OUTPUTS, 0]);
+    }
+    stream.extend([WAIT_FOR_IDLE, 0]);
+}
+
+fn conditional(stream: &mut Vec<u32>, random: &mut Random) {
+    let format = pitch(random);
+    let base = base(random, 12);
+    stream.extend([SET_COND_OUT_FMT, base, format, height(random)]);
+    stream.extend([INVALIDATE_CONDITIONAL, 0]);
+    stream.extend([SET_COND_OUT_MASK, random.below(2)]);
+    stream.extend([SET_COND_TEST, random.below(8)]);
+    stream.extend([FLUSH_CONDITIONAL, 0]);
+}
+
+/// Words that leave a session ready to start, with this many outputs.
+pub fn settings(outputs: u32) -> Vec<u32> {
+    let mut random = Random::new(2);
+    let mut words = vec![SET_INST_FMT, 0x1000, 0x0400_0010];
+    for number in 0..outputs {
+        words.extend(output(&mut random, number));
+    }
+    words.extend(domain(&mut random));
+    words
+}
+
+/// Output formats whose windows hold every domain made here, and that never meet: each number has its own part of memory.
+pub fn output(random: &mut Random, number: u32) -> [u32; 5] {
+    let base = base(random, 2 * number);
+    let format = random.below(5) << 24 | random.below(2) << 16 | pitch(random);
+    [SET_OUT_FMT, number, base, format, height(random)]
+}
+
+pub fn domain(random: &mut Random) -> [u32; 5] {
+    let (i0, j0) = (random.below(32), random.below(8));
+    let (i1, j1) = (i0 + random.below(32), j0 + random.below(8));
+    [SET_DOMAIN, i0, j0, i1, j1]
+}
+
+pub fn instructions(random: &mut Random) -> [u32; 3] {
+    [SET_INST_FMT, base(random, 8), 0x0400_0000 | pitch(random)]
+}
+
+fn input_format(random: &mut Random) -> u32 {
+    let code = random.below(5);
+    let one_channel = code == 0 || code == 2;
+    let superfine = if one_channel && random.once_in(2) {
+        SUPERFINE
+    } else {
+        0
+    };
+    let tiled = if random.once_in(2) { TILED } else { 0 };
+    code << 24 | superfine | tiled | pitch(random)
+}
+
+/// A base in one of sixteen parts of memory, far enough from its end for every window made here.
+fn base(random: &mut Random, part: u32) -> u32 {
+    part << 28 | random.below(0x8000) << 11
+}
+
+fn pitch(random: &mut Random) -> u32 {
+    64 + 4 * random.below(240)
+}
+
+fn height(random: &mut Random) -> u32 {
+    16 + random.below(1000)
+}
+
+/// Pairs inside a layout's window, and a few outside.
+pub fn pairs(layout: &Layout, seed: u64) -> Vec<(u32, u32)> {
+    let mut random = Random::new(seed);
+    let step = judge(layout).expect("an accepted layout").step;
+    let pair = |_| {
+        let (x, y) = (random.below(step), random.below(layout.height));
+        if random.once_in(OUTSIDE) {
+            (x + step, y)
+        } else {
+            (x, y)
+        }
+    };
+    (0..ASKED).map(pair).collect()
+}
+
+/// Addresses of bytes of a layout's elements, and a few that none owns.
+pub fn addresses(layout: &Layout, seed: u64) -> Vec<u32> {
+    let mut random = Random::new(seed);
+    let span = judge(layout).expect("an accepted layout").span;
+    let address = |(x, y)| match translate(layout, x, y) {
+        Ok(address) => address + random.below(layout.size),
+        Err(_) => layout.base + span + random.below(1 << 20),
+    };
+    pairs(layout, seed).into_iter().map(address).collect()
+}

@@ -1,0 +1,104 @@
+//! Addresses and the way back, at each size, linear and tiled. The layout stays the same within a line, and every call
+//! judges it.
+
+use super::{kind, lent};
+use crate::inputs::{addresses, pairs};
+use crate::table::Table;
+use bench::fast::address::{locate, translate, translate_by_table};
+use bench::fast::layout::Layout;
+
+pub fn add(table: &mut Table) {
+    let layouts = |tiled| {
+        [1, 2, 4, 8, 16].map(|size| Layout {
+            base: 0x0123_4800,
+            pitch: 1020,
+            height: 700,
+            size,
+            tiled,
+        })
+    };
+    for layout in layouts(false).into_iter().chain(layouts(true)) {
+        translate_line(table, &layout, "", translate);
+    }
+    // a second way to write the tiled case in Rust
+    for layout in layouts(true) {
+        translate_line(table, &layout, ", Rust by table", translate_by_table);
+    }
+    for layout in layouts(false).into_iter().chain(layouts(true)) {
+        locate_line(table, &layout);
+    }
+}
+
+fn translate_line(
+    table: &mut Table,
+    layout: &Layout,
+    how: &str,
+    translate: impl Fn(&Layout, u32, u32) -> Result<u32, u32>,
+) {
+    let (kind, size) = (kind(layout), layout.size);
+    let name = format!("translate, {kind}, size {size}{how}, a call");
+    if !table.wants(&name) {
+        return;
+    }
+    let lent = lent(layout);
+    let pairs = pairs(layout, 5);
+    for &(x, y) in &pairs {
+        assert_eq!(
+            boundary::translate(&lent, x, y),
+            translate(layout, x, y),
+            "translate of ({x}, {y}) in {layout:?}"
+        );
+    }
+    table.line(
+        &name,
+        pairs.len(),
+        || {
+            let answers = pairs.iter().map(|&(x, y)| boundary::translate(&lent, x, y));
+            answers.map(either).sum()
+        },
+        || {
+            let answers = pairs.iter().map(|&(x, y)| translate(layout, x, y));
+            answers.map(either).sum()
+        },
+    );
+}
+
+fn locate_line(table: &mut Table, layout: &Layout) {
+    let name = format!("locate, {}, size {}, a call", kind(layout), layout.size);
+    if !table.wants(&name) {
+        return;
+    }
+    let lent = lent(layout);
+    let addresses = addresses(layout, 6);
+    for &address in &addresses {
+        assert_eq!(
+            boundary::locate(&lent, address),
+            locate(layout, address),
+            "locate of {address} in {layout:?}"
+        );
+    }
+    table.line(
+        &name,
+        addresses.len(),
+        || {
+            let answers = addresses.iter().map(|&at| boundary::locate(&lent, at));
+            answers.map(pair_sum).sum()
+        },
+        || {
+            let answers = addresses.iter().map(|&at| locate(layout, at));
+            answers.map(pair_sum).sum()
+        },
+    );
+}
+
+#[inline(always)]
+fn either(answer: Result<u32, u32>) -> u64 {
+    answer.map_or_else(u64::from, u64::from)
+}
+
+#[inline(always)]
+fn pair_sum(answer: Result<(u32, u32, u32), u32>) -> u64 {
+    answer.map_or_else(u64::from, |(x, y, place)| {
+        u64::from(x) + u64::from(y) + u64::from(place)
+    })
+}

@@ -1,0 +1,208 @@
+//! Words fed to a session: a mixed stream in pieces of several lengths and word by word, and streams of one command.
+
+use crate::inputs::{
+    domain, instructions, mixed_stream, output, settings, Random, SET_INP_FMT, SET_INST_FMT,
+    SET_OUT_FMT, START, WAIT_FOR_IDLE,
+};
+use crate::table::Table;
+use bench::fast::command::{write_command, Command, Format};
+use bench::fast::session as fast;
+
+/// The mixed stream is about this long, a stream of one command about half.
+const WORDS: usize = 1 << 16;
+/// Every header that sets a format, with how many of its formats there are.
+const FORMATS: [(u32, u32); 7] = [
+    (SET_INST_FMT, 1),
+    (SET_INP_FMT, 16),
+    (SET_OUT_FMT, 4),
+    (0xC002_0D00, 1),
+    (0xC001_0E00, 1),
+    (0xC001_0F00, 1),
+    (0xC001_1000, 1),
+];
+
+pub fn add(table: &mut Table) {
+    mixed(table);
+    let mut random = Random::new(3);
+    let many = WORDS / 2;
+    let outputs = |random: &mut Random| {
+        let number = random.below(4);
+        output(random, number).to_vec()
+    };
+    single(
+        table,
+        "only set_out_fmt",
+        0,
+        &repeated(many, || outputs(&mut random)),
+    );
+    let domains = repeated(many, || domain(&mut random).to_vec());
+    single(table, "only set_domain", 0, &domains);
+    let starts = repeated(many, || vec![START, 0]);
+    single(table, "only start_program, 1 output", 1, &starts);
+    single(table, "only start_program, 4 outputs", 4, &starts);
+    let waits = repeated(many, || vec![WAIT_FOR_IDLE, 0]);
+    single(table, "only wait_for_idle", 0, &waits);
+    let formats = repeated(many, || instructions(&mut random).to_vec());
+    single(table, "only set_inst_fmt", 0, &formats);
+}
+
+fn repeated(words: usize, mut command: impl FnMut() -> Vec<u32>) -> Vec<u32> {
+    let mut stream = Vec::new();
+    while stream.len() < words {
+        stream.extend(command());
+    }
+    stream
+}
+
+fn mixed(table: &mut Table) {
+    let stream = mixed_stream(WORDS);
+    for (name, length) in [
+        ("one piece", stream.len()),
+        ("pieces of 64", 64),
+        ("pieces of 1", 1),
+    ] {
+        let name = format!("feed, mixed stream, {name}, a word");
+        pieces(table, &name, 0, &stream, length);
+    }
+    let name = "word by word, mixed stream, a word";
+    if !table.wants(name) {
+        return;
+    }
+    check_words(&stream);
+    table.line(
+        name,
+        stream.len(),
+        || {
+            let mut session = boundary::Session::new();
+            stream
+                .iter()
+                .map(|&word| product_word(&mut session, word))
+                .sum()
+        },
+        || {
+            let mut session = fast::Session::new();
+            stream
+                .iter()
+                .map(|&word| rust_word(&mut session, word))
+                .sum()
+        },
+    );
+}
+
+#[inline(always)]
+fn product_word(session: &mut boundary::Session, word: u32) -> u64 {
+    match session.word(word) {
+        Ok(boundary::Reply::Open) => 0,
+        Ok(boundary::Reply::Done(_)) => 1,
+        Err(number) => u64::from(number) << 32,
+    }
+}
+
+#[inline(always)]
+fn rust_word(session: &mut fast::Session, word: u32) -> u64 {
+    match session.word(word) {
+        Ok(fast::Reply::Open) => 0,
+        Ok(fast::Reply::Done(_)) => 1,
+        Err(number) => u64::from(number) << 32,
+    }
+}
+
+fn single(table: &mut Table, name: &str, outputs: u32, stream: &[u32]) {
+    let name = format!("feed, {name}, one piece, a word");
+    pieces(table, &name, outputs, stream, stream.len());
+}
+
+/// A line for a stream fed in pieces of one length, to a session with this many outputs ready to start (0: a new one).
+fn pieces(table: &mut Table, name: &str, outputs: u32, stream: &[u32], length: usize) {
+    if !table.wants(name) {
+        return;
+    }
+    let mut product_ready = boundary::Session::new();
+    let mut rust_ready = fast::Session::new();
+    if outputs > 0 {
+        product_ready.feed(&settings(outputs));
+        rust_ready.feed(&settings(outputs));
+    }
+    check_pieces(&product_ready, &rust_ready, stream, length);
+    table.line(
+        name,
+        stream.len(),
+        || {
+            let mut session = product_ready.clone();
+            let fed = stream.chunks(length).map(|piece| session.feed(piece));
+            fed.map(|fed| fed.taken + fed.commands).sum()
+        },
+        || {
+            let mut session = rust_ready.clone();
+            let fed = stream.chunks(length).map(|piece| session.feed(piece));
+            fed.map(|fed| fed.taken + fed.commands).sum()
+        },
+    );
+}
+
+/// Feeds the pieces to both sides: equal answers, nothing refused, and equal sessions after each.
+fn check_pieces(product: &boundary::Session, rust: &fast::Session, stream: &[u32], length: usize) {
+    let (mut product, mut rust) = (product.clone(), rust.clone());
+    for piece in stream.chunks(length) {
+        let (by_product, by_rust) = (product.feed(piece), rust.feed(piece));
+        let by_product = (by_product.taken, by_product.commands, by_product.refusal);
+        let by_rust = (by_rust.taken, by_rust.commands, by_rust.refusal);
+        assert_eq!(by_product, by_rust, "feed of {piece:X?}");
+        assert_eq!(by_rust.2, None, "the benchmark's streams are good");
+        if length > 1 {
+            check_sessions(&product, &rust);
+        }
+    }
+    check_sessions(&product, &rust);
+}
+
+fn check_words(stream: &[u32]) {
+    let mut product = boundary::Session::new();
+    let mut rust = fast::Session::new();
+    for &word in stream {
+        let by_rust = rust.word(word).map(|reply| match reply {
+            fast::Reply::Open => boundary::Reply::Open,
+            fast::Reply::Done(command) => boundary::Reply::Done(lent_command(&command)),
+        });
+        assert_eq!(product.word(word), by_rust, "word {word:X}");
+    }
+    check_sessions(&product, &rust);
+}
+
+/// A command as the product shows it: its words, and zeros behind them.
+pub fn lent_command(command: &Command) -> boundary::Command {
+    let mut room = [0; 5];
+    write_command(command, &mut room).expect("an accepted command can be written");
+    let [header, p0, p1, p2, p3] = room;
+    boundary::Command {
+        header,
+        fields: [p0, p1, p2, p3],
+    }
+}
+
+/// Tallies, settings and standing of both sessions.
+fn check_sessions(product: &boundary::Session, rust: &fast::Session) {
+    let status = product.status();
+    assert_eq!(status.taken as usize, rust.taken(), "words taken");
+    assert_eq!(status.stopped, rust.stopped(), "stopped");
+    assert_eq!(status.open, rust.open(), "open command");
+    assert_eq!(product.runs(), rust.runs(), "runs");
+    assert_eq!(product.claims(), rust.claims(), "claimed elements");
+    let domain = rust.domain().map(|set| [set.i0, set.j0, set.i1, set.j1]);
+    assert_eq!(product.domain(), domain, "domain");
+    for (header, count) in FORMATS {
+        for number in 0..count {
+            let by_product = product.format(header, number).expect("a format's header");
+            let by_product = by_product.map(|set| Format {
+                base: set.base,
+                word: set.format,
+                height: set.height,
+            });
+            let by_rust = rust.format(header, number as usize);
+            assert_eq!(by_product, by_rust, "format {header:X} {number}");
+        }
+    }
+    assert_eq!(product.output_mask(), rust.output_mask(), "mask");
+    assert_eq!(product.conditional_mask(), rust.conditional_mask());
+    assert_eq!(product.test(), rust.test(), "test");
+}

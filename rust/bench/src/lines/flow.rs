@@ -1,0 +1,181 @@
+//! Steps and runs of a group, against both Rust groups: one with a counter a processor, one with bit planes.
+
+use crate::table::Table;
+use crate::way::Way;
+use bench::fast::program::Program;
+use bench::fast::{planes, processors};
+
+/// A run's masks: 64 steps, two masks each.
+const RUN_MASKS: usize = 128;
+
+/// A way, its program loaded for both sides, and its groups' size.
+struct Loaded {
+    lent: boundary::Program,
+    program: Program,
+    way: Way,
+    size: u32,
+}
+
+impl Loaded {
+    fn new(size: u32, seed: u64) -> Loaded {
+        let way = Way::new(size, seed);
+        Loaded {
+            lent: boundary::Program::load(&way.words).expect("a program"),
+            program: Program::load(&way.words).expect("a program"),
+            way,
+            size,
+        }
+    }
+}
+
+/// What the product's group and both Rust groups can do, so that the same code times and checks all three.
+trait Group: Sized {
+    fn fresh(loaded: &Loaded) -> Self;
+    /// Whether the group jumped, and its next position.
+    fn step(&mut self, loaded: &Loaded, alu: u32, predicate: u32) -> Result<(bool, u32), u32>;
+    /// The steps made, the first active processor and how many are active.
+    fn run(&mut self, loaded: &Loaded, masks: &[u32]) -> Result<(u64, u32, u32), u32>;
+    /// Position, active processors, branch counters and returns.
+    fn state(&self, loaded: &Loaded) -> (u32, u32, Vec<u32>, Vec<u32>);
+}
+
+macro_rules! group {
+    ($group:ty, $program:ident) => {
+        impl Group for $group {
+            #[inline(always)]
+            fn fresh(loaded: &Loaded) -> Self {
+                <$group>::begin(loaded.size).expect("a group")
+            }
+
+            #[inline(always)]
+            fn step(
+                &mut self,
+                loaded: &Loaded,
+                alu: u32,
+                predicate: u32,
+            ) -> Result<(bool, u32), u32> {
+                let stepped =
+                    <$group>::step(self, &loaded.$program, alu, predicate, loaded.way.booleans)?;
+                Ok((stepped.jumped, stepped.position))
+            }
+
+            #[inline(always)]
+            fn run(&mut self, loaded: &Loaded, masks: &[u32]) -> Result<(u64, u32, u32), u32> {
+                let report = <$group>::run(self, &loaded.$program, masks, loaded.way.booleans)?;
+                Ok((report.steps, report.first, report.active))
+            }
+
+            fn state(&self, loaded: &Loaded) -> (u32, u32, Vec<u32>, Vec<u32>) {
+                let counters = (0..loaded.size).map(|processor| self.counter(processor));
+                let returns = self.returns().to_vec();
+                (self.position(), self.active(), counters.collect(), returns)
+            }
+        }
+    };
+}
+
+group!(boundary::Group, lent);
+group!(planes::Group, program);
+group!(processors::Group, program);
+
+pub fn add(table: &mut Table) {
+    for size in [4, 32] {
+        let ways: Vec<Loaded> = (11..15).map(|seed| Loaded::new(size, seed)).collect();
+        step_line::<processors::Group>(table, "processors", &ways);
+        step_line::<planes::Group>(table, "planes", &ways);
+        if size == 32 {
+            run_line::<processors::Group>(table, "processors", &ways);
+            run_line::<planes::Group>(table, "planes", &ways);
+        }
+    }
+}
+
+fn step_line<Rust: Group>(table: &mut Table, by: &str, ways: &[Loaded]) {
+    let size = ways[0].size;
+    let name = format!("step, {size} processors, Rust by {by}, a step");
+    if table.wants(&name) {
+        check::<Rust>(ways);
+        let (product, rust) = (|| steps::<boundary::Group>(ways), || steps::<Rust>(ways));
+        table.line(&name, count(ways), product, rust);
+    }
+}
+
+fn run_line<Rust: Group>(table: &mut Table, by: &str, ways: &[Loaded]) {
+    let size = ways[0].size;
+    let name = format!("run of 64, {size} processors, Rust by {by}, a step");
+    if table.wants(&name) {
+        check::<Rust>(ways);
+        let (product, rust) = (|| runs::<boundary::Group>(ways), || runs::<Rust>(ways));
+        table.line(&name, count(ways), product, rust);
+    }
+}
+
+/// How many steps the ways take.
+fn count(ways: &[Loaded]) -> usize {
+    lists(ways).map(|(_, list)| list.len() / 2).sum()
+}
+
+/// Every list of masks, with its way.
+fn lists(ways: &[Loaded]) -> impl Iterator<Item = (&Loaded, &Vec<u32>)> {
+    ways.iter().flat_map(|loaded| {
+        let lists = loaded.way.lists.iter();
+        lists.map(move |list| (loaded, list))
+    })
+}
+
+/// Each list of masks from a fresh group to the program's end, step by step.
+fn steps<G: Group>(ways: &[Loaded]) -> u64 {
+    let mut sum = 0;
+    for (loaded, list) in lists(ways) {
+        let mut group = G::fresh(loaded);
+        for pair in list.chunks_exact(2) {
+            let stepped = group.step(loaded, pair[0], pair[1]);
+            sum += stepped.map_or_else(u64::from, |(jumped, position)| {
+                u64::from(jumped) + u64::from(position)
+            });
+        }
+    }
+    sum
+}
+
+/// The same in runs of 64 steps.
+fn runs<G: Group>(ways: &[Loaded]) -> u64 {
+    let mut sum = 0;
+    for (loaded, list) in lists(ways) {
+        let mut group = G::fresh(loaded);
+        for masks in list.chunks(RUN_MASKS) {
+            let report = group.run(loaded, masks);
+            sum += report.map_or_else(u64::from, |(steps, first, active)| {
+                steps + u64::from(first) + u64::from(active)
+            });
+        }
+    }
+    sum
+}
+
+/// Steps the product's group and a Rust one along the lists, and once past the end: equal answers and equal states. Then
+/// the same by runs.
+fn check<Rust: Group>(ways: &[Loaded]) {
+    for (loaded, list) in lists(ways) {
+        let size = loaded.size;
+        let (mut product, mut rust) = (boundary::Group::fresh(loaded), Rust::fresh(loaded));
+        for pair in list.chunks_exact(2).chain([&[0, 0][..]]) {
+            let by_product = Group::step(&mut product, loaded, pair[0], pair[1]);
+            let by_rust = rust.step(loaded, pair[0], pair[1]);
+            assert_eq!(by_product, by_rust, "step of a group of {size}");
+            let (by_product, by_rust) = (product.state(loaded), rust.state(loaded));
+            assert_eq!(by_product, by_rust, "state of a group of {size}");
+        }
+        let (mut product, mut rust) = (boundary::Group::fresh(loaded), Rust::fresh(loaded));
+        for masks in list.chunks(RUN_MASKS) {
+            let by_product = Group::run(&mut product, loaded, masks);
+            assert_eq!(
+                by_product,
+                rust.run(loaded, masks),
+                "run of a group of {size}"
+            );
+            let (by_product, by_rust) = (product.state(loaded), rust.state(loaded));
+            assert_eq!(by_product, by_rust, "state of a group of {size}");
+        }
+    }
+}

@@ -1,0 +1,57 @@
+//! Times the proved product, through its C boundary, beside the fast Rust of this package's library, in one run, and prints
+//! nanoseconds and ratios. It measures and doesn't judge: it ends with 0 whatever the ratios are.
+
+#![forbid(unsafe_code)]
+
+mod inputs;
+mod lines;
+mod table;
+mod way;
+
+use std::process::exit;
+use table::Table;
+
+const USAGE: &str = "\
+usage: bench [--quick] [--only SUBSTRING]
+  --quick            5 repeats a line instead of 21
+  --only SUBSTRING   only the lines whose name has it
+  --help             this text";
+
+struct Options {
+    repeats: usize,
+    only: String,
+}
+
+fn main() {
+    let options = options(std::env::args().skip(1)).unwrap_or_else(|| {
+        eprintln!("{USAGE}");
+        exit(2)
+    });
+    let mut table = Table::begin(options.repeats, options.only);
+    lines::feed::add(&mut table);
+    lines::writer::add(&mut table);
+    lines::address::add(&mut table);
+    lines::element::add(&mut table);
+    lines::flow::add(&mut table);
+    table.end();
+}
+
+/// The options, or nothing where one is unknown or lacks its word.
+fn options(mut words: impl Iterator<Item = String>) -> Option<Options> {
+    let mut options = Options {
+        repeats: 21,
+        only: String::new(),
+    };
+    while let Some(word) = words.next() {
+        match word.as_str() {
+            "--quick" => options.repeats = 5,
+            "--only" => options.only = words.next()?,
+            "--help" => {
+                println!("{USAGE}");
+                exit(0)
+            }
+            _ => return None,
+        }
+    }
+    Some(options)
+}

@@ -1,0 +1,154 @@
+//! Timing and the printed table. A line has two passes, the product's and Rust's, that do the same work on the same inputs.
+
+use std::fs;
+use std::sync::atomic::{AtomicU64, Ordering};
+use std::time::{Duration, Instant};
+
+/// A repeat is timed in short slices: on a busy machine most of them still run from end to end without a break, and the
+/// median is one of those.
+const SLICE: Duration = Duration::from_millis(1);
+const SLICES: usize = 6;
+/// How long a side runs before it is timed.
+const WARM_UP: Duration = Duration::from_millis(10);
+
+pub struct Table {
+    repeats: usize,
+    only: String,
+    rows: Vec<Row>,
+}
+
+struct Row {
+    name: String,
+    ratio: f64,
+}
+
+impl Table {
+    /// Prints the head of the table.
+    pub fn begin(repeats: usize, only: String) -> Table {
+        println!(
+            "Egretfold through its C boundary beside fast Rust: nanoseconds, and product / Rust"
+        );
+        println!("{}; {}", processor(), env!("BENCH_RUSTC"));
+        println!(
+            "Medians over {repeats} interleaved repeats of {SLICES} slices of about {} ms each.",
+            SLICE.as_millis()
+        );
+        println!("The product is called through safe wrappers that inline down to its C functions; Rust's entries");
+        println!("are marked #[inline(never)], so that on both sides a call stays a call. Both judge all refusals.");
+        println!();
+        println!(
+            "{:<58} {:>11} {:>11} {:>8}",
+            "line", "product ns", "Rust ns", "ratio"
+        );
+        Table {
+            repeats,
+            only,
+            rows: Vec::new(),
+        }
+    }
+
+    pub fn wants(&self, name: &str) -> bool {
+        name.contains(&self.only)
+    }
+
+    /// Times a line and prints it. `units` is how many words, calls or steps one pass makes; a pass gives a sum over its
+    /// answers, which must be the same on both sides.
+    pub fn line(
+        &mut self,
+        name: &str,
+        units: usize,
+        mut product: impl FnMut() -> u64,
+        mut rust: impl FnMut() -> u64,
+    ) {
+        let (product_sum, rust_sum) = (product(), rust());
+        assert_eq!(product_sum, rust_sum, "{name}: the answers' sums differ");
+        let product_rounds = warm_up(&mut product);
+        let rust_rounds = warm_up(&mut rust);
+        let (mut product_times, mut rust_times) = (Vec::new(), Vec::new());
+        for repeat in 0..self.repeats {
+            // the two sides take turns in going first
+            if repeat % 2 == 0 {
+                product_times.extend(slices(&mut product, product_rounds));
+                rust_times.extend(slices(&mut rust, rust_rounds));
+            } else {
+                rust_times.extend(slices(&mut rust, rust_rounds));
+                product_times.extend(slices(&mut product, product_rounds));
+            }
+        }
+        let per_unit = 1e9 / units as f64;
+        self.row(
+            name,
+            median(product_times) * per_unit,
+            median(rust_times) * per_unit,
+        );
+    }
+
+    fn row(&mut self, name: &str, product: f64, rust: f64) {
+        // rounded first, so that the last line counts what the table shows
+        let ratio = (product / rust * 100.0).round() / 100.0;
+        println!("{name:<58} {product:>11.2} {rust:>11.2} {ratio:>8.2}");
+        let name = name.to_string();
+        self.rows.push(Row { name, ratio });
+    }
+
+    /// Prints the table's last line.
+    pub fn end(self) {
+        let low = self.rows.iter().filter(|row| row.ratio <= 1.0).count();
+        let worst = self.rows.iter().max_by(|a, b| a.ratio.total_cmp(&b.ratio));
+        println!();
+        match worst {
+            Some(row) => println!(
+                "{low} of {} lines at or below 1.00; worst ratio {:.2}: {}",
+                self.rows.len(),
+                row.ratio,
+                row.name
+            ),
+            None => println!("no line has that in its name"),
+        }
+    }
+}
+
+/// Runs a pass until it is warm; gives how many passes make a slice.
+fn warm_up(pass: &mut impl FnMut() -> u64) -> usize {
+    let begun = Instant::now();
+    let mut passes = 0;
+    while begun.elapsed() < WARM_UP {
+        keep(pass());
+        passes += 1;
+    }
+    let one = begun.elapsed().as_secs_f64() / f64::from(passes);
+    (SLICE.as_secs_f64() / one).ceil() as usize
+}
+
+/// The seconds of one pass, in each slice of a repeat.
+fn slices(pass: &mut impl FnMut() -> u64, rounds: usize) -> [f64; SLICES] {
+    [(); SLICES].map(|()| {
+        let begun = Instant::now();
+        for _ in 0..rounds {
+            keep(pass());
+        }
+        begun.elapsed().as_secs_f64() / rounds as f64
+    })
+}
+
+/// Uses a pass's sum, so that the compiler can't leave the pass out. (`std::hint::black_box` is younger than the oldest
+/// compiler that this builds with.)
+fn keep(sum: u64) {
+    static KEPT: AtomicU64 = AtomicU64::new(0);
+    KEPT.fetch_xor(sum, Ordering::Relaxed);
+}
+
+fn median(mut times: Vec<f64>) -> f64 {
+    times.sort_by(f64::total_cmp);
+    times[times.len() / 2]
+}
+
+/// The processor's name, as the system tells it.
+fn processor() -> String {
+    let told = fs::read_to_string("/proc/cpuinfo").unwrap_or_default();
+    let line = told.lines().find(|line| line.starts_with("model name"));
+    let name = line.and_then(|line| line.split_once(':'));
+    name.map_or("unknown processor".to_string(), |(_, name)| {
+        name.trim().to_string()
+    })
+}

@@ -1,0 +1,170 @@
+//! Flow words for one group: programs, groups, steps and runs.
+
+use crate::{answer, lent, Answer};
+
+/// A loaded program: the store of 512 slots, two words each, of which the first
+/// ones run.
+#[derive(Clone, Debug, PartialEq, Eq)]
+pub struct Program {
+    store: Box<Store>,
+    slots: u32,
+}
+
+#[derive(Clone, Debug, PartialEq, Eq)]
+pub(crate) struct Store {
+    pub(crate) firsts: [u32; 512],
+    pub(crate) seconds: [u32; 512],
+}
+
+impl Program {
+    /// Loads a program, two words a slot. 15.
+    pub fn load(words: &[u32]) -> Answer<Program> {
+        let mut store = Box::new(Store {
+            firsts: [0; 512],
+            seconds: [0; 512],
+        });
+        let mut slots = [0];
+        let Store { firsts, seconds } = &mut *store;
+        answer(lent::program_load(words, firsts, seconds, &mut slots))?;
+        let slots = slots[0];
+        Ok(Program { store, slots })
+    }
+
+    /// How many slots run, document 01's N.
+    #[inline]
+    pub fn slots(&self) -> u32 {
+        self.slots
+    }
+
+    /// The two words of slot `number` of the store.
+    ///
+    /// # Panics
+    /// Where the number is 512 or more.
+    #[inline]
+    pub fn slot(&self, number: usize) -> [u32; 2] {
+        [self.store.firsts[number], self.store.seconds[number]]
+    }
+
+    #[inline]
+    pub(crate) fn store(&self) -> &Store {
+        &self.store
+    }
+}
+
+/// What a step answers besides the group's new state.
+#[derive(Clone, Copy, Debug, PartialEq, Eq)]
+pub struct Stepped {
+    pub jumped: bool,
+    pub position: u32,
+}
+
+/// What a run answers besides the group's new state.
+#[derive(Clone, Copy, Debug, PartialEq, Eq)]
+pub struct Report {
+    pub steps: u64,
+    /// The first active processor, 32 if none is.
+    pub first: u32,
+    /// How many processors are active.
+    pub active: u32,
+}
+
+/// A group's state. Its cells are private, so that it is always one that the
+/// library gave out. It may be copied and both copies used, also under another
+/// program than the one it came from.
+#[derive(Clone, Copy, Debug, PartialEq, Eq)]
+pub struct Group {
+    pub(crate) cells: [u32; 20],
+}
+
+impl Group {
+    /// A fresh group of 1 to 32 processors. 13.
+    #[inline]
+    pub fn begin(size: u32) -> Answer<Group> {
+        let mut cells = [0; 20];
+        answer(lent::group_begin(size, &mut cells))?;
+        Ok(Group { cells })
+    }
+
+    /// One step. 13 to 16; a refusal changes nothing.
+    #[inline]
+    pub fn step(
+        &mut self,
+        program: &Program,
+        alu: u32,
+        predicate: u32,
+        booleans: u32,
+    ) -> Answer<Stepped> {
+        let mut taken = [0; 2];
+        let masks = (alu, predicate, booleans);
+        answer(lent::group_step(self, program, masks, &mut taken))?;
+        Ok(Stepped {
+            jumped: taken[0] != 0,
+            position: taken[1],
+        })
+    }
+
+    /// Steps up to the end of the list of masks (alu, then predicate, for each
+    /// step) or of the program. 13 to 16; a refused step leaves the group as it
+    /// was before the run.
+    #[inline]
+    pub fn run(&mut self, program: &Program, masks: &[u32], booleans: u32) -> Answer<Report> {
+        let mut report = [0; 3];
+        answer(lent::group_run(self, program, masks, booleans, &mut report))?;
+        Ok(Report {
+            steps: report[0],
+            // Both are 32 at most.
+            first: report[1] as u32,
+            active: report[2] as u32,
+        })
+    }
+
+    /// The number of processors in the group.
+    #[inline]
+    pub fn size(&self) -> u32 {
+        self.mask().count_ones()
+    }
+
+    /// The processors in the group, bit i for processor i.
+    #[inline]
+    pub fn mask(&self) -> u32 {
+        self.cells[0]
+    }
+
+    /// The active ones, bit i for processor i.
+    #[inline]
+    pub fn active(&self) -> u32 {
+        self.cells[1]
+    }
+
+    /// The branch counter of a processor, 0 for an active one.
+    ///
+    /// # Panics
+    /// Where the processor's number is 32 or more.
+    #[inline]
+    pub fn counter(&self, processor: u32) -> u32 {
+        assert!(processor < 32, "a group has at most 32 processors");
+        // Cell 2 + k holds bit k of every processor's counter.
+        (0..5).fold(0, |counter, k| {
+            counter | ((self.cells[2 + k] >> processor) & 1) << k
+        })
+    }
+
+    #[inline]
+    pub fn position(&self) -> u32 {
+        self.cells[7]
+    }
+
+    /// The stored returns, oldest first.
+    pub fn returns(&self) -> Vec<u32> {
+        // The cells have the last one first, and 0 where there is none: a stored
+        // return is a position plus 1, so it is never 0.
+        let stored = self.cells[8..12].iter().rev();
+        stored.copied().filter(|place| *place != 0).collect()
+    }
+
+    /// The cells as the header describes them.
+    #[inline]
+    pub fn cells(&self) -> &[u32; 20] {
+        &self.cells
+    }
+}

@@ -1,0 +1,53 @@
+//! Layouts and addresses: a layout judged, a pair translated to its address,
+//! and an address located back.
+
+use crate::{answer, lent, Answer};
+
+/// A layout as a caller describes it. Any numbers may stand in it: a call
+/// refuses those that document 01 doesn't accept.
+#[derive(Clone, Copy, Debug, PartialEq, Eq)]
+pub struct Layout {
+    pub base: u32,
+    pub pitch: u32,
+    pub height: u32,
+    /// Bytes of an element.
+    pub size: u32,
+    pub tiled: bool,
+}
+
+/// What an accepted layout covers.
+#[derive(Clone, Copy, Debug, PartialEq, Eq)]
+pub struct Window {
+    /// Document 01's row step E, in elements.
+    pub step: u32,
+    /// The bytes from the base on that the window takes.
+    pub span: u32,
+}
+
+/// The layout's window. 3 or 6.
+#[inline]
+pub fn layout(layout: &Layout) -> Answer<Window> {
+    let mut window = [0; 2];
+    answer(lent::layout(layout, &mut window))?;
+    Ok(Window {
+        step: window[0],
+        span: window[1],
+    })
+}
+
+/// The address where the element at (x, y) begins. 3, 6 or 10.
+#[inline]
+pub fn translate(layout: &Layout, x: u32, y: u32) -> Answer<u32> {
+    let mut address = [0];
+    answer(lent::translate(layout, x, y, &mut address))?;
+    Ok(address[0])
+}
+
+/// The pair that owns the byte at the address, and the byte's place in the
+/// pair's element: x, y, place. 3, 6 or 12.
+#[inline]
+pub fn locate(layout: &Layout, address: u32) -> Answer<(u32, u32, u32)> {
+    let mut pair = [0; 3];
+    answer(lent::locate(layout, address, &mut pair))?;
+    Ok((pair[0], pair[1], pair[2]))
+}

@@ -1,0 +1,302 @@
+//! The header's functions one by one, made safe, with rooms that the caller
+//! lends. Each returns 0 or the refusal's number. A refusal touches no room,
+//! except [`session_feed`]'s, which is written in any case: a caller who fills
+//! the rooms first can see that.
+//!
+//! All `unsafe` of the Rust side is on this page. The header asks three things,
+//! and they hold in every block below for the same reasons:
+//!
+//! * arrays of the lengths shown: the declarations take references to arrays of
+//!   just these lengths, and a pointer with a length comes from one slice (also
+//!   an empty slice's pointer is not null);
+//! * nothing written overlaps anything else: every array that is written comes
+//!   as a `&mut`, which nothing else can share;
+//! * states as the library left them: [`Session`] and [`Group`] keep their
+//!   arrays private and are made only by a begin that was accepted.
+
+use crate::flow::{Group, Program};
+use crate::layout::Layout;
+use crate::raw;
+use crate::session::Session;
+
+/// A new session. This call has no refusal.
+#[inline]
+pub fn session_begin() -> Session {
+    let mut session = Session {
+        own: [0; 17],
+        tallies: [0; 2],
+        shared: [0; 101],
+    };
+    let Session {
+        own,
+        tallies,
+        shared,
+    } = &mut session;
+    // SAFETY: three separate arrays of the right lengths; no state is read.
+    let number = unsafe { raw::egretfold_session_begin(own, tallies, shared) };
+    assert_eq!(number, 0, "a session's begin has no refusal");
+    session
+}
+
+/// One word. command: 0 where a command is still open, else 1; then the
+/// completed command's header and four parameters. 1 to 9 or 17.
+#[inline]
+pub fn session_word(session: &mut Session, word: u32, command: &mut [u32; 6]) -> u32 {
+    let Session {
+        own,
+        tallies,
+        shared,
+    } = session;
+    // SAFETY: the arrays are a session's that the library gave out; the room is
+    // apart from them.
+    unsafe { raw::egretfold_session_word(own, tallies, shared, word, command) }
+}
+
+/// A piece of words. fed: the words taken and the commands completed. Returns
+/// the first refused word's refusal, or 0.
+#[inline]
+pub fn session_feed(session: &mut Session, words: &[u32], fed: &mut [u64; 2]) -> u32 {
+    let Session {
+        own,
+        tallies,
+        shared,
+    } = session;
+    let (start, length) = (words.as_ptr(), words.len());
+    // SAFETY: as for a word; start and length are one slice's.
+    unsafe { raw::egretfold_session_feed(own, tallies, shared, start, length, fed) }
+}
+
+/// status: words taken, 1 if stopped, the open command's header and how many of
+/// its parameters were taken.
+#[inline]
+pub fn session_status(session: &Session, status: &mut [u32; 4]) -> u32 {
+    // SAFETY: the array is a session's that the library gave out.
+    unsafe { raw::egretfold_session_status(&session.own, status) }
+}
+
+/// counts: runs and claimed elements.
+#[inline]
+pub fn session_tallies(session: &Session, counts: &mut [u64; 2]) -> u32 {
+    // SAFETY: the array is a session's that the library gave out.
+    unsafe { raw::egretfold_session_tallies(&session.tallies, counts) }
+}
+
+/// domain: 1 if it is set, then i0, j0, i1, j1.
+#[inline]
+pub fn session_domain(session: &Session, domain: &mut [u32; 5]) -> u32 {
+    // SAFETY: the array is a session's that the library gave out.
+    unsafe { raw::egretfold_session_domain(&session.own, domain) }
+}
+
+/// format: 1 if it is set, then base, format word and height. 2, 4.
+#[inline]
+pub fn session_format(session: &Session, header: u32, number: u32, format: &mut [u32; 4]) -> u32 {
+    let Session { own, shared, .. } = session;
+    // SAFETY: the arrays are a session's that the library gave out.
+    unsafe { raw::egretfold_session_format(own, shared, header, number, format) }
+}
+
+/// masks: the output mask; 1 if the conditional mask is set, and the mask; 1 if
+/// the test is set, and the test.
+#[inline]
+pub fn session_masks(session: &Session, masks: &mut [u32; 5]) -> u32 {
+    // SAFETY: the array is a session's that the library gave out.
+    unsafe { raw::egretfold_session_masks(&session.shared, masks) }
+}
+
+/// count: how many parameters a header announces. 2.
+#[inline]
+pub fn command_parameters(header: u32, count: &mut [u32; 1]) -> u32 {
+    // SAFETY: one room, of the right length.
+    unsafe { raw::egretfold_command_parameters(header, count) }
+}
+
+/// The command's words to the front of the room. written: how many. 2; then 3,
+/// 4, 5, 6, 11.
+#[inline]
+pub fn command_write(
+    header: u32,
+    fields: &[u32; 4],
+    room: &mut [u32],
+    written: &mut [u32; 1],
+) -> u32 {
+    let (start, length) = (room.as_mut_ptr(), room.len());
+    // SAFETY: start and length are one slice's; the two rooms are apart from each
+    // other and from the fields.
+    unsafe { raw::egretfold_command_write(header, fields, start, length, written) }
+}
+
+/// window: row step and span. 3 or 6.
+#[inline]
+pub fn layout(layout: &Layout, window: &mut [u32; 2]) -> u32 {
+    let l = layout;
+    // SAFETY: one room, of the right length.
+    unsafe { raw::egretfold_layout(l.base, l.pitch, l.height, l.size, l.tiled, window) }
+}
+
+/// address: where the element at (x, y) begins. 3, 6 or 10.
+#[inline]
+pub fn translate(layout: &Layout, x: u32, y: u32, address: &mut [u32; 1]) -> u32 {
+    let l = layout;
+    // SAFETY: one room, of the right length.
+    unsafe { raw::egretfold_translate(l.base, l.pitch, l.height, l.size, l.tiled, x, y, address) }
+}
+
+/// pair: x, y and the byte's place in the element. 3, 6 or 12.
+#[inline]
+pub fn locate(layout: &Layout, address: u32, pair: &mut [u32; 3]) -> u32 {
+    let l = layout;
+    // SAFETY: one room, of the right length.
+    unsafe { raw::egretfold_locate(l.base, l.pitch, l.height, l.size, l.tiled, address, pair) }
+}
+
+/// bytes: the element's, then zeros. 3, 6, 10 or 11.
+#[inline]
+pub fn element_read(
+    layout: &Layout,
+    x: u32,
+    y: u32,
+    memory: &[u8],
+    first: u32,
+    bytes: &mut [u8; 16],
+) -> u32 {
+    let l = layout;
+    let (start, length) = (memory.as_ptr(), memory.len());
+    // SAFETY: start and length are one slice's; the room is apart from it.
+    unsafe {
+        raw::egretfold_element_read(
+            l.base, l.pitch, l.height, l.size, l.tiled, x, y, start, length, first, bytes,
+        )
+    }
+}
+
+/// Stores `data` as the element at (x, y). 3, 6, 10 or 11.
+#[inline]
+pub fn element_write(
+    layout: &Layout,
+    x: u32,
+    y: u32,
+    memory: &mut [u8],
+    first: u32,
+    data: &[u8],
+) -> u32 {
+    let l = layout;
+    let (start, length) = (memory.as_mut_ptr(), memory.len());
+    let (data, data_length) = (data.as_ptr(), data.len());
+    // SAFETY: both pointers come with their own slice's length; the memory, which
+    // is written, is apart from the data.
+    unsafe {
+        raw::egretfold_element_write(
+            l.base,
+            l.pitch,
+            l.height,
+            l.size,
+            l.tiled,
+            x,
+            y,
+            start,
+            length,
+            first,
+            data,
+            data_length,
+        )
+    }
+}
+
+/// Of the window (base, format word, height): bytes: the four elements', then
+/// zeros; count: how many bytes are theirs. 3, 6, 10 or 11.
+#[inline]
+pub fn element_superfine(
+    window: (u32, u32, u32),
+    x: u32,
+    y: u32,
+    memory: &[u8],
+    first: u32,
+    bytes: &mut [u8; 16],
+    count: &mut [u32; 1],
+) -> u32 {
+    let (base, format, height) = window;
+    let (start, length) = (memory.as_ptr(), memory.len());
+    // SAFETY: start and length are one slice's; the two rooms are apart from it
+    // and from each other.
+    unsafe {
+        raw::egretfold_element_superfine(
+            base, format, height, x, y, start, length, first, bytes, count,
+        )
+    }
+}
+
+/// Loads a program into a store. slots: how many run. 15.
+#[inline]
+pub fn program_load(
+    words: &[u32],
+    firsts: &mut [u32; 512],
+    seconds: &mut [u32; 512],
+    slots: &mut [u32; 1],
+) -> u32 {
+    let (start, length) = (words.as_ptr(), words.len());
+    // SAFETY: start and length are one slice's; the rooms are apart from it and
+    // from each other.
+    unsafe { raw::egretfold_program_load(start, length, firsts, seconds, slots) }
+}
+
+/// cells: a fresh group's. 13.
+#[inline]
+pub fn group_begin(size: u32, cells: &mut [u32; 20]) -> u32 {
+    // SAFETY: one room, of the right length; no state is read.
+    unsafe { raw::egretfold_group_begin(size, cells) }
+}
+
+/// One step under the masks (alu, predicate, booleans). taken: 1 for a jump, 0
+/// for a stay; and the next position. 13 to 16.
+#[inline]
+pub fn group_step(
+    group: &mut Group,
+    program: &Program,
+    masks: (u32, u32, u32),
+    taken: &mut [u32; 2],
+) -> u32 {
+    let (alu, predicate, booleans) = masks;
+    let store = program.store();
+    // SAFETY: the cells are a group's and the store a program's that the library
+    // gave out; the cells and the room are apart.
+    unsafe {
+        raw::egretfold_group_step(
+            &store.firsts,
+            &store.seconds,
+            program.slots(),
+            &mut group.cells,
+            alu,
+            predicate,
+            booleans,
+            taken,
+        )
+    }
+}
+
+/// Steps up to the end of the masks or of the program. report: steps, the first
+/// active processor, how many are active. 13 to 16.
+#[inline]
+pub fn group_run(
+    group: &mut Group,
+    program: &Program,
+    masks: &[u32],
+    booleans: u32,
+    report: &mut [u64; 3],
+) -> u32 {
+    let store = program.store();
+    let (start, length) = (masks.as_ptr(), masks.len());
+    // SAFETY: as for a step; start and length are one slice's.
+    unsafe {
+        raw::egretfold_group_run(
+            &store.firsts,
+            &store.seconds,
+            program.slots(),
+            &mut group.cells,
+            start,
+            length,
+            booleans,
+            report,
+        )
+    }
+}

@@ -1,0 +1,158 @@
+//! The declarations of include/egretfold.h, one for one and in its order. An
+//! array of a fixed length is a reference here (to C the same as a pointer), so
+//! that its length is checked; one with a length of its own is a pointer.
+
+extern "C" {
+    pub fn egretfold_session_begin(
+        own: &mut [u32; 17],
+        tallies: &mut [u64; 2],
+        shared: &mut [u32; 101],
+    ) -> u32;
+
+    pub fn egretfold_session_word(
+        own: &mut [u32; 17],
+        tallies: &mut [u64; 2],
+        shared: &mut [u32; 101],
+        word: u32,
+        command: &mut [u32; 6],
+    ) -> u32;
+
+    pub fn egretfold_session_feed(
+        own: &mut [u32; 17],
+        tallies: &mut [u64; 2],
+        shared: &mut [u32; 101],
+        words: *const u32,
+        length: usize,
+        fed: &mut [u64; 2],
+    ) -> u32;
+
+    pub fn egretfold_session_status(own: &[u32; 17], status: &mut [u32; 4]) -> u32;
+
+    pub fn egretfold_session_tallies(tallies: &[u64; 2], counts: &mut [u64; 2]) -> u32;
+
+    pub fn egretfold_session_domain(own: &[u32; 17], domain: &mut [u32; 5]) -> u32;
+
+    pub fn egretfold_session_format(
+        own: &[u32; 17],
+        shared: &[u32; 101],
+        header: u32,
+        number: u32,
+        format: &mut [u32; 4],
+    ) -> u32;
+
+    pub fn egretfold_session_masks(shared: &[u32; 101], masks: &mut [u32; 5]) -> u32;
+
+    pub fn egretfold_command_parameters(header: u32, count: &mut [u32; 1]) -> u32;
+
+    pub fn egretfold_command_write(
+        header: u32,
+        fields: &[u32; 4],
+        room: *mut u32,
+        length: usize,
+        written: &mut [u32; 1],
+    ) -> u32;
+
+    pub fn egretfold_layout(
+        base: u32,
+        pitch: u32,
+        height: u32,
+        size: u32,
+        tiled: bool,
+        window: &mut [u32; 2],
+    ) -> u32;
+
+    pub fn egretfold_translate(
+        base: u32,
+        pitch: u32,
+        height: u32,
+        size: u32,
+        tiled: bool,
+        x: u32,
+        y: u32,
+        address: &mut [u32; 1],
+    ) -> u32;
+
+    pub fn egretfold_locate(
+        base: u32,
+        pitch: u32,
+        height: u32,
+        size: u32,
+        tiled: bool,
+        address: u32,
+        pair: &mut [u32; 3],
+    ) -> u32;
+
+    pub fn egretfold_element_read(
+        base: u32,
+        pitch: u32,
+        height: u32,
+        size: u32,
+        tiled: bool,
+        x: u32,
+        y: u32,
+        memory: *const u8,
+        length: usize,
+        first: u32,
+        bytes: &mut [u8; 16],
+    ) -> u32;
+
+    pub fn egretfold_element_write(
+        base: u32,
+        pitch: u32,
+        height: u32,
+        size: u32,
+        tiled: bool,
+        x: u32,
+        y: u32,
+        memory: *mut u8,
+        length: usize,
+        first: u32,
+        data: *const u8,
+        data_length: usize,
+    ) -> u32;
+
+    pub fn egretfold_element_superfine(
+        base: u32,
+        format: u32,
+        height: u32,
+        x: u32,
+        y: u32,
+        memory: *const u8,
+        length: usize,
+        first: u32,
+        bytes: &mut [u8; 16],
+        count: &mut [u32; 1],
+    ) -> u32;
+
+    pub fn egretfold_program_load(
+        words: *const u32,
+        length: usize,
+        firsts: &mut [u32; 512],
+        seconds: &mut [u32; 512],
+        slots: &mut [u32; 1],
+    ) -> u32;
+
+    pub fn egretfold_group_begin(size: u32, cells: &mut [u32; 20]) -> u32;
+
+    pub fn egretfold_group_step(
+        firsts: &[u32; 512],
+        seconds: &[u32; 512],
+        slots: u32,
+        cells: &mut [u32; 20],
+        alu: u32,
+        predicate: u32,
+        booleans: u32,
+        taken: &mut [u32; 2],
+    ) -> u32;
+
+    pub fn egretfold_group_run(
+        firsts: &[u32; 512],
+        seconds: &[u32; 512],
+        slots: u32,
+        cells: &mut [u32; 20],
+        masks: *const u32,
+        length: usize,
+        booleans: u32,
+        report: &mut [u64; 3],
+    ) -> u32;
+}

@@ -1,0 +1,327 @@
+/* Every function of egretfold.h called from C99: once with an answer that document 01 fixes, and once refused, where the
+ * function can refuse. Prints the calls that differ, then how many answers agreed; ends with 1 on any difference. */
+#include <egretfold.h>
+
+#include <inttypes.h>
+#include <stdio.h>
+#include <string.h>
+
+static unsigned agreed, differed;
+
+/* Compares one number of a call's answer with the expected one. */
+static void agree(const char *call, uint64_t answer, uint64_t expected)
+{
+    if (answer == expected) {
+        agreed++;
+        return;
+    }
+    differed++;
+    printf("%s: %" PRIu64 ", expected %" PRIu64 "\n", call, answer, expected);
+}
+
+/* The same for the words of a room. */
+static void agree_words(const char *call, const uint32_t *room, const uint32_t *expected, size_t length)
+{
+    for (size_t i = 0; i < length; i++)
+        agree(call, room[i], expected[i]);
+}
+
+/* The same for the bytes of a room, as one answer. */
+static void agree_bytes(const char *call, const uint8_t *room, const uint8_t *expected, size_t length)
+{
+    agree(call, memcmp(room, expected, length) == 0, 1);
+}
+
+struct session {
+    uint32_t own[EGRETFOLD_OWN];
+    uint64_t tallies[EGRETFOLD_TALLIES];
+    uint32_t shared[EGRETFOLD_SHARED];
+};
+
+/* Document 01's whole stream, with the headers that the guide's table shows for set_domain and start_program. */
+static const uint32_t stream[15] = {
+    0xC0010A00, 0x1000, 0x4000010,           /* instructions */
+    0xC0030C00, 0,      0x800,     0x2010064, 0x12, /* output 0 */
+    0xC0030700, 0,      0,         0x5F,      0x11, /* domain */
+    0xC0000800, 0,                           /* start */
+};
+
+static void begin(struct session *s)
+{
+    agree("session_begin", egretfold_session_begin(s->own, s->tallies, s->shared), 0);
+}
+
+static uint32_t feed(struct session *s, const uint32_t *words, size_t length, uint64_t fed[2])
+{
+    return egretfold_session_feed(s->own, s->tallies, s->shared, words, length, fed);
+}
+
+static void check_status(const char *call, const struct session *s, uint32_t taken, uint32_t stopped, uint32_t header,
+                         uint32_t parameters)
+{
+    uint32_t status[4] = {9, 9, 9, 9};
+    const uint32_t expected[4] = {taken, stopped, header, parameters};
+    agree(call, egretfold_session_status(s->own, status), 0);
+    agree_words(call, status, expected, 4);
+}
+
+/* The whole stream in two pieces, cut behind the output's number. */
+static void check_feed(struct session *s)
+{
+    uint64_t fed[2] = {9, 9};
+    begin(s);
+    agree("session_feed, first piece", feed(s, stream, 5, fed), 0);
+    agree("session_feed, words of the first piece", fed[0], 5);
+    agree("session_feed, commands of the first piece", fed[1], 1);
+    check_status("session_status inside a command", s, 5, 0, 0xC0030C00, 1);
+    agree("session_feed, second piece", feed(s, stream + 5, 10, fed), 0);
+    agree("session_feed, words of the second piece", fed[0], 10);
+    agree("session_feed, commands of the second piece", fed[1], 3);
+    check_status("session_status at the end", s, 15, 0, 0, 0);
+}
+
+/* What the whole stream leaves: four commands, one run, 1,728 elements. */
+static void check_settings(const struct session *s)
+{
+    uint64_t counts[2] = {9, 9};
+    uint32_t domain[5] = {9, 9, 9, 9, 9};
+    uint32_t masks[5] = {9, 9, 9, 9, 9};
+    const uint32_t domain_set[5] = {1, 0, 0, 0x5F, 0x11};
+    const uint32_t masks_new[5] = {65535, 0, 0, 0, 0};
+    agree("session_tallies", egretfold_session_tallies(s->tallies, counts), 0);
+    agree("session_tallies, runs", counts[0], 1);
+    agree("session_tallies, elements", counts[1], 1728);
+    agree("session_domain", egretfold_session_domain(s->own, domain), 0);
+    agree_words("session_domain", domain, domain_set, 5);
+    agree("session_masks", egretfold_session_masks(s->shared, masks), 0);
+    agree_words("session_masks", masks, masks_new, 5);
+}
+
+static void check_formats(const struct session *s)
+{
+    const uint32_t filled[4] = {9, 9, 9, 9};
+    const uint32_t instructions[4] = {1, 0x1000, 0x4000010, 1};
+    const uint32_t output[4] = {1, 0x800, 0x2010064, 0x12};
+    const uint32_t none[4] = {0, 0, 0, 0};
+    uint32_t format[4];
+    memcpy(format, filled, sizeof format);
+    agree("session_format of wait_for_idle", egretfold_session_format(s->own, s->shared, 0xC0000900, 0, format), 2);
+    agree("session_format of output 4", egretfold_session_format(s->own, s->shared, 0xC0030C00, 4, format), 4);
+    agree_words("session_format, room after a refusal", format, filled, 4);
+    agree("session_format, instructions", egretfold_session_format(s->own, s->shared, 0xC0010A00, 77, format), 0);
+    agree_words("session_format, instructions", format, instructions, 4);
+    agree("session_format, output 0", egretfold_session_format(s->own, s->shared, 0xC0030C00, 0, format), 0);
+    agree_words("session_format, output 0", format, output, 4);
+    agree("session_format, input 15", egretfold_session_format(s->own, s->shared, 0xC0030B00, 15, format), 0);
+    agree_words("session_format, input 15", format, none, 4);
+}
+
+/* Word by word: a start completes a command; a word in no line of the table stops the session. */
+static void check_words(struct session *s)
+{
+    const uint32_t open[6] = {0, 0, 0, 0, 0, 0};
+    const uint32_t start[6] = {1, 0xC0000800, 0, 0, 0, 0};
+    const uint32_t filled[6] = {9, 9, 9, 9, 9, 9};
+    uint32_t command[6];
+    uint64_t fed[2] = {9, 9};
+    memcpy(command, filled, sizeof command);
+    agree("session_word, header", egretfold_session_word(s->own, s->tallies, s->shared, 0xC0000800, command), 0);
+    agree_words("session_word, header", command, open, 6);
+    agree("session_word, last word", egretfold_session_word(s->own, s->tallies, s->shared, 0, command), 0);
+    agree_words("session_word, last word", command, start, 6);
+    memcpy(command, filled, sizeof command);
+    agree("session_word, unknown", egretfold_session_word(s->own, s->tallies, s->shared, 0xC0038000, command), 2);
+    agree_words("session_word, room after a refusal", command, filled, 6);
+    agree("session_word, stopped", egretfold_session_word(s->own, s->tallies, s->shared, 0xC0000900, command), 1);
+    agree("session_feed, stopped", feed(s, stream, 15, fed), 1);
+    agree("session_feed, words of a stopped session", fed[0], 0);
+    agree("session_feed, commands of a stopped session", fed[1], 0);
+    check_status("session_status, stopped", s, 17, 1, 0, 0);
+}
+
+/* A piece with a refused word: those before it stand. */
+static void check_refused_piece(void)
+{
+    const uint32_t words[6] = {0xC0000900, 0, 0xC0001900, 0x10000, 0xC0000900, 0};
+    uint64_t fed[2] = {9, 9};
+    struct session s;
+    begin(&s);
+    agree("session_feed, mask too wide", feed(&s, words, 6, fed), 3);
+    agree("session_feed, words before the refused one", fed[0], 3);
+    agree("session_feed, commands before the refused one", fed[1], 1);
+}
+
+static void check_commands(void)
+{
+    const uint32_t output[4] = {0, 0x800, 0x2010064, 0x12};
+    const uint32_t bad[4] = {4, 0x800, 0x2010064, 0x12};
+    uint32_t count[1] = {9}, written[1] = {9};
+    uint32_t room[6] = {7, 7, 7, 7, 7, 7};
+    const uint32_t filled[6] = {7, 7, 7, 7, 7, 7};
+    agree("command_parameters, unknown", egretfold_command_parameters(0xC0008100, count), 2);
+    agree("command_parameters, room after a refusal", count[0], 9);
+    agree("command_parameters", egretfold_command_parameters(0xC0020D00, count), 0);
+    agree("command_parameters", count[0], 3);
+    agree("command_write, unknown", egretfold_command_write(0xC0038000, output, room, 6, written), 2);
+    agree("command_write, output 4", egretfold_command_write(0xC0030C00, bad, room, 6, written), 4);
+    agree("command_write, short room", egretfold_command_write(0xC0030C00, output, room, 4, written), 11);
+    agree_words("command_write, room after a refusal", room, filled, 6);
+    agree("command_write, count after a refusal", written[0], 9);
+    agree("command_write", egretfold_command_write(0xC0030C00, output, room, 6, written), 0);
+    agree("command_write", written[0], 5);
+    agree_words("command_write", room, stream + 3, 5);
+    agree("command_write, room past the words", room[5], 7);
+}
+
+/* Document 01's C1 and C2: linear, four bytes, base 2048, pitch 100, height 3. */
+static void check_addresses(void)
+{
+    const uint32_t expected_window[2] = {96, 1152}, expected_pair[3] = {5, 2, 3};
+    uint32_t window[2] = {9, 9}, address[1] = {9}, pair[3] = {9, 9, 9};
+    agree("layout, pitch 98", egretfold_layout(2048, 98, 3, 4, false, window), 3);
+    agree("layout, height 0", egretfold_layout(2048, 100, 0, 4, false, window), 6);
+    agree("layout, room after a refusal", window[0], 9);
+    agree("layout", egretfold_layout(2048, 100, 3, 4, false, window), 0);
+    agree_words("layout", window, expected_window, 2);
+    agree("translate (96, 0)", egretfold_translate(2048, 100, 3, 4, false, 96, 0, address), 10);
+    agree("translate, room after a refusal", address[0], 9);
+    agree("translate (5, 2)", egretfold_translate(2048, 100, 3, 4, false, 5, 2, address), 0);
+    agree("translate (5, 2)", address[0], 2836);
+    agree("translate, tiled", egretfold_translate(0, 100, 20, 4, true, 37, 18, address), 0);
+    agree("translate, tiled", address[0], 9828);
+    agree("locate 3200", egretfold_locate(2048, 100, 3, 4, false, 3200, pair), 12);
+    agree("locate, room after a refusal", pair[0], 9);
+    agree("locate 2839", egretfold_locate(2048, 100, 3, 4, false, 2839, pair), 0);
+    agree_words("locate 2839", pair, expected_pair, 3);
+}
+
+/* The element of C1 in twelve bytes of memory from 2832 on. */
+static void check_elements(void)
+{
+    uint8_t memory[12] = {0, 1, 2, 3, 4, 5, 6, 7, 8, 9, 10, 11};
+    const uint8_t data[4] = {104, 105, 106, 107};
+    const uint8_t read[16] = {4, 5, 6, 7}, stored[12] = {0, 1, 2, 3, 104, 105, 106, 107, 8, 9, 10, 11};
+    uint8_t bytes[16];
+    memset(bytes, 9, sizeof bytes);
+    agree("element_read, memory too short",
+          egretfold_element_read(2048, 100, 3, 4, false, 5, 2, memory, 7, 2832, bytes), 11);
+    agree("element_read, room after a refusal", bytes[0], 9);
+    agree("element_read", egretfold_element_read(2048, 100, 3, 4, false, 5, 2, memory, 8, 2832, bytes), 0);
+    agree_bytes("element_read", bytes, read, 16);
+    agree("element_write, three bytes",
+          egretfold_element_write(2048, 100, 3, 4, false, 5, 2, memory, 12, 2832, data, 3), 11);
+    agree_bytes("element_write, memory after a refusal", memory + 4, read, 4);
+    agree("element_write", egretfold_element_write(2048, 100, 3, 4, false, 5, 2, memory, 12, 2832, data, 4), 0);
+    agree_bytes("element_write", memory, stored, 12);
+}
+
+/* A linear window of 8 by 2 elements of four bytes: a row is 32 bytes. */
+static void check_superfine(void)
+{
+    const uint8_t expected[16] = {4, 5, 6, 7, 32, 33, 34, 35, 36, 37, 38, 39, 0, 1, 2, 3};
+    uint8_t memory[64], bytes[16];
+    uint32_t count[1] = {9};
+    for (unsigned i = 0; i < 64; i++)
+        memory[i] = (uint8_t)i;
+    memset(bytes, 9, sizeof bytes);
+    agree("element_superfine, not superfine",
+          egretfold_element_superfine(2048, 0x2000008, 2, 0, 0, memory, 64, 2048, bytes, count), 3);
+    agree("element_superfine (7, 0)",
+          egretfold_element_superfine(2048, 0x2020008, 2, 7, 0, memory, 64, 2048, bytes, count), 10);
+    agree("element_superfine, room after a refusal", bytes[0], 9);
+    agree("element_superfine, count after a refusal", count[0], 9);
+    agree("element_superfine",
+          egretfold_element_superfine(2048, 0x2020008, 2, 0, 0, memory, 64, 2048, bytes, count), 0);
+    agree_bytes("element_superfine", bytes, expected, 16);
+    agree("element_superfine, count", count[0], 16);
+}
+
+static uint32_t firsts[EGRETFOLD_SLOTS], seconds[EGRETFOLD_SLOTS], slots[1];
+
+/* The words of document 01's C9, C11 and C12, and the plain slot. */
+static const uint32_t program[8] = {0x02000F00, 0, 0x00000010, 0, 0x01010020, 0, 0x00000020, 0};
+
+static void check_program(void)
+{
+    firsts[0] = 9;
+    agree("program_load, odd", egretfold_program_load(program, 3, firsts, seconds, slots), 15);
+    agree("program_load, store after a refusal", firsts[0], 9);
+    agree("program_load", egretfold_program_load(program, 8, firsts, seconds, slots), 0);
+    agree("program_load, slots", slots[0], 4);
+    agree("program_load, first word", firsts[0], 0x02000F00);
+    agree("program_load, a slot past the program", firsts[511], 0x00000020);
+    agree("program_load, its second word", seconds[511], 0);
+}
+
+static void check_group(uint32_t cells[EGRETFOLD_CELLS])
+{
+    const uint32_t fresh[20] = {15, 15};
+    cells[0] = 9;
+    agree("group_begin, 33", egretfold_group_begin(33, cells), 13);
+    agree("group_begin, room after a refusal", cells[0], 9);
+    agree("group_begin", egretfold_group_begin(4, cells), 0);
+    agree_words("group_begin", cells, fresh, 20);
+}
+
+/* C9, C11, C12 and the plain slot: the program's end. */
+static void check_steps(void)
+{
+    const uint32_t active[4] = {3, 12, 15, 15};
+    uint32_t cells[EGRETFOLD_CELLS], taken[2] = {9, 9};
+    check_group(cells);
+    for (uint32_t i = 0; i < 4; i++) {
+        uint32_t alu = i == 0 ? 3 : 0;
+        agree("group_step", egretfold_group_step(firsts, seconds, slots[0], cells, alu, 0, 0, taken), 0);
+        agree("group_step, a stay", taken[0], 0);
+        agree("group_step, next position", taken[1], i + 1);
+        agree("group_step, position", cells[7], i + 1);
+        agree("group_step, active", cells[1], active[i]);
+    }
+    taken[0] = 9;
+    agree("group_step, ended", egretfold_group_step(firsts, seconds, slots[0], cells, 0, 0, 0, taken), 16);
+    agree("group_step, room after a refusal", taken[0], 9);
+    agree("group_step, position after a refusal", cells[7], 4);
+}
+
+/* The same steps as one run, with masks left over. */
+static void check_run(void)
+{
+    const uint32_t masks[11] = {3, 0, 0, 0, 0, 0, 0, 0, 1, 1, 1};
+    uint32_t cells[EGRETFOLD_CELLS];
+    uint64_t report[3] = {9, 9, 9};
+    check_group(cells);
+    agree("group_run, one step", egretfold_group_run(firsts, seconds, slots[0], cells, masks, 3, 0, report), 0);
+    agree("group_run, one step made", report[0], 1);
+    agree("group_run, first active", report[1], 0);
+    agree("group_run, two active", report[2], 2);
+    agree("group_run, the rest", egretfold_group_run(firsts, seconds, slots[0], cells, masks + 2, 9, 0, report), 0);
+    agree("group_run, three steps made", report[0], 3);
+    agree("group_run, four active", report[2], 4);
+    agree("group_run, position", cells[7], 4);
+    report[0] = 9;
+    agree("group_run, ended", egretfold_group_run(firsts, seconds, slots[0], cells, masks, 0, 0, report), 16);
+    agree("group_run, room after a refusal", report[0], 9);
+}
+
+int main(void)
+{
+    struct session s;
+    check_feed(&s);
+    check_settings(&s);
+    check_formats(&s);
+    check_words(&s);
+    check_refused_piece();
+    check_commands();
+    check_addresses();
+    check_elements();
+    check_superfine();
+    check_program();
+    check_steps();
+    check_run();
+    if (differed != 0) {
+        printf("calls: %u agreed, %u differed\n", agreed, differed);
+        return 1;
+    }
+    printf("calls: %u agreed\n", agreed);
+    return 0;
+}

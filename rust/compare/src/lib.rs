@@ -1,0 +1,156 @@
+//! The product, over its C boundary, compared with the second program, which was
+//! made apart from it, on millions of made-up inputs: good ones, ones at the
+//! edges of the rules, damaged ones and noise.
+//!
+//! There are five kinds of cases, one module each:
+//!
+//! * [`addresses`]: layouts judged, pairs translated, addresses located back;
+//! * [`memory`]: elements read and written in lent memory, superfine reads;
+//! * [`streams`]: streams of command words, by words, in pieces and uncut;
+//! * [`writer`]: commands written to words;
+//! * [`flow`]: programs loaded, groups stepped and run.
+//!
+//! Every case is made from its kind, a seed and its number alone, so that any
+//! case can be run again by itself. The tests run fixed cases; the program
+//! `compare` runs as many as it is given time for.
+
+#![forbid(unsafe_code)]
+
+pub mod addresses;
+pub mod case;
+pub mod commands;
+pub mod flow;
+pub mod groups;
+pub mod layouts;
+pub mod memory;
+pub mod options;
+pub mod programs;
+pub mod random;
+pub mod settings;
+pub mod streams;
+pub mod tally;
+pub mod words;
+pub mod writer;
+
+use case::{Agreement, Case, Difference};
+use random::Random;
+use std::any::Any;
+use std::fmt;
+use std::ops::Range;
+use std::panic::{catch_unwind, AssertUnwindSafe};
+use tally::Tally;
+
+#[derive(Clone, Copy, Debug, PartialEq, Eq)]
+pub enum Kind {
+    Addresses,
+    Memory,
+    Streams,
+    Writer,
+    Flow,
+}
+
+impl Kind {
+    pub const ALL: [Kind; 5] = [
+        Kind::Addresses,
+        Kind::Memory,
+        Kind::Streams,
+        Kind::Writer,
+        Kind::Flow,
+    ];
+
+    pub fn name(self) -> &'static str {
+        match self {
+            Kind::Addresses => "addresses",
+            Kind::Memory => "memory",
+            Kind::Streams => "streams",
+            Kind::Writer => "writer",
+            Kind::Flow => "flow",
+        }
+    }
+
+    pub fn named(name: &str) -> Option<Kind> {
+        Kind::ALL.iter().copied().find(|kind| kind.name() == name)
+    }
+
+    fn run(self, case: &mut Case) -> Agreement {
+        match self {
+            Kind::Addresses => addresses::run(case),
+            Kind::Memory => memory::run(case),
+            Kind::Streams => streams::run(case),
+            Kind::Writer => writer::run(case),
+            Kind::Flow => flow::run(case),
+        }
+    }
+}
+
+/// A case that found a difference.
+#[derive(Clone, Debug, PartialEq, Eq)]
+pub struct Failure {
+    pub kind: Kind,
+    pub seed: u64,
+    pub number: u64,
+    pub difference: Difference,
+}
+
+impl fmt::Display for Failure {
+    fn fmt(&self, f: &mut fmt::Formatter<'_>) -> fmt::Result {
+        let (kind, seed, number) = (self.kind.name(), self.seed, self.number);
+        writeln!(f, "A difference in case {number} of {kind}, seed {seed}:")?;
+        writeln!(f, "{}", self.difference)?;
+        writeln!(f, "To run this case by itself:")?;
+        write!(f, "    compare --kind {kind} --seed {seed} --case {number}")
+    }
+}
+
+/// Runs one case. Aloud, it prints both answers of every comparison on the way.
+pub fn run_case(
+    kind: Kind,
+    seed: u64,
+    number: u64,
+    tally: &mut Tally,
+    aloud: bool,
+) -> Result<(), Box<Failure>> {
+    let mut case = Case {
+        random: Random::of_case(kind as u64, seed, number),
+        tally,
+        aloud,
+    };
+    case.tally.cases += 1;
+    // A program that panics is told from one that answers, with the same report.
+    let ended = catch_unwind(AssertUnwindSafe(|| kind.run(&mut case)));
+    let agreement = ended.unwrap_or_else(|panic| Err(Box::new(panicked(&*panic))));
+    agreement.map_err(|difference| {
+        Box::new(Failure {
+            kind,
+            seed,
+            number,
+            difference: *difference,
+        })
+    })
+}
+
+fn panicked(panic: &(dyn Any + Send)) -> Difference {
+    let text = panic
+        .downcast_ref::<String>()
+        .cloned()
+        .or_else(|| panic.downcast_ref::<&str>().map(|text| text.to_string()))
+        .unwrap_or_default();
+    Difference {
+        asked: "a call that did not come back".to_string(),
+        product: format!("panic: {text}"),
+        expected: "an answer".to_string(),
+    }
+}
+
+/// Runs the cases with these numbers, up to the first difference.
+pub fn run_cases(
+    kind: Kind,
+    seed: u64,
+    numbers: Range<u64>,
+    tally: &mut Tally,
+) -> Result<(), Box<Failure>> {
+    for number in numbers {
+        run_case(kind, seed, number, tally, false)?;
+    }
+    Ok(())
+}

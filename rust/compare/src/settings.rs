@@ -1,0 +1,156 @@
+//! All that can be asked of a session, asked of both programs' sessions.
+
+use crate::case::{Agreement, Case};
+use crate::commands::{self, SET_COND_OUT, SET_CONSTB, SET_CONSTF, SET_CONSTI};
+use crate::commands::{SET_INP, SET_INST, SET_OUT};
+use boundary::lent;
+use second::session::Format;
+use second::Answer;
+
+/// One session of each program, which get the same words.
+#[derive(Clone)]
+pub struct Both {
+    pub product: boundary::Session,
+    pub second: second::session::Session,
+}
+
+/// What a session holds, from either program.
+#[derive(Clone, Debug, PartialEq, Eq)]
+pub struct Seen {
+    pub taken: u64,
+    pub stopped: bool,
+    pub open: Option<(u32, u32)>,
+    pub runs: u64,
+    pub claims: u64,
+    pub domain: Option<[u32; 4]>,
+    /// In the order of `FORMATS`.
+    pub formats: Vec<Answer<Option<Format>>>,
+    pub output_mask: u32,
+    pub conditional_mask: Option<u32>,
+    pub test: Option<u32>,
+}
+
+/// The headers that set one format each; outputs and inputs come behind them.
+const FORMATS: [u32; 5] = [SET_INST, SET_CONSTF, SET_CONSTI, SET_CONSTB, SET_COND_OUT];
+
+/// Header and number of every format that a session can hold.
+fn formats() -> impl Iterator<Item = (u32, u32)> {
+    let single = FORMATS.iter().map(|header| (*header, 0));
+    let outputs = (0..4).map(|number| (SET_OUT, number));
+    let inputs = (0..16).map(|number| (SET_INP, number));
+    single.chain(outputs).chain(inputs)
+}
+
+impl Both {
+    pub fn new() -> Both {
+        Both {
+            product: boundary::Session::new(),
+            second: second::session::Session::new(),
+        }
+    }
+
+    /// Compares all settings, and one question that may get a refusal.
+    pub fn agree(&self, case: &mut Case, asked: impl Fn() -> String) -> Agreement {
+        let asked = || format!("settings after {}", asked());
+        case.agree(asked, &of_product(&self.product), &of_second(&self.second))?;
+        self.question(case)
+    }
+
+    /// The format of any header and number at all.
+    fn question(&self, case: &mut Case) -> Agreement {
+        let random = &mut case.random;
+        let header = match random.below(4) {
+            0 => commands::known_header(random),
+            1 => commands::unknown_header(random),
+            _ => random.one_of(&[SET_OUT, SET_INP]),
+        };
+        let number = match random.below(4) {
+            0 => random.word(),
+            _ => random.below(18),
+        };
+        let asked = || format!("format of {header:#X}, number {number}");
+        let product = format_of_product(&self.product, header, number);
+        let expected = format_of_second(&self.second, header, number);
+        // Not counted among the refusals: those tell what the words caused.
+        case.agree(asked, &product, &expected)?;
+        if product.is_err() {
+            case.tally.mark("questions refused");
+            let filled = [case.random.word(); 4];
+            let mut room = filled;
+            lent::session_format(&self.product, header, number, &mut room);
+            case.untouched(asked, &room, &filled)?;
+        }
+        Ok(())
+    }
+}
+
+impl Default for Both {
+    fn default() -> Both {
+        Both::new()
+    }
+}
+
+pub fn of_product(session: &boundary::Session) -> Seen {
+    let status = session.status();
+    let format = |(header, number)| format_of_product(session, header, number);
+    Seen {
+        taken: u64::from(status.taken),
+        stopped: status.stopped,
+        open: status.open,
+        runs: session.runs(),
+        claims: session.claims(),
+        domain: session.domain(),
+        formats: formats().map(format).collect(),
+        output_mask: session.output_mask(),
+        conditional_mask: session.conditional_mask(),
+        test: session.test(),
+    }
+}
+
+pub fn of_second(session: &second::session::Session) -> Seen {
+    let format = |(header, number)| format_of_second(session, header, number);
+    Seen {
+        taken: session.taken(),
+        stopped: session.stopped(),
+        open: session.open(),
+        runs: session.runs(),
+        claims: session.claims(),
+        domain: session.domain(),
+        formats: formats().map(format).collect(),
+        output_mask: session.output_mask(),
+        conditional_mask: session.conditional_mask(),
+        test: session.test(),
+    }
+}
+
+fn format_of_product(
+    session: &boundary::Session,
+    header: u32,
+    number: u32,
+) -> Answer<Option<Format>> {
+    let set = session.format(header, number)?;
+    Ok(set.map(|format| Format {
+        base: format.base,
+        format: format.format,
+        height: format.height,
+    }))
+}
+
+/// The second program has a function for each format; a header that sets none
+/// gets 2, as the boundary's header file says.
+fn format_of_second(
+    session: &second::session::Session,
+    header: u32,
+    number: u32,
+) -> Answer<Option<Format>> {
+    match header {
+        SET_INST => Ok(session.instructions()),
+        SET_CONSTF => Ok(session.floats()),
+        SET_CONSTI => Ok(session.integers()),
+        SET_CONSTB => Ok(session.booleans()),
+        SET_COND_OUT => Ok(session.conditional()),
+        SET_OUT => session.output(number),
+        SET_INP => session.input(number),
+        _ => Err(2),
+    }
+}

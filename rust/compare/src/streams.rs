@@ -1,0 +1,146 @@
+//! Cases of the third kind: a stream of command words is given to both programs
+//! word by word, and answers, settings and tallies are compared; then to fresh
+//! sessions in random pieces and uncut, which must come to the same.
+
+use crate::case::{Agreed, Agreement, Case};
+use crate::commands;
+use crate::settings::{of_product, of_second, Both};
+use crate::words;
+use crate::writer::for_product;
+use boundary::lent;
+use second::command::{write, Command};
+use second::session::{Fed, Reply};
+
+pub fn run(case: &mut Case) -> Agreement {
+    let words = words::any(&mut case.random);
+    case.tally.add("words", words.len() as u64);
+    let by_words = word_by_word(case, Both::new(), &words)?;
+    let (uncut, whole) = fed_uncut(case, &words)?;
+    let in_pieces = fed_in_pieces(case, &words, whole)?;
+    let seen = of_product(&by_words.product);
+    for (way, both) in [("uncut", &uncut), ("in pieces", &in_pieces)] {
+        let asked = || format!("settings after {words:X?} fed {way}");
+        case.agree(asked, &of_product(&both.product), &seen)?;
+        case.agree(asked, &of_second(&both.second), &seen)?;
+    }
+    case.tally.add("starts passed", seen.runs);
+    case.tally.mark(match seen.stopped {
+        true => "streams refused",
+        false => "streams accepted",
+    });
+    Ok(())
+}
+
+/// Gives the words one by one to these sessions, up to the stream's end or some
+/// words past the first refusal, and compares every answer.
+pub fn word_by_word(case: &mut Case, mut both: Both, words: &[u32]) -> Agreed<Both> {
+    let mut header_at = 0;
+    let mut patience = case.random.one_of(&[1, 2, 8, 64]);
+    for (place, word) in words.iter().enumerate() {
+        let asked = || format!("word {place} of {words:X?}");
+        let before = both.product.clone();
+        let product = both.product.word(*word).map(reply_of_product);
+        let expected = both.second.word(*word);
+        case.agree_answer(asked, &product, &expected)?;
+        match expected {
+            Ok(Reply::Open) => {}
+            Ok(Reply::Done(command)) => {
+                case.tally.mark("commands completed");
+                case.tally.mark(commands::name(command.header));
+                written_back(case, &command, &words[header_at..=place])?;
+                header_at = place + 1;
+            }
+            Err(_) => {
+                room_untouched(case, before, *word, &both.product)?;
+                patience -= 1;
+            }
+        }
+        if case.random.once_in(64) {
+            both.agree(case, asked)?;
+        }
+        if patience == 0 {
+            break;
+        }
+    }
+    both.agree(case, || format!("all of {words:X?}"))?;
+    Ok(both)
+}
+
+fn reply_of_product(reply: boundary::Reply) -> Reply {
+    match reply {
+        boundary::Reply::Open => Reply::Open,
+        boundary::Reply::Done(command) => Reply::Done(Command {
+            header: command.header,
+            fields: command.fields,
+        }),
+    }
+}
+
+/// A completed command gives back the words that it came from, by both writers.
+fn written_back(case: &Case, command: &Command, words: &[u32]) -> Agreement {
+    let asked = || format!("{command:X?} written back");
+    let mut room = [0; 5];
+    let product = boundary::write_command(&for_product(command), &mut room);
+    let product = product.map(|count| room[..count.min(5)].to_vec());
+    case.agree(asked, &product, &Ok(words.to_vec()))?;
+    case.agree(asked, &product, &write(command, words.len()))
+}
+
+/// The refused word once more, to the session before it, with a filled room.
+fn room_untouched(
+    case: &mut Case,
+    mut before: boundary::Session,
+    word: u32,
+    after: &boundary::Session,
+) -> Agreement {
+    let asked = || format!("refused word {word:#X}");
+    let filled = [case.random.word(); 6];
+    let mut room = filled;
+    lent::session_word(&mut before, word, &mut room);
+    case.untouched(asked, &room, &filled)?;
+    case.agree(asked, &before, after)
+}
+
+/// The stream as one piece, and what was answered to it.
+fn fed_uncut(case: &mut Case, words: &[u32]) -> Agreed<(Both, Fed)> {
+    let mut both = Both::new();
+    let fed = fed_piece(case, &mut both, words, words)?;
+    Ok((both, fed))
+}
+
+/// The stream in pieces, some of them empty. Their sums must be the whole's.
+fn fed_in_pieces(case: &mut Case, words: &[u32], whole: Fed) -> Agreed<Both> {
+    let mut both = Both::new();
+    let mut sum = Fed {
+        taken: 0,
+        commands: 0,
+        refusal: None,
+    };
+    let mut left = words;
+    while !left.is_empty() {
+        let most = (left.len() as u32).min(case.random.one_of(&[1, 4, 16, 64]));
+        let (piece, rest) = left.split_at(case.random.between(0, most) as usize);
+        let fed = fed_piece(case, &mut both, piece, words)?;
+        sum.taken += fed.taken;
+        sum.commands += fed.commands;
+        // Later pieces get 1, which is no part of the whole's answer.
+        sum.refusal = sum.refusal.or(fed.refusal);
+        left = rest;
+    }
+    case.agree(|| format!("pieces of {words:X?}"), &sum, &whole)?;
+    Ok(both)
+}
+
+fn fed_piece(case: &mut Case, both: &mut Both, piece: &[u32], words: &[u32]) -> Agreed<Fed> {
+    let asked = || format!("piece {piece:X?} of {words:X?}");
+    let product = both.product.feed(piece);
+    let product = Fed {
+        taken: product.taken,
+        commands: product.commands,
+        refusal: product.refusal,
+    };
+    let expected = both.second.feed(piece);
+    case.agree(asked, &product, &expected)?;
+    case.tally.mark("pieces fed");
+    Ok(expected)
+}

@@ -1,0 +1,228 @@
+//! Streams of command words for the cases: mostly acceptable ones, built from
+//! commands whose formats lie apart and whose domains fit; then, for half of
+//! them, damage.
+
+use crate::commands::{self, SET_COND_MASK, SET_COND_OUT, SET_COND_TEST, SET_DOMAIN};
+use crate::commands::{SET_INP, SET_INST, SET_OUT, SET_OUT_MASK, START};
+use crate::random::Random;
+use second::layout::{judge, Layout, Window};
+
+/// Every output's formats begin in a part of memory of its own, this many bytes
+/// from the next output's: more than most windows' spans.
+const PART: u32 = 1 << 23;
+
+/// What the stream so far has set, as far as good commands need to know it.
+struct Plan {
+    words: Vec<u32>,
+    /// The outputs' windows: base, row step, span and height.
+    outputs: [Option<(u32, Window, u32)>; 4],
+    instructions: bool,
+    domain: bool,
+    /// One command in so many has a field at an edge.
+    careful: u32,
+}
+
+/// A stream of words, of any kind.
+pub fn any(random: &mut Random) -> Vec<u32> {
+    if random.once_in(24) {
+        return noise(random);
+    }
+    let mut words = good(random);
+    if random.coin() {
+        for _ in 0..random.one_of(&[1, 1, 1, 2, 5]) {
+            damage(random, &mut words);
+        }
+    }
+    words
+}
+
+/// A stream of good commands, of which few have a field at an edge. Most begin
+/// with all that a start needs.
+fn good(random: &mut Random) -> Vec<u32> {
+    let mut plan = Plan {
+        words: Vec::new(),
+        outputs: [None; 4],
+        instructions: false,
+        domain: false,
+        careful: random.one_of(&[50, 200, 2_000]),
+    };
+    if !random.once_in(8) {
+        preamble(random, &mut plan);
+    }
+    let most = random.one_of(&[8, 32, 64, 96]);
+    for _ in 0..random.between(1, most) {
+        command(random, &mut plan);
+    }
+    plan.words
+}
+
+/// An instruction format and an output or more in any order, then a domain.
+fn preamble(random: &mut Random, plan: &mut Plan) {
+    if random.coin() {
+        set_low_format(random, plan, SET_INST);
+    }
+    for _ in 0..random.between(1, 3) {
+        set_output(random, plan);
+    }
+    if !plan.instructions {
+        set_low_format(random, plan, SET_INST);
+    }
+    set_domain(random, plan);
+}
+
+fn command(random: &mut Random, plan: &mut Plan) {
+    match random.below(20) {
+        0 | 1 => {
+            let header = commands::quiet_header(random);
+            put(random, plan, header, [0; 4]);
+        }
+        2 | 3 => {
+            let header = random.one_of(&commands::LOW_FORMATS);
+            set_low_format(random, plan, header);
+        }
+        4 | 5 => plain(random, plan, SET_INP),
+        6 => plain(random, plan, SET_COND_OUT),
+        7 => plain(random, plan, SET_OUT_MASK),
+        8 => plain(random, plan, SET_COND_MASK),
+        9 => plain(random, plan, SET_COND_TEST),
+        10 | 11 => {
+            set_output(random, plan);
+            // It may be smaller than the domain, which mostly comes again then.
+            if !random.once_in(8) {
+                set_domain(random, plan);
+            }
+        }
+        12..=14 => set_domain(random, plan),
+        _ => start(random, plan),
+    }
+}
+
+/// A command whose good fields depend on nothing else.
+fn plain(random: &mut Random, plan: &mut Plan, header: u32) {
+    let fields = commands::good_fields(random, header);
+    put(random, plan, header, fields);
+}
+
+fn set_low_format(random: &mut Random, plan: &mut Plan, header: u32) {
+    plain(random, plan, header);
+    plan.instructions |= header == SET_INST;
+}
+
+/// An output in its own part of memory; sometimes exactly behind another one or
+/// over its last bytes, where refusal 9 begins, or at the very top of memory,
+/// where its span ends at 2^32.
+fn set_output(random: &mut Random, plan: &mut Plan) {
+    let mut fields = commands::good_fields(random, SET_OUT);
+    let number = fields[0] as usize;
+    let other = plan.outputs[random.below(4) as usize];
+    fields[1] = match (random.below(16), other) {
+        (0, Some((base, window, _))) => behind(base, window),
+        (1, Some((base, window, _))) => behind(base, window).wrapping_sub(2048),
+        (2, _) => top_base(&fields),
+        _ => fields[0] * PART + (random.below(64) << 11),
+    };
+    put(random, plan, SET_OUT, fields);
+    let layout = output_layout(&fields);
+    if let Ok(window) = judge(&layout) {
+        plan.outputs[number] = Some((layout.base, window, layout.height));
+    }
+}
+
+/// The first multiple of 2,048 behind a window; behind 2^32 is 0 again.
+fn behind(base: u32, window: Window) -> u32 {
+    let end = u64::from(base) + window.span;
+    (end + 2047) as u32 & !2047
+}
+
+/// The last base from which the output's window still ends at 2^32 or below.
+fn top_base(fields: &[u32; 4]) -> u32 {
+    let low = Layout {
+        base: 0,
+        ..output_layout(fields)
+    };
+    let span = judge(&low).map_or(2048, |window| window.span);
+    ((1u64 << 32) - span) as u32 & !2047
+}
+
+fn output_layout(fields: &[u32; 4]) -> Layout {
+    let [_, base, format, height] = *fields;
+    Layout {
+        base,
+        pitch: format & 0x1FFC,
+        height,
+        size: [2, 4, 4, 8, 16][(format >> 24) as usize % 5],
+        tiled: format >> 16 & 1 == 1,
+    }
+}
+
+/// A domain inside every output's window; sometimes one pair too large, or of
+/// any size.
+fn set_domain(random: &mut Random, plan: &mut Plan) {
+    let (mut i, mut j) = (4_095, 4_095);
+    for (_, window, height) in plan.outputs.iter().flatten() {
+        i = i.min(window.step - 1);
+        j = j.min(height - 1);
+    }
+    let mut fields = commands::good_domain(random, i, j);
+    match random.below(64) {
+        0 => fields[2] = (i + 1).min(4_095),
+        1 => fields[3] = (j + 1).min(4_095),
+        2 => fields = commands::good_domain(random, 4_095, 4_095),
+        _ => {}
+    }
+    put(random, plan, SET_DOMAIN, fields);
+    plan.domain = true;
+}
+
+/// A start, mostly after all that it needs.
+fn start(random: &mut Random, plan: &mut Plan) {
+    let ready = plan.domain && plan.instructions && plan.outputs.iter().any(Option::is_some);
+    if ready || random.once_in(16) {
+        put(random, plan, START, [0; 4]);
+    }
+}
+
+/// Adds the command's words, with a field at an edge now and then.
+fn put(random: &mut Random, plan: &mut Plan, header: u32, mut fields: [u32; 4]) {
+    if random.once_in(plan.careful) {
+        commands::spoil(random, header, &mut fields);
+    }
+    let parameters = (header >> 16 & 0x3FFF) as usize + 1;
+    plan.words.push(header);
+    plan.words.extend(&fields[..parameters]);
+}
+
+/// Words without a plan: headers, small numbers and anything, mixed.
+fn noise(random: &mut Random) -> Vec<u32> {
+    let count = random.below(48);
+    let tame = random.coin();
+    let word = |random: &mut Random| match random.below(4) {
+        _ if tame && random.coin() => 0,
+        0 => commands::known_header(random),
+        1 => random.below(16),
+        2 => commands::low_base(random),
+        _ => random.word(),
+    };
+    (0..count).map(|_| word(random)).collect()
+}
+
+/// One change to the words that no good writer would make.
+fn damage(random: &mut Random, words: &mut Vec<u32>) {
+    if words.is_empty() {
+        words.push(random.word());
+        return;
+    }
+    let place = random.below(words.len() as u32) as usize;
+    let other = random.below(words.len() as u32) as usize;
+    match random.below(8) {
+        0 | 1 => words[place] ^= random.bit(),
+        2 => {
+            words.remove(place);
+        }
+        3 => words.insert(place, words[place]),
+        4 => words.swap(place, other),
+        5 => words.truncate(place),
+        6 => words.insert(place, random.word()),
+        _ => words.insert(place, commands::unknown_header(random)),
+    }
+}

@@ -1,0 +1,158 @@
+//! Both programs agree on every one of these cases: a million of addresses and
+//! hundreds of thousands of each other kind, the same ones at every run. Each
+//! test also asks that its cases were a telling mixture, so that a generator
+//! that has gone dull is noticed: each refusal came up, and enough was accepted.
+//!
+//! One test for each kind, and two for the long ones, so that two processors
+//! have work.
+
+use compare::commands::TABLE;
+use compare::layouts::SHAPES;
+use compare::tally::Tally;
+use compare::{run_cases, Kind};
+use std::ops::Range;
+
+const SEED: u64 = 1;
+
+/// Runs the cases and demands that all agree. The failure names its case.
+fn agree(kind: Kind, numbers: Range<u64>) -> Tally {
+    let wanted = numbers.end - numbers.start;
+    let mut tally = Tally::new();
+    if let Err(failure) = run_cases(kind, SEED, numbers, &mut tally) {
+        panic!("{failure}");
+    }
+    assert_eq!(tally.cases, wanted);
+    println!("{}: {wanted} cases\n{}", kind.name(), tally.describe());
+    tally
+}
+
+/// Demands that each of these refusals came up at least so often, and no other.
+fn refusals(tally: &Tally, expected: &[(usize, u64)]) {
+    for number in 1..=17 {
+        let seen = tally.refused(number);
+        match expected.iter().find(|line| line.0 == number) {
+            Some((_, least)) => assert!(seen >= *least, "refusal {number} came {seen} times"),
+            None => assert_eq!(seen, 0, "refusal {number} can't come up here"),
+        }
+    }
+}
+
+fn marks(tally: &Tally, expected: &[(&str, u64)]) {
+    for (name, least) in expected {
+        let seen = tally.marked(name);
+        assert!(seen >= *least, "{name}: {seen}, and should be {least}");
+    }
+}
+
+fn addresses(numbers: Range<u64>) {
+    let tally = agree(Kind::Addresses, numbers);
+    let third = tally.cases / 3;
+    marks(&tally, &[("pairs accepted", third)]);
+    marks(&tally, &[("bytes located back", tally.cases / 2)]);
+    for shape in SHAPES.concat() {
+        marks(&tally, &[(shape, 10_000)]);
+    }
+    refusals(
+        &tally,
+        &[(3, 50_000), (6, 50_000), (10, 50_000), (12, 50_000)],
+    );
+}
+
+#[test]
+fn addresses_first_half() {
+    addresses(0..500_000);
+}
+
+#[test]
+fn addresses_second_half() {
+    addresses(500_000..1_000_000);
+}
+
+#[test]
+fn memory() {
+    let tally = agree(Kind::Memory, 0..400_000);
+    marks(&tally, &[("reads accepted", 40_000)]);
+    marks(&tally, &[("writes accepted", 40_000)]);
+    marks(&tally, &[("superfine reads accepted", 40_000)]);
+    marks(&tally, &[("memory that is empty", 500)]);
+    marks(&tally, &[("memory of 65,536 bytes", 5_000)]);
+    marks(&tally, &[("memory over 65,536 bytes", 5_000)]);
+    marks(&tally, &[("memory that ends at 2^32", 5_000)]);
+    marks(&tally, &[("memory that ends above 2^32", 2_000)]);
+    refusals(
+        &tally,
+        &[(3, 10_000), (6, 10_000), (10, 10_000), (11, 50_000)],
+    );
+}
+
+fn streams(numbers: Range<u64>) {
+    let tally = agree(Kind::Streams, numbers);
+    marks(&tally, &[("starts passed", 100_000)]);
+    marks(&tally, &[("commands completed", 1_000_000)]);
+    marks(&tally, &[("streams accepted", 30_000)]);
+    marks(&tally, &[("streams refused", 30_000)]);
+    marks(&tally, &[("questions refused", 50_000)]);
+    for (_, command) in TABLE {
+        marks(&tally, &[(command, 5_000)]);
+    }
+    let words_at_fault = [(2, 10_000), (3, 10_000), (4, 1_000)];
+    let last_parameters = [(5, 500), (6, 500), (7, 1_000), (8, 1_000), (9, 1_000)];
+    let mut expected = vec![(1, 100_000)];
+    expected.extend(words_at_fault);
+    expected.extend(last_parameters);
+    refusals(&tally, &expected);
+}
+
+#[test]
+fn streams_first_half() {
+    streams(0..100_000);
+}
+
+#[test]
+fn streams_second_half() {
+    streams(100_000..200_000);
+}
+
+#[test]
+fn writer() {
+    let tally = agree(Kind::Writer, 0..1_000_000);
+    assert!(tally.accepted >= 1_000_000, "accepted: {}", tally.accepted);
+    for (_, command) in TABLE {
+        marks(&tally, &[(command, 5_000)]);
+    }
+    let fields = [(3, 100_000), (4, 5_000), (5, 2_000), (6, 10_000)];
+    let mut expected = vec![(2, 50_000), (11, 100_000)];
+    expected.extend(fields);
+    refusals(&tally, &expected);
+}
+
+fn flow(numbers: Range<u64>) {
+    let tally = agree(Kind::Flow, numbers);
+    marks(&tally, &[("steps compared", 500_000)]);
+    marks(&tally, &[("runs compared", 300_000)]);
+    marks(&tally, &[("jumps", 100_000), ("stays", 100_000)]);
+    marks(&tally, &[("steps that left nobody active", 20_000)]);
+    marks(&tally, &[("steps that left some waiting", 100_000)]);
+    marks(&tally, &[("steps that left two returns or more", 10_000)]);
+    marks(
+        &tally,
+        &[("steps refused with a counter at its limit", 1_000)],
+    );
+    marks(&tally, &[("steps refused for the return stack", 5_000)]);
+    marks(&tally, &[("steps refused for their jump", 5_000)]);
+    marks(&tally, &[("steps refused for their words", 5_000)]);
+    refusals(
+        &tally,
+        &[(13, 20_000), (14, 20_000), (15, 8_000), (16, 50_000)],
+    );
+}
+
+#[test]
+fn flow_first_half() {
+    flow(0..150_000);
+}
+
+#[test]
+fn flow_second_half() {
+    flow(150_000..300_000);
+}
