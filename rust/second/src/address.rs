@@ -225,23 +225,7 @@ fn narrow(number: u64) -> u32 {
 #[cfg(test)]
 mod tests {
     use super::*;
-
-    fn linear(size: u32, base: u32, pitch: u32, height: u32) -> Layout {
-        Layout {
-            base,
-            pitch,
-            height,
-            size,
-            tiled: false,
-        }
-    }
-
-    fn tiled(size: u32, base: u32, pitch: u32, height: u32) -> Layout {
-        Layout {
-            tiled: true,
-            ..linear(size, base, pitch, height)
-        }
-    }
+    use crate::layout::tests::{linear, tiled};
 
     /// The plain search: every pair of the window, one after another.
     fn locate_in_whole_window(layout: &Layout, address: u32) -> Answer<(u32, u32, u32)> {

@@ -117,10 +117,10 @@ fn tile_rows(height: u64, tile: Tile) -> u64 {
 }
 
 #[cfg(test)]
-mod tests {
+pub(crate) mod tests {
     use super::*;
 
-    fn linear(size: u32, base: u32, pitch: u32, height: u32) -> Layout {
+    pub(crate) fn linear(size: u32, base: u32, pitch: u32, height: u32) -> Layout {
         Layout {
             base,
             pitch,
@@ -130,7 +130,7 @@ mod tests {
         }
     }
 
-    fn tiled(size: u32, base: u32, pitch: u32, height: u32) -> Layout {
+    pub(crate) fn tiled(size: u32, base: u32, pitch: u32, height: u32) -> Layout {
         Layout {
             tiled: true,
             ..linear(size, base, pitch, height)

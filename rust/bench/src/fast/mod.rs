@@ -7,6 +7,7 @@
 pub mod address;
 pub mod command;
 pub mod element;
+pub mod group;
 pub mod layout;
 pub mod planes;
 pub mod processors;

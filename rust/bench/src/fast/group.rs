@@ -1,0 +1,132 @@
+//! A group of processors: what a step and a run do, whatever way the branch counters are kept.
+
+use super::program::{Place, Program, Report, Stepped, DECREMENT, INCREMENT};
+use super::refusal::{Answer, ENDED, FLOW_WORD};
+
+/// The branch counters of up to 32 processors. Those of active processors are 0.
+pub trait Counters: Copy {
+    const ZEROS: Self;
+
+    /// The processors whose counter is 0.
+    fn at_zero(&self) -> u32;
+
+    /// Takes `count` from the counters of these processors, and gives those that would go below zero; their counter is then 0.
+    fn lower(&mut self, processors: u32, count: u32) -> u32;
+
+    /// Adds 1 to the counters of these processors. 14 where one is at 31.
+    fn raise(&mut self, processors: u32) -> Answer<()>;
+
+    fn counter(&self, processor: u32) -> u32;
+}
+
+/// A group's state.
+#[derive(Clone, Copy, Debug, PartialEq, Eq)]
+pub struct Group<C> {
+    members: u32,
+    active: u32,
+    counters: C,
+    place: Place,
+}
+
+impl<C: Counters> Group<C> {
+    /// A fresh group of 1 to 32 processors. 13.
+    #[inline(never)]
+    pub fn begin(size: u32) -> Answer<Group<C>> {
+        if size.wrapping_sub(1) >= 32 {
+            return Err(FLOW_WORD);
+        }
+        let members = u32::MAX >> (32 - size);
+        Ok(Group {
+            members,
+            active: members,
+            counters: C::ZEROS,
+            place: Place::default(),
+        })
+    }
+
+    /// One step. 13 to 16; a refusal changes nothing.
+    #[inline(never)]
+    pub fn step(
+        &mut self,
+        program: &Program,
+        alu: u32,
+        predicate: u32,
+        booleans: u32,
+    ) -> Answer<Stepped> {
+        let jumped = self.advance(program, alu, predicate, booleans)?;
+        Ok(Stepped {
+            jumped,
+            position: self.place.position,
+        })
+    }
+
+    /// Steps up to the end of the list of masks or of the program. 13 to 16; a refusal leaves the group as it was.
+    #[inline(never)]
+    pub fn run(&mut self, program: &Program, masks: &[u32], booleans: u32) -> Answer<Report> {
+        if program.has_ended(self.place.position) {
+            return Err(ENDED);
+        }
+        let mut group = *self;
+        let mut steps = 0;
+        for pair in masks.chunks_exact(2) {
+            if program.has_ended(group.place.position) {
+                break;
+            }
+            group.advance(program, pair[0], pair[1], booleans)?;
+            steps += 1;
+        }
+        *self = group;
+        Ok(Report::new(steps, self.active))
+    }
+
+    #[inline(always)]
+    fn advance(
+        &mut self,
+        program: &Program,
+        alu: u32,
+        predicate: u32,
+        booleans: u32,
+    ) -> Answer<bool> {
+        if program.has_ended(self.place.position) {
+            return Err(ENDED);
+        }
+        let slot = program.slot(self.place.position)?;
+        let mut active = self.active;
+        let mut counters = self.counters;
+        if slot.inverts() {
+            active = self.members & !active & counters.at_zero();
+        }
+        let wishes = slot.wishes(alu, predicate, booleans);
+        let jumps = slot.jumps(active, wishes);
+        let inactive = self.members & !active;
+        match slot.counter_code(jumps) {
+            DECREMENT => active |= counters.lower(inactive, slot.pop_count()),
+            INCREMENT => {
+                counters.raise(inactive)?;
+                active &= if jumps { wishes } else { !wishes };
+            }
+            _ => {}
+        }
+        self.place.advance(slot, jumps, program)?;
+        self.active = active;
+        self.counters = counters;
+        Ok(jumps)
+    }
+
+    pub fn active(&self) -> u32 {
+        self.active
+    }
+
+    pub fn position(&self) -> u32 {
+        self.place.position
+    }
+
+    pub fn counter(&self, processor: u32) -> u32 {
+        self.counters.counter(processor)
+    }
+
+    /// The stored returns, oldest first.
+    pub fn returns(&self) -> &[u32] {
+        self.place.returns()
+    }
+}
