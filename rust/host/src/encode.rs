@@ -1,0 +1,134 @@
+//! `egretfold encode`: a listing, or its terse form, back to words. A line is one
+//! of
+//!
+//! * a word of the listing, `POSITION: WORD …`, of which the word counts and the
+//!   position must be the next one;
+//! * a command by its name and its parameters in hex, which the product's writer
+//!   makes into words; a reserved parameter may be left out;
+//! * any number of words in hex;
+//! * nothing, or a remark from # on.
+
+use crate::cause;
+use crate::failure::{Failure, Outcome};
+use crate::lines::Lines;
+use crate::names::{self, Kind, Line};
+use crate::numbers;
+use crate::source::Source;
+use boundary::Command;
+use clap::Args;
+use std::io::Write;
+use std::path::PathBuf;
+
+#[derive(Args)]
+pub struct Options {
+    /// The listing; standard input for - or where none is given
+    file: Option<PathBuf>,
+    /// Writes the words as hex text, one a line, not as little-endian binary
+    #[arg(long)]
+    hex: bool,
+}
+
+pub fn run(options: &Options, out: &mut dyn Write) -> Outcome {
+    let mut lines = Lines::new(Source::open(options.file.as_deref())?);
+    let mut position = 0;
+    while let Some(line) = lines.next()? {
+        let words = words_of(&line, position).map_err(|fault| fault.at(&lines))?;
+        for word in &words {
+            match options.hex {
+                true => writeln!(out, "{word:08X}")?,
+                false => out.write_all(&word.to_le_bytes())?,
+            }
+        }
+        position += words.len() as u64;
+    }
+    Ok(())
+}
+
+/// What is wrong with a line.
+enum Fault {
+    Text(String),
+    Refused(String),
+}
+
+impl Fault {
+    fn at(self, lines: &Lines) -> Failure {
+        match self {
+            Fault::Text(text) => lines.wrong(&text),
+            Fault::Refused(told) => {
+                let (name, line) = (&lines.source.name, lines.number);
+                Failure::Refused(format!("{name}: line {line}: {told}"))
+            }
+        }
+    }
+}
+
+impl From<String> for Fault {
+    fn from(text: String) -> Fault {
+        Fault::Text(text)
+    }
+}
+
+/// The words of a line, the first of which would stand at this position.
+fn words_of(line: &str, position: u64) -> Result<Vec<u32>, Fault> {
+    let gap = |c: char| c == ',' || c.is_whitespace();
+    let tokens: Vec<&str> = line.split(gap).filter(|token| !token.is_empty()).collect();
+    match tokens.first() {
+        Some(first) if first.ends_with(':') => Ok(vec![listed(&tokens, position)?]),
+        // Every name has this, and no hex number.
+        Some(first) if first.contains('_') => named(first, &tokens[1..]),
+        _ => Ok(hex(&tokens)?),
+    }
+}
+
+fn hex(tokens: &[&str]) -> Result<Vec<u32>, String> {
+    tokens.iter().map(|token| numbers::word(token)).collect()
+}
+
+fn listed(tokens: &[&str], position: u64) -> Result<u32, String> {
+    let stated = tokens[0].trim_end_matches(':');
+    if stated.parse() != Ok(position) {
+        return Err(format!("position {stated} stands where {position} is due"));
+    }
+    let word = tokens.get(1).ok_or("no word behind the position")?;
+    numbers::word(word)
+}
+
+/// A command by its name: its words by the product's writer.
+fn named(name: &str, rest: &[&str]) -> Result<Vec<u32>, Fault> {
+    let line = names::command_named(name).ok_or_else(|| format!("{name:?} is no command"))?;
+    let fields = fields(line, hex(rest)?)?;
+    let mut command = Command {
+        header: line.header,
+        fields: [0; 4],
+    };
+    command.fields[..fields.len()].copy_from_slice(&fields);
+    let mut room = [0; 5];
+    match boundary::write_command(&command, &mut room) {
+        Ok(count) => Ok(room[..count].to_vec()),
+        Err(number) => {
+            let cause = cause::of_command(number, line, &fields);
+            Err(Fault::Refused(cause::refused(number, cause)))
+        }
+    }
+}
+
+/// The command's fields. The writer writes 0 for a reserved parameter whatever it
+/// is given, so another one is asked about here.
+fn fields(line: &Line, mut fields: Vec<u32>) -> Result<Vec<u32>, Fault> {
+    let reserved = line.parameters == [Kind::Reserved];
+    if reserved && fields.is_empty() {
+        fields.push(0);
+    }
+    let (due, given) = (line.parameters.len(), fields.len());
+    if due != given {
+        let name = line.name;
+        return Err(Fault::Text(format!(
+            "{name} has {due} parameters, here are {given}"
+        )));
+    }
+    if reserved && fields[0] != 0 {
+        let cause = cause::reserved(Kind::Reserved, fields[0]);
+        return Err(Fault::Refused(cause::refused(3, Some(cause))));
+    }
+    Ok(fields)
+}

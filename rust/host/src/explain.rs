@@ -1,0 +1,83 @@
+//! `egretfold explain [N]`: what a refusal means, in document 01's words.
+
+use crate::failure::{Failure, Outcome};
+use crate::refusals::{self, Refusal};
+use crate::text;
+use clap::Args;
+use serde_json::{json, Value};
+use std::io::Write;
+
+#[derive(Args)]
+pub struct Options {
+    /// The refusal's number; all are listed where none is given
+    number: Option<u32>,
+    /// One JSON object a refusal, a line each
+    #[arg(long)]
+    json: bool,
+}
+
+pub fn run(options: &Options, out: &mut dyn Write) -> Outcome {
+    let number = match options.number {
+        Some(number) => number,
+        None => return list(options.json, out),
+    };
+    let refusal = refusals::refusal(number).ok_or_else(|| {
+        let last = refusals::ALL.len();
+        Failure::Wrong(format!(
+            "explain {number}: refusals have the numbers 1 to {last}"
+        ))
+    })?;
+    match options.json {
+        true => writeln!(out, "{}", as_json(refusal))?,
+        false => one(refusal, out)?,
+    }
+    Ok(())
+}
+
+fn list(json: bool, out: &mut dyn Write) -> Outcome {
+    for refusal in &refusals::ALL {
+        if json {
+            writeln!(out, "{}", as_json(refusal))?;
+        } else {
+            let head = format!("{:2}  ", refusal.number);
+            text::paragraph(out, &head, refusal.cause)?;
+        }
+    }
+    Ok(())
+}
+
+fn one(refusal: &Refusal, out: &mut dyn Write) -> Outcome {
+    let head = format!("refusal {}: ", refusal.number);
+    text::paragraph(out, &head, refusal.cause)?;
+    writeln!(out)?;
+    text::paragraph(out, "given by     ", refusal.given)?;
+    text::paragraph(out, "effect       ", effect(refusal.number))?;
+    for (place, sentence) in refusal.says.iter().enumerate() {
+        let head = if place == 0 {
+            "document 01  "
+        } else {
+            "             "
+        };
+        text::paragraph(out, head, &format!("\"{sentence}\""))?;
+    }
+    Ok(())
+}
+
+fn effect(number: u32) -> &'static str {
+    if refusals::stops(number) {
+        "changes no byte of lent memory and no setting; a session's word that gets it isn't counted, drops the open \
+         command and stops the session"
+    } else {
+        "changes no byte of lent memory, no setting and no flow state"
+    }
+}
+
+fn as_json(refusal: &Refusal) -> Value {
+    json!({
+        "number": refusal.number,
+        "cause": refusal.cause,
+        "given_by": refusal.given,
+        "stops_a_session": refusals::stops(refusal.number),
+        "document_01": refusal.says,
+    })
+}

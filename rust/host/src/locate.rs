@@ -1,0 +1,164 @@
+//! `egretfold locate`: any byte address back to the pair that owns the byte and the
+//! byte's place in its element; or, with a stream, to the windows that own it.
+
+use crate::cause;
+use crate::failure::{Failure, Outcome};
+use crate::kinds::Address;
+use crate::layouts::LayoutOptions;
+use crate::lines::Lines;
+use crate::owners;
+use crate::source::Source;
+use crate::text;
+use crate::work;
+use boundary::Layout;
+use clap::Args;
+use serde_json::{json, Value};
+use std::io::Write;
+use std::path::PathBuf;
+
+#[derive(Args)]
+pub struct Options {
+    #[command(flatten)]
+    layout: LayoutOptions,
+    /// Addresses, hex; a list on standard input, one a line, where none is given
+    #[arg(value_name = "ADDRESS")]
+    addresses: Vec<String>,
+    /// Asks the windows that this stream of command words sets, instead of one layout
+    #[arg(long, value_name = "FILE", conflicts_with_all = ["pitch", "height", "size", "tiled", "format", "work"])]
+    stream: Option<PathBuf>,
+    /// With --stream: only the stream's first N words count
+    #[arg(long, value_name = "N", requires = "stream")]
+    words: Option<u64>,
+    /// With --stream: the file is hex text
+    #[arg(long, requires = "stream")]
+    hex: bool,
+    /// Shows the working by hand
+    #[arg(long)]
+    work: bool,
+    /// One JSON object an address, a line each
+    #[arg(long)]
+    json: bool,
+}
+
+pub fn run(options: &Options, out: &mut dyn Write) -> Outcome {
+    if let Some(file) = &options.stream {
+        let session = owners::read(file, options.hex, options.words, options.json, out)?;
+        return each(options, out, &mut |address, out| {
+            owners::answer(&session, address, options.json, out)
+        });
+    }
+    let layout = options.layout.layout()?;
+    each(options, out, &mut |address, out| {
+        one(options, &layout, address, out)
+    })
+}
+
+type Answerer<'a> = dyn FnMut(u32, &mut dyn Write) -> Outcome<Option<String>> + 'a;
+
+/// Answers every address asked, and ends with the first refusal, if there is one.
+fn each(options: &Options, out: &mut dyn Write, answer: &mut Answerer) -> Outcome {
+    let mut first = None;
+    if options.addresses.is_empty() {
+        let mut lines = Lines::new(Source::open(None)?);
+        while let Some(line) = lines.next()? {
+            if !line.is_empty() {
+                let address = options
+                    .layout
+                    .address(&line)
+                    .map_err(|text| lines.wrong(&text))?;
+                first = first.or(answer(address, out)?);
+            }
+        }
+    }
+    for text in &options.addresses {
+        let address = options.layout.address(text).map_err(Failure::Wrong)?;
+        first = first.or(answer(address, out)?);
+    }
+    match first {
+        Some(text) => Err(Failure::Refused(text)),
+        None => Ok(()),
+    }
+}
+
+/// Answers one address, and gives the refusal, where it gets one, as told.
+fn one(
+    options: &Options,
+    layout: &Layout,
+    address: u32,
+    out: &mut dyn Write,
+) -> Outcome<Option<String>> {
+    let at = Address(address);
+    match boundary::locate(layout, address) {
+        Ok(found) => {
+            let lines = match options.work {
+                true => working(layout, address, found)?,
+                false => Vec::new(),
+            };
+            match options.json {
+                true => writeln!(out, "{}", as_json(options, address, found, lines))?,
+                false => show(options, layout, address, found, &lines, out)?,
+            }
+            Ok(None)
+        }
+        Err(number) => {
+            let refused = cause::refused(number, cause::of_address(number, layout, address));
+            match options.json {
+                true => {
+                    let value =
+                        json!({"address": at.to_string(), "refused": number, "cause": refused});
+                    writeln!(out, "{value}")?;
+                }
+                false => writeln!(out, "{at}  {refused}")?,
+            }
+            Ok(Some(format!("address {at}: {refused}")))
+        }
+    }
+}
+
+fn show(
+    options: &Options,
+    layout: &Layout,
+    address: u32,
+    (x, y, place): (u32, u32, u32),
+    lines: &[String],
+    out: &mut dyn Write,
+) -> Outcome {
+    writeln!(out, "{}  ({x}, {y}) place {place}", Address(address))?;
+    if options.work {
+        writeln!(out, "  layout     {}", text::layout_words(layout))?;
+    }
+    for line in lines {
+        writeln!(out, "{line}")?;
+    }
+    Ok(())
+}
+
+/// The working, once it has come to the product's answer.
+fn working(layout: &Layout, address: u32, found: (u32, u32, u32)) -> Outcome<Vec<String>> {
+    let worked = work::back(layout, address);
+    match worked {
+        Some(back) if (back.x, back.y, back.place) == found => Ok(back.lines),
+        other => {
+            let worked = other.map(|back| (back.x, back.y, back.place));
+            let at = Address(address);
+            Err(Failure::Wrong(format!(
+                "the working of {at} comes to {worked:?}, the product to {found:?}: this is a fault of the program"
+            )))
+        }
+    }
+}
+
+fn as_json(
+    options: &Options,
+    address: u32,
+    (x, y, place): (u32, u32, u32),
+    lines: Vec<String>,
+) -> Value {
+    let at = Address(address).to_string();
+    let mut value = json!({"address": at, "x": x, "y": y, "place": place});
+    if options.work {
+        let lines: Vec<&str> = lines.iter().map(|line| line.trim()).collect();
+        value["work"] = json!(lines);
+    }
+    value
+}

@@ -1,0 +1,95 @@
+//! The command `egretfold`: reads command streams, works addresses and steps flow
+//! programs for people. Every answer is the product's, through the crate
+//! `boundary`; here it is only named, laid out and parsed.
+//!
+//! One module a subcommand: `decode` (with `walk`, and its forms `listing` and
+//! `json`), `encode`, `address`, `locate` (with `owners`), `flow` (with `slots`),
+//! `explain`, and `sample` for no arguments. `names`, `tiles` and `refusals` hold
+//! document 01's tables; `source`, `words` and `lines` read; `settings` and `text`
+//! have shapes that several print; `cause` puts refusals in words; `work` is the
+//! working of an address by hand.
+
+#![forbid(unsafe_code)]
+
+mod address;
+mod cause;
+mod decode;
+mod encode;
+mod explain;
+mod failure;
+mod flow;
+mod json;
+mod kinds;
+mod layouts;
+mod lines;
+mod listing;
+mod locate;
+mod names;
+mod numbers;
+mod owners;
+mod progress;
+mod refusals;
+mod sample;
+mod settings;
+mod slots;
+mod source;
+mod text;
+mod tiles;
+mod walk;
+mod words;
+mod work;
+
+use clap::{Parser, Subcommand};
+use failure::Outcome;
+use std::io::{self, BufWriter, Write};
+use std::process::ExitCode;
+
+/// Command streams decoded, tile addresses worked both ways, flow programs stepped
+///
+/// Words and addresses are hex (0x may stand before), counts are decimal.
+/// Exit status: 0 fine, 1 something was refused, 2 a wrong command line or file.
+#[derive(Parser)]
+#[command(name = "egretfold", version)]
+struct Line {
+    #[command(subcommand)]
+    what: Option<What>,
+}
+
+#[derive(Subcommand)]
+enum What {
+    /// A stream of command words as a listing
+    Decode(decode::Options),
+    /// A listing, or its terse form, back to words
+    Encode(encode::Options),
+    /// A pair of a window to the address of its element
+    Address(address::Options),
+    /// A byte address back to its pair and its place in the element
+    Locate(locate::Options),
+    /// A flow program listed, or stepped with given masks
+    Flow(flow::Options),
+    /// What a refusal means, in document 01's words
+    Explain(explain::Options),
+}
+
+fn main() -> ExitCode {
+    let line = Line::parse();
+    let mut out = BufWriter::new(io::stdout().lock());
+    let outcome = run(&line, &mut out);
+    let flushed = out.flush().map_err(failure::Failure::from);
+    match outcome.and(flushed) {
+        Ok(()) => ExitCode::SUCCESS,
+        Err(failure) => ExitCode::from(failure.tell()),
+    }
+}
+
+fn run(line: &Line, out: &mut dyn Write) -> Outcome {
+    match &line.what {
+        None => sample::run(out),
+        Some(What::Decode(options)) => decode::run(options, out),
+        Some(What::Encode(options)) => encode::run(options, out),
+        Some(What::Address(options)) => address::run(options, out),
+        Some(What::Locate(options)) => locate::run(options, out),
+        Some(What::Flow(options)) => flow::run(options, out),
+        Some(What::Explain(options)) => explain::run(options, out),
+    }
+}

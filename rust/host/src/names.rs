@@ -1,0 +1,185 @@
+//! The names of document 01 and of the guide: commands, their parameters, the
+//! element formats. What a word means is asked of the product; this table only
+//! gives it a name.
+
+/// What a parameter word is.
+#[derive(Clone, Copy, Debug, PartialEq, Eq)]
+pub enum Kind {
+    Reserved,
+    Input,
+    Output,
+    Base,
+    Format,
+    Height,
+    OutputMask,
+    ConditionalMask,
+    Test,
+    I0,
+    J0,
+    I1,
+    J1,
+}
+
+/// A line of the command table.
+#[derive(Debug)]
+pub struct Line {
+    pub header: u32,
+    pub name: &'static str,
+    pub parameters: &'static [Kind],
+}
+
+pub const SET_INST: u32 = 0xC001_0A00;
+pub const SET_INP: u32 = 0xC003_0B00;
+pub const SET_OUT: u32 = 0xC003_0C00;
+pub const SET_COND_OUT: u32 = 0xC002_0D00;
+pub const SET_CONSTF: u32 = 0xC001_0E00;
+pub const SET_CONSTI: u32 = 0xC001_0F00;
+pub const SET_CONSTB: u32 = 0xC001_1000;
+pub const SET_DOMAIN: u32 = 0xC003_0700;
+pub const START: u32 = 0xC000_0800;
+
+pub const INPUTS: u32 = 16;
+pub const OUTPUTS: u32 = 4;
+
+const QUIET: &[Kind] = &[Kind::Reserved];
+const STORE: &[Kind] = &[Kind::Base, Kind::Format];
+const INPUT: &[Kind] = &[Kind::Input, Kind::Base, Kind::Format, Kind::Height];
+const OUTPUT: &[Kind] = &[Kind::Output, Kind::Base, Kind::Format, Kind::Height];
+const CONDITIONAL: &[Kind] = &[Kind::Base, Kind::Format, Kind::Height];
+const DOMAIN: &[Kind] = &[Kind::I0, Kind::J0, Kind::I1, Kind::J1];
+
+const fn line(header: u32, name: &'static str, parameters: &'static [Kind]) -> Line {
+    Line {
+        header,
+        name,
+        parameters,
+    }
+}
+
+/// The commands by the guide's names, in the order of their operations.
+pub const COMMANDS: [Line; 21] = [
+    line(SET_DOMAIN, "set_domain", DOMAIN),
+    line(START, "start_program", QUIET),
+    line(0xC000_0900, "wait_for_idle", QUIET),
+    line(SET_INST, "set_inst_fmt", STORE),
+    line(SET_INP, "set_inp_fmt", INPUT),
+    line(SET_OUT, "set_out_fmt", OUTPUT),
+    line(SET_COND_OUT, "set_cond_out_fmt", CONDITIONAL),
+    line(SET_CONSTF, "set_constf_fmt", STORE),
+    line(SET_CONSTI, "set_consti_fmt", STORE),
+    line(SET_CONSTB, "set_constb_fmt", STORE),
+    line(0xC000_1100, "inv_inst_cache", QUIET),
+    line(0xC000_1200, "inv_constf_cache", QUIET),
+    line(0xC000_1300, "inv_consti_cache", QUIET),
+    line(0xC000_1400, "inv_constb_cache", QUIET),
+    line(0xC000_1500, "inv_cond_out_cache", QUIET),
+    line(0xC000_1600, "inv_inp_cache", QUIET),
+    line(0xC000_1700, "flush_out_cache", QUIET),
+    line(0xC000_1800, "flush_cond_out_cache", QUIET),
+    line(0xC000_1900, "set_out_mask", &[Kind::OutputMask]),
+    line(0xC000_1A00, "set_cond_out_mask", &[Kind::ConditionalMask]),
+    line(0xC000_1B00, "set_cond_test", &[Kind::Test]),
+];
+
+/// The line with this header.
+pub fn command(header: u32) -> Option<&'static Line> {
+    COMMANDS.iter().find(|line| line.header == header)
+}
+
+/// The line with this name.
+pub fn command_named(name: &str) -> Option<&'static Line> {
+    COMMANDS.iter().find(|line| line.name == name)
+}
+
+/// The name that goes with a header, also where there is none.
+pub fn command_name(header: u32) -> &'static str {
+    command(header).map_or("no command", |line| line.name)
+}
+
+impl Kind {
+    /// The parameter's name in a listing and in JSON.
+    pub fn name(self) -> &'static str {
+        match self {
+            Kind::Reserved => "reserved",
+            Kind::Input => "input",
+            Kind::Output => "output",
+            Kind::Base => "base",
+            Kind::Format => "format",
+            Kind::Height => "height",
+            Kind::OutputMask => "mask",
+            Kind::ConditionalMask => "conditional mask",
+            Kind::Test => "test",
+            Kind::I0 => "i0",
+            Kind::J0 => "j0",
+            Kind::I1 => "i1",
+            Kind::J1 => "j1",
+        }
+    }
+
+    /// The bits that document 01 names; all others are reserved. An input or
+    /// output number is the whole word.
+    pub fn named_bits(self) -> u32 {
+        match self {
+            Kind::Reserved => 0,
+            Kind::Input | Kind::Output => u32::MAX,
+            Kind::Base => 0xFFFF_F800,
+            Kind::Format => 0x0703_1FFC,
+            Kind::Height => 0x1FFF,
+            Kind::OutputMask => 0xFFFF,
+            Kind::ConditionalMask => 1,
+            Kind::Test => 7,
+            Kind::I0 | Kind::J0 | Kind::I1 | Kind::J1 => 0xFFF,
+        }
+    }
+}
+
+/// An element format: its name, its size in bytes and its channels.
+pub struct ElementFormat {
+    pub name: &'static str,
+    pub size: u32,
+    pub channels: u32,
+}
+
+const fn element(name: &'static str, size: u32, channels: u32) -> ElementFormat {
+    ElementFormat {
+        name,
+        size,
+        channels,
+    }
+}
+
+/// The formats by their codes, 0 to 4.
+const FORMATS: [ElementFormat; 5] = [
+    element("UINT16_1", 2, 1),
+    element("UINT8_4", 4, 4),
+    element("FLOAT32_1", 4, 1),
+    element("FLOAT32_2", 8, 2),
+    element("FLOAT32_4", 16, 4),
+];
+
+/// A format word's fields, read off its bits.
+#[derive(Clone, Copy, Debug, PartialEq, Eq)]
+pub struct FormatWord(pub u32);
+
+impl FormatWord {
+    pub fn pitch(self) -> u32 {
+        self.0 & 0x1FFC
+    }
+
+    pub fn tiled(self) -> bool {
+        self.0 >> 16 & 1 == 1
+    }
+
+    pub fn superfine(self) -> bool {
+        self.0 >> 17 & 1 == 1
+    }
+
+    pub fn code(self) -> u32 {
+        self.0 >> 24 & 7
+    }
+
+    /// The code's format, where it has one.
+    pub fn element(self) -> Option<&'static ElementFormat> {
+        FORMATS.get(self.code() as usize)
+    }
+}

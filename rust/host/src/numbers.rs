@@ -1,0 +1,77 @@
+//! Numbers and pairs as a user writes them: counts in decimal, words and
+//! addresses in hex, either way with 0x for hex.
+
+/// A count: decimal, or hex with 0x.
+pub fn count(text: &str) -> Result<u32, String> {
+    match hex_prefix(text) {
+        Some(digits) => in_base(text, digits, 16),
+        None => in_base(text, text, 10),
+    }
+}
+
+/// A word: hex, with or without 0x.
+pub fn word(text: &str) -> Result<u32, String> {
+    in_base(text, hex_prefix(text).unwrap_or(text), 16)
+}
+
+/// A pair of counts, "X,Y" or "X Y".
+pub fn pair(text: &str) -> Result<(u32, u32), String> {
+    let (x, y) = two(text).ok_or_else(|| format!("{text:?} is no pair X,Y"))?;
+    Ok((count(x)?, count(y)?))
+}
+
+/// The two parts of "A,B" or "A B".
+pub fn two(text: &str) -> Option<(&str, &str)> {
+    let is_gap = |c: char| c == ',' || c.is_whitespace();
+    let mut parts = text.split(is_gap).filter(|part| !part.is_empty());
+    match (parts.next(), parts.next(), parts.next()) {
+        (Some(first), Some(second), None) => Some((first, second)),
+        _ => None,
+    }
+}
+
+fn hex_prefix(text: &str) -> Option<&str> {
+    text.strip_prefix("0x").or_else(|| text.strip_prefix("0X"))
+}
+
+fn in_base(text: &str, digits: &str, base: u32) -> Result<u32, String> {
+    let kind = if base == 16 { "hex" } else { "decimal" };
+    // from_str_radix would take a sign.
+    if digits.is_empty() || !digits.chars().all(|c| c.is_digit(base)) {
+        return Err(format!("{text:?} is no {kind} number"));
+    }
+    u32::from_str_radix(digits, base).map_err(|_| format!("{text} is over 32 bits"))
+}
+
+#[cfg(test)]
+mod tests {
+    use super::{count, pair, word};
+
+    #[test]
+    fn counts_are_decimal_and_words_hex() {
+        assert_eq!(count("100"), Ok(100));
+        assert_eq!(count("0x64"), Ok(100));
+        assert_eq!(word("100"), Ok(256));
+        assert_eq!(word("0xFFFFFFFF"), Ok(u32::MAX));
+    }
+
+    #[test]
+    fn what_is_no_number_is_named() {
+        for text in ["", "+1", "-1", "0x", "1g", "0x1_0"] {
+            assert!(count(text).is_err(), "{text}");
+            assert!(word(text).is_err(), "{text}");
+        }
+        assert_eq!(count("A"), Err("\"A\" is no decimal number".into()));
+        assert_eq!(
+            count("4294967296"),
+            Err("4294967296 is over 32 bits".into())
+        );
+    }
+
+    #[test]
+    fn pairs_are_parted_by_a_comma_or_a_blank() {
+        assert_eq!(pair("37,18"), Ok((37, 18)));
+        assert_eq!(pair(" 37\t18 "), Ok((37, 18)));
+        assert!(pair("37").is_err() && pair("1,2,3").is_err());
+    }
+}

@@ -1,0 +1,177 @@
+//! Document 01's refusals: each number's cause as its table has it, the sentences
+//! that spell the cause out, and who gives it.
+
+pub struct Refusal {
+    pub number: u32,
+    /// The table's words.
+    pub cause: &'static str,
+    /// Sentences of document 01, word for word.
+    pub says: &'static [&'static str],
+    /// The words and calls that can get this number.
+    pub given: &'static str,
+}
+
+const STOPS: &[u32] = &[2, 3, 4, 5, 6, 7, 8, 9, 17];
+
+/// Whether a session that gives this number to a word is stopped by it.
+pub fn stops(number: u32) -> bool {
+    STOPS.contains(&number)
+}
+
+pub fn refusal(number: u32) -> Option<&'static Refusal> {
+    ALL.iter().find(|refusal| refusal.number == number)
+}
+
+/// The table's words for a number, also for one that it doesn't have.
+pub fn cause(number: u32) -> &'static str {
+    refusal(number).map_or("a number that document 01 doesn't have", |r| r.cause)
+}
+
+const fn entry(
+    number: u32,
+    cause: &'static str,
+    given: &'static str,
+    says: &'static [&'static str],
+) -> Refusal {
+    Refusal {
+        number,
+        cause,
+        says,
+        given,
+    }
+}
+
+pub const ALL: [Refusal; 17] = [
+    entry(
+        1,
+        "the session is stopped",
+        "any word after the one that stopped the session",
+        &["In a session, refusals 2 to 9 and 17 also drop the open command and stop the session for good."],
+    ),
+    entry(
+        2,
+        "a header word stands in no line of the command table",
+        "a header word",
+        &["A header is 3 in bits 31:30, parameters minus one in 29:16, operation in 15:8, zero in 7:0. Only these are known"],
+    ),
+    entry(
+        3,
+        "a reserved bit or code is set, or a layout argument is malformed",
+        "any parameter but an input's or output's number; the writer; calls that take a layout",
+        &[
+            "All bits not named are reserved; an input or output number is the whole word.",
+            "Codes: 0 UINT16_1, 2 bytes; 1 UINT8_4, 4; 2 FLOAT32_1, 4; 3 FLOAT32_2, 8; 4 FLOAT32_4, 16; 5 to 7 refused.",
+            "Superfine on an input with several channels (codes 1, 3, 4) gets 3; elsewhere it is kept and ignored.",
+            "Base is a multiple of 2,048, pitch a multiple of 4 up to 8,188, else 3.",
+            "Refusals 3 and 4 come with the word at fault",
+        ],
+    ),
+    entry(
+        4,
+        "input number over 15, output number over 3",
+        "the first parameter of set_inp_fmt and set_out_fmt; the writer",
+        &[
+            "an input or output number is the whole word.",
+            "Refusals 3 and 4 come with the word at fault",
+        ],
+    ),
+    entry(
+        5,
+        "i0 > i1 or j0 > j1",
+        "the last parameter of set_domain; the writer",
+        &["set_domain: i0, j0, i1, j1, each bits 11:0."],
+    ),
+    entry(
+        6,
+        "window rule broken",
+        "the last parameter of a command that sets a format; the writer; calls that take a layout",
+        &[
+            "Window rule: E from 1 to 4,096, height H from 1 to 4,096, base plus span at most 2^32.",
+            "The row step E is the pitch cut down to a multiple of 32/s (linear) or of the tile's width (tiled).",
+            "Tiles hold 2,048 bytes: 64x32, 32x32, 32x16, 16x16, 16x8 for the five sizes, width first.",
+            "Span is H·E·s (linear) or tile rows needed · E/width · 2,048 (tiled).",
+            "Instruction and constant formats have height 1.",
+            "C7 tiled, s 4, base 0, pitch 28, H 1: 6. C8 linear, s 4, pitch 8, base 4294965248: H 64 accepted, H 65 gets 6.",
+        ],
+    ),
+    entry(
+        7,
+        "start without a domain, an instruction format or any output set",
+        "the parameter of start_program",
+        &["A new session has nothing set and mask 65535."],
+    ),
+    entry(
+        8,
+        "the domain is not inside every set output's window",
+        "the parameter of start_program",
+        &["A pair is inside when x < E and y < H."],
+    ),
+    entry(
+        9,
+        "spans of two set outputs share a byte",
+        "the parameter of start_program",
+        &["Span is H·E·s (linear) or tile rows needed · E/width · 2,048 (tiled)."],
+    ),
+    entry(
+        10,
+        "a pair is outside its window",
+        "a pair's address; elements read and written",
+        &[
+            "A pair is inside when x < E and y < H.",
+            "C2 (95,0) inside; (96,0) gets 10.",
+        ],
+    ),
+    entry(
+        11,
+        "a writer's room is shorter than its words; element data isn't s bytes; memory is over 65,536 bytes or ends above 2^32; memory doesn't hold the whole element",
+        "the writer; elements read and written",
+        &["Lent memory is up to 65,536 bytes standing at a given first address."],
+    ),
+    entry(
+        12,
+        "no pair of the window owns the address",
+        "an address on its way back to its pair",
+        &[
+            "The way back takes any byte address and gives the pair and the byte's place in its element.",
+            "A pair's element is the s bytes from its address on, places 0 to s - 1; a pair inside owns those bytes.",
+        ],
+    ),
+    entry(
+        13,
+        "flow word field or group size not allowed",
+        "a fresh group; a step or a run, at the slot that it comes to",
+        &[
+            "A group has 1 to 32 processors (else 13)",
+            "Other bits and codes: 13.",
+            "Flow words are judged when stepped.",
+        ],
+    ),
+    entry(
+        14,
+        "branch counter or return stack at its limit",
+        "a step or a run",
+        &[
+            "Increment: each inactive counter gains 1 (from 31: 14)",
+            "On a jump: push stores position + 1 (full: 14); pop goes to the stored place (empty: 14).",
+            "empty stack of at most 4 returns",
+        ],
+    ),
+    entry(
+        15,
+        "a jump past the program's end, or a program of 0 or over 512 slots or of an odd number of words",
+        "loading a program; a step or a run",
+        &["The next position may equal N, which ends the program; above N is 15."],
+    ),
+    entry(
+        16,
+        "the program has already ended",
+        "a step or a run",
+        &["A program has ended when the position is N or above (calls that ask this are given the program); it then gets 16, whatever the list."],
+    ),
+    entry(
+        17,
+        "the session has taken 1,000,000,000 words",
+        "any word after the 1,000,000,000th",
+        &["Order: 1, then 17, then the rest in table order among those that the present word can cause."],
+    ),
+];

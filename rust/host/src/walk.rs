@@ -1,0 +1,239 @@
+//! A stream of command words given to a session one by one, with what each word
+//! came to. The forms in which `decode` prints are told of every word.
+
+use crate::cause;
+use crate::failure::Outcome;
+use crate::kinds::Position;
+use crate::names::{self, Kind, Line};
+use crate::settings::{self, Setting};
+use crate::words::Words;
+use boundary::{Command, Reply, Session};
+
+/// What a word came to.
+pub enum Came {
+    /// The command is still open.
+    Open,
+    Done(Command),
+    /// The number, and its cause in words.
+    Refused(u32, String),
+    /// The session was stopped before this word.
+    After,
+}
+
+/// A word of the stream.
+pub struct Seen<'a> {
+    pub position: Position,
+    pub word: u32,
+    /// The command's words up to this one, its header first; empty for a word
+    /// after the refused one.
+    pub open: &'a [u32],
+    pub came: Came,
+}
+
+/// A start that passed.
+pub struct Start<'a> {
+    pub position: Position,
+    pub runs: u64,
+    pub claims: u64,
+    /// What this start claimed.
+    pub claimed: u64,
+    /// The settings in force, each with whether it changed since the last start.
+    pub settings: &'a [(Setting, bool)],
+}
+
+/// The stream as a whole.
+pub struct Totals {
+    /// The input's name.
+    pub name: String,
+    pub words: u64,
+    pub taken: u64,
+    /// Completed commands, by their lines of the table.
+    pub commands: Vec<(&'static Line, u64)>,
+    pub runs: u64,
+    pub claims: u64,
+    /// The open command at the end: its name, parameters taken, parameters due.
+    pub open: Option<(&'static str, u32, u32)>,
+    /// The first refusal: its word, number and cause.
+    pub refused: Option<(Position, u32, String)>,
+    pub settings: Vec<Setting>,
+}
+
+/// A form of output.
+pub trait Form {
+    fn word(&mut self, seen: &Seen) -> Outcome;
+    fn start(&mut self, start: &Start) -> Outcome;
+    fn end(&mut self, totals: &Totals) -> Outcome;
+}
+
+/// A form that prints nothing, for those who want the totals.
+pub struct Quiet;
+
+impl Form for Quiet {
+    fn word(&mut self, _: &Seen) -> Outcome {
+        Ok(())
+    }
+
+    fn start(&mut self, _: &Start) -> Outcome {
+        Ok(())
+    }
+
+    fn end(&mut self, _: &Totals) -> Outcome {
+        Ok(())
+    }
+}
+
+impl Seen<'_> {
+    /// The command's line of the table, where its header has one.
+    pub fn line(&self) -> Option<&'static Line> {
+        names::command(*self.open.first()?)
+    }
+
+    /// What kind of parameter this word is, if it is one.
+    pub fn kind(&self) -> Option<Kind> {
+        let place = self.open.len().checked_sub(2)?;
+        self.line()?.parameters.get(place).copied()
+    }
+}
+
+impl Totals {
+    pub fn completed(&self) -> u64 {
+        self.commands.iter().map(|(_, count)| count).sum()
+    }
+
+    /// Words after the refused one.
+    pub fn after(&self) -> u64 {
+        match self.refused {
+            Some(_) => self.words - self.taken - 1,
+            None => 0,
+        }
+    }
+}
+
+pub struct Walk {
+    session: Session,
+    position: u64,
+    open: Vec<u32>,
+    commands: [u64; names::COMMANDS.len()],
+    refused: Option<(Position, u32, String)>,
+    /// The settings at the last start.
+    last: Vec<Setting>,
+}
+
+impl Walk {
+    pub fn new() -> Walk {
+        let session = Session::new();
+        let last = settings::all(&session);
+        Walk {
+            session,
+            position: 0,
+            open: Vec::new(),
+            commands: [0; names::COMMANDS.len()],
+            refused: None,
+            last,
+        }
+    }
+
+    /// Walks all words. Where the input fails on the way, the words before that
+    /// and their totals are told all the same.
+    pub fn run(mut self, mut words: Words, form: &mut dyn Form) -> Outcome<Totals> {
+        let ended = loop {
+            match words.piece() {
+                Ok([]) => break Ok(()),
+                Ok(piece) => {
+                    for word in piece {
+                        self.word(*word, form)?;
+                    }
+                }
+                Err(failure) => break Err(failure),
+            }
+        };
+        let totals = self.totals(words.name());
+        form.end(&totals)?;
+        ended.map(|()| totals)
+    }
+
+    fn word(&mut self, word: u32, form: &mut dyn Form) -> Outcome {
+        let position = Position(self.position);
+        self.position += 1;
+        let claims = self.session.claims();
+        let came = self.take(position, word);
+        let start = matches!(&came, Came::Done(command) if command.header == names::START);
+        let ends = !matches!(came, Came::Open);
+        let seen = Seen {
+            position,
+            word,
+            open: &self.open,
+            came,
+        };
+        form.word(&seen)?;
+        if ends {
+            self.open.clear();
+        }
+        if start {
+            self.start(position, claims, form)?;
+        }
+        Ok(())
+    }
+
+    /// Gives the word to the session.
+    fn take(&mut self, position: Position, word: u32) -> Came {
+        if self.refused.is_some() {
+            return Came::After;
+        }
+        self.open.push(word);
+        match self.session.word(word) {
+            Ok(Reply::Open) => Came::Open,
+            Ok(Reply::Done(command)) => {
+                let line = names::COMMANDS
+                    .iter()
+                    .position(|line| line.header == command.header);
+                if let Some(place) = line {
+                    self.commands[place] += 1;
+                }
+                Came::Done(command)
+            }
+            Err(number) => {
+                let cause = cause::of_word(number, &self.session, &self.open);
+                let told = cause::refused(number, cause);
+                self.refused = Some((position, number, told.clone()));
+                Came::Refused(number, told)
+            }
+        }
+    }
+
+    fn start(&mut self, position: Position, claims: u64, form: &mut dyn Form) -> Outcome {
+        let now = settings::all(&self.session);
+        let marked: Vec<(Setting, bool)> = now
+            .iter()
+            .map(|setting| (setting.clone(), !self.last.contains(setting)))
+            .collect();
+        form.start(&Start {
+            position,
+            runs: self.session.runs(),
+            claims: self.session.claims(),
+            claimed: self.session.claims() - claims,
+            settings: &marked,
+        })?;
+        self.last = now;
+        Ok(())
+    }
+
+    fn totals(&self, name: &str) -> Totals {
+        let status = self.session.status();
+        let counted = names::COMMANDS.iter().zip(self.commands);
+        let due = |header| boundary::parameters(header).unwrap_or(0);
+        Totals {
+            name: name.to_string(),
+            words: self.position,
+            taken: u64::from(status.taken),
+            commands: counted.filter(|(_, count)| *count > 0).collect(),
+            runs: self.session.runs(),
+            claims: self.session.claims(),
+            open: status
+                .open
+                .map(|(header, taken)| (names::command_name(header), taken, due(header))),
+            refused: self.refused.clone(),
+            settings: settings::all(&self.session),
+        }
+    }
+}
