@@ -7,11 +7,10 @@ use crate::layouts::LayoutOptions;
 use crate::lines::Lines;
 use crate::numbers;
 use crate::source::Source;
-use crate::text;
-use crate::work;
+use crate::work::{self, Working};
 use boundary::Layout;
 use clap::Args;
-use serde_json::{json, Value};
+use serde_json::json;
 use std::io::Write;
 
 #[derive(Args)]
@@ -29,6 +28,9 @@ pub struct Options {
     json: bool,
 }
 
+/// What was told of a refused pair.
+type Told = Option<String>;
+
 pub fn run(options: &Options, out: &mut dyn Write) -> Outcome {
     let layout = options.layout.layout()?;
     let mut first = None;
@@ -44,83 +46,58 @@ pub fn run(options: &Options, out: &mut dyn Write) -> Outcome {
     for pair in &options.pairs {
         first = first.or(one(options, &layout, *pair, out)?);
     }
-    match first {
-        Some(text) => Err(Failure::Refused(text)),
-        None => Ok(()),
-    }
+    first.map_or(Ok(()), |told| Err(Failure::Refused(told)))
 }
 
-/// Answers one pair, and gives the refusal, where it gets one, as told.
 fn one(
     options: &Options,
     layout: &Layout,
     (x, y): (u32, u32),
     out: &mut dyn Write,
-) -> Outcome<Option<String>> {
+) -> Outcome<Told> {
     match boundary::translate(layout, x, y) {
         Ok(address) => {
-            let lines = match options.work {
-                true => working(layout, x, y, address)?,
-                false => Vec::new(),
+            let work = match options.work {
+                true => Some(working(layout, x, y, address)?),
+                false => None,
             };
-            match options.json {
-                true => writeln!(out, "{}", as_json(options, x, y, address, lines))?,
-                false => show(options, layout, (x, y), address, &lines, out)?,
+            if options.json {
+                let mut value = json!({"x": x, "y": y, "address": Address(address).to_string()});
+                if let Some(work) = work {
+                    value["work"] = work.json();
+                }
+                writeln!(out, "{value}")?;
+            } else {
+                writeln!(out, "({x}, {y})  {}  {address}", Address(address))?;
+                work.map_or(Ok(()), |work| work.show(layout, out))?;
             }
             Ok(None)
         }
         Err(number) => {
             let refused = cause::refused(number, cause::of_pair(number, layout, x, y));
-            match options.json {
-                true => writeln!(
-                    out,
-                    "{}",
-                    json!({"x": x, "y": y, "refused": number, "cause": refused})
-                )?,
-                false => writeln!(out, "({x}, {y})  {refused}")?,
+            if options.json {
+                let cause = &refused.cause;
+                let value = json!({"x": x, "y": y, "refused": number, "cause": cause});
+                writeln!(out, "{value}")?;
+            } else {
+                writeln!(out, "({x}, {y})  {refused}")?;
             }
             Ok(Some(format!("pair ({x}, {y}): {refused}")))
         }
     }
 }
 
-fn show(
-    options: &Options,
-    layout: &Layout,
-    (x, y): (u32, u32),
-    address: u32,
-    lines: &[String],
-    out: &mut dyn Write,
-) -> Outcome {
-    writeln!(out, "({x}, {y})  {}  {address}", Address(address))?;
-    if options.work {
-        writeln!(out, "  layout     {}", text::layout_words(layout))?;
-    }
-    for line in lines {
-        writeln!(out, "{line}")?;
-    }
-    Ok(())
-}
-
 /// The working, once it has come to the product's answer.
-pub fn working(layout: &Layout, x: u32, y: u32, address: u32) -> Outcome<Vec<String>> {
+fn working(layout: &Layout, x: u32, y: u32, address: u32) -> Outcome<Working> {
     match work::there(layout, x, y) {
         Some(there) if there.address == u64::from(address) => Ok(there.lines),
         other => {
             let worked = other.map(|there| there.address);
             let at = Address(address);
             Err(Failure::Wrong(format!(
-                "the working of ({x}, {y}) comes to {worked:X?}, the product to {at}: this is a fault of the program"
+                "a fault of the program: the working of ({x}, {y}) comes to {worked:X?}, \
+                 the product to {at}"
             )))
         }
     }
-}
-
-fn as_json(options: &Options, x: u32, y: u32, address: u32, lines: Vec<String>) -> Value {
-    let mut value = json!({"x": x, "y": y, "address": Address(address).to_string()});
-    if options.work {
-        let lines: Vec<&str> = lines.iter().map(|line| line.trim()).collect();
-        value["work"] = json!(lines);
-    }
-    value
 }

@@ -9,14 +9,28 @@ use crate::text;
 use crate::tiles;
 use crate::work;
 use boundary::{Layout, Session};
+use std::fmt;
 
 const MEMORY_END: u64 = 1 << 32;
 const LARGEST: u32 = 4096;
 
-/// "refused 6, window rule: pitch 28 gives row step 0".
-pub fn refused(number: u32, cause: Option<String>) -> String {
+/// A refusal in words: "refused 6, window rule: pitch 28 gives row step 0".
+#[derive(Clone, Debug, PartialEq, Eq)]
+pub struct Refused {
+    pub number: u32,
+    pub cause: String,
+}
+
+impl fmt::Display for Refused {
+    fn fmt(&self, f: &mut fmt::Formatter) -> fmt::Result {
+        write!(f, "refused {}, {}", self.number, self.cause)
+    }
+}
+
+/// The number with its cause, which is the table's where no better one is known.
+pub fn refused(number: u32, cause: Option<String>) -> Refused {
     let cause = cause.unwrap_or_else(|| refusals::cause(number).to_string());
-    format!("refused {number}, {cause}")
+    Refused { number, cause }
 }
 
 /// 3 or 6 of a layout.
@@ -46,27 +60,26 @@ pub fn of_pair(number: u32, layout: &Layout, x: u32, y: u32) -> Option<String> {
 
 /// 3, 6 or 12 of an address.
 pub fn of_address(number: u32, layout: &Layout, address: u32) -> Option<String> {
-    if number != 12 {
-        return of_layout(number, layout);
+    match number {
+        12 => Some(format!("no pair owns it: {}", unowned(layout, address)?)),
+        _ => of_layout(number, layout),
     }
+}
+
+/// Where an address that no pair owns lies.
+pub fn unowned(layout: &Layout, address: u32) -> Option<String> {
     let at = Address(address);
     let end = u64::from(layout.base) + tiles::span(layout)?;
     if address < layout.base {
-        return Some(format!(
-            "no pair owns it: {at} is below base {}",
-            Address(layout.base)
-        ));
+        return Some(format!("{at} is below base {}", Address(layout.base)));
     }
     if u64::from(address) >= end {
-        return Some(format!(
-            "no pair owns it: {at} is past the last byte {:08X}",
-            end - 1
-        ));
+        return Some(format!("{at} is past the last byte {:08X}", end - 1));
     }
     let row = work::back(layout, address)?.y;
     let height = layout.height;
     Some(format!(
-        "no pair owns it: {at} is in row {row} of the tiles, height is {height}"
+        "{at} is in row {row}, which is not below height {height}"
     ))
 }
 

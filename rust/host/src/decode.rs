@@ -47,9 +47,11 @@ pub fn run(options: &Options, out: &mut dyn Write) -> Outcome {
 pub fn show(words: Words, form: &mut dyn Form) -> Outcome {
     let totals = Walk::new().run(words, form)?;
     match totals.refused {
-        Some((position, _, told)) => {
+        Some((position, refused)) => {
             let name = totals.name;
-            Err(Failure::Refused(format!("{name}: word {position}: {told}")))
+            Err(Failure::Refused(format!(
+                "{name}: word {position}: {refused}"
+            )))
         }
         None => Ok(()),
     }

@@ -8,7 +8,7 @@
 //! * any number of words in hex;
 //! * nothing, or a remark from # on.
 
-use crate::cause;
+use crate::cause::{self, Refused};
 use crate::failure::{Failure, Outcome};
 use crate::lines::Lines;
 use crate::names::{self, Kind, Line};
@@ -47,16 +47,16 @@ pub fn run(options: &Options, out: &mut dyn Write) -> Outcome {
 /// What is wrong with a line.
 enum Fault {
     Text(String),
-    Refused(String),
+    Refused(Refused),
 }
 
 impl Fault {
     fn at(self, lines: &Lines) -> Failure {
         match self {
             Fault::Text(text) => lines.wrong(&text),
-            Fault::Refused(told) => {
+            Fault::Refused(refused) => {
                 let (name, line) = (&lines.source.name, lines.number);
-                Failure::Refused(format!("{name}: line {line}: {told}"))
+                Failure::Refused(format!("{name}: line {line}: {refused}"))
             }
         }
     }

@@ -1,17 +1,18 @@
 //! `egretfold flow`: a program listed, or stepped with given masks, a row a step.
 
-use crate::cause;
+use crate::cause::{self, Refused};
 use crate::failure::{Failure, Outcome};
 use crate::kinds::{SlotNumber, Word};
 use crate::lines::Lines;
 use crate::numbers;
 use crate::slots::{self, Slot};
-use crate::source::Source;
+use crate::source::{self, Source};
+use crate::steps::{self, Row};
 use crate::text;
 use crate::words::Words;
-use boundary::{Group, Program, Report, Stepped};
+use boundary::{Group, Program, Report};
 use clap::Args;
-use serde_json::{json, Value};
+use serde_json::json;
 use std::io::Write;
 use std::path::PathBuf;
 
@@ -19,7 +20,7 @@ use std::path::PathBuf;
 pub struct Options {
     /// The program, two words a slot, little-endian; - for standard input
     file: Option<PathBuf>,
-    /// A step's masks, alu and predicate, hex; without any the program is listed
+    /// A step's masks, hex; without any the program is listed
     #[arg(value_name = "ALU,PREDICATE", value_parser = masks)]
     masks: Vec<(u32, u32)>,
     /// Reads the masks from a file, a step a line
@@ -45,53 +46,65 @@ pub struct Options {
 /// A run takes its masks as one list, which is kept in memory.
 const MOST_STEPS: usize = 1_000_000;
 
-/// No program has more words than this; a longer one gets 15 all the same.
-const MOST_WORDS: usize = 1 << 20;
+/// A program of more words than 1,024 gets 15, so there is no need to read all of
+/// a long file to know it.
+const MOST_WORDS: u64 = 1026;
 
 fn masks(text: &str) -> Result<(u32, u32), String> {
-    let (alu, predicate) =
-        numbers::two(text).ok_or_else(|| format!("{text:?} is no ALU,PREDICATE"))?;
+    let parts = numbers::two(text);
+    let (alu, predicate) = parts.ok_or_else(|| format!("{text:?} is no ALU,PREDICATE"))?;
     Ok((numbers::word(alu)?, numbers::word(predicate)?))
 }
 
 pub fn run(options: &Options, out: &mut dyn Write) -> Outcome {
-    let source = Source::open(options.file.as_deref())?;
-    let name = source.name.clone();
-    let words = Words::new(source, options.hex).all(MOST_WORDS)?;
-    let program = Program::load(&words).map_err(|number| {
-        let cause = format!("{} words make no program: 2 to 1024, in twos", words.len());
-        Failure::Refused(format!("{name}: {}", cause::refused(number, Some(cause))))
-    })?;
+    let (name, program) = load(options)?;
     let masks = all_masks(options)?;
     if masks.is_empty() {
-        return list(options, &program, out);
+        return steps::list(&program, options.json, out);
     }
-    let group = Group::begin(options.processors).map_err(|number| {
-        let cause = format!("a group of {} processors, not 1 to 32", options.processors);
-        Failure::Refused(cause::refused(number, Some(cause)))
+    let size = options.processors;
+    let group = Group::begin(size).map_err(|number| {
+        let refused = cause::refused(number, Some("a group has 1 to 32 processors".into()));
+        Failure::Refused(format!("--processors {size}: {refused}"))
     })?;
-    let told = match options.json {
-        true => None,
-        false => Some(head(&name, options, &program)),
-    };
-    for line in told.iter().flatten() {
-        writeln!(out, "{line}")?;
+    if !options.json {
+        let slots = text::count(u64::from(program.slots()), "slot");
+        let group_words = text::count(u64::from(size), "processor");
+        let booleans = Word(options.booleans);
+        writeln!(out, "{name}: {slots}, {group_words}, booleans {booleans}")?;
+        for line in steps::head(&group) {
+            writeln!(out, "{line}")?;
+        }
     }
     let stepped = step_all(options, &program, group, &masks, out)?;
-    report(options, &program, group, &masks, stepped, out)
-        .map_err(|failure| with_name(&name, failure))
+    report(options, &name, &program, group, &masks, stepped, out)
 }
 
-fn with_name(name: &str, failure: Failure) -> Failure {
-    match failure {
-        Failure::Refused(text) => Failure::Refused(format!("{name}: {text}")),
-        other => other,
-    }
+fn load(options: &Options) -> Outcome<(String, Program)> {
+    let source = Source::open(options.file.as_deref())?;
+    let name = source.name.clone();
+    let words = Words::new(source, options.hex).first(MOST_WORDS).all()?;
+    let program = Program::load(&words).map_err(|number| {
+        let more = if words.len() as u64 == MOST_WORDS {
+            " or more"
+        } else {
+            ""
+        };
+        let count = words.len();
+        let cause = format!("{count}{more} words are no program, which has 2 to 1024, two a slot");
+        Failure::Refused(format!("{name}: {}", cause::refused(number, Some(cause))))
+    })?;
+    Ok((name, program))
 }
 
 fn all_masks(options: &Options) -> Outcome<Vec<(u32, u32)>> {
     let mut once = options.masks.clone();
     if let Some(file) = &options.list {
+        if source::is_standard(Some(file)) && source::is_standard(options.file.as_deref()) {
+            return Err(Failure::wrong(
+                "program and masks can't both be on standard input",
+            ));
+        }
         let mut lines = Lines::new(Source::open(Some(file))?);
         while let Some(line) = lines.next()? {
             if !line.is_empty() {
@@ -101,208 +114,79 @@ fn all_masks(options: &Options) -> Outcome<Vec<(u32, u32)>> {
     }
     let steps = once.len().saturating_mul(options.repeat as usize);
     if steps > MOST_STEPS {
-        return Err(Failure::Wrong(format!(
-            "masks for {steps} steps; {MOST_STEPS} are the most"
-        )));
+        let text = format!("masks for {steps} steps; {MOST_STEPS} are the most");
+        return Err(Failure::Wrong(text));
     }
     Ok(once.repeat(options.repeat as usize))
 }
 
-/// The program's slots, where no step is asked for.
-fn list(options: &Options, program: &Program, out: &mut dyn Write) -> Outcome {
-    if !options.json {
-        writeln!(out, "slot  first     second    fields")?;
-    }
-    for number in (0..program.slots()).map(SlotNumber) {
-        let slot = Slot::of(program, number);
-        let (first, second) = (Word(slot.first), Word(slot.second));
-        match options.json {
-            true => writeln!(out, "{}", slot_json(number, slot))?,
-            false => writeln!(out, "{number:>4}  {first}  {second}  {}", slot.words())?,
-        }
-    }
-    Ok(())
+/// A step that was refused.
+struct RefusedStep {
+    step: usize,
+    number: SlotNumber,
+    refused: Refused,
 }
 
-fn head(name: &str, options: &Options, program: &Program) -> [String; 3] {
-    let slots = text::count(u64::from(program.slots()), "slot");
-    let group = text::count(u64::from(options.processors), "processor");
-    [
-        format!("{name}: {slots}, {group}, booleans {}", Word(options.booleans)),
-        "counters: processor 0 first, . active, else its branch counter, digits 0 to 9, then a to v".into(),
-        format!(
-            "step  slot  alu       predicate  decision  next  active    {:<w$}  returns  fields",
-            "counters",
-            w = width(options)
-        ),
-    ]
-}
-
-/// The width of the column of counters.
-fn width(options: &Options) -> usize {
-    (options.processors as usize).max("counters".len())
-}
-
-/// Steps a copy of the group, a row a step, and answers where that ended: the
-/// group, or the refused step and what it was told.
+/// Steps a copy of the group, a row a step, up to the masks' or the program's end,
+/// and answers where that ended.
 fn step_all(
     options: &Options,
     program: &Program,
     mut group: Group,
     masks: &[(u32, u32)],
     out: &mut dyn Write,
-) -> Outcome<Result<Group, String>> {
-    for (step, (alu, predicate)) in masks.iter().enumerate() {
+) -> Outcome<Result<Group, RefusedStep>> {
+    for (step, (alu, predicate)) in masks.iter().copied().enumerate() {
         if group.position() >= program.slots() {
             break;
         }
         let number = SlotNumber(group.position());
-        match group.step(program, *alu, *predicate, options.booleans) {
-            Ok(stepped) => {
-                let row = Row {
+        let stepped = match group.step(program, alu, predicate, options.booleans) {
+            Ok(stepped) => stepped,
+            Err(refusal) => {
+                let refused = cause::refused(refusal, slots::cause(refusal, program, &group));
+                return Ok(Err(RefusedStep {
                     step,
                     number,
-                    slot: Slot::of(program, number),
-                    masks: (*alu, *predicate),
-                    stepped,
-                    group: &group,
-                };
-                row.show(options, out)?;
+                    refused,
+                }));
             }
-            Err(refusal) => {
-                let told = cause::refused(refusal, slots::cause(refusal, program, &group));
-                if !options.json {
-                    writeln!(out, "{step:>4}  {number:>4}  {told}")?;
-                }
-                return Ok(Err(format!("step {step}, slot {number}: {told}")));
-            }
+        };
+        let row = Row {
+            step,
+            number,
+            slot: Slot::of(program, number),
+            alu,
+            predicate,
+            stepped,
+            group: &group,
+        };
+        match options.json {
+            true => writeln!(out, "{}", row.json())?,
+            false => writeln!(out, "{}", row.text())?,
         }
     }
     Ok(Ok(group))
-}
-
-struct Row<'a> {
-    step: usize,
-    number: SlotNumber,
-    slot: Slot,
-    masks: (u32, u32),
-    stepped: Stepped,
-    /// As the step left it.
-    group: &'a Group,
-}
-
-impl Row<'_> {
-    fn show(&self, options: &Options, out: &mut dyn Write) -> Outcome {
-        if options.json {
-            writeln!(out, "{}", self.json())?;
-            return Ok(());
-        }
-        let (alu, predicate) = (Word(self.masks.0), Word(self.masks.1));
-        let decision = decision(self.stepped);
-        let returns: Vec<String> = self.group.returns().iter().map(u32::to_string).collect();
-        let returns = if returns.is_empty() {
-            "-".into()
-        } else {
-            returns.join(" ")
-        };
-        writeln!(
-            out,
-            "{:>4}  {:>4}  {alu}  {predicate}   {decision:<8}  {:>4}  {}  {:<w$}  {returns:<7}  {}",
-            self.step,
-            self.number,
-            self.stepped.position,
-            Word(self.group.active()),
-            counters(self.group),
-            self.slot.words(),
-            w = width(options)
-        )?;
-        Ok(())
-    }
-
-    fn json(&self) -> Value {
-        let idle = |p: &u32| self.group.mask() >> p & 1 == 1 && self.group.active() >> p & 1 == 0;
-        let counters: Vec<Value> = (0..32)
-            .filter(idle)
-            .map(|p| json!({"processor": p, "counter": self.group.counter(p)}))
-            .collect();
-        let mut value = slot_json(self.number, self.slot);
-        value["step"] = json!(self.step);
-        value["alu"] = json!(Word(self.masks.0).to_string());
-        value["predicate"] = json!(Word(self.masks.1).to_string());
-        value["decision"] = json!(decision(self.stepped));
-        value["next"] = json!(self.stepped.position);
-        value["active"] = json!(Word(self.group.active()).to_string());
-        value["counters"] = json!(counters);
-        value["returns"] = json!(self.group.returns());
-        value
-    }
-}
-
-fn decision(stepped: Stepped) -> &'static str {
-    if stepped.jumped {
-        "jump"
-    } else {
-        "stay"
-    }
-}
-
-/// A character a processor: . for an active one, else its counter.
-fn counters(group: &Group) -> String {
-    let member = |p: &u32| group.mask() >> p & 1 == 1;
-    let one = |p| match group.active() >> p & 1 {
-        1 => '.',
-        _ => char::from_digit(group.counter(p), 32).unwrap_or('?'),
-    };
-    (0..32).filter(member).map(one).collect()
-}
-
-fn slot_json(number: SlotNumber, slot: Slot) -> Value {
-    json!({
-        "slot": number.0,
-        "first": Word(slot.first).to_string(),
-        "second": Word(slot.second).to_string(),
-        "op": slot.op(),
-        "b_else": slot.b_else(),
-        "jump_any": slot.jump_any(),
-        "a_op": slot.a_op(),
-        "jump_func": slot.jump_func(),
-        "b_pop_cnt": slot.b_pop_cnt(),
-        "b_op0": slot.b_op0(),
-        "b_op1": slot.b_op1(),
-        "boolean": slot.boolean(),
-        "address": slot.address(),
-    })
 }
 
 /// The run's own report, from the fresh group over the whole list. It must end as
 /// the steps did.
 fn report(
     options: &Options,
+    name: &str,
     program: &Program,
     mut group: Group,
     masks: &[(u32, u32)],
-    stepped: Result<Group, String>,
+    stepped: Result<Group, RefusedStep>,
     out: &mut dyn Write,
 ) -> Outcome {
-    let list: Vec<u32> = masks
-        .iter()
-        .flat_map(|(alu, predicate)| [*alu, *predicate])
-        .collect();
-    let answer = group.run(program, &list, options.booleans);
-    match (answer, stepped) {
+    let list: Vec<u32> = masks.iter().flat_map(|(a, p)| [*a, *p]).collect();
+    match (group.run(program, &list, options.booleans), stepped) {
         (Ok(report), Ok(by_steps)) if by_steps == group => {
             show_report(options, program, &group, report, out)
         }
-        (Err(number), Err(told)) => {
-            match options.json {
-                true => writeln!(
-                    out,
-                    "{}",
-                    json!({"run": {"refused": number, "cause": told}})
-                )?,
-                false => writeln!(out, "run: refused {number}; the group is as before the run")?,
-            }
-            Err(Failure::Refused(told))
+        (Err(number), Err(step)) if number == step.refused.number => {
+            show_refused(options, name, &step, out)
         }
         _ => Err(Failure::wrong(
             "the run and its steps differ: this is a fault of the program",
@@ -318,21 +202,44 @@ fn show_report(
     out: &mut dyn Write,
 ) -> Outcome {
     let ended = group.position() >= program.slots();
-    let (steps, first, active) = (report.steps, report.first, report.active);
+    let (first, active) = (report.first, report.active);
     if options.json {
-        let value = json!({"run": {"steps": steps, "first_active": first, "active": active, "ended": ended}});
-        writeln!(out, "{value}")?;
+        let mut value = json!({ "steps": report.steps });
+        value["first_active"] = json!(first);
+        value["active"] = json!(active);
+        value["ended"] = json!(ended);
+        writeln!(out, "{}", json!({ "run": value }))?;
         return Ok(());
     }
-    let ended = if ended {
-        "the program has ended"
-    } else {
-        "the masks have ended"
+    let what = if ended { "program has" } else { "masks have" };
+    let steps = text::count(report.steps, "step");
+    let first = match first {
+        32 => "none".to_string(),
+        processor => processor.to_string(),
     };
-    let steps = text::count(steps, "step");
     writeln!(
         out,
-        "run: {steps}, first active processor {first}, {active} active; {ended}"
+        "run: {steps}, first active processor {first}, {active} active; the {what} ended"
     )?;
     Ok(())
+}
+
+fn show_refused(options: &Options, name: &str, step: &RefusedStep, out: &mut dyn Write) -> Outcome {
+    let RefusedStep {
+        step,
+        number,
+        refused,
+    } = step;
+    if options.json {
+        let mut value = json!({"step": step, "slot": number.0});
+        value["refused"] = json!(refused.number);
+        value["cause"] = json!(refused.cause);
+        writeln!(out, "{}", json!({ "run": value }))?;
+    } else {
+        writeln!(out, "{step:>4}  {number:>4}  {refused}")?;
+        let number = refused.number;
+        writeln!(out, "run: refused {number}; the group is as before the run")?;
+    }
+    let told = format!("{name}: step {step}, slot {number}: {refused}");
+    Err(Failure::Refused(told))
 }

@@ -25,15 +25,15 @@ impl Form for Json<'_> {
         let mut value = json!({"position": seen.position.0, "word": Word(seen.word).to_string()});
         match (&seen.came, seen.line(), seen.kind()) {
             (Came::After, ..) => value["refused"] = json!(1),
-            (_, Some(_), Some(kind)) => value[kind.name()] = parameter(kind, seen.word),
+            (_, Some(_), Some(kind)) => value[key(kind)] = parameter(kind, seen.word),
             (_, Some(line), None) => value["command"] = json!(line.name),
             _ => {}
         }
         match (&seen.came, seen.line()) {
             (Came::Done(_), Some(line)) => value["completes"] = json!(line.name),
-            (Came::Refused(number, told), _) => {
-                value["refused"] = json!(number);
-                value["cause"] = json!(told);
+            (Came::Refused(refused), _) => {
+                value["refused"] = json!(refused.number);
+                value["cause"] = json!(refused.cause);
             }
             _ => {}
         }
@@ -70,8 +70,13 @@ impl Form for Json<'_> {
         let open = totals
             .open
             .map(|(name, taken, due)| json!({"command": name, "taken": taken, "parameters": due}));
-        let refused = totals.refused.as_ref().map(|(position, number, told)| {
-            json!({"position": position.0, "refused": number, "cause": told, "words_after": totals.after()})
+        let refused = totals.refused.as_ref().map(|(position, refused)| {
+            json!({
+                "position": position.0,
+                "refused": refused.number,
+                "cause": refused.cause,
+                "words_after": totals.after(),
+            })
         });
         let settings: Vec<Value> = totals.settings.iter().map(as_json).collect();
         let value = json!({"summary": {
@@ -89,6 +94,11 @@ impl Form for Json<'_> {
         writeln!(self.out, "{value}")?;
         Ok(())
     }
+}
+
+/// A parameter's name as a key.
+fn key(kind: Kind) -> String {
+    kind.name().replace(' ', "_")
 }
 
 fn parameter(kind: Kind, word: u32) -> Value {

@@ -1,6 +1,6 @@
 //! Lines of text read from an input, for lists and for `encode`.
 
-use crate::failure::Outcome;
+use crate::failure::{Failure, Outcome};
 use crate::source::{Source, PIECE};
 
 pub struct Lines {
@@ -62,7 +62,7 @@ impl Lines {
     }
 
     /// A failure that names the input and the line being read.
-    pub fn wrong(&self, text: &str) -> crate::failure::Failure {
+    pub fn wrong(&self, text: &str) -> Failure {
         self.source.wrong(format!("line {}: {text}", self.number))
     }
 }

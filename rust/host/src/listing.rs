@@ -2,6 +2,7 @@
 //! Lines of the listing that are no words begin with #, so that `encode` passes
 //! over them.
 
+use crate::cause::Refused;
 use crate::failure::Outcome;
 use crate::kinds::{Address, Word};
 use crate::names::Kind;
@@ -23,8 +24,8 @@ impl Form for Listing<'_> {
             _ => meaning(seen),
         };
         writeln!(self.out, "{at:>8}:  {word}  {text}")?;
-        if let Came::Refused(_, told) = &seen.came {
-            writeln!(self.out, "# word {at}: {told}")?;
+        if let Came::Refused(refused) = &seen.came {
+            writeln!(self.out, "# word {at}: {refused}")?;
         }
         Ok(())
     }
@@ -70,7 +71,7 @@ fn closing(totals: &Totals) -> Vec<String> {
             "ends inside {name}: {taken} of its {due} parameters taken"
         ));
     }
-    if let Some((position, number, _)) = &totals.refused {
+    if let Some((position, Refused { number, .. })) = &totals.refused {
         let (taken, after) = (
             text::count(totals.taken, "word"),
             text::count(totals.after(), "word"),
@@ -137,10 +138,10 @@ impl Form for Terse<'_> {
                 let fields = seen.open[1..].iter().map(|field| format!(" {field:X}"));
                 writeln!(self.out, "{}{}", line.name, fields.collect::<String>())?;
             }
-            (Came::Refused(_, told), _) => {
+            (Came::Refused(refused), _) => {
                 writeln!(
                     self.out,
-                    "{}  # word {}: {told}",
+                    "{}  # word {}: {refused}",
                     raw(seen.open),
                     seen.position
                 )?;
@@ -195,8 +196,8 @@ impl Form for Summary<'_> {
         for line in closing(totals) {
             writeln!(out, "  {line}")?;
         }
-        if let Some((_, _, told)) = &totals.refused {
-            writeln!(out, "  {told}")?;
+        if let Some((position, refused)) = &totals.refused {
+            writeln!(out, "  word {position}: {refused}")?;
         }
         writeln!(out, "commands")?;
         for (line, count) in &totals.commands {

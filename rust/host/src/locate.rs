@@ -8,11 +8,10 @@ use crate::layouts::LayoutOptions;
 use crate::lines::Lines;
 use crate::owners;
 use crate::source::Source;
-use crate::text;
-use crate::work;
+use crate::work::{self, Working};
 use boundary::Layout;
 use clap::Args;
-use serde_json::{json, Value};
+use serde_json::json;
 use std::io::Write;
 use std::path::PathBuf;
 
@@ -24,7 +23,8 @@ pub struct Options {
     #[arg(value_name = "ADDRESS")]
     addresses: Vec<String>,
     /// Asks the windows that this stream of command words sets, instead of one layout
-    #[arg(long, value_name = "FILE", conflicts_with_all = ["pitch", "height", "size", "tiled", "format", "work"])]
+    #[arg(long, value_name = "FILE",
+          conflicts_with_all = ["pitch", "height", "size", "tiled", "format", "work"])]
     stream: Option<PathBuf>,
     /// With --stream: only the stream's first N words count
     #[arg(long, value_name = "N", requires = "stream")]
@@ -53,6 +53,7 @@ pub fn run(options: &Options, out: &mut dyn Write) -> Outcome {
     })
 }
 
+/// Answers one address; where it is refused, gives what was told.
 type Answerer<'a> = dyn FnMut(u32, &mut dyn Write) -> Outcome<Option<String>> + 'a;
 
 /// Answers every address asked, and ends with the first refusal, if there is one.
@@ -74,13 +75,9 @@ fn each(options: &Options, out: &mut dyn Write, answer: &mut Answerer) -> Outcom
         let address = options.layout.address(text).map_err(Failure::Wrong)?;
         first = first.or(answer(address, out)?);
     }
-    match first {
-        Some(text) => Err(Failure::Refused(text)),
-        None => Ok(()),
-    }
+    first.map_or(Ok(()), |told| Err(Failure::Refused(told)))
 }
 
-/// Answers one address, and gives the refusal, where it gets one, as told.
 fn one(
     options: &Options,
     layout: &Layout,
@@ -89,76 +86,48 @@ fn one(
 ) -> Outcome<Option<String>> {
     let at = Address(address);
     match boundary::locate(layout, address) {
-        Ok(found) => {
-            let lines = match options.work {
-                true => working(layout, address, found)?,
-                false => Vec::new(),
+        Ok((x, y, place)) => {
+            let work = match options.work {
+                true => Some(working(layout, address, (x, y, place))?),
+                false => None,
             };
-            match options.json {
-                true => writeln!(out, "{}", as_json(options, address, found, lines))?,
-                false => show(options, layout, address, found, &lines, out)?,
+            if options.json {
+                let mut value = json!({"address": at.to_string(), "x": x, "y": y, "place": place});
+                if let Some(work) = work {
+                    value["work"] = work.json();
+                }
+                writeln!(out, "{value}")?;
+            } else {
+                writeln!(out, "{at}  ({x}, {y}) place {place}")?;
+                work.map_or(Ok(()), |work| work.show(layout, out))?;
             }
             Ok(None)
         }
         Err(number) => {
             let refused = cause::refused(number, cause::of_address(number, layout, address));
-            match options.json {
-                true => {
-                    let value =
-                        json!({"address": at.to_string(), "refused": number, "cause": refused});
-                    writeln!(out, "{value}")?;
-                }
-                false => writeln!(out, "{at}  {refused}")?,
+            if options.json {
+                let (at, cause) = (at.to_string(), &refused.cause);
+                let value = json!({"address": at, "refused": number, "cause": cause});
+                writeln!(out, "{value}")?;
+            } else {
+                writeln!(out, "{at}  {refused}")?;
             }
             Ok(Some(format!("address {at}: {refused}")))
         }
     }
 }
 
-fn show(
-    options: &Options,
-    layout: &Layout,
-    address: u32,
-    (x, y, place): (u32, u32, u32),
-    lines: &[String],
-    out: &mut dyn Write,
-) -> Outcome {
-    writeln!(out, "{}  ({x}, {y}) place {place}", Address(address))?;
-    if options.work {
-        writeln!(out, "  layout     {}", text::layout_words(layout))?;
-    }
-    for line in lines {
-        writeln!(out, "{line}")?;
-    }
-    Ok(())
-}
-
 /// The working, once it has come to the product's answer.
-fn working(layout: &Layout, address: u32, found: (u32, u32, u32)) -> Outcome<Vec<String>> {
-    let worked = work::back(layout, address);
-    match worked {
+fn working(layout: &Layout, address: u32, found: (u32, u32, u32)) -> Outcome<Working> {
+    match work::back(layout, address) {
         Some(back) if (back.x, back.y, back.place) == found => Ok(back.lines),
         other => {
             let worked = other.map(|back| (back.x, back.y, back.place));
             let at = Address(address);
             Err(Failure::Wrong(format!(
-                "the working of {at} comes to {worked:?}, the product to {found:?}: this is a fault of the program"
+                "a fault of the program: the working of {at} comes to {worked:?}, \
+                 the product to {found:?}"
             )))
         }
     }
-}
-
-fn as_json(
-    options: &Options,
-    address: u32,
-    (x, y, place): (u32, u32, u32),
-    lines: Vec<String>,
-) -> Value {
-    let at = Address(address).to_string();
-    let mut value = json!({"address": at, "x": x, "y": y, "place": place});
-    if options.work {
-        let lines: Vec<&str> = lines.iter().map(|line| line.trim()).collect();
-        value["work"] = json!(lines);
-    }
-    value
 }

@@ -3,7 +3,7 @@
 //! `boundary`; here it is only named, laid out and parsed.
 //!
 //! One module a subcommand: `decode` (with `walk`, and its forms `listing` and
-//! `json`), `encode`, `address`, `locate` (with `owners`), `flow` (with `slots`),
+//! `json`), `encode`, `address`, `locate` (with `owners`), `flow` (with `slots`, `steps`),
 //! `explain`, and `sample` for no arguments. `names`, `tiles` and `refusals` hold
 //! document 01's tables; `source`, `words` and `lines` read; `settings` and `text`
 //! have shapes that several print; `cause` puts refusals in words; `work` is the
@@ -33,6 +33,7 @@ mod sample;
 mod settings;
 mod slots;
 mod source;
+mod steps;
 mod text;
 mod tiles;
 mod walk;
@@ -44,12 +45,14 @@ use failure::Outcome;
 use std::io::{self, BufWriter, Write};
 use std::process::ExitCode;
 
+const AFTER: &str = "\
+Words and addresses are hex, with or without 0x; counts are decimal, or hex with 0x.
+With no command, a sample is shown.
+Exit status: 0 fine, 1 something was refused, 2 a wrong command line or file.";
+
 /// Command streams decoded, tile addresses worked both ways, flow programs stepped
-///
-/// Words and addresses are hex (0x may stand before), counts are decimal.
-/// Exit status: 0 fine, 1 something was refused, 2 a wrong command line or file.
 #[derive(Parser)]
-#[command(name = "egretfold", version)]
+#[command(name = "egretfold", version, after_help = AFTER)]
 struct Line {
     #[command(subcommand)]
     what: Option<What>,

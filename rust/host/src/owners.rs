@@ -32,12 +32,16 @@ pub fn read(
         words = words.first(most);
     }
     let totals = Walk::new().run(words, &mut Quiet)?;
-    if let Some((Position(at), number, told)) = &totals.refused {
+    if let Some((Position(at), refused)) = &totals.refused {
         if as_json {
-            let refusal = json!({"position": at, "refused": number, "cause": told});
+            let refusal =
+                json!({"position": at, "refused": refused.number, "cause": refused.cause});
             writeln!(out, "{}", json!({ "stream": refusal }))?;
         } else {
-            writeln!(out, "# word {at}: {told}; the settings before it are asked")?;
+            writeln!(
+                out,
+                "# word {at}: {refused}; the settings before it are asked"
+            )?;
         }
     }
     let settings = totals.settings;
@@ -102,7 +106,7 @@ pub fn answer(
     Ok(Some(format!("address {at}: {refused}")))
 }
 
-fn owners(read: &Read, address: u32) -> Vec<Owner> {
+fn owners(read: &Read, address: u32) -> Vec<Owner<'_>> {
     let owner = |(name, layout, store)| {
         let (x, y, place) = boundary::locate(&layout, address).ok()?;
         let domain = match store {
@@ -153,7 +157,7 @@ fn near(read: &Read, address: u32) -> Vec<(&str, String)> {
     };
     windows(read)
         .filter(|(_, layout, _)| in_span(layout))
-        .filter_map(|(name, layout, _)| Some((name, cause::of_address(12, &layout, address)?)))
+        .filter_map(|(name, layout, _)| Some((name, cause::unowned(&layout, address)?)))
         .collect()
 }
 

@@ -23,7 +23,7 @@ pub fn run(out: &mut dyn Write) -> Outcome {
     writeln!(out, "# egretfold decode {NAME}")?;
     decode::show(words(), &mut Listing { out })?;
     let mut session = Session::new();
-    session.feed(&words().all(STREAM.len())?);
+    session.feed(&words().all()?);
     let domain = session
         .domain()
         .ok_or_else(|| Failure::wrong("the sample sets no domain"))?;

@@ -2,7 +2,7 @@
 //! they stand to one another.
 
 use crate::kinds::Address;
-use crate::names::{self, Kind, Line};
+use crate::names::{self, FormatWord, Kind, Line};
 use crate::text;
 use boundary::{Format, Layout, Session};
 
@@ -100,9 +100,10 @@ impl Setting {
     pub fn words(&self) -> String {
         match &self.value {
             Value::Array(format) | Value::Store(format) => {
-                let base = Address(format.base);
-                let word = text::format_word(format.format);
-                format!("base {base}, {word}{}", window(&layout(format)))
+                let (base, word) = (Address(format.base), FormatWord(format.format));
+                let name = text::format_name(word);
+                let window = window(&layout(format));
+                format!("base {base}, {name}, pitch {}{window}", word.pitch())
             }
             Value::Domain(domain) => domain_words(domain),
             Value::OutputMask(mask) => format!("{mask:04X}: {}", text::output_mask(*mask)),

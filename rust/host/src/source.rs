@@ -18,13 +18,20 @@ pub struct Source {
     reader: Box<dyn Read>,
     /// Bytes read so far.
     at: u64,
+    /// What the input failed with.
+    error: Option<io::Error>,
     bar: ProgressBar,
+}
+
+/// Whether the name says standard input.
+pub fn is_standard(file: Option<&Path>) -> bool {
+    file.map_or(true, |path| path.as_os_str() == "-")
 }
 
 impl Source {
     pub fn open(file: Option<&Path>) -> Outcome<Source> {
         let path = match file {
-            Some(path) if path.as_os_str() != "-" => path,
+            Some(path) if !is_standard(file) => path,
             _ => {
                 return Ok(Source::new(
                     "standard input".into(),
@@ -50,27 +57,30 @@ impl Source {
             name,
             reader,
             at: 0,
+            error: None,
             bar,
         }
     }
 
-    /// Fills the room as far as the input goes and answers how far that was.
+    /// Fills the room as far as the input goes and answers how far that was. Where
+    /// the input fails, the bytes before that come first, and the failure with the
+    /// next call.
     pub fn fill(&mut self, room: &mut [u8]) -> Outcome<usize> {
         let mut filled = 0;
-        while filled < room.len() {
+        while filled < room.len() && self.error.is_none() {
             match self.reader.read(&mut room[filled..]) {
                 Ok(0) => break,
                 Ok(count) => filled += count,
                 Err(error) if error.kind() == io::ErrorKind::Interrupted => {}
-                Err(error) => {
-                    let at = self.at + filled as u64;
-                    return Err(self.wrong(format!("byte {at}: {error}")));
-                }
+                Err(error) => self.error = Some(error),
             }
         }
         self.at += filled as u64;
         self.bar.set_position(self.at);
-        Ok(filled)
+        match &self.error {
+            Some(error) if filled == 0 => Err(self.wrong(format!("byte {}: {error}", self.at))),
+            _ => Ok(filled),
+        }
     }
 
     /// Bytes read so far.

@@ -50,18 +50,21 @@ pub fn linear_or_tiled(tiled: bool) -> &'static str {
 /// A format word in words: name, linear or tiled, pitch and row step.
 pub fn format_word(word: u32) -> String {
     let word = FormatWord(word);
+    let (name, pitch) = (format_name(word), word.pitch());
+    match tiles::row_step(&layout(0, word.0, 1)) {
+        Some(step) => format!("{name}, pitch {pitch}, row step {step}"),
+        None => format!("{name}, pitch {pitch}"),
+    }
+}
+
+/// The format's name, linear or tiled, and superfine where it is.
+pub fn format_name(word: FormatWord) -> String {
     let superfine = if word.superfine() { ", superfine" } else { "" };
     let tiling = linear_or_tiled(word.tiled());
-    let pitch = word.pitch();
-    let name = match word.element() {
-        Some(element) => element.name.to_string(),
-        None => format!("code {}", word.code()),
-    };
-    let step = match tiles::row_step(&layout(0, word.0, 1)) {
-        Some(step) => format!(", row step {step}"),
-        None => String::new(),
-    };
-    format!("{name}, {tiling}{superfine}, pitch {pitch}{step}")
+    match word.element() {
+        Some(element) => format!("{}, {tiling}{superfine}", element.name),
+        None => format!("code {}, {tiling}{superfine}", word.code()),
+    }
 }
 
 /// The layout that base, format word and height describe. An unknown code has

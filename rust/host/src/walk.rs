@@ -1,7 +1,7 @@
 //! A stream of command words given to a session one by one, with what each word
 //! came to. The forms in which `decode` prints are told of every word.
 
-use crate::cause;
+use crate::cause::{self, Refused};
 use crate::failure::Outcome;
 use crate::kinds::Position;
 use crate::names::{self, Kind, Line};
@@ -14,8 +14,7 @@ pub enum Came {
     /// The command is still open.
     Open,
     Done(Command),
-    /// The number, and its cause in words.
-    Refused(u32, String),
+    Refused(Refused),
     /// The session was stopped before this word.
     After,
 }
@@ -53,8 +52,8 @@ pub struct Totals {
     pub claims: u64,
     /// The open command at the end: its name, parameters taken, parameters due.
     pub open: Option<(&'static str, u32, u32)>,
-    /// The first refusal: its word, number and cause.
-    pub refused: Option<(Position, u32, String)>,
+    /// The refused word.
+    pub refused: Option<(Position, Refused)>,
     pub settings: Vec<Setting>,
 }
 
@@ -114,7 +113,7 @@ pub struct Walk {
     position: u64,
     open: Vec<u32>,
     commands: [u64; names::COMMANDS.len()],
-    refused: Option<(Position, u32, String)>,
+    refused: Option<(Position, Refused)>,
     /// The settings at the last start.
     last: Vec<Setting>,
 }
@@ -194,9 +193,9 @@ impl Walk {
             }
             Err(number) => {
                 let cause = cause::of_word(number, &self.session, &self.open);
-                let told = cause::refused(number, cause);
-                self.refused = Some((position, number, told.clone()));
-                Came::Refused(number, told)
+                let refused = cause::refused(number, cause);
+                self.refused = Some((position, refused.clone()));
+                Came::Refused(refused)
             }
         }
     }

@@ -2,7 +2,7 @@
 //! line ends and commas part the words, 0x may stand before one, and # begins a
 //! remark to the line's end.
 
-use crate::failure::Outcome;
+use crate::failure::{Failure, Outcome};
 use crate::numbers;
 use crate::source::{Source, PIECE};
 
@@ -16,6 +16,8 @@ pub struct Words {
     given: u64,
     /// How many of the input's words are wanted.
     most: u64,
+    /// What failed behind the words handed out.
+    failure: Option<Failure>,
 }
 
 /// Where the reading of hex text stands.
@@ -39,6 +41,7 @@ impl Words {
             words: Vec::new(),
             given: 0,
             most: u64::MAX,
+            failure: None,
         }
     }
 
@@ -51,24 +54,36 @@ impl Words {
         &self.source.name
     }
 
-    /// The next words, none at the input's end.
+    /// The next words, none at the input's end. Where the input fails, the words
+    /// before that come first, and the failure with the next call.
     pub fn piece(&mut self) -> Outcome<&[u32]> {
         self.words.clear();
+        if let Some(failure) = self.failure.take() {
+            return Err(failure);
+        }
         let wanted = self.most - self.given;
         while wanted > 0 && self.words.is_empty() {
             let count = self.source.fill(&mut self.bytes)?;
-            match &mut self.text {
-                Some(text) => text.read(&self.source, &self.bytes[..count], &mut self.words)?,
-                None => self.binary(count)?,
+            match self.read(count) {
+                Err(failure) if self.words.is_empty() => return Err(failure),
+                result => self.failure = result.err(),
             }
             if count == 0 {
                 break;
             }
         }
-        self.words
-            .truncate(usize::try_from(wanted).unwrap_or(usize::MAX));
+        let wanted = usize::try_from(wanted).unwrap_or(usize::MAX);
+        self.words.truncate(wanted);
         self.given += self.words.len() as u64;
         Ok(&self.words)
+    }
+
+    /// The words of the first so many bytes of the room.
+    fn read(&mut self, count: usize) -> Outcome {
+        match &mut self.text {
+            Some(text) => text.read(&self.source, &self.bytes[..count], &mut self.words),
+            None => self.binary(count),
+        }
     }
 
     /// The words of these bytes. Only the last bytes of the input can be less than
@@ -88,17 +103,13 @@ impl Words {
         Ok(())
     }
 
-    /// All words, of an input that may have so many.
-    pub fn all(mut self, most: usize) -> Outcome<Vec<u32>> {
+    /// All words, of an input that is known to have few.
+    pub fn all(mut self) -> Outcome<Vec<u32>> {
         let mut all = Vec::new();
         loop {
-            let piece = self.piece()?;
-            if piece.is_empty() {
-                return Ok(all);
-            }
-            all.extend_from_slice(piece);
-            if all.len() > most {
-                return Err(self.source.wrong(format!("more than {most} words")));
+            match self.piece()? {
+                [] => return Ok(all),
+                piece => all.extend_from_slice(piece),
             }
         }
     }
@@ -140,7 +151,7 @@ impl Text {
         Ok(())
     }
 
-    fn wrong(&self, source: &Source, what: &str) -> crate::failure::Failure {
+    fn wrong(&self, source: &Source, what: &str) -> Failure {
         let line = self.lines + 1;
         source.wrong(format!("line {line}: {:?} {what}", self.token))
     }

@@ -2,14 +2,18 @@
 //! from the product, and whoever shows it first holds it against the product's
 //! answer.
 
+use crate::failure::Outcome;
 use crate::kinds::Address;
+use crate::text;
 use crate::tiles::{self, Bit, Inside, Tile, TILE_BYTES};
 use boundary::Layout;
+use serde_json::{json, Value};
+use std::io::Write;
 
 /// From a pair to its address.
 pub struct There {
     pub address: u64,
-    pub lines: Vec<String>,
+    pub lines: Working,
 }
 
 /// From an address to its pair and the byte's place in the element.
@@ -17,16 +21,39 @@ pub struct Back {
     pub x: u32,
     pub y: u32,
     pub place: u32,
-    pub lines: Vec<String>,
+    pub lines: Working,
 }
 
-/// A step of the working: its name on its first line alone.
-fn put(lines: &mut Vec<String>, name: &str, text: String) {
-    lines.push(format!("  {name:<9}  {text}"));
+/// The lines of a working: a step's name, on its first line alone, and its text.
+#[derive(Default)]
+pub struct Working(Vec<(&'static str, String)>);
+
+fn put(lines: &mut Working, name: &'static str, text: String) {
+    lines.0.push((name, text));
+}
+
+impl Working {
+    pub fn show(&self, layout: &Layout, out: &mut dyn Write) -> Outcome {
+        writeln!(out, "  layout     {}", text::layout_words(layout))?;
+        for (name, text) in &self.0 {
+            writeln!(out, "  {name:<9}  {text}")?;
+        }
+        Ok(())
+    }
+
+    /// Each line with its step's name.
+    pub fn json(&self) -> Value {
+        let mut step = "";
+        let line = |(name, text): &(&'static str, String)| {
+            step = if name.is_empty() { step } else { name };
+            json!({"step": step, "text": text})
+        };
+        self.0.iter().map(line).collect()
+    }
 }
 
 /// How the row step comes from the pitch.
-fn row_step(lines: &mut Vec<String>, layout: &Layout) -> Option<u32> {
+fn row_step(lines: &mut Working, layout: &Layout) -> Option<u32> {
     let unit = tiles::unit(layout)?;
     let step = tiles::row_step(layout)?;
     let pitch = layout.pitch;
@@ -44,7 +71,7 @@ fn row_step(lines: &mut Vec<String>, layout: &Layout) -> Option<u32> {
 
 /// The working from a pair of an accepted layout to its address.
 pub fn there(layout: &Layout, x: u32, y: u32) -> Option<There> {
-    let mut lines = Vec::new();
+    let mut lines = Working::default();
     let step = row_step(&mut lines, layout)?;
     let offset = match layout.tiled {
         true => tiled_there(&mut lines, layout, step, x, y)?,
@@ -57,7 +84,7 @@ pub fn there(layout: &Layout, x: u32, y: u32) -> Option<There> {
     Some(There { address, lines })
 }
 
-fn linear_there(lines: &mut Vec<String>, layout: &Layout, step: u32, x: u32, y: u32) -> u64 {
+fn linear_there(lines: &mut Working, layout: &Layout, step: u32, x: u32, y: u32) -> u64 {
     let size = layout.size;
     let elements = u64::from(y) * u64::from(step) + u64::from(x);
     let offset = elements * u64::from(size);
@@ -74,7 +101,7 @@ fn linear_there(lines: &mut Vec<String>, layout: &Layout, step: u32, x: u32, y: 
     offset
 }
 
-fn tiled_there(lines: &mut Vec<String>, layout: &Layout, step: u32, x: u32, y: u32) -> Option<u64> {
+fn tiled_there(lines: &mut Working, layout: &Layout, step: u32, x: u32, y: u32) -> Option<u64> {
     let tile = tiles::tile_of(layout.size)?;
     let in_row = tiles_in_row(lines, tile, step);
     let (width, height) = (tile.width, tile.height);
@@ -107,7 +134,7 @@ fn tiled_there(lines: &mut Vec<String>, layout: &Layout, step: u32, x: u32, y: u
     Some(offset)
 }
 
-fn tiles_in_row(lines: &mut Vec<String>, tile: &Tile, step: u32) -> u32 {
+fn tiles_in_row(lines: &mut Working, tile: &Tile, step: u32) -> u32 {
     let (width, height) = (tile.width, tile.height);
     let in_row = step / width;
     let text =
@@ -117,7 +144,7 @@ fn tiles_in_row(lines: &mut Vec<String>, tile: &Tile, step: u32) -> u32 {
 }
 
 /// The offset inside the tile, bit by bit from bit 10 down.
-fn inside(lines: &mut Vec<String>, tile: &Tile, x: u32, y: u32) -> u32 {
+fn inside(lines: &mut Working, tile: &Tile, x: u32, y: u32) -> u32 {
     let mut offset = 0;
     for (place, inside) in tile.inside.iter().enumerate() {
         let (bit, text) = match inside {
@@ -143,7 +170,7 @@ fn inside(lines: &mut Vec<String>, tile: &Tile, x: u32, y: u32) -> u32 {
 /// The working from an address in an accepted layout's span back to its pair,
 /// which may be outside the window where the last tiles reach past its height.
 pub fn back(layout: &Layout, address: u32) -> Option<Back> {
-    let mut lines = Vec::new();
+    let mut lines = Working::default();
     let step = row_step(&mut lines, layout)?;
     let offset = address.checked_sub(layout.base)?;
     let (at, base) = (Address(address), Address(layout.base));
@@ -166,12 +193,7 @@ pub fn back(layout: &Layout, address: u32) -> Option<Back> {
     Some(Back { x, y, place, lines })
 }
 
-fn linear_back(
-    lines: &mut Vec<String>,
-    layout: &Layout,
-    step: u32,
-    offset: u32,
-) -> Option<(u32, u32)> {
+fn linear_back(lines: &mut Working, layout: &Layout, step: u32, offset: u32) -> Option<(u32, u32)> {
     let size = layout.size;
     let element = offset / size;
     let (x, y) = (element.checked_rem(step)?, element / step);
@@ -188,12 +210,7 @@ fn linear_back(
     Some((x, y))
 }
 
-fn tiled_back(
-    lines: &mut Vec<String>,
-    layout: &Layout,
-    step: u32,
-    offset: u32,
-) -> Option<(u32, u32)> {
+fn tiled_back(lines: &mut Working, layout: &Layout, step: u32, offset: u32) -> Option<(u32, u32)> {
     let tile = tiles::tile_of(layout.size)?;
     let in_row = tiles_in_row(lines, tile, step);
     let (number, inside) = (offset / TILE_BYTES, offset % TILE_BYTES);
@@ -214,13 +231,7 @@ fn tiled_back(
 }
 
 /// Fills in the pair's bits below the tile's, from bit 10 of the offset down.
-fn bits_back(
-    lines: &mut Vec<String>,
-    tile: &Tile,
-    inside: u32,
-    mut x: u32,
-    mut y: u32,
-) -> (u32, u32) {
+fn bits_back(lines: &mut Working, tile: &Tile, inside: u32, mut x: u32, mut y: u32) -> (u32, u32) {
     for (place, rule) in tile.inside.iter().enumerate() {
         let at = 10 - place;
         let bit = inside >> at & 1;

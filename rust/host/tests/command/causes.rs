@@ -1,0 +1,126 @@
+//! Refusals told with their place, their number and both quantities.
+
+use crate::common::{complained, egretfold};
+use boundary::Session;
+use compare::random::Random;
+use compare::words;
+
+/// A stream in hex text, and what is told of its refused word.
+const TOLD: &[(&str, &str)] = &[
+    (
+        "C0038000",
+        "word 0: refused 2, header C0038000 stands in no line of the command table",
+    ),
+    (
+        "C0000900 2",
+        "word 1: refused 3, the reserved parameter is 00000002, not 0",
+    ),
+    (
+        "C0010A00 1001",
+        "word 1: refused 3, base 00001001 has reserved bits 00000001",
+    ),
+    (
+        "C0010A00 1000 5000010",
+        "word 2: refused 3, format 05000010 has code 5, over 4",
+    ),
+    (
+        "C0010A00 1000 4000013",
+        "word 2: refused 3, format 04000013 has reserved bits 00000003",
+    ),
+    (
+        "C0030B00 0 1000 3020010",
+        "word 3: refused 3, superfine on an input of FLOAT32_2, which has 2 channels, not 1",
+    ),
+    (
+        "C0030B00 10",
+        "word 1: refused 4, input number 16 is over 15",
+    ),
+    (
+        "C0030C00 4",
+        "word 1: refused 4, output number 4 is over 3",
+    ),
+    (
+        "C0030700 9 0 8 0",
+        "word 4: refused 5, i0 9 is over i1 8",
+    ),
+    (
+        "C0030700 0 9 0 8",
+        "word 4: refused 5, j0 9 is over j1 8",
+    ),
+    (
+        "C0030C00 0 0 201001C 1",
+        "word 4: refused 6, window rule: pitch 28 gives row step 0",
+    ),
+    (
+        "C0030C00 0 0 2001010 1",
+        "word 4: refused 6, window rule: pitch 4112 gives row step 4112, over 4096",
+    ),
+    (
+        "C0030C00 0 0 2000010 1001",
+        "word 4: refused 6, window rule: height 4097 is not 1 to 4096",
+    ),
+    (
+        "C0030C00 0 FFFFF800 2000008 41",
+        "word 4: refused 6, window rule: base FFFFF800 plus span 2080 ends at 100000020, over 100000000",
+    ),
+    (
+        "C0030700 0 0 0 0 C0000800 0",
+        "word 6: refused 7, start without an instruction format and without any output (0 outputs set)",
+    ),
+    (
+        "C0010A00 0 4000010 C0030C00 2 0 2000010 1 C0030700 0 0 10 0 C0000800 0",
+        "word 14: refused 8, the domain's i1 16 is not below output 2's row step 16",
+    ),
+    (
+        "C0010A00 0 4000010 C0030C00 2 0 2000010 1 C0030700 0 0 0 1 C0000800 0",
+        "word 14: refused 8, the domain's j1 1 is not below output 2's height 1",
+    ),
+    (
+        "C0010A00 0 4000010 C0030C00 0 0 2010020 1 C0030C00 3 0 2000010 1 C0030700 0 0 0 0 C0000800 0",
+        "word 19: refused 9, spans share bytes: output 0 00000000 to 000007FF, output 3 00000000 to 0000003F",
+    ),
+];
+
+#[test]
+fn every_refusal_of_a_word_names_both_quantities() {
+    for (stream, told) in TOLD {
+        let output = egretfold("decode --hex", stream.as_bytes());
+        assert_eq!(output.status.code(), Some(1), "{stream}");
+        let due = format!("egretfold: standard input: {told}\n");
+        assert_eq!(complained(&output), due, "{stream}");
+    }
+}
+
+/// The table's own words for 3 to 9, which stand where no better cause was found.
+const BARE: [&str; 7] = [
+    "a reserved bit or code is set, or a layout argument is malformed",
+    "input number over 15, output number over 3",
+    "i0 > i1 or j0 > j1",
+    "window rule broken",
+    "start without a domain, an instruction format or any output set",
+    "the domain is not inside every set output's window",
+    "spans of two set outputs share a byte",
+];
+
+/// Whatever is wrong with a stream, the cause is found, and the number is the one
+/// that the product gives.
+#[test]
+fn refused_streams_get_more_than_the_bare_cause() {
+    let mut seen = [0; 18];
+    for case in 0..3_000 {
+        let words = words::any(&mut Random::of_case(91, 3, case));
+        let number = match Session::new().feed(&words).refusal {
+            Some(number) => number,
+            None => continue,
+        };
+        let stream: Vec<u8> = words.iter().flat_map(|word| word.to_le_bytes()).collect();
+        let told = complained(&egretfold("decode --summary", &stream));
+        assert!(told.contains(&format!(": refused {number}, ")), "{told}");
+        assert!(
+            !BARE.iter().any(|bare| told.trim_end().ends_with(bare)),
+            "{told}"
+        );
+        seen[number as usize] += 1;
+    }
+    assert!(seen[2..=9].iter().all(|count| *count > 0), "{seen:?}");
+}

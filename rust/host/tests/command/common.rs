@@ -1,0 +1,44 @@
+//! Runs the command `egretfold` from the repository's root, as a user would.
+
+use std::io::Write;
+use std::path::{Path, PathBuf};
+use std::process::{Command, Output, Stdio};
+
+/// The repository's root, so that samples/ is named as a user names it.
+pub fn root() -> PathBuf {
+    Path::new(env!("CARGO_MANIFEST_DIR")).join("../..")
+}
+
+/// Runs the command with these arguments, parted by blanks, and this input.
+pub fn egretfold(arguments: &str, input: &[u8]) -> Output {
+    let mut command = Command::new(env!("CARGO_BIN_EXE_egretfold"));
+    command.args(arguments.split_whitespace());
+    with_input(command, input)
+}
+
+pub fn with_input(mut command: Command, input: &[u8]) -> Output {
+    command
+        .current_dir(root())
+        .stdin(Stdio::piped())
+        .stdout(Stdio::piped())
+        .stderr(Stdio::piped());
+    let mut child = command.spawn().expect("the command runs");
+    let mut stdin = child.stdin.take().expect("it has an input");
+    let input = input.to_vec();
+    // Apart from the reading, so that long output can't hold up long input. One
+    // that ends before its input does closes it: that is no fault here.
+    let writer = std::thread::spawn(move || drop(stdin.write_all(&input)));
+    let output = child.wait_with_output().expect("the command ends");
+    writer.join().expect("the input is written");
+    output
+}
+
+/// What stands on standard output.
+pub fn told(output: &Output) -> String {
+    String::from_utf8(output.stdout.clone()).expect("text")
+}
+
+/// What stands on standard error.
+pub fn complained(output: &Output) -> String {
+    String::from_utf8(output.stderr.clone()).expect("text")
+}

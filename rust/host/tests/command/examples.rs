@@ -1,0 +1,64 @@
+//! The examples that the documents print: a line `    $ ./egretfold …` and, indented
+//! alike below it, what it prints. Each is run as it stands.
+
+use crate::common::{complained, root, told, with_input};
+use std::fs;
+use std::process::Command;
+
+struct Example {
+    line: String,
+    prints: String,
+}
+
+/// The examples of a document.
+fn examples(text: &str) -> Vec<Example> {
+    let mut found: Vec<Example> = Vec::new();
+    let mut inside = false;
+    for line in text.lines() {
+        let indented = line.strip_prefix("    ");
+        match indented.and_then(|line| line.strip_prefix("$ ")) {
+            Some(command) => {
+                inside = command.starts_with("./egretfold");
+                if inside {
+                    found.push(Example {
+                        line: command.to_string(),
+                        prints: String::new(),
+                    });
+                }
+            }
+            None if inside => match (indented, found.last_mut()) {
+                (Some(line), Some(example)) => example.prints += &format!("{line}\n"),
+                // Blank lines inside an output are not indented in a document.
+                (None, Some(example)) if line.is_empty() => example.prints.push('\n'),
+                _ => inside = false,
+            },
+            None => {}
+        }
+    }
+    found
+}
+
+fn run(example: &Example) -> String {
+    let program = env!("CARGO_BIN_EXE_egretfold");
+    let line = example.line.replace("./egretfold", program);
+    let mut shell = Command::new("sh");
+    shell.args(["-c", &line]);
+    let output = with_input(shell, b"");
+    told(&output) + &complained(&output)
+}
+
+fn all_hold(document: &str) -> usize {
+    let text = fs::read_to_string(root().join(document)).expect("the document is there");
+    let examples = examples(&text);
+    for example in &examples {
+        let (is, printed) = (run(example), &example.prints);
+        assert_eq!(is.trim_end(), printed.trim_end(), "{}", example.line);
+    }
+    examples.len()
+}
+
+#[test]
+fn the_documents_print_what_the_examples_print() {
+    let counts = ["samples/README.md", "README.md"].map(all_hold);
+    assert!(counts[0] >= 5, "{counts:?}");
+}

@@ -1,0 +1,218 @@
+//! The output of every subcommand, held against the files in tests/golden. After a
+//! wanted change the files are renewed by
+//!
+//!     RENEW=1 cargo test -p host golden
+
+use crate::common::{complained, egretfold, root, told};
+use std::fs;
+use std::path::Path;
+
+/// The file's name, the arguments, and what stands on standard input.
+const CASES: &[(&str, &str, &str)] = &[
+    ("sample", "", ""),
+    ("decode-whole", "decode samples/whole.ctm", ""),
+    ("decode-several", "decode samples/several.ctm", ""),
+    ("decode-refused", "decode --hex samples/refused.hex", ""),
+    ("decode-terse", "decode --terse samples/several.ctm", ""),
+    (
+        "decode-terse-refused",
+        "decode --terse --hex samples/refused.hex",
+        "",
+    ),
+    ("decode-summary", "decode --summary samples/several.ctm", ""),
+    (
+        "decode-summary-refused",
+        "decode --summary --hex samples/refused.hex",
+        "",
+    ),
+    ("decode-json", "decode --json samples/whole.ctm", ""),
+    (
+        "decode-json-refused",
+        "decode --json --hex samples/refused.hex",
+        "",
+    ),
+    (
+        "decode-summary-json",
+        "decode --summary --json samples/several.ctm",
+        "",
+    ),
+    ("decode-open", "decode --hex", "C0030700 0 0\n"),
+    ("decode-nothing", "decode", ""),
+    (
+        "decode-no-hex",
+        "decode --hex",
+        "C0000900 0\nC0000900 zero\n",
+    ),
+    ("encode-hex", "encode --hex samples/several.txt", ""),
+    (
+        "encode-refused",
+        "encode --hex",
+        "wait_for_idle\nset_domain 9 0 5 0\n",
+    ),
+    ("encode-position", "encode --hex", "0: C0000900\n2: 0\n"),
+    ("encode-name", "encode --hex", "set_domian 0 0 0 0\n"),
+    ("encode-count", "encode --hex", "set_domain 0 0 0\n"),
+    ("encode-reserved", "encode --hex", "start_program 1\n"),
+    (
+        "address-linear",
+        "address --base 800 --pitch 100 --height 3 --size 4 --work 5,2 95,0 96,0",
+        "",
+    ),
+    (
+        "address-tiled",
+        "address --pitch 100 --height 20 --size 4 --tiled --work 37,18",
+        "",
+    ),
+    (
+        "address-list",
+        "address --pitch 128 --height 64 --size 1 --tiled",
+        "64,0 # C4\n0 32\n\n",
+    ),
+    (
+        "address-format",
+        "address --format 4010010 --height 8 15,7",
+        "",
+    ),
+    (
+        "address-json",
+        "address --pitch 16 --height 8 --size 16 --tiled --work --json 15,7 16,7",
+        "",
+    ),
+    (
+        "address-window",
+        "address --pitch 28 --height 1 --size 4 --tiled 0,0",
+        "",
+    ),
+    (
+        "address-top",
+        "address --base FFFFF800 --pitch 8 --height 65 --size 4 0,0",
+        "",
+    ),
+    (
+        "address-format-refused",
+        "address --format 5000010 --height 1 0,0",
+        "",
+    ),
+    (
+        "locate-tiled",
+        "locate --pitch 100 --height 20 --size 4 --tiled --work 2664",
+        "",
+    ),
+    (
+        "locate-linear",
+        "locate --base 800 --pitch 100 --height 3 --size 4 --work --decimal --base 2048 2839",
+        "",
+    ),
+    (
+        "locate-list",
+        "locate --pitch 100 --height 20 --size 4 --tiled",
+        "2667\n2FFF\n3000\n",
+    ),
+    (
+        "locate-json",
+        "locate --pitch 100 --height 20 --size 4 --tiled --json 2667 FFFFFFFF",
+        "",
+    ),
+    (
+        "locate-stream",
+        "locate --stream samples/several.ctm 4010A4 100000 1000 52C000",
+        "",
+    ),
+    (
+        "locate-stream-whole",
+        "locate --stream samples/whole.ctm 1000 37FF",
+        "",
+    ),
+    (
+        "locate-stream-words",
+        "locate --stream samples/several.ctm --words 38 300000 240000",
+        "",
+    ),
+    (
+        "locate-stream-refused",
+        "locate --stream samples/refused.hex --hex 800",
+        "",
+    ),
+    (
+        "locate-stream-json",
+        "locate --stream samples/whole.ctm --json 1000 31BF 0",
+        "",
+    ),
+    ("flow-list", "flow --hex samples/branch.hex", ""),
+    ("flow-list-json", "flow --hex --json samples/branch.hex", ""),
+    (
+        "flow-run",
+        "flow --hex samples/branch.hex --processors 8 --masks samples/branch.masks",
+        "",
+    ),
+    (
+        "flow-json",
+        "flow --hex --json samples/branch.hex --processors 8 --masks samples/branch.masks",
+        "",
+    ),
+    (
+        "flow-cases",
+        "flow --hex --processors 4 - 3,0 0,0 0,0",
+        "02000F00 0 10 0 01010020 0 20 0",
+    ),
+    ("flow-code", "flow --hex --processors 4 - 0,0", "C0 0"),
+    (
+        "flow-stack",
+        "flow --hex --processors 4 - 0,0 --repeat 9",
+        "FF80 0",
+    ),
+    ("flow-past", "flow --hex --processors 4 - 0,0", "FF00 20000"),
+    ("flow-odd", "flow --hex - 0,0", "20"),
+    ("flow-group", "flow --hex --processors 33 - 0,0", "20 0"),
+    ("explain", "explain", ""),
+    ("explain-6", "explain 6", ""),
+    ("explain-json", "explain --json 9", ""),
+    ("explain-18", "explain 18", ""),
+    ("missing-file", "decode samples/nothing.ctm", ""),
+    ("a-folder", "decode samples", ""),
+];
+
+#[test]
+fn the_output_is_as_stored() {
+    let folder = root().join("rust/host/tests/golden");
+    let renew = std::env::var_os("RENEW").is_some();
+    let mut differing = Vec::new();
+    for (name, arguments, input) in CASES {
+        let file = folder.join(format!("{name}.txt"));
+        let is = seen(arguments, input);
+        if renew {
+            fs::write(&file, &is).expect("the file is written");
+        }
+        let stored = fs::read_to_string(&file).unwrap_or_default();
+        if is != stored {
+            eprintln!("{name} was\n{stored}\n{name} is\n{is}");
+            differing.push(*name);
+        }
+    }
+    assert!(differing.is_empty(), "differing: {differing:?}");
+    every_file_has_its_case(&folder);
+}
+
+/// None is kept that nothing is held against.
+fn every_file_has_its_case(folder: &Path) {
+    let mut count = 0;
+    for entry in fs::read_dir(folder).expect("the folder is there") {
+        let name = entry.expect("an entry").file_name();
+        let name = name.to_string_lossy();
+        let case = |(stored, _, _): &(&str, &str, &str)| name == format!("{stored}.txt");
+        assert!(CASES.iter().any(case), "{name} has no case");
+        count += 1;
+    }
+    assert_eq!(count, CASES.len());
+}
+
+/// What a user sees: the line, the exit status and both outputs.
+fn seen(arguments: &str, input: &str) -> String {
+    let output = egretfold(arguments, input.as_bytes());
+    let status = output.status.code().expect("it ends by itself");
+    format!(
+        "$ egretfold {arguments}\n{}{}exit status {status}\n",
+        told(&output),
+        complained(&output)
+    )
+}

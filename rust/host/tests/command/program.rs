@@ -1,0 +1,140 @@
+//! The command line itself: help, exit statuses, files that are not as they should
+//! be, long input.
+
+use crate::common::{complained, egretfold, root, told};
+use std::fs;
+use std::io::Write;
+use std::process::{Command, Stdio};
+
+const SUBCOMMANDS: [&str; 6] = ["decode", "encode", "address", "locate", "flow", "explain"];
+
+#[test]
+fn help_is_given_by_every_subcommand() {
+    let all = egretfold("--help", b"");
+    assert_eq!(all.status.code(), Some(0));
+    for name in SUBCOMMANDS {
+        assert!(told(&all).contains(&format!("\n  {name} ")), "{name}");
+        let output = egretfold(&format!("{name} --help"), b"");
+        assert_eq!(output.status.code(), Some(0), "{name}");
+        let usage = format!("Usage: egretfold {name} ");
+        assert!(told(&output).contains(&usage), "{name}");
+        assert_eq!(complained(&output), "", "{name}");
+    }
+}
+
+#[test]
+fn a_wrong_line_ends_with_2_and_no_answer() {
+    for line in [
+        "nothing",
+        "decode --no-such-option",
+        "decode --terse --json samples/whole.ctm",
+        "address 1,2",
+        "address --pitch 100 --height 3 --size 4 12",
+        "address --pitch 0x --height 3 --size 4 1,2",
+        "address --pitch 100 --height 3 --size 4 --format 2000064 1,2",
+        "locate --pitch 100 --height 3 --size 4 xyz",
+        "locate --pitch 100 --height 3 --size 4 123456789",
+        "locate --words 3 800",
+        "flow --hex samples/branch.hex 1",
+        "explain 0",
+        "explain six",
+    ] {
+        let output = egretfold(line, b"");
+        assert_eq!(output.status.code(), Some(2), "{line}");
+        assert_eq!(told(&output), "", "{line}");
+        assert_ne!(complained(&output), "", "{line}");
+    }
+}
+
+#[test]
+fn a_stream_that_ends_inside_a_word_is_told_so_after_its_words() {
+    let whole = fs::read(root().join("samples/whole.ctm")).expect("the sample is there");
+    for rest in 1..4 {
+        let output = egretfold("decode", &whole[..whole.len() - 4 + rest]);
+        assert_eq!(output.status.code(), Some(2));
+        assert!(told(&output).contains("      13:  C0000800  start_program\n"));
+        assert!(!told(&output).contains("      14:"));
+        let at = 56 + rest;
+        let due = format!(
+            "egretfold: standard input: byte {at}: the input ends inside word 14, of which it has {rest} of 4 bytes\n"
+        );
+        assert_eq!(complained(&output), due);
+    }
+}
+
+#[test]
+fn a_file_is_read_like_standard_input() {
+    let whole = fs::read(root().join("samples/whole.ctm")).expect("the sample is there");
+    let by_file = egretfold("decode samples/whole.ctm", b"");
+    for line in ["decode", "decode -"] {
+        assert_eq!(egretfold(line, &whole).stdout, by_file.stdout);
+    }
+    let by_text = egretfold("decode --hex samples/whole.hex", b"");
+    assert_eq!(by_text.stdout, by_file.stdout);
+}
+
+#[test]
+fn the_sample_listing_is_its_stream() {
+    let several = fs::read(root().join("samples/several.ctm")).expect("the sample is there");
+    assert_eq!(egretfold("encode samples/several.txt", b"").stdout, several);
+}
+
+/// A reader that goes away early gets no complaint.
+#[test]
+fn a_closed_pipe_ends_quietly() {
+    let mut child = Command::new(env!("CARGO_BIN_EXE_egretfold"))
+        .args(["decode"])
+        .stdin(Stdio::piped())
+        .stdout(Stdio::piped())
+        .stderr(Stdio::piped())
+        .spawn()
+        .expect("the command runs");
+    drop(child.stdout.take());
+    let mut stdin = child.stdin.take().expect("it has an input");
+    // More words than any buffer between us holds the lines of.
+    let _ = stdin.write_all(&waits(200_000));
+    drop(stdin);
+    let output = child.wait_with_output().expect("the command ends");
+    assert_eq!(complained(&output), "");
+    assert_eq!(output.status.code(), Some(0));
+}
+
+/// Memory stays the same for a long stream. It is read off Linux's own account of
+/// the process while it waits for the stream's end.
+#[test]
+fn a_long_stream_takes_no_more_memory() {
+    let mut child = Command::new(env!("CARGO_BIN_EXE_egretfold"))
+        .args(["decode", "--summary"])
+        .stdin(Stdio::piped())
+        .stdout(Stdio::piped())
+        .spawn()
+        .expect("the command runs");
+    let mut stdin = child.stdin.take().expect("it has an input");
+    let piece = waits(1 << 17);
+    let pieces = 32;
+    for _ in 0..pieces {
+        stdin.write_all(&piece).expect("the words are taken");
+    }
+    let status = fs::read_to_string(format!("/proc/{}/status", child.id())).expect("Linux tells");
+    drop(stdin);
+    let output = child.wait_with_output().expect("the command ends");
+    let kilobytes = peak(&status).expect("the account has the peak");
+    assert!(kilobytes < 16 << 10, "{kilobytes} kB for 32 MB of words");
+    let words = pieces * (1 << 18);
+    let due = format!(
+        "  {words} words, {} commands, 0 runs, 0 elements claimed\n",
+        words / 2
+    );
+    assert!(told(&output).contains(&due), "{}", told(&output));
+}
+
+fn peak(status: &str) -> Option<u64> {
+    let line = status.lines().find(|line| line.starts_with("VmHWM:"))?;
+    line.split_whitespace().nth(1)?.parse().ok()
+}
+
+/// So many commands wait_for_idle, two words each.
+fn waits(count: usize) -> Vec<u8> {
+    let command = [0xC000_0900_u32, 0].map(u32::to_le_bytes).concat();
+    command.repeat(count)
+}
