@@ -12,10 +12,11 @@ use std::process::exit;
 use table::Table;
 
 const USAGE: &str = "\
-usage: bench [--quick] [--only SUBSTRING]
+usage: ./bench [--quick] [--only SUBSTRING]
   --quick            5 repeats a line instead of 21
   --only SUBSTRING   only the lines whose name has it
-  --help             this text";
+  --help             this text
+./bench --proofs [NAME...] times the proofs of all crates, or of these";
 
 struct Options {
     repeats: usize,

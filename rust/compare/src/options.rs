@@ -5,7 +5,7 @@ use crate::Kind;
 pub const HELP: &str = "\
 Compares the product with the second program on made-up inputs.
 
-usage: compare [--seconds S] [--seed N] [--kind KIND] [--case M]
+usage: ./compare [--seconds S] [--seed N] [--kind KIND] [--case M]
 
   --seconds S   go on for S seconds (default 10)
   --seed N      the seed of the cases (default 1)

@@ -32,7 +32,7 @@ fn a_wrong_line_ends_with_2_and_the_help_text() {
         assert_eq!(output.status.code(), Some(2), "{line}");
         assert_eq!(text(&output), "", "{line}");
         let wrong = String::from_utf8_lossy(&output.stderr).into_owned();
-        assert!(wrong.contains("usage: compare"), "{line}");
+        assert!(wrong.contains("usage: ./compare"), "{line}");
     }
 }
 
