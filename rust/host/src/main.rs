@@ -35,6 +35,7 @@ mod slots;
 mod source;
 mod steps;
 mod text;
+mod tile;
 mod tiles;
 mod walk;
 mod words;
@@ -68,6 +69,8 @@ enum What {
     Address(address::Options),
     /// A byte address back to its pair and its place in the element
     Locate(locate::Options),
+    /// A tile drawn, with the place of each cell
+    Tile(tile::Options),
     /// A flow program listed, or stepped with given masks
     Flow(flow::Options),
     /// What a refusal means, in document 01's words
@@ -92,6 +95,7 @@ fn run(line: &Line, out: &mut dyn Write) -> Outcome {
         Some(What::Encode(options)) => encode::run(options, out),
         Some(What::Address(options)) => address::run(options, out),
         Some(What::Locate(options)) => locate::run(options, out),
+        Some(What::Tile(options)) => tile::run(options, out),
         Some(What::Flow(options)) => flow::run(options, out),
         Some(What::Explain(options)) => explain::run(options, out),
     }

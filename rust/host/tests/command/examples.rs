@@ -59,6 +59,13 @@ fn all_hold(document: &str) -> usize {
 
 #[test]
 fn the_documents_print_what_the_examples_print() {
-    let counts = ["samples/README.md", "README.md"].map(all_hold);
-    assert!(counts[0] >= 5, "{counts:?}");
+    // The samples, the tour, and a tile and an address for each of the five sizes.
+    for (document, least) in [
+        ("samples/README.md", 5),
+        ("README.md", 5),
+        ("docs/ADDRESSES.md", 10),
+    ] {
+        let count = all_hold(document);
+        assert!(count >= least, "{document} has {count} examples");
+    }
 }

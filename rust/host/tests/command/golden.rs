@@ -68,6 +68,9 @@ const CASES: &[(&str, &str, &str)] = &[
         "address --pitch 128 --height 64 --size 1 --tiled",
         "64,0 # C4\n0 32\n\n",
     ),
+    ("tile", "tile --size 2 --column 1 --row 1", ""),
+    ("tile-size", "tile --size 3", ""),
+    ("tile-outside", "tile --size 16 --column 256", ""),
     (
         "address-format",
         "address --format 4010010 --height 8 15,7",
