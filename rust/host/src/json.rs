@@ -18,6 +18,10 @@ pub struct Json<'a> {
 }
 
 impl Form for Json<'_> {
+    fn wants_settings(&self) -> bool {
+        !self.summary
+    }
+
     fn word(&mut self, seen: &Seen) -> Outcome {
         if self.summary {
             return Ok(());

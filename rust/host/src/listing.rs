@@ -17,6 +17,10 @@ pub struct Listing<'a> {
 }
 
 impl Form for Listing<'_> {
+    fn wants_settings(&self) -> bool {
+        true
+    }
+
     fn word(&mut self, seen: &Seen) -> Outcome {
         let (at, word) = (seen.position, Word(seen.word));
         let text = match seen.came {
@@ -33,9 +37,14 @@ impl Form for Listing<'_> {
     fn start(&mut self, start: &Start) -> Outcome {
         let (runs, claimed, claims) = (start.runs, start.claimed, start.claims);
         writeln!(self.out, "#")?;
+        let since = if runs == 1 {
+            "stream's begin"
+        } else {
+            "last start"
+        };
         writeln!(
             self.out,
-            "# start {runs}: claims {claimed}, {claims} so far; * is new since the last start"
+            "# start {runs}: claims {claimed}, {claims} so far; * is new since the {since}"
         )?;
         for (setting, changed) in start.settings {
             show_setting(self.out, setting, if *changed { '*' } else { ' ' })?;

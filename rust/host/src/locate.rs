@@ -7,7 +7,7 @@ use crate::kinds::Address;
 use crate::layouts::LayoutOptions;
 use crate::lines::Lines;
 use crate::owners;
-use crate::source::Source;
+use crate::source::{self, Source};
 use crate::work::{self, Working};
 use boundary::Layout;
 use clap::Args;
@@ -42,6 +42,11 @@ pub struct Options {
 
 pub fn run(options: &Options, out: &mut dyn Write) -> Outcome {
     if let Some(file) = &options.stream {
+        if options.addresses.is_empty() && source::is_standard(Some(file)) {
+            return Err(Failure::wrong(
+                "stream and addresses can't both be on standard input",
+            ));
+        }
         let session = owners::read(file, options.hex, options.words, options.json, out)?;
         return each(options, out, &mut |address, out| {
             owners::answer(&session, address, options.json, out)

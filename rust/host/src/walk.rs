@@ -36,7 +36,8 @@ pub struct Start<'a> {
     pub claims: u64,
     /// What this start claimed.
     pub claimed: u64,
-    /// The settings in force, each with whether it changed since the last start.
+    /// The settings in force, each with whether it changed since the last start;
+    /// none for a form that doesn't want them.
     pub settings: &'a [(Setting, bool)],
 }
 
@@ -59,6 +60,11 @@ pub struct Totals {
 
 /// A form of output.
 pub trait Form {
+    /// Whether a start's settings are wanted: to gather them takes its time.
+    fn wants_settings(&self) -> bool {
+        false
+    }
+
     fn word(&mut self, seen: &Seen) -> Outcome;
     fn start(&mut self, start: &Start) -> Outcome;
     fn end(&mut self, totals: &Totals) -> Outcome;
@@ -201,11 +207,12 @@ impl Walk {
     }
 
     fn start(&mut self, position: Position, claims: u64, form: &mut dyn Form) -> Outcome {
-        let now = settings::all(&self.session);
-        let marked: Vec<(Setting, bool)> = now
-            .iter()
-            .map(|setting| (setting.clone(), !self.last.contains(setting)))
-            .collect();
+        let now = match form.wants_settings() {
+            true => settings::all(&self.session),
+            false => Vec::new(),
+        };
+        let mark = |setting: &Setting| (setting.clone(), !self.last.contains(setting));
+        let marked: Vec<(Setting, bool)> = now.iter().map(mark).collect();
         form.start(&Start {
             position,
             runs: self.session.runs(),

@@ -103,7 +103,7 @@ const CASES: &[(&str, &str, &str)] = &[
     ),
     (
         "locate-linear",
-        "locate --base 800 --pitch 100 --height 3 --size 4 --work --decimal --base 2048 2839",
+        "locate --base 2048 --pitch 100 --height 3 --size 4 --work --decimal 2839",
         "",
     ),
     (
@@ -214,7 +214,8 @@ fn seen(arguments: &str, input: &str) -> String {
     let output = egretfold(arguments, input.as_bytes());
     let status = output.status.code().expect("it ends by itself");
     format!(
-        "$ egretfold {arguments}\n{}{}exit status {status}\n",
+        "$ {}\n{}{}exit status {status}\n",
+        format!("egretfold {arguments}").trim_end(),
         told(&output),
         complained(&output)
     )

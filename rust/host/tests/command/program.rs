@@ -6,7 +6,9 @@ use std::fs;
 use std::io::Write;
 use std::process::{Command, Stdio};
 
-const SUBCOMMANDS: [&str; 6] = ["decode", "encode", "address", "locate", "flow", "explain"];
+const SUBCOMMANDS: [&str; 7] = [
+    "decode", "encode", "address", "locate", "tile", "flow", "explain",
+];
 
 #[test]
 fn help_is_given_by_every_subcommand() {
