@@ -98,7 +98,10 @@ impl fmt::Display for Failure {
         writeln!(f, "A difference in case {number} of {kind}, seed {seed}:")?;
         writeln!(f, "{}", self.difference)?;
         writeln!(f, "To run this case by itself:")?;
-        write!(f, "    ./compare --kind {kind} --seed {seed} --case {number}")
+        write!(
+            f,
+            "    ./compare --kind {kind} --seed {seed} --case {number}"
+        )
     }
 }
 

@@ -28,6 +28,12 @@ pub fn run(options: &Options, out: &mut dyn Write) -> Outcome {
     let tile = tile_of(size).ok_or(Failure::Wrong(format!(
         "size {size}: an element has 1, 2, 4, 8 or 16 bytes"
     )))?;
+    // Asked first, so that a tile that no window has is not begun. From here on nothing wraps.
+    let (left, top) = (
+        options.column.saturating_mul(tile.width),
+        options.row.saturating_mul(tile.height),
+    );
+    inside(options, tile, left, top)?;
     let (wide, high) = (tile.width / CELLS, tile.height / CELLS);
     writeln!(
         out,
@@ -42,7 +48,10 @@ pub fn run(options: &Options, out: &mut dyn Write) -> Outcome {
 fn draw_cells(options: &Options, tile: &Tile, out: &mut dyn Write) -> Outcome {
     let (column, row) = (options.column, options.row);
     let (wide, high) = (tile.width / CELLS, tile.height / CELLS);
-    writeln!(out, "\ntile in column {column}, row {row}: each cell's place, in {CELL_BYTES} bytes\n")?;
+    writeln!(
+        out,
+        "\ntile in column {column}, row {row}: each cell's place, in {CELL_BYTES} bytes\n"
+    )?;
     write!(out, "   y \\ x")?;
     for cell in 0..CELLS {
         write!(out, "{:>6}", column * tile.width + cell * wide)?;
