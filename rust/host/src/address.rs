@@ -39,7 +39,8 @@ pub fn run(options: &Options, out: &mut dyn Write) -> Outcome {
         while let Some(line) = lines.next()? {
             if !line.is_empty() {
                 let pair = numbers::pair(&line).map_err(|text| lines.wrong(&text))?;
-                first = first.or(one(options, &layout, pair, out)?);
+                let told = one(options, &layout, pair, out)?;
+                first = first.or(told.map(|told| lines.place(&told)));
             }
         }
     }

@@ -54,10 +54,7 @@ impl Fault {
     fn at(self, lines: &Lines) -> Failure {
         match self {
             Fault::Text(text) => lines.wrong(&text),
-            Fault::Refused(refused) => {
-                let (name, line) = (&lines.source.name, lines.number);
-                Failure::Refused(format!("{name}: line {line}: {refused}"))
-            }
+            Fault::Refused(refused) => Failure::Refused(lines.place(&refused.to_string())),
         }
     }
 }

@@ -72,7 +72,8 @@ fn each(options: &Options, out: &mut dyn Write, answer: &mut Answerer) -> Outcom
                     .layout
                     .address(&line)
                     .map_err(|text| lines.wrong(&text))?;
-                first = first.or(answer(address, out)?);
+                let told = answer(address, out)?;
+                first = first.or(told.map(|told| lines.place(&told)));
             }
         }
     }
