@@ -13,6 +13,13 @@ use clap::Args;
 use serde_json::json;
 use std::io::Write;
 
+/// Printed behind the help text.
+pub const EXAMPLES: &str = "\
+Examples:
+  egretfold address --pitch 100 --height 20 --size 4 --tiled --work 37,18
+  egretfold address --base 800 --format 2010064 --height 12 0,0 95,11
+  seq 0 95 | sed 's/$/,0/' | egretfold address --pitch 100 --height 3 --size 4";
+
 #[derive(Args)]
 pub struct Options {
     #[command(flatten)]
