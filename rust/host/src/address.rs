@@ -13,6 +13,13 @@ use clap::Args;
 use serde_json::json;
 use std::io::Write;
 
+/// Printed behind the help text.
+pub const EXAMPLES: &str = "\
+Examples:
+  egretfold address --pitch 100 --height 20 --size 4 --tiled --work 37,18
+  egretfold address --base 800 --format 2010064 --height 12 0,0 95,11
+  seq 0 95 | sed 's/$/,0/' | egretfold address --pitch 100 --height 3 --size 4";
+
 #[derive(Args)]
 pub struct Options {
     #[command(flatten)]
@@ -39,7 +46,8 @@ pub fn run(options: &Options, out: &mut dyn Write) -> Outcome {
         while let Some(line) = lines.next()? {
             if !line.is_empty() {
                 let pair = numbers::pair(&line).map_err(|text| lines.wrong(&text))?;
-                first = first.or(one(options, &layout, pair, out)?);
+                let told = one(options, &layout, pair, out)?;
+                first = first.or(told.map(|told| lines.place(&told)));
             }
         }
     }

@@ -10,6 +10,13 @@ use clap::Args;
 use std::io::Write;
 use std::path::PathBuf;
 
+/// Printed behind the help text.
+pub const EXAMPLES: &str = "\
+Examples, from the repository's root:
+  egretfold decode samples/several.ctm
+  egretfold decode --hex samples/refused.hex
+  egretfold decode --summary --json samples/whole.ctm";
+
 #[derive(Args)]
 pub struct Options {
     /// The stream: little-endian words; standard input for - or where none is given

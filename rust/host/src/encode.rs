@@ -19,6 +19,16 @@ use clap::Args;
 use std::io::Write;
 use std::path::PathBuf;
 
+/// Printed behind the help text.
+pub const EXAMPLES: &str = "\
+A line is a line of a listing, a command by its name and its parameters in hex, or
+words in hex; from # on it is a remark.
+
+Examples, from the repository's root:
+  egretfold encode samples/several.txt >several.ctm
+  egretfold decode several.ctm | egretfold encode | cmp - several.ctm
+  echo 'set_domain 0 0 5F 11' | egretfold encode --hex";
+
 #[derive(Args)]
 pub struct Options {
     /// The listing; standard input for - or where none is given
@@ -54,10 +64,7 @@ impl Fault {
     fn at(self, lines: &Lines) -> Failure {
         match self {
             Fault::Text(text) => lines.wrong(&text),
-            Fault::Refused(refused) => {
-                let (name, line) = (&lines.source.name, lines.number);
-                Failure::Refused(format!("{name}: line {line}: {refused}"))
-            }
+            Fault::Refused(refused) => Failure::Refused(lines.place(&refused.to_string())),
         }
     }
 }

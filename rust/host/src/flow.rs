@@ -16,6 +16,13 @@ use serde_json::json;
 use std::io::Write;
 use std::path::PathBuf;
 
+/// Printed behind the help text.
+pub const EXAMPLES: &str = "\
+Examples, from the repository's root:
+  egretfold flow --hex samples/branch.hex
+  egretfold flow --hex samples/branch.hex --processors 8 --masks samples/branch.masks
+  egretfold flow --hex samples/branch.hex --processors 8 0,0 --repeat 20";
+
 #[derive(Args)]
 pub struct Options {
     /// The program, two words a slot, little-endian; - for standard input

@@ -4,13 +4,13 @@ use crate::failure::{Failure, Outcome};
 use crate::source::{Source, PIECE};
 
 pub struct Lines {
-    pub source: Source,
+    source: Source,
     bytes: Vec<u8>,
     /// The part of `bytes` that is read and not handed out.
     start: usize,
     end: usize,
     /// Lines handed out so far, so also the number of the present one.
-    pub number: u64,
+    number: u64,
 }
 
 impl Lines {
@@ -61,8 +61,13 @@ impl Lines {
         }
     }
 
-    /// A failure that names the input and the line being read.
+    /// The text behind the input's name and the number of the line being read.
+    pub fn place(&self, text: &str) -> String {
+        format!("{}: line {}: {text}", self.source.name, self.number)
+    }
+
+    /// A failure of the line being read.
     pub fn wrong(&self, text: &str) -> Failure {
-        self.source.wrong(format!("line {}: {text}", self.number))
+        Failure::Wrong(self.place(text))
     }
 }

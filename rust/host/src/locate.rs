@@ -15,6 +15,13 @@ use serde_json::json;
 use std::io::Write;
 use std::path::PathBuf;
 
+/// Printed behind the help text.
+pub const EXAMPLES: &str = "\
+Examples, from the repository's root:
+  egretfold locate --pitch 100 --height 20 --size 4 --tiled --work 2664
+  egretfold locate --decimal --pitch 100 --height 20 --size 4 --tiled 9828
+  egretfold locate --stream samples/several.ctm 4010A4 6010A4";
+
 #[derive(Args)]
 pub struct Options {
     #[command(flatten)]
@@ -72,7 +79,8 @@ fn each(options: &Options, out: &mut dyn Write, answer: &mut Answerer) -> Outcom
                     .layout
                     .address(&line)
                     .map_err(|text| lines.wrong(&text))?;
-                first = first.or(answer(address, out)?);
+                let told = answer(address, out)?;
+                first = first.or(told.map(|told| lines.place(&told)));
             }
         }
     }

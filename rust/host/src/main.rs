@@ -62,16 +62,21 @@ struct Line {
 #[derive(Subcommand)]
 enum What {
     /// A stream of command words as a listing
+    #[command(after_help = decode::EXAMPLES)]
     Decode(decode::Options),
     /// A listing, or its terse form, back to words
+    #[command(after_help = encode::EXAMPLES)]
     Encode(encode::Options),
     /// A pair of a window to the address of its element
+    #[command(after_help = address::EXAMPLES)]
     Address(address::Options),
     /// A byte address back to its pair and its place in the element
+    #[command(after_help = locate::EXAMPLES)]
     Locate(locate::Options),
     /// A tile drawn, with the place of each cell
     Tile(tile::Options),
     /// A flow program listed, or stepped with given masks
+    #[command(after_help = flow::EXAMPLES)]
     Flow(flow::Options),
     /// What a refusal means, in document 01's words
     Explain(explain::Options),

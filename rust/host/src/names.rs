@@ -183,3 +183,37 @@ impl FormatWord {
         FORMATS.get(self.code() as usize)
     }
 }
+
+#[cfg(test)]
+mod tests {
+    use super::{command, command_named, COMMANDS};
+
+    #[test]
+    fn the_table_is_the_products() {
+        for line in &COMMANDS {
+            let count = line.parameters.len() as u32;
+            assert_eq!(
+                boundary::parameters(line.header),
+                Ok(count),
+                "{}",
+                line.name
+            );
+        }
+        // Every header that the product knows: operations of one to four
+        // parameters, with all else as document 01 has it.
+        let known = |header: &u32| boundary::parameters(*header).is_ok();
+        let headers = (0..4).flat_map(|n| (0..256).map(move |op| 3 << 30 | n << 16 | op << 8));
+        assert_eq!(headers.filter(known).count(), COMMANDS.len());
+    }
+
+    #[test]
+    fn names_and_headers_find_the_same_line() {
+        for line in &COMMANDS {
+            let by_name = command_named(line.name).map(|found| found.header);
+            let by_header = command(line.header).map(|found| found.name);
+            assert_eq!((by_name, by_header), (Some(line.header), Some(line.name)));
+            // By this `encode` tells a name from a word.
+            assert!(line.name.contains('_'));
+        }
+    }
+}

@@ -113,3 +113,33 @@ pub fn span(layout: &Layout) -> Option<u64> {
     let tile_rows = (height + u64::from(tile.height) - 1) / u64::from(tile.height);
     Some(tile_rows * (step / u64::from(tile.width)) * u64::from(TILE_BYTES))
 }
+
+#[cfg(test)]
+mod tests {
+    use super::{row_step, span, TILES};
+    use boundary::Layout;
+
+    #[test]
+    fn row_step_and_span_are_the_products() {
+        let mut accepted = 0;
+        for tile in &TILES {
+            for (pitch, height) in (0..2048).zip((1..=4096).rev().step_by(2)) {
+                for tiled in [false, true] {
+                    let layout = Layout {
+                        base: 0,
+                        pitch: 4 * pitch,
+                        height,
+                        size: tile.size,
+                        tiled,
+                    };
+                    if let Ok(window) = boundary::layout(&layout) {
+                        assert_eq!(row_step(&layout), Some(window.step), "{layout:?}");
+                        assert_eq!(span(&layout), Some(u64::from(window.span)), "{layout:?}");
+                        accepted += 1;
+                    }
+                }
+            }
+        }
+        assert!(accepted > 9_000, "{accepted}");
+    }
+}

@@ -1,9 +1,9 @@
 //! Refusals told with their place, their number and both quantities.
 
 use crate::common::{complained, egretfold};
-use boundary::Session;
+use boundary::{Group, Program, Session};
 use compare::random::Random;
-use compare::words;
+use compare::{programs, words};
 
 /// A stream in hex text, and what is told of its refused word.
 const TOLD: &[(&str, &str)] = &[
@@ -123,4 +123,51 @@ fn refused_streams_get_more_than_the_bare_cause() {
         seen[number as usize] += 1;
     }
     assert!(seen[2..=9].iter().all(|count| *count > 0), "{seen:?}");
+}
+
+/// The table's own words for 13 to 16.
+const BARE_FLOW: [&str; 4] = [
+    "flow word field or group size not allowed",
+    "branch counter or return stack at its limit",
+    "a jump past the program's end, or a program of 0 or over 512 slots or of an odd number of words",
+    "the program has already ended",
+];
+
+/// Masks of twelve steps, as arguments and as a run takes them.
+fn masks(random: &mut Random) -> (String, Vec<u32>) {
+    let list: Vec<u32> = (0..24).map(|_| random.mask()).collect();
+    let steps = list
+        .chunks(2)
+        .map(|pair| format!(" {:X},{:X}", pair[0], pair[1]));
+    (steps.collect(), list)
+}
+
+/// Whatever a program is refused for, the cause is found, and the number is the
+/// one that the product gives to the whole run.
+#[test]
+fn refused_runs_get_more_than_the_bare_cause() {
+    let mut seen = [0; 18];
+    for case in 0..2_000 {
+        let mut random = Random::of_case(92, 4, case);
+        let words = programs::any(&mut random);
+        let (arguments, list) = masks(&mut random);
+        let repeated = list.repeat(8);
+        let run = |program| Group::begin(8)?.run(&program, &repeated, 0xF0F0);
+        let answer = Program::load(&words).and_then(run);
+        let stream: Vec<u8> = words.iter().flat_map(|word| word.to_le_bytes()).collect();
+        let line = format!("flow --processors 8 --booleans F0F0 --repeat 8 -{arguments}");
+        let output = egretfold(&line, &stream);
+        let told = complained(&output);
+        match answer {
+            Ok(_) => assert_eq!((output.status.code(), told.as_str()), (Some(0), "")),
+            Err(number) => {
+                assert_eq!(output.status.code(), Some(1), "{told}");
+                assert!(told.contains(&format!(": refused {number}, ")), "{told}");
+                let is_bare = BARE_FLOW.iter().any(|bare| told.trim_end().ends_with(bare));
+                assert!(!is_bare, "{told}");
+                seen[number as usize] += 1;
+            }
+        }
+    }
+    assert!(seen[13..=15].iter().all(|count| *count > 0), "{seen:?}");
 }

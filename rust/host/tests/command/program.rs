@@ -140,3 +140,35 @@ fn waits(count: usize) -> Vec<u8> {
     let command = [0xC000_0900_u32, 0].map(u32::to_le_bytes).concat();
     command.repeat(count)
 }
+
+/// The examples that the help texts print run as they stand.
+#[test]
+fn the_examples_of_the_help_texts_run() {
+    let folder = std::env::temp_dir().join(format!("egretfold-{}", std::process::id()));
+    fs::create_dir_all(&folder).expect("a folder to write in");
+    let mut count = 0;
+    for name in SUBCOMMANDS {
+        let help = told(&egretfold(&format!("{name} --help"), b""));
+        for line in help
+            .lines()
+            .filter(|line| line.contains("  egretfold ") || line.contains("| egretfold "))
+        {
+            let mut shell = Command::new("sh");
+            let program = env!("CARGO_BIN_EXE_egretfold");
+            let samples = root().join("samples");
+            let line = line
+                .replace("egretfold ", &format!("{program} "))
+                .replace("samples/", &format!("{}/", samples.display()));
+            shell
+                .args(["-c", &line])
+                .current_dir(&folder)
+                .stdin(Stdio::null());
+            let output = shell.output().expect("the line runs");
+            let refused = line.contains("refused.hex");
+            assert_eq!(output.status.code(), Some(i32::from(refused)), "{line}");
+            count += 1;
+        }
+    }
+    fs::remove_dir_all(&folder).expect("the folder goes");
+    assert!(count >= 14, "{count}");
+}
