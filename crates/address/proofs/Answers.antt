@@ -6,8 +6,8 @@ use mathlib.Core.List.{List, [], _∷_}
 use Prim.Native.Nat.{ℕ, _+_, _-_, _*_, _/_, _<_, _≤_, _^_}
 use native.Mathlib.Nat.{mul-div-cancel, mul-le-mul, le-of-mul-le-mul-right, lt-of-mul-lt-mul-right}
 use native.Mathlib.Omega.{arith}
-use lib.Dec.{leb, ltb}
-use borrow.Author.Tests.{lt-ltb, le-ltb, le-leb, lt-leb}
+use lib.Dec.{leb, ltb, eqb}
+use borrow.Author.Tests.{lt-ltb, le-ltb, eqb-true, eqb-false}
 use Rattle.laws.specs.Choice.{_and_, pick}
 use Rattle.laws.proofs.Choice.{pick-yes, pick-no, and-intro, and-no-left, and-no-right, Tested, tested, holds, fails}
 use Rattle.refusal.specs.Told.{Told, gives, refuses}
@@ -77,6 +77,16 @@ module _ (l : Layout) where
       ap refuses (sym (ten-left x y (n - 2 ^ 32) (sym told ∙ told-refusal n h) (λ e. three (omega arith)) (λ e. six (omega arith)))) ∙
       sym (told-refusal n h) ∙
       told
+
+  pub refusal-small : (x y n : ℕ) → toldNumber n ≡ translateOf l x y → 2 ^ 32 ≤ n → n - 2 ^ 32 ≤ 10
+  refusal-small x y n told h = go (tested (eqb (n - 2 ^ 32) 3)) (tested (eqb (n - 2 ^ 32) 6))
+    where
+      go : Tested (eqb (n - 2 ^ 32) 3) → Tested (eqb (n - 2 ^ 32) 6) → n - 2 ^ 32 ≤ 10
+      go (holds a) b = omega (arith, eqb-true (n - 2 ^ 32) 3 a)
+      go (fails a) (holds b) = omega (arith, eqb-true (n - 2 ^ 32) 6 b)
+      go (fails a) (fails b) =
+          omega
+          (arith, ten-left x y (n - 2 ^ 32) (sym told ∙ told-refusal n h) (eqb-false (n - 2 ^ 32) 3 a) (eqb-false (n - 2 ^ 32) 6 b))
 
 -- an accepted layout, with its row step in elements
 pub record Taken (l : Layout) (e : ℕ) : Type 0 where

@@ -1,6 +1,5 @@
 // Layouts and addresses.
 use address::Located;
-use address::Translated;
 use layout::ByteAddress;
 use layout::Judged;
 use layout::Layout;
@@ -50,19 +49,12 @@ pub extern "C" fn egretfold_translate(
 ) -> u32
     ensures { λ r. ⌜ Crosses (translateOf (layoutOf base pitch height size tiled) x y) r (now (room .entry)) (now (room .exit)) ⌝ }
 {
-    let layout = Layout {
-        base: ByteAddress(base),
-        pitch,
-        height,
-        size,
-        tiled,
-    };
-    match address::translate(layout, x, y) {
-        Translated::Refused(why) => refusal::number(why),
-        Translated::At { address } => {
-            *room = [address.0];
-            0
-        }
+    let number = address::translate_numbers(base, pitch, height, size, tiled, x, y);
+    if number < 4294967296 {
+        *room = [number as u32];
+        0
+    } else {
+        (number - 4294967296) as u32
     }
 }
 
