@@ -6,19 +6,21 @@ use mathlib.Core.List.{List, [], _∷_}
 use Prim.Native.Nat.{ℕ, _+_, _-_, _*_, _/_, _<_, _≤_, _^_}
 use native.Mathlib.Nat.{mul-div-cancel, mul-le-mul, le-of-mul-le-mul-right, lt-of-mul-lt-mul-right}
 use native.Mathlib.Omega.{arith}
-use lib.Dec.{leb, ltb, eqb}
+use lib.Dec.{leb, ltb, eqb, lit≤}
 use borrow.Author.Tests.{lt-ltb, le-ltb, eqb-true, eqb-false}
-use Rattle.laws.specs.Choice.{_and_, pick}
+use Rattle.laws.specs.Choice.{_and_, pick, placeOf}
 use Rattle.laws.proofs.Choice.{pick-yes, pick-no, and-intro, and-no-left, and-no-right, Tested, tested, holds, fails}
 use Rattle.refusal.specs.Told.{Told, gives, refuses}
-use Rattle.layout.specs.Sizes.{isSize, widthOf}
+use Rattle.layout.specs.Sizes.{sizes, isSize, widthOf}
+use Rattle.layout.proofs.Sizes.{no-size}
+use Rattle.laws.proofs.Table.{NoneOf}
 use Rattle.layout.specs.Layout.{wellFormed, windowRule, rowBytes}
 use Rattle.layout.specs.declared.Layout.{Layout}
 use Rattle.layout.proofs.Window.{form-size, size-most, rule-bounds}
 use Rattle.layout.proofs.Rows.{Ruled, ruled, unruled}
 use Rattle.address.specs.Asked.{PairAsked, StepAsked}
 use Rattle.address.specs.Offset.{offsetOf, xOf, yOf, bytePlace}
-use Rattle.address.specs.Address.{stepOf, ifAccepted, inside, addressOf, translateOf, backOf, locateOf, toldNumber}
+use Rattle.address.specs.Address.{stepOf, ifAccepted, inside, addressOf, translateOf, backOf, locateOf, layoutOf, toldNumber}
 use Rattle.address.specs.Inverse.{Accepted, Inside}
 use Rattle.address.proofs.Offsets.{cells}
 use Rattle.address.proofs.Windows.{tiles-pos}
@@ -88,6 +90,21 @@ module _ (l : Layout) where
           omega
           (arith, ten-left x y (n - 2 ^ 32) (sym told ∙ told-refusal n h) (eqb-false (n - 2 ^ 32) 3 a) (eqb-false (n - 2 ^ 32) 6 b))
 
+-- a number that is none of the five sizes
+no-form : (base pitch s : ℕ) → placeOf s sizes ≡ 5 → wellFormed base pitch s ≡ false
+unfolding wellFormed isSize
+no-form base pitch s e = and-no-right _ (and-no-right _ (and-no-right _ (ap (λ (n : ℕ). ltb n 5) e)))
+
+pub sizeless :
+    (base pitch height s : ℕ) (tiled : Bool) (x y : ℕ) → NoneOf Unit sizes s →
+    toldNumber 4294967299 ≡ translateOf (layoutOf base pitch height s tiled) x y
+unfolding translateOf
+sizeless base pitch height s tiled x y r =
+    told-refusal 4294967299 (lit≤ tt) ∙
+    sym
+    (malformed (layoutOf base pitch height s tiled) _
+    (no-form base pitch s (no-size s (r .0 .0 .0 .0 .1) (r .0 .0 .0 .1) (r .0 .0 .1) (r .0 .1) (r .1))))
+
 -- an accepted layout, with its row step in elements
 pub record Taken (l : Layout) (e : ℕ) : Type 0 where
   pub accepted : Accepted l
@@ -101,10 +118,9 @@ module _ (l : Layout) (f : wellFormed (l .base .0) (l .pitch) (l .size) ≡ true
   size-pos : 0 < l .size
   size-pos = cells (l .size) (form-size (l .base .0) (l .pitch) (l .size) f) .s-pos
 
-  pub bytes-fit : (x : ℕ) → x < 2 ^ 32 → x * l .size ≤ 68719476736
+  pub bytes-fit : (x : ℕ) → x ≤ 4096 → x * l .size ≤ 65536
   bytes-fit x h =
-      mul-le-mul {n₂ = 4294967296} {m₂ = 16} (omega arith)
-      (size-most (l .size) (form-size (l .base .0) (l .pitch) (l .size) f))
+      mul-le-mul {n₂ = 4096} {m₂ = 16} h (size-most (l .size) (form-size (l .base .0) (l .pitch) (l .size) f))
 
   steps : r / l .size ≡ stepOf l
   steps = ap (λ (n : ℕ). n / l .size) (row-ruled .row) ∙ mul-div-cancel (stepOf l) size-pos
@@ -114,6 +130,11 @@ module _ (l : Layout) (f : wellFormed (l .base .0) (l .pitch) (l .size) ≡ true
 
   pub whole : r / l .size * l .size ≡ r
   whole = ap (λ (n : ℕ). n * l .size) steps ∙ sym (row-ruled .row)
+
+  pub past-all : (x : ℕ) → 4096 < x → r / l .size ≤ x
+  past-all x h =
+      omega
+      (arith, steps, rule-bounds (l .base .0) (l .tiled) (l .size) (stepOf l) (l .height) (row-ruled .rule) .step-most)
 
   pub past-row : (x : ℕ) → r ≤ x * l .size → r / l .size ≤ x
   past-row x h = le-of-mul-le-mul-right (rw whole h) size-pos

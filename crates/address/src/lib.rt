@@ -7,6 +7,7 @@ use layout::ByteAddress;
 use layout::Layout;
 use refusal::Refusal;
 ghost use mathlib.Core.Path.{_≡_};
+ghost use mathlib.Core.Bool.{true, false};
 ghost use Rattle.address.specs.Address.{translateOf, locateOf, layoutOf, toldNumber, toldTranslated, toldLocated};
 
 // Where a pair's element begins, or the refusal.
@@ -21,8 +22,54 @@ pub enum Located {
     Refused(Refusal),
 }
 
-// The same of a layout given by its numbers. The answer is one number, which stays in a register: the address, or 2^32 and
-// the refusal's number above it.
+// A translation's answer as one number, which stays in a register: the address, or 2^32 and the refusal's number above it.
+// Where size and kind are constants, every division below is one by a constant.
+fn sized(base: u32, pitch: u32, height: u32, size: u32, tiled: bool, x: u32, y: u32) -> u64
+    ensures { λ r. ⌜ toldNumber r ≡ translateOf (layoutOf base pitch height size tiled) x y ⌝ }
+{
+    if !layout::well_formed(base, pitch, size) {
+        return 4294967299;
+    }
+    let row = layout::window_row(base, pitch, height, size, tiled);
+    if row < 1 {
+        return 4294967302;
+    }
+    // no row step is above 4,096, and below it the product can't wrap
+    if 4096 < x {
+        return 4294967306;
+    }
+    if row <= x * size {
+        return 4294967306;
+    }
+    if height <= y {
+        return 4294967306;
+    }
+    let offset = offset::offset(tiled, size, row, x, y);
+    (base + offset) as u64
+}
+
+// The answer of a linear layout, given by its numbers.
+pub fn linear_number(base: u32, pitch: u32, height: u32, size: u32, x: u32, y: u32) -> u64
+    ensures { λ r. ⌜ toldNumber r ≡ translateOf (layoutOf base pitch height size false) x y ⌝ }
+{
+    sized(base, pitch, height, size, false, x, y)
+}
+
+// The answer of a tiled layout, given by its numbers, with one branch on the size.
+pub fn tiled_number(base: u32, pitch: u32, height: u32, size: u32, x: u32, y: u32) -> u64
+    ensures { λ r. ⌜ toldNumber r ≡ translateOf (layoutOf base pitch height size true) x y ⌝ }
+{
+    match size {
+        1 => sized(base, pitch, height, 1, true, x, y),
+        2 => sized(base, pitch, height, 2, true, x, y),
+        4 => sized(base, pitch, height, 4, true, x, y),
+        8 => sized(base, pitch, height, 8, true, x, y),
+        16 => sized(base, pitch, height, 16, true, x, y),
+        _ => 4294967299,
+    }
+}
+
+// The answer of either kind of layout.
 pub fn translate_numbers(
     base: u32,
     pitch: u32,
@@ -34,21 +81,11 @@ pub fn translate_numbers(
 ) -> u64
     ensures { λ r. ⌜ toldNumber r ≡ translateOf (layoutOf base pitch height size tiled) x y ⌝ }
 {
-    if !layout::well_formed(base, pitch, size) {
-        return 4294967299;
+    if tiled {
+        tiled_number(base, pitch, height, size, x, y)
+    } else {
+        linear_number(base, pitch, height, size, x, y)
     }
-    let row = layout::window_row(base, pitch, height, size, tiled);
-    if row < 1 {
-        return 4294967302;
-    }
-    if row as u64 <= x as u64 * size as u64 {
-        return 4294967306;
-    }
-    if height <= y {
-        return 4294967306;
-    }
-    let offset = offset::offset(tiled, size, row, x, y);
-    (base + offset) as u64
 }
 
 // The address of the element at (x, y), or 3 and 6 for a layout that isn't accepted, or 10 for a pair outside its window.
