@@ -7,7 +7,7 @@ use Prim.Native.Nat.{ℕ, _+_, _-_, _*_, _/_, _<_, _≤_, _^_}
 use native.Mathlib.Nat.{mul-div-cancel, mul-le-mul, le-of-mul-le-mul-right, lt-of-mul-lt-mul-right}
 use native.Mathlib.Omega.{arith}
 use lib.Dec.{leb, ltb, eqb, lit≤}
-use borrow.Author.Tests.{lt-ltb, le-ltb, eqb-true, eqb-false}
+use borrow.Author.Tests.{lt-ltb, le-ltb, eqb-true, eqb-false, leb-true, leb-false}
 use Rattle.laws.specs.Choice.{_and_, pick, placeOf}
 use Rattle.laws.proofs.Choice.{pick-yes, pick-no, and-intro, and-no-left, and-no-right, Tested, tested, holds, fails}
 use Rattle.refusal.specs.Told.{Told, gives, refuses}
@@ -80,7 +80,7 @@ module _ (l : Layout) where
       sym (told-refusal n h) ∙
       told
 
-  pub refusal-small : (x y n : ℕ) → toldNumber n ≡ translateOf l x y → 2 ^ 32 ≤ n → n - 2 ^ 32 ≤ 10
+  refusal-small : (x y n : ℕ) → toldNumber n ≡ translateOf l x y → 2 ^ 32 ≤ n → n - 2 ^ 32 ≤ 10
   refusal-small x y n told h = go (tested (eqb (n - 2 ^ 32) 3)) (tested (eqb (n - 2 ^ 32) 6))
     where
       go : Tested (eqb (n - 2 ^ 32) 3) → Tested (eqb (n - 2 ^ 32) 6) → n - 2 ^ 32 ≤ 10
@@ -89,6 +89,13 @@ module _ (l : Layout) where
       go (fails a) (fails b) =
           omega
           (arith, ten-left x y (n - 2 ^ 32) (sym told ∙ told-refusal n h) (eqb-false (n - 2 ^ 32) 3 a) (eqb-false (n - 2 ^ 32) 6 b))
+
+  pub number-small : (x y n : ℕ) → toldNumber n ≡ translateOf l x y → n < 8589934592
+  number-small x y n told = go (tested (leb (2 ^ 32) n))
+    where
+      go : Tested (leb (2 ^ 32) n) → n < 8589934592
+      go (holds h) = omega (arith, refusal-small x y n told (leb-true (2 ^ 32) n h))
+      go (fails h) = omega (arith, leb-false (2 ^ 32) n h)
 
 -- a number that is none of the five sizes
 no-form : (base pitch s : ℕ) → placeOf s sizes ≡ 5 → wellFormed base pitch s ≡ false

@@ -3,8 +3,9 @@ use address::Located;
 use layout::ByteAddress;
 use layout::Judged;
 use layout::Layout;
+ghost use Prim.Native.Nat.{_<_};
 ghost use Rattle.layout.specs.Layout.{judgeOf};
-ghost use Rattle.address.specs.Address.{translateOf, locateOf};
+ghost use Rattle.address.specs.Address.{translateOf, locateOf, toldNumber};
 ghost use Rattle.egretfold.specs.Crossing.{Crosses, layoutOf};
 
 // The row step and the span of a layout; 3 or 6.
@@ -35,6 +36,19 @@ pub extern "C" fn egretfold_layout(
     }
 }
 
+// A translation's number as status and room.
+fn cross(number: u64, room: &mut [u32; 1]) -> u32
+    requires { ⌜ number < 8589934592 ⌝ }
+    ensures { λ r. ⌜ Crosses (toldNumber number) r (now (room .entry)) (now (room .exit)) ⌝ }
+{
+    if number < 4294967296 {
+        *room = [number as u32];
+        0
+    } else {
+        (number - 4294967296) as u32
+    }
+}
+
 // The address of the element at (x, y); 3, 6 or 10.
 #[no_mangle]
 pub extern "C" fn egretfold_translate(
@@ -49,12 +63,11 @@ pub extern "C" fn egretfold_translate(
 ) -> u32
     ensures { λ r. ⌜ Crosses (translateOf (layoutOf base pitch height size tiled) x y) r (now (room .entry)) (now (room .exit)) ⌝ }
 {
-    let number = address::translate_numbers(base, pitch, height, size, tiled, x, y);
-    if number < 4294967296 {
-        *room = [number as u32];
-        0
+    // the branch stands here, so that the linear kind needs no call
+    if tiled {
+        cross(address::tiled_number(base, pitch, height, size, x, y), room)
     } else {
-        (number - 4294967296) as u32
+        cross(address::linear_number(base, pitch, height, size, x, y), room)
     }
 }
 
