@@ -3,7 +3,7 @@
 use mathlib.Core.Path.{_≡_, refl, sym, ap, ap₂, _∙_}
 use mathlib.Core.Bool.{Bool, true, false}
 use Prim.Native.Nat.{ℕ, _+_, _-_, _*_, _/_, _^_, _<_, _≤_}
-use native.Mathlib.Nat.{mul-assoc, mul-left-comm, mul-le-mul, le-of-mul-le-mul-right, lt-of-mul-lt-mul-right}
+use native.Mathlib.Nat.{mul-assoc, mul-left-comm, mul-le-mul, mul-pos, le-of-mul-le-mul-right, lt-of-mul-lt-mul-right}
 use native.Mathlib.Omega.{arith}
 use lib.Dec.{leb}
 use borrow.Author.Tests.{leb-true, le-leb, lt-leb}
@@ -84,6 +84,16 @@ pub rows-most : (tiled : Bool) (s h : ℕ) → isSize s ≡ true → h ≤ 4096 
 unfolding rowsTaken
 rows-most tiled s h z k = by-pick (λ (n : ℕ). n ≤ 4096) tiled _ _ (λ e. filled-most s h z k) (λ e. k)
 
+filled-least : (s h : ℕ) → isSize s ≡ true → h ≤ tileRows s h * heightOf s
+unfolding tileRows heightOf placeOf
+filled-least s h =
+    by-size (λ s. h ≤ tileRows s h * heightOf s) (omega arith) (omega arith) (omega arith) (omega arith) (omega arith) s
+
+rows-least : (tiled : Bool) (s h : ℕ) → isSize s ≡ true → h ≤ rowsTaken tiled s h
+unfolding rowsTaken
+rows-least tiled s h z =
+    let k : h ≤ h = omega arith in by-pick (λ (n : ℕ). h ≤ n) tiled _ _ (λ e. filled-least s h z) (λ e. k)
+
 -- rows and bytes of a row make up the span
 regroup : (t k a b c : ℕ) → t * k * (a * (b * c)) ≡ t * a * (k * b * c)
 regroup t k a b c = simp mul-assoc (ap (λ (n : ℕ). t * n) (mul-left-comm k a (b * c)))
@@ -155,16 +165,19 @@ module _ (base pitch h s : ℕ) (tiled : Bool) (form : wellFormed base pitch s �
       span-most =
           mul-le-mul {n₂ = 4096} {m₂ = 65536} (rw en (rows-most tiled s h size high)) (omega (arith, most, size-most s size))
 
+      pub span-least : 0 < n * r
+      span-least = mul-pos {m = n} (omega (arith, en, rows-least tiled s h size)) (omega (arith, least))
+
       is-span : n * r ≡ spanOf tiled s e h
       is-span = ap₂ (λ (i k : ℕ). i * k) en er ∙ span-by-rows tiled s pitch h size
 
-      pub kept : base < 2 ^ 32 → n * r ≤ 2 ^ 32 - base → r ≡ rowBytes base pitch h s tiled
+      pub kept : base < 2 ^ 32 → n * r - 1 ≤ 4294967295 - base → r ≡ rowBytes base pitch h s tiled
       unfolding windowRule rowBytes
       kept b k = er ∙ sym (pick-yes _ _ (and-intro bounded (le-leb (base + spanOf tiled s e h) (2 ^ 32) (omega (arith, is-span)))))
 
-      pub too-high : 2 ^ 32 - base < n * r → 0 ≡ rowBytes base pitch h s tiled
+      pub too-high : 4294967295 - base < n * r - 1 → 0 ≡ rowBytes base pitch h s tiled
       unfolding windowRule
-      too-high k = broken (and-no-right _ (lt-leb (base + spanOf tiled s e h) (2 ^ 32) (omega (arith, is-span))))
+      too-high k = broken (and-no-right _ (lt-leb (base + spanOf tiled s e h) (2 ^ 32) (omega (arith, is-span, span-least))))
 
   -- what the row shows of the rule
   pub record Ruled (r : ℕ) : Type 0 where

@@ -58,18 +58,14 @@ pub fn tile_height_in_table(line: usize) -> u32
     TILE_HEIGHTS[line]
 }
 
-// Whether a number is one of the five sizes.
+// Whether a number is one of the five sizes: 65,814 has just the bits 1, 2, 4, 8 and 16.
 pub fn is_size(size: u32) -> bool
     ensures { λ r. ⌜ r ≡ isSize size ⌝ }
 {
-    match size {
-        1 => true,
-        2 => true,
-        4 => true,
-        8 => true,
-        16 => true,
-        _ => false,
+    if 16 < size {
+        return false;
     }
+    (65814u32 >> size) % 2 == 1
 }
 
 // The tile's width for a size; 0 for what is no size.
@@ -230,11 +226,11 @@ pub fn window_row(base: u32, pitch: u32, height: u32, size: u32, tiled: bool) ->
         return 0;
     }
     let rows = rows_taken(height, size, tiled);
-    if (rows * row) as u64 <= 4294967296 - base as u64 {
-        row
-    } else {
-        0
+    // base plus span is at most 2^32, asked so that nothing wraps
+    if 4294967295 - base < rows * row - 1 {
+        return 0;
     }
+    row
 }
 
 // A layout's row step and span, or 3 where base, pitch or size is malformed, or 6 where the window rule is broken.

@@ -1,7 +1,7 @@
 -- `layout::window_row` meets its contract: a law for each return. Assumes nothing.
 use native.Mathlib.Omega.{arith}
 use Rattle.layout.proofs.Window.{form-size, size-most}
-use Rattle.layout.proofs.Rows.{form-pitch, no-row, long-row, no-height, great-height, span-most, kept, too-high}
+use Rattle.layout.proofs.Rows.{form-pitch, no-row, long-row, no-height, great-height, span-most, span-least, kept, too-high}
 use borrow.Author.Needs.{needs}
 use Rattle.layout.proofs.window_row.Statement.{statement}
 use Rattle.layout.proofs.window_row.Tie as tie
@@ -27,20 +27,20 @@ returns-4 c = great-height _ _ _ _ _ (c .before .before .before .before .before 
 rows-taken-requires : tie.Need-rows-taken-requires
 rows-taken-requires c κs = (form-size _ _ _ (c .before .before .before .before .before .pre), c .if4 .left)
 
-mul-if5 : tie.Need-mul-if5
-mul-if5 c = omega (arith, (span-most _ _ _ _ _ (c .before .before .before .before .before .before .pre) _ (c .before .before .before .before .before .row .ensures) (c .before .before .before .before .if1 .left) (c .before .before .before .if2 .left) (c .before .before .if3 .left) (c .before .if4 .left) _ (c .rows-taken .ensures)))
-
-cast-if5 : tie.Need-cast-if5
-cast-if5 c = omega (arith, (span-most _ _ _ _ _ (c .before .before .before .before .before .before .pre) _ (c .before .before .before .before .before .row .ensures) (c .before .before .before .before .if1 .left) (c .before .before .before .if2 .left) (c .before .before .if3 .left) (c .before .if4 .left) _ (c .rows-taken .ensures)))
-
 sub-if5 : tie.Need-sub-if5
 sub-if5 c = search needs
 
+mul-if5 : tie.Need-mul-if5
+mul-if5 c = omega (arith, span-most _ _ _ _ _ (c .before .before .before .before .before .before .pre) _ (c .before .before .before .before .before .row .ensures) (c .before .before .before .before .if1 .left) (c .before .before .before .if2 .left) (c .before .before .if3 .left) (c .before .if4 .left) _ (c .rows-taken .ensures))
+
+sub-if5-2 : tie.Need-sub-if5-2
+sub-if5-2 c = omega (arith, span-least _ _ _ _ _ (c .before .before .before .before .before .before .pre) _ (c .before .before .before .before .before .row .ensures) (c .before .before .before .before .if1 .left) (c .before .before .before .if2 .left) (c .before .before .if3 .left) (c .before .if4 .left) _ (c .rows-taken .ensures))
+
 returns-5 : tie.Need-returns-5
-returns-5 c = kept _ _ _ _ _ (c .before .before .before .before .before .before .before .pre) _ (c .before .before .before .before .before .before .row .ensures) (c .before .before .before .before .before .if1 .left) (c .before .before .before .before .if2 .left) (c .before .before .before .if3 .left) (c .before .before .if4 .left) _ (c .before .rows-taken .ensures) (c .before .before .before .before .before .before .before .fits .base .fits) (c .if5 .taken)
+returns-5 c = too-high _ _ _ _ _ (c .before .before .before .before .before .before .before .pre) _ (c .before .before .before .before .before .before .row .ensures) (c .before .before .before .before .before .if1 .left) (c .before .before .before .before .if2 .left) (c .before .before .before .if3 .left) (c .before .before .if4 .left) _ (c .before .rows-taken .ensures) (c .if5 .taken)
 
 returns-6 : tie.Need-returns-6
-returns-6 c = too-high _ _ _ _ _ (c .before .before .before .before .before .before .before .pre) _ (c .before .before .before .before .before .before .row .ensures) (c .before .before .before .before .before .if1 .left) (c .before .before .before .before .if2 .left) (c .before .before .before .if3 .left) (c .before .before .if4 .left) _ (c .before .rows-taken .ensures) (c .if5 .left)
+returns-6 c = kept _ _ _ _ _ (c .before .before .before .before .before .before .before .pre) _ (c .before .before .before .before .before .before .row .ensures) (c .before .before .before .before .before .if1 .left) (c .before .before .before .before .if2 .left) (c .before .before .before .if3 .left) (c .before .before .if4 .left) _ (c .before .rows-taken .ensures) (c .before .before .before .before .before .before .before .fits .base .fits) (c .if5 .left)
 
 pub window-row-spec : {M : Type 1} → statement M
 window-row-spec =
@@ -53,8 +53,8 @@ window-row-spec =
     returns-3
     returns-4
     rows-taken-requires
-    mul-if5
-    cast-if5
     sub-if5
+    mul-if5
+    sub-if5-2
     returns-5
     returns-6)
