@@ -11,15 +11,31 @@ ghost use Rattle.refusal.specs.Told.{gives, refuses};
 ghost use Rattle.memory.specs.Answers.{Answered, PutAsked, FourAsked};
 ghost use Rattle.memory.specs.Elements.{stored};
 
+// The given bytes, which are `n`, into a part of memory that is as long. Where `n` is a constant, no loop is left.
+fn store_all(part: &mut [u8], given: &[u8], n: usize)
+    requires { ⌜ (length (now part) ≡ length (now given)) × (n ≡ length (now given)) ⌝ }
+    ensures { λ _. ⌜ now (part .exit) ≡ now (given .entry) ⌝ }
+{
+    let mut i = 0;
+    while i < n {
+        part[i] = given[i];
+        i += 1;
+    }
+}
+
 // Given bytes into a part of memory that is as long.
 pub fn store(part: &mut [u8], given: &[u8])
     requires { ⌜ length (now part) ≡ length (now given) ⌝ }
     ensures { λ _. ⌜ now (part .exit) ≡ now (given .entry) ⌝ }
 {
-    let mut i = 0;
-    while i < given.len() {
-        part[i] = given[i];
-        i += 1;
+    let n = given.len();
+    match n {
+        1 => store_all(part, given, 1),
+        2 => store_all(part, given, 2),
+        4 => store_all(part, given, 4),
+        8 => store_all(part, given, 8),
+        16 => store_all(part, given, 16),
+        _ => store_all(part, given, n),
     }
 }
 
