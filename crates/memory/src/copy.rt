@@ -5,7 +5,7 @@ use refusal::Refusal;
 ghost use mathlib.Core.Path.{_≡_};
 ghost use mathlib.Core.List.{_++_};
 ghost use Prim.Native.Nat.{_≤_};
-ghost use lib.ListN.{length};
+ghost use lib.ListN.{length, replicate};
 ghost use Rattle.refusal.specs.Number.{numberOf};
 ghost use Rattle.refusal.specs.Told.{gives, refuses};
 ghost use Rattle.memory.specs.Answers.{Answered, PutAsked, FourAsked};
@@ -48,15 +48,30 @@ pub fn refused(why: Refusal) -> Reading
     }
 }
 
-// Bytes of a reading with a part of memory put in place `at`.
-fn put(bytes: [u8; 16], at: usize, part: &[u8]) -> [u8; 16]
-    requires { ⌜ PutAsked bytes at (now part) ⌝ }
+// Bytes of a reading with a part of memory, of `n` bytes, put in place `at`.
+fn put(bytes: [u8; 16], at: usize, part: &[u8], n: usize) -> [u8; 16]
+    requires { ⌜ PutAsked bytes at (now part) × (n ≡ length (now part)) ⌝ }
     ensures { λ r. ⌜ r ≡ stored at (now (part .entry)) bytes ⌝ }
 {
     let mut room = bytes;
-    let n = part.len();
-    store(&mut room[at..at + n], part);
+    store_all(&mut room[at..at + n], part, n);
     room
+}
+
+// The bytes of a reading of one element: each size is a constant in its arm.
+fn first(element: &[u8]) -> [u8; 16]
+    requires { ⌜ length (now element) ≤ 16 ⌝ }
+    ensures { λ r. ⌜ r ≡ stored 0 (now (element .entry)) (replicate 16 0) ⌝ }
+{
+    let n = element.len();
+    match n {
+        1 => put([0; 16], 0, element, 1),
+        2 => put([0; 16], 0, element, 2),
+        4 => put([0; 16], 0, element, 4),
+        8 => put([0; 16], 0, element, 8),
+        16 => put([0; 16], 0, element, 16),
+        _ => put([0; 16], 0, element, n),
+    }
 }
 
 // A reading of one element.
@@ -64,7 +79,7 @@ pub fn one(element: &[u8]) -> Reading
     requires { ⌜ length (now element) ≤ 16 ⌝ }
     ensures { λ r. ⌜ Answered (gives (now (element .entry))) r ⌝ }
 {
-    let bytes = put([0; 16], 0, element);
+    let bytes = first(element);
     Reading {
         answer: Answer::Bytes(element.len()),
         bytes,
@@ -77,10 +92,10 @@ pub fn four(a: &[u8], b: &[u8], c: &[u8], d: &[u8]) -> Reading
     ensures { λ r. ⌜ Answered (gives (now (a .entry) ++ (now (b .entry) ++ (now (c .entry) ++ now (d .entry))))) r ⌝ }
 {
     let n = a.len();
-    let bytes = put([0; 16], 0, a);
-    let bytes = put(bytes, n, b);
-    let bytes = put(bytes, n * 2, c);
-    let bytes = put(bytes, n * 3, d);
+    let bytes = put([0; 16], 0, a, n);
+    let bytes = put(bytes, n, b, n);
+    let bytes = put(bytes, n * 2, c, n);
+    let bytes = put(bytes, n * 3, d, n);
     Reading {
         answer: Answer::Bytes(n * 4),
         bytes,
