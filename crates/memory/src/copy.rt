@@ -9,7 +9,7 @@ ghost use lib.ListN.{length, replicate};
 ghost use Rattle.refusal.specs.Number.{numberOf};
 ghost use Rattle.refusal.specs.Told.{gives, refuses};
 ghost use Rattle.memory.specs.Answers.{Answered, PutAsked, FourAsked};
-ghost use Rattle.memory.specs.Elements.{stored};
+ghost use Rattle.memory.specs.Elements.{stored, inLine};
 
 // The given bytes, which are `n`, into a part of memory that is as long. Where `n` is a constant, no loop is left.
 fn store_all(part: &mut [u8], given: &[u8], n: usize)
@@ -86,16 +86,37 @@ pub fn one(element: &[u8]) -> Reading
     }
 }
 
+// Four parts of `n` bytes each, one after the other.
+fn in_line(a: &[u8], b: &[u8], c: &[u8], d: &[u8], n: usize) -> [u8; 16]
+    requires { ⌜ FourAsked (now a) (now b) (now c) (now d) × (n ≡ length (now a)) ⌝ }
+    ensures { λ r. ⌜ r ≡ inLine n (now (a .entry)) (now (b .entry)) (now (c .entry)) (now (d .entry)) ⌝ }
+{
+    let bytes = put([0; 16], 0, a, n);
+    let bytes = put(bytes, n, b, n);
+    let bytes = put(bytes, n * 2, c, n);
+    put(bytes, n * 3, d, n)
+}
+
+// The bytes of a reading of four elements: the sizes of a superfine read are constants in their arms.
+fn first_four(a: &[u8], b: &[u8], c: &[u8], d: &[u8]) -> [u8; 16]
+    requires { ⌜ FourAsked (now a) (now b) (now c) (now d) ⌝ }
+    ensures { λ r. ⌜ r ≡ inLine (length (now (a .entry))) (now (a .entry)) (now (b .entry)) (now (c .entry)) (now (d .entry)) ⌝ }
+{
+    let n = a.len();
+    match n {
+        2 => in_line(a, b, c, d, 2),
+        4 => in_line(a, b, c, d, 4),
+        _ => in_line(a, b, c, d, n),
+    }
+}
+
 // A reading of four elements of one size, one after the other.
 pub fn four(a: &[u8], b: &[u8], c: &[u8], d: &[u8]) -> Reading
     requires { ⌜ FourAsked (now a) (now b) (now c) (now d) ⌝ }
     ensures { λ r. ⌜ Answered (gives (now (a .entry) ++ (now (b .entry) ++ (now (c .entry) ++ now (d .entry))))) r ⌝ }
 {
     let n = a.len();
-    let bytes = put([0; 16], 0, a, n);
-    let bytes = put(bytes, n, b, n);
-    let bytes = put(bytes, n * 2, c, n);
-    let bytes = put(bytes, n * 3, d, n);
+    let bytes = first_four(a, b, c, d);
     Reading {
         answer: Answer::Bytes(n * 4),
         bytes,
