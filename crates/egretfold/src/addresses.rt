@@ -67,7 +67,10 @@ pub extern "C" fn egretfold_translate(
     if tiled {
         cross(address::tiled_number(base, pitch, height, size, x, y), room)
     } else {
-        cross(address::linear_number(base, pitch, height, size, x, y), room)
+        cross(
+            address::linear_number(base, pitch, height, size, x, y),
+            room,
+        )
     }
 }
 

@@ -206,8 +206,9 @@ module _ (base pitch h s : ℕ) (tiled : Bool) (form : wellFormed base pitch s �
   pub window-span :
       (r n : ℕ) → Ruled r → n ≡ rowsTaken tiled s h → (n * r ≡ spanOf tiled s e h) × (n * r ≤ 268435456) × (h ≤ 4096)
   window-span r n w en =
-      let b = rule-bounds base tiled s e h (w .rule) in
-      (ap₂ (λ (i k : ℕ). i * k) en (w .row) ∙ span-by-rows tiled s pitch h size,
-       mul-le-mul {n₂ = 4096} {m₂ = 65536} (rw en (rows-most tiled s h size (b .height-most)))
-       (rw (w .row) (mul-le-mul {n₂ = 4096} {m₂ = 16} (b .step-most) (size-most s size))),
-       b .height-most)
+      let b = rule-bounds base tiled s e h (w .rule) in (
+        ap₂ (λ (i k : ℕ). i * k) en (w .row) ∙ span-by-rows tiled s pitch h size,
+        mul-le-mul {n₂ = 4096} {m₂ = 65536} (rw en (rows-most tiled s h size (b .height-most)))
+            (rw (w .row) (mul-le-mul {n₂ = 4096} {m₂ = 16} (b .step-most) (size-most s size))),
+        b .height-most,
+      )
