@@ -3,69 +3,151 @@
 use mathlib.Core.Path.{_≡_, refl, sym, ap, _∙_, subst}
 use mathlib.Core.Bool.{Bool, true, false}
 use mathlib.Core.List.{List, [], _∷_}
-use Prim.Native.Nat.{ℕ, _+_, _-_, _/_, _<_, _≤_, _^_}
+use Prim.Native.Nat.{ℕ, _+_, _-_, _*_, _/_, _<_, _≤_, _^_}
+use native.Mathlib.Nat.{mul-div-cancel, mul-le-mul, le-of-mul-le-mul-right, lt-of-mul-lt-mul-right}
 use native.Mathlib.Omega.{arith}
-use lib.Dec.{leb, ltb}
-use borrow.Author.Tests.{lt-ltb, le-ltb, le-leb, lt-leb}
-use Rattle.laws.specs.Choice.{_and_, pick}
+use lib.Dec.{leb, ltb, eqb, lit≤}
+use borrow.Author.Tests.{lt-ltb, le-ltb, eqb-true, eqb-false, leb-true, leb-false}
+use Rattle.laws.specs.Choice.{_and_, pick, placeOf}
 use Rattle.laws.proofs.Choice.{pick-yes, pick-no, and-intro, and-no-left, and-no-right, Tested, tested, holds, fails}
 use Rattle.refusal.specs.Told.{Told, gives, refuses}
-use Rattle.layout.specs.Sizes.{isSize, widthOf}
-use Rattle.layout.specs.Layout.{wellFormed, rowStep, spanOf, windowRule, judgeOf}
+use Rattle.layout.specs.Sizes.{sizes, isSize, widthOf}
+use Rattle.layout.proofs.Sizes.{no-size}
+use Rattle.laws.proofs.Table.{NoneOf}
+use Rattle.layout.specs.Layout.{wellFormed, windowRule, rowBytes}
 use Rattle.layout.specs.declared.Layout.{Layout}
-use Rattle.layout.proofs.Window.{rule-bounds}
+use Rattle.layout.proofs.Window.{form-size, size-most, rule-bounds}
+use Rattle.layout.proofs.Rows.{Ruled, ruled, unruled}
 use Rattle.address.specs.Asked.{PairAsked, StepAsked}
 use Rattle.address.specs.Offset.{offsetOf, xOf, yOf, bytePlace}
-use Rattle.address.specs.Address.{stepOf, ifAccepted, inside, addressOf, translateOf, backOf, locateOf}
+use Rattle.address.specs.Address.{stepOf, ifAccepted, inside, addressOf, translateOf, backOf, locateOf, layoutOf, toldNumber}
 use Rattle.address.specs.Inverse.{Accepted, Inside}
 use Rattle.address.proofs.Offsets.{cells}
 use Rattle.address.proofs.Windows.{tiles-pos}
 use Rattle.address.proofs.Inverse.{grid, answered, below-base, from-base, inverse}
 
-abbrev pub judgement : Layout → Told
-judgement l = judgeOf (l .base .0) (l .pitch) (l .height) (l .size) (l .tiled)
-
 told-apart : {v : List ℕ} {n : ℕ} → gives v ≡ refuses n → ⊥
 told-apart h = let z : _≡_ {A = ℕ} 0 1 = cc in omega arith
 
--- how the judgement of a layout comes about
-data Outcome (l : Layout) : Type 0 where
-  accepts : Accepted l → judgement l ≡ gives (stepOf l ∷ spanOf (l .tiled) (l .size) (stepOf l) (l .height) ∷ []) → Outcome l
-  denies : (n : ℕ) → judgement l ≡ refuses n → ((answer : Told) → ifAccepted l answer ≡ refuses n) → Outcome l
+-- a number as an answer
+pub told-address : (n : ℕ) → n < 2 ^ 32 → toldNumber n ≡ gives (n ∷ [])
+unfolding toldNumber
+told-address n h = pick-yes _ _ (lt-ltb _ _ h)
 
-outcome : (l : Layout) → Outcome l
-unfolding judgeOf ifAccepted
-outcome l = go (tested _) (tested _)
-  where
-    go :
-        Tested (wellFormed (l .base .0) (l .pitch) (l .size)) →
-        Tested (windowRule (l .base .0) (l .tiled) (l .size) (stepOf l) (l .height)) → Outcome l
-    go (holds f) (holds w) = accepts (record { form = f; window = w }) (pick-yes _ _ f ∙ pick-yes _ _ w)
-    go (holds f) (fails w) = denies 6 (pick-yes _ _ f ∙ pick-no _ _ w) (λ answer. pick-yes _ _ f ∙ pick-no _ _ w)
-    go (fails f) w = denies 3 (pick-no _ _ f) (λ answer. pick-no _ _ f)
+pub told-refusal : (n : ℕ) → 2 ^ 32 ≤ n → toldNumber n ≡ refuses (n - 2 ^ 32)
+unfolding toldNumber
+told-refusal n h = pick-no _ _ (le-ltb _ _ h)
 
--- a refused layout's refusal is the answer
-pub passed-on : (l : Layout) (n : ℕ) (answer : Told) → judgement l ≡ refuses n → ifAccepted l answer ≡ refuses n
-passed-on l n answer told = go (outcome l)
-  where
-    go : Outcome l → ifAccepted l answer ≡ refuses n
-    go (accepts a told') = absurd (told-apart (sym told' ∙ told))
-    go (denies m told' same) = same answer ∙ sym told' ∙ told
+-- a layout that isn't accepted
+module _ (l : Layout) where
+  abbrev form : Bool
+  form = wellFormed (l .base .0) (l .pitch) (l .size)
 
--- what an accepted layout's judgement hands over
+  abbrev rule : Bool
+  rule = windowRule (l .base .0) (l .tiled) (l .size) (stepOf l) (l .height)
+
+  pub malformed : (answer : Told) → form ≡ false → ifAccepted l answer ≡ refuses 3
+  unfolding ifAccepted
+  malformed answer f = pick-no _ _ f
+
+  abbrev rowOf : ℕ
+  rowOf = rowBytes (l .base .0) (l .pitch) (l .height) (l .size) (l .tiled)
+
+  pub ruleless : (answer : Told) → form ≡ true → (r : ℕ) → r ≡ rowOf → r < 1 → ifAccepted l answer ≡ refuses 6
+  unfolding ifAccepted
+  ruleless answer f r er k =
+      pick-yes _ _ f ∙ pick-no _ _ (unruled (l .base .0) (l .pitch) (l .height) (l .size) (l .tiled) f r er k)
+
+  -- a translation is refused with 3, 6 or 10
+  pub ten-left : (x y n : ℕ) → translateOf l x y ≡ refuses n → (n ≡ 3 → ⊥) → (n ≡ 6 → ⊥) → n ≡ 10
+  unfolding translateOf ifAccepted
+  ten-left x y n told three six = go (tested form) (tested rule) (tested (inside l x y))
+    where
+      same : {i k : ℕ} → refuses i ≡ refuses k → k ≡ i
+      same h = cc
+
+      go : Tested form → Tested rule → Tested (inside l x y) → n ≡ 10
+      go (fails f) w i = absurd (three (same (sym (pick-no _ _ f) ∙ told)))
+      go (holds f) (fails w) i = absurd (six (same (sym (pick-yes _ _ f ∙ pick-no _ _ w) ∙ told)))
+      go (holds f) (holds w) (fails i) = same (sym (pick-yes _ _ f ∙ pick-yes _ _ w ∙ pick-no _ _ i) ∙ told)
+      go (holds f) (holds w) (holds i) = absurd (told-apart (sym (pick-yes _ _ f ∙ pick-yes _ _ w ∙ pick-yes _ _ i) ∙ told))
+
+  pub refused-outside :
+      (x y n : ℕ) → toldNumber n ≡ translateOf l x y → 2 ^ 32 ≤ n → (n ≡ 4294967299 → ⊥) → (n ≡ 4294967302 → ⊥) →
+      refuses 10 ≡ translateOf l x y
+  refused-outside x y n told h three six =
+      ap refuses (sym (ten-left x y (n - 2 ^ 32) (sym told ∙ told-refusal n h) (λ e. three (omega arith)) (λ e. six (omega arith)))) ∙
+      sym (told-refusal n h) ∙
+      told
+
+  refusal-small : (x y n : ℕ) → toldNumber n ≡ translateOf l x y → 2 ^ 32 ≤ n → n - 2 ^ 32 ≤ 10
+  refusal-small x y n told h = go (tested (eqb (n - 2 ^ 32) 3)) (tested (eqb (n - 2 ^ 32) 6))
+    where
+      go : Tested (eqb (n - 2 ^ 32) 3) → Tested (eqb (n - 2 ^ 32) 6) → n - 2 ^ 32 ≤ 10
+      go (holds a) b = omega (arith, eqb-true (n - 2 ^ 32) 3 a)
+      go (fails a) (holds b) = omega (arith, eqb-true (n - 2 ^ 32) 6 b)
+      go (fails a) (fails b) =
+          omega
+          (arith, ten-left x y (n - 2 ^ 32) (sym told ∙ told-refusal n h) (eqb-false (n - 2 ^ 32) 3 a) (eqb-false (n - 2 ^ 32) 6 b))
+
+  pub number-small : (x y n : ℕ) → toldNumber n ≡ translateOf l x y → n < 8589934592
+  number-small x y n told = go (tested (leb (2 ^ 32) n))
+    where
+      go : Tested (leb (2 ^ 32) n) → n < 8589934592
+      go (holds h) = omega (arith, refusal-small x y n told (leb-true (2 ^ 32) n h))
+      go (fails h) = omega (arith, leb-false (2 ^ 32) n h)
+
+-- a number that is none of the five sizes
+no-form : (base pitch s : ℕ) → placeOf s sizes ≡ 5 → wellFormed base pitch s ≡ false
+unfolding wellFormed isSize
+no-form base pitch s e = and-no-right _ (and-no-right _ (and-no-right _ (ap (λ (n : ℕ). ltb n 5) e)))
+
+pub sizeless :
+    (base pitch height s : ℕ) (tiled : Bool) (x y : ℕ) → NoneOf Unit sizes s →
+    toldNumber 4294967299 ≡ translateOf (layoutOf base pitch height s tiled) x y
+unfolding translateOf
+sizeless base pitch height s tiled x y r =
+    told-refusal 4294967299 (lit≤ tt) ∙
+    sym
+    (malformed (layoutOf base pitch height s tiled) _
+    (no-form base pitch s (no-size s (r .0 .0 .0 .0 .1) (r .0 .0 .0 .1) (r .0 .0 .1) (r .0 .1) (r .1))))
+
+-- an accepted layout, with its row step in elements
 pub record Taken (l : Layout) (e : ℕ) : Type 0 where
   pub accepted : Accepted l
   pub step : e ≡ stepOf l
 
-pub taken : (l : Layout) (e n : ℕ) → judgement l ≡ gives (e ∷ n ∷ []) → Taken l e
-taken l e n told = go (outcome l)
-  where
-    go : Outcome l → Taken l e
-    go (accepts a told') = record { accepted = a; step = first (sym told ∙ told') }
-      where
-        first : {x y z w : ℕ} → gives (x ∷ y ∷ []) ≡ gives (z ∷ w ∷ []) → x ≡ z
-        first h = cc
-    go (denies m told' same) = absurd (told-apart (sym told ∙ told'))
+-- and with its row step in bytes, as the window rule hands it over
+module _ (l : Layout) (f : wellFormed (l .base .0) (l .pitch) (l .size) ≡ true) (r : ℕ) (er : r ≡ rowOf l) (k : 1 ≤ r) where
+  row-ruled : Ruled (l .base .0) (l .pitch) (l .height) (l .size) (l .tiled) f r
+  row-ruled = ruled (l .base .0) (l .pitch) (l .height) (l .size) (l .tiled) f r er k
+
+  size-pos : 0 < l .size
+  size-pos = cells (l .size) (form-size (l .base .0) (l .pitch) (l .size) f) .s-pos
+
+  pub bytes-fit : (x : ℕ) → x ≤ 4096 → x * l .size ≤ 65536
+  bytes-fit x h =
+      mul-le-mul {n₂ = 4096} {m₂ = 16} h (size-most (l .size) (form-size (l .base .0) (l .pitch) (l .size) f))
+
+  steps : r / l .size ≡ stepOf l
+  steps = ap (λ (n : ℕ). n / l .size) (row-ruled .row) ∙ mul-div-cancel (stepOf l) size-pos
+
+  pub taken : Taken l (r / l .size)
+  taken = record { accepted = record { form = f; window = row-ruled .rule }; step = steps }
+
+  pub whole : r / l .size * l .size ≡ r
+  whole = ap (λ (n : ℕ). n * l .size) steps ∙ sym (row-ruled .row)
+
+  pub past-all : (x : ℕ) → 4096 < x → r / l .size ≤ x
+  past-all x h =
+      omega
+      (arith, steps, rule-bounds (l .base .0) (l .tiled) (l .size) (stepOf l) (l .height) (row-ruled .rule) .step-most)
+
+  pub past-row : (x : ℕ) → r ≤ x * l .size → r / l .size ≤ x
+  past-row x h = le-of-mul-le-mul-right (rw whole h) size-pos
+
+  pub in-row : (x : ℕ) → x * l .size < r → x < r / l .size
+  in-row x h = lt-of-mul-lt-mul-right (l .size) (rw whole h)
 
 module _ (l : Layout) (e : ℕ) (t : Taken l e) where
   size : isSize (l .size) ≡ true

@@ -4,8 +4,9 @@ use mathlib.Core.Path.{_≡_, refl, sym, ap, ap₂, _∙_}
 use Prim.Native.Nat.{ℕ, _+_, _*_, _/_, _%_, _<_}
 use native.Mathlib.Nat.{div-one, div-add-mod, div-div-eq-div-mul}
 use native.Mathlib.Omega.{arith}
+use lib.Bits.{bitXor, xor-block}
 use Rattle.laws.specs.Bits.{bit, xor}
-use Rattle.laws.proofs.Bits.{bit-zero, xor-lt, xor-back}
+use Rattle.laws.proofs.Bits.{bit-zero, xor-lt, xor-back, xor-of}
 use Rattle.address.specs.Offset.{codeOf, highX, highY, cellX, cellY}
 
 -- a number of six bits, and its bits
@@ -141,12 +142,75 @@ module _ (column row c : ℕ) where
       (rw (high-x-back, high-y-back, xor-back (bit 3 c) (highX row c) (omega arith), xor-back (bit 2 c) (highY column c) (omega arith))
       (whole c h))
 
--- as the code reckons them, bit by bit
+-- numbers of six bits, each with its bits, go through an exclusive or bit by bit
+digit : (m n a b : ℕ) → a < 2 → b < 2 → bitXor (m * 2 + a) (n * 2 + b) ≡ bitXor m n * 2 + xor a b
+digit m n a b ha hb = xor-block 1 m n a b ha hb ∙ ap (λ (k : ℕ). bitXor m n * 2 + k) (xor-of a b ha hb)
+
+-- a number by its bits, the highest first
+abbrev six-of : ℕ → ℕ → ℕ → ℕ → ℕ → ℕ → ℕ
+six-of a b c d e f = ((((a * 2 + b) * 2 + c) * 2 + d) * 2 + e) * 2 + f
+
+digits :
+    (a b c d e f a' b' c' d' e' f' : ℕ) → a < 2 → b < 2 → c < 2 → d < 2 → e < 2 → f < 2 → a' < 2 → b' < 2 → c' < 2 →
+    d' < 2 → e' < 2 → f' < 2 →
+    bitXor (six-of a b c d e f) (six-of a' b' c' d' e' f') ≡
+    six-of (xor a a') (xor b b') (xor c c') (xor d d') (xor e e') (xor f f')
+digits a b c d e f a' b' c' d' e' f' ha hb hc hd he hf ha' hb' hc' hd' he' hf' =
+    digit _ _ f f' hf hf' ∙
+    ap (λ (n : ℕ). n * 2 + xor f f')
+    (digit _ _ e e' he he' ∙
+    ap (λ (n : ℕ). n * 2 + xor e e')
+    (digit _ _ d d' hd hd' ∙
+    ap (λ (n : ℕ). n * 2 + xor d d')
+    (digit _ _ c c' hc hc' ∙
+    ap (λ (n : ℕ). n * 2 + xor c c') (digit a a' b b' hb hb' ∙ ap (λ (n : ℕ). n * 2 + xor b b') (xor-of a a' ha ha')))))
+
+-- two bits at once
+two-bits : (n : ℕ) → n % 4 ≡ n / 2 % 2 * 2 + n % 2
+two-bits n = omega arith
+
+flipped : (a b : ℕ) → xor a b ≡ xor b a
+unfolding xor
+flipped a b = omega arith
+
+left-alone : (a : ℕ) → a < 2 → xor a 0 ≡ a
+unfolding xor
+left-alone a h = omega arith
+
+-- what the column and the row put in
+by-column : (X : ℕ) → X / 4 % 4 * 16 + X / 2 % 4 * 4 + X % 2 ≡ six-of (bit 3 X) (bit 2 X) (bit 2 X) (bit 1 X) 0 (X % 2)
+by-column X =
+    sum (X / 4 % 4) (X / 2 % 4) (bit 3 X) (bit 2 X) (bit 1 X) (X % 2)
+    (two-bits (X / 4) ∙ ap (λ (n : ℕ). n % 2 * 2 + X / 4 % 2) (div-div-eq-div-mul X 4 2))
+    (two-bits (X / 2) ∙ ap (λ (n : ℕ). n % 2 * 2 + X / 2 % 2) (div-div-eq-div-mul X 2 2))
+  where
+    sum :
+        (p q a b c d : ℕ) → p ≡ a * 2 + b → q ≡ b * 2 + c → p * 16 + q * 4 + d ≡ six-of a b b c 0 d
+    sum p q a b c d e f = omega arith
+
+by-row :
+    (Y : ℕ) → Y / 8 % 2 * 16 + Y / 4 % 2 * 36 + Y / 2 % 2 * 8 + Y % 2 * 2 ≡ six-of (bit 2 Y) (bit 3 Y) (bit 1 Y) (bit 2 Y) (Y % 2) 0
+by-row Y = sum (bit 3 Y) (bit 2 Y) (bit 1 Y) (Y % 2)
+  where
+    sum : (a b c d : ℕ) → a * 16 + b * 36 + c * 8 + d * 2 ≡ six-of b a c b d 0
+    sum a b c d = omega arith
+
+-- the code as the code reckons it
 pub code-of :
-    (X Y a b c d : ℕ) → a ≡ xor (bit 2 Y) (bit 3 X) → b ≡ xor (bit 2 X) (bit 3 Y) → c ≡ xor (bit 1 Y) (bit 2 X) →
-    d ≡ xor (bit 1 X) (bit 2 Y) → 32 * a + 16 * b + 8 * c + 4 * d + 2 * (Y % 2) + X % 2 ≡ codeOf X Y
+    (X Y : ℕ) → bitXor (Y / 8 % 2 * 16 + Y / 4 % 2 * 36 + Y / 2 % 2 * 8 + Y % 2 * 2) (X / 4 % 4 * 16 + X / 2 % 4 * 4 + X % 2) ≡ codeOf X Y
 unfolding codeOf
-code-of X Y a b c d ea eb ec ed = rw (ea, eb, ec, ed, bit-zero X, bit-zero Y)
+code-of X Y =
+    ap₂ bitXor (by-row Y) (by-column X) ∙
+    digits _ _ _ _ _ _ _ _ _ _ _ _ (omega arith) (omega arith) (omega arith) (omega arith) (omega arith) (omega arith)
+    (omega arith) (omega arith) (omega arith) (omega arith) (omega arith) (omega arith) ∙
+    join _ _ _ _ _ _ _ _ _ _ (flipped (bit 3 Y) (bit 2 X)) (flipped (bit 2 Y) (bit 1 X))
+    (left-alone (Y % 2) (omega arith) ∙ sym (bit-zero Y))
+    (flipped 0 (X % 2) ∙ left-alone (X % 2) (omega arith) ∙ sym (bit-zero X))
+  where
+    join :
+        (a b b' c d d' e e' f f' : ℕ) → b ≡ b' → d ≡ d' → e ≡ e' → f ≡ f' →
+        six-of a b c d e f ≡ 32 * a + 16 * b' + 8 * c + 4 * d' + 2 * e' + f'
+    join a b b' c d d' e e' f f' eb ed ee ef = omega arith
 
 module _ (column row code a b : ℕ) (ea : a ≡ xor (bit 4 code) (row % 2)) (eb : b ≡ xor (bit 5 code) (column % 2)) where
   is-high-x : a ≡ highX row code

@@ -3,9 +3,10 @@
 use mathlib.Core.Path.{_≡_, refl, sym, ap, _∙_, subst, subst₂}
 use mathlib.Core.Bool.{Bool, true, false}
 use Prim.Native.Nat.{ℕ, _+_, _-_, _*_, _/_, _%_, _<_, _≤_, _^_}
-use native.Mathlib.Nat.{mod-lt, mod-le, div-le-self, div-lt-iff-lt-mul, mul-le-mul}
+use native.Mathlib.Nat.{mod-lt, mod-le, div-le-self, div-lt-iff-lt-mul, div-div-eq-div-mul, div-add-mod', mul-le-mul, mul-assoc, mul-comm, mul-pos, add-mul, add-mul-div-right}
 use native.Mathlib.Omega.{arith}
-use lib.Arith.{digits-lt}
+use lib.Arith.{digits-lt, digits-mod}
+use lib.Bits.{bitAnd, and-mask}
 use Rattle.layout.specs.Sizes.{isSize, widthOf, heightOf}
 use Rattle.laws.specs.Choice.{placeOf}
 use Rattle.layout.proofs.Sizes.{Tile, by-size}
@@ -16,6 +17,9 @@ use Rattle.address.specs.Offset.{
   codeOf,
   insideOf,
   tiledOffset,
+  linearOffset,
+  linearX,
+  linearY,
   cellX,
   cellY,
   tiledX,
@@ -131,26 +135,62 @@ cell-asked s e z h =
       s-most = cells s z .s-most;
     }
 
+-- `r` is the row step in bytes
 pub pair-arm :
-    {s e x y n : ℕ} → s ≡ n → PairAsked s e x y → CellAsked (cellWidth n) (cellHeight n) n e × PairAsked n e x y
-pair-arm {s} {e} {x} {y} {n} k a =
-    let b : PairAsked n e x y = subst (λ (m : ℕ). PairAsked m e x y) k a in (cell-asked n e (b .size) (b .step), b)
+    {s x y n : ℕ} (r : ℕ) → s ≡ n → PairAsked s (r / s) x y →
+    CellAsked (cellWidth n) (cellHeight n) n (r / n) × PairAsked n (r / n) x y
+pair-arm {s} {x} {y} {n} r k a =
+    let b : PairAsked n (r / n) x y = subst (λ (m : ℕ). PairAsked m (r / m) x y) k a in
+    (cell-asked n (r / n) (b .size) (b .step), b)
 
 pub step-arm :
-    {s e n : ℕ} → s ≡ n → StepAsked true s e → CellAsked (cellWidth n) (cellHeight n) n e × (0 < e / widthOf n)
-step-arm {s} {e} {n} k a =
-    let b : StepAsked true n e = subst (λ (m : ℕ). StepAsked true m e) k a in
-    (cell-asked n e (b .size) (b .step), b .tiles refl)
+    {s n : ℕ} (r : ℕ) → s ≡ n → StepAsked true s (r / s) →
+    CellAsked (cellWidth n) (cellHeight n) n (r / n) × (0 < r / n / widthOf n)
+step-arm {s} {n} r k a =
+    let b : StepAsked true n (r / n) = subst (λ (m : ℕ). StepAsked true m (r / m)) k a in
+    (cell-asked n (r / n) (b .size) (b .step), b .tiles refl)
 
--- the parts of a linear offset
-pub record LinearSums (s e x y : ℕ) : Type 0 where
-  pub rows : y * e ≤ 16777216
-  pub elements : y * e + x < 16777216
-  pub bytes : (y * e + x) * s ≤ 268435456
+-- the parts of a linear offset, with `r` the row step in bytes
+pub record LinearSums (s r x y : ℕ) : Type 0 where
+  pub rows : y * r ≤ 268435456
+  pub bytes : x * s ≤ 65536
+  pub offset : y * r + x * s ≡ linearOffset s (r / s) x y
 
-pub linear-sums : {s e x y : ℕ} → PairAsked s e x y → LinearSums s e x y
-linear-sums {s} {e} {x} {y} a =
-    record { rows = omega (arith, below); elements = below; bytes = mul-le-mul {n₂ = 16777216} {m₂ = 16} (omega (arith, below)) (cells s (a .size) .s-most) }
-  where
-    below : y * e + x < 16777216
-    below = omega (arith, digits-lt {c = e} (a .row) (a .column), mul-le-mul {n₁ = 4096} {m₁ = e} {n₂ = 4096} {m₂ = 4096} (omega arith) (a .step))
+pub linear-sums : {s x y : ℕ} (r : ℕ) → PairAsked s (r / s) x y → r / s * s ≡ r → LinearSums s r x y
+unfolding linearOffset
+linear-sums {s} {x} {y} r a whole =
+    record {
+      rows = mul-le-mul {n₂ = 4096} {m₂ = 65536} (omega (arith, a .row)) (rw whole at (mul-le-mul {n₂ = 4096} {m₂ = 16} (a .step) (cells s (a .size) .s-most)));
+      bytes = mul-le-mul {n₂ = 4096} {m₂ = 16} (omega (arith, a .column, a .step)) (cells s (a .size) .s-most);
+      offset =
+          ap (λ (n : ℕ). y * n + x * s) (sym whole) ∙ ap (λ (n : ℕ). n + x * s) (sym (mul-assoc y (r / s) s)) ∙
+          sym (add-mul (y * (r / s)) x s);
+    }
+
+-- the way back in linear rows
+pub row-pos : (s r : ℕ) → 0 < s → 0 < r / s → r / s * s ≡ r → 0 < r
+row-pos s r pos least whole = rw whole at (mul-pos least pos)
+
+module _ (s r o : ℕ) (pos : 0 < s) (least : 0 < r / s) (whole : r / s * s ≡ r) where
+  pub linear-y : o / r ≡ linearY s (r / s) o
+  unfolding linearY
+  linear-y =
+      sym (div-div-eq-div-mul o s (r / s) ∙ ap (λ (n : ℕ). o / n) (mul-comm s (r / s) ∙ whole))
+
+  pub linear-x : o % r / s ≡ linearX s (r / s) o
+  unfolding linearX
+  linear-x = sym (ap (λ (n : ℕ). n % (r / s)) elements ∙ digits-mod (o / r) below)
+    where
+      below : o % r / s < r / s
+      below = div-lt-iff-lt-mul pos .1 (rw whole (mod-lt o (row-pos s r pos least whole)))
+
+      elements : o / s ≡ o / r * (r / s) + o % r / s
+      elements = ap (λ (n : ℕ). n / s) split ∙ add-mul-div-right (o % r) (o / r * (r / s)) pos ∙ omega arith
+        where
+          split : o ≡ o % r + o / r * (r / s) * s
+          split = omega (arith, mul-assoc (o / r) (r / s) s ∙ ap (λ (n : ℕ). o / r * n) whole, div-add-mod' o r)
+
+-- a size is a power of two, so its bits less 1 mask the place in an element
+pub masked-place : (s o : ℕ) → isSize s ≡ true → bitAnd o (s - 1) ≡ o % s
+masked-place s o =
+    by-size (λ s. bitAnd o (s - 1) ≡ o % s) (and-mask o 0) (and-mask o 1) (and-mask o 2) (and-mask o 3) (and-mask o 4) s

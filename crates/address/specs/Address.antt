@@ -2,7 +2,7 @@
 -- Assumes nothing.
 use mathlib.Core.Bool.{Bool}
 use mathlib.Core.List.{[], _∷_}
-use Prim.Native.Nat.{ℕ, _+_, _-_}
+use Prim.Native.Nat.{ℕ, _+_, _-_, _^_}
 use lib.Dec.{leb, ltb}
 use Rattle.laws.specs.Choice.{_and_, pick}
 use Rattle.refusal.specs.Number.{numberOf}
@@ -59,3 +59,12 @@ toldTranslated (translated.Refused why) = refuses (numberOf why)
 abbrev pub toldLocated : Located → Told
 toldLocated (located.Pair x y place) = gives (x ∷ y ∷ place ∷ [])
 toldLocated (located.Refused why) = refuses (numberOf why)
+
+-- a layout from its numbers
+abbrev pub layoutOf : ℕ → ℕ → ℕ → ℕ → Bool → Layout
+layoutOf base pitch height size tiled =
+    record { base = record { 0 = base }; pitch = pitch; height = height; size = size; tiled = tiled }
+
+-- an answer in one number: an address, or a refusal's number above 2^32
+unfoldable pub toldNumber : ℕ → Told
+toldNumber n = pick (ltb n (2 ^ 32)) (gives (n ∷ [])) (refuses (n - 2 ^ 32))

@@ -22,13 +22,10 @@ fn flip(a: u32, b: u32) -> u32
 pub fn code(column: u32, row: u32) -> u32
     ensures { λ r. ⌜ (r ≡ codeOf column row) × (r < 64) ⌝ }
 {
-    let x2 = column / 4 % 2;
-    let y2 = row / 4 % 2;
-    let bit10 = flip(y2, column / 8 % 2);
-    let bit9 = flip(x2, row / 8 % 2);
-    let bit8 = flip(row / 2 % 2, x2);
-    let bit7 = flip(column / 2 % 2, y2);
-    32 * bit10 + 16 * bit9 + 8 * bit8 + 4 * bit7 + 2 * (row % 2) + column % 2
+    // what the column puts in, and what the row does, each with all its bits at once: X2 and Y2 stand twice
+    let by_column = column / 4 % 4 * 16 + column / 2 % 4 * 4 + column % 2;
+    let by_row = row / 8 % 2 * 16 + row / 4 % 2 * 36 + row / 2 % 2 * 8 + row % 2 * 2;
+    by_row ^ by_column
 }
 
 // The cell with this code in the tile at this column and row of tiles.

@@ -4,11 +4,11 @@ mod cell;
 mod offset;
 
 use layout::ByteAddress;
-use layout::Judged;
 use layout::Layout;
 use refusal::Refusal;
 ghost use mathlib.Core.Path.{_≡_};
-ghost use Rattle.address.specs.Address.{translateOf, locateOf, toldTranslated, toldLocated};
+ghost use mathlib.Core.Bool.{true, false};
+ghost use Rattle.address.specs.Address.{translateOf, locateOf, layoutOf, toldNumber, toldTranslated, toldLocated};
 
 // Where a pair's element begins, or the refusal.
 pub enum Translated {
@@ -22,25 +22,94 @@ pub enum Located {
     Refused(Refusal),
 }
 
+// A translation's answer as one number, which stays in a register: the address, or 2^32 and the refusal's number above it.
+// Where size and kind are constants, every division below is one by a constant.
+fn sized(base: u32, pitch: u32, height: u32, size: u32, tiled: bool, x: u32, y: u32) -> u64
+    ensures { λ r. ⌜ toldNumber r ≡ translateOf (layoutOf base pitch height size tiled) x y ⌝ }
+{
+    if !layout::well_formed(base, pitch, size) {
+        return 4294967299;
+    }
+    let row = layout::window_row(base, pitch, height, size, tiled);
+    if row < 1 {
+        return 4294967302;
+    }
+    // no row step is above 4,096, and below it the product can't wrap
+    if 4096 < x {
+        return 4294967306;
+    }
+    if row <= x * size {
+        return 4294967306;
+    }
+    if height <= y {
+        return 4294967306;
+    }
+    let offset = offset::offset(tiled, size, row, x, y);
+    (base + offset) as u64
+}
+
+// The answer of a linear layout, given by its numbers.
+pub fn linear_number(base: u32, pitch: u32, height: u32, size: u32, x: u32, y: u32) -> u64
+    ensures { λ r. ⌜ toldNumber r ≡ translateOf (layoutOf base pitch height size false) x y ⌝ }
+{
+    sized(base, pitch, height, size, false, x, y)
+}
+
+// The answer of a tiled layout, given by its numbers, with one branch on the size.
+pub fn tiled_number(base: u32, pitch: u32, height: u32, size: u32, x: u32, y: u32) -> u64
+    ensures { λ r. ⌜ toldNumber r ≡ translateOf (layoutOf base pitch height size true) x y ⌝ }
+{
+    match size {
+        1 => sized(base, pitch, height, 1, true, x, y),
+        2 => sized(base, pitch, height, 2, true, x, y),
+        4 => sized(base, pitch, height, 4, true, x, y),
+        8 => sized(base, pitch, height, 8, true, x, y),
+        16 => sized(base, pitch, height, 16, true, x, y),
+        _ => 4294967299,
+    }
+}
+
+// The answer of either kind of layout.
+pub fn translate_numbers(
+    base: u32,
+    pitch: u32,
+    height: u32,
+    size: u32,
+    tiled: bool,
+    x: u32,
+    y: u32,
+) -> u64
+    ensures { λ r. ⌜ toldNumber r ≡ translateOf (layoutOf base pitch height size tiled) x y ⌝ }
+{
+    if tiled {
+        tiled_number(base, pitch, height, size, x, y)
+    } else {
+        linear_number(base, pitch, height, size, x, y)
+    }
+}
+
 // The address of the element at (x, y), or 3 and 6 for a layout that isn't accepted, or 10 for a pair outside its window.
 pub fn translate(layout: Layout, x: u32, y: u32) -> Translated
     ensures { λ r. ⌜ toldTranslated r ≡ translateOf layout x y ⌝ }
 {
-    let judged = layout::judge(layout);
-    match judged {
-        Judged::Refused(why) => Translated::Refused(why),
-        Judged::Accepted { step, span: _ } => {
-            if step <= x {
-                return Translated::Refused(Refusal::PairOutside);
-            }
-            if layout.height <= y {
-                return Translated::Refused(Refusal::PairOutside);
-            }
-            let offset = offset::offset(layout.tiled, layout.size, step, x, y);
-            Translated::At {
-                address: ByteAddress(layout.base.0 + offset),
-            }
-        }
+    let number = translate_numbers(
+        layout.base.0,
+        layout.pitch,
+        layout.height,
+        layout.size,
+        layout.tiled,
+        x,
+        y,
+    );
+    if number < 4294967296 {
+        return Translated::At {
+            address: ByteAddress(number as u32),
+        };
+    }
+    match number {
+        4294967299 => Translated::Refused(Refusal::Malformed),
+        4294967302 => Translated::Refused(Refusal::WindowRule),
+        _ => Translated::Refused(Refusal::PairOutside),
     }
 }
 
@@ -49,24 +118,28 @@ pub fn translate(layout: Layout, x: u32, y: u32) -> Translated
 pub fn locate(layout: Layout, address: ByteAddress) -> Located
     ensures { λ r. ⌜ toldLocated r ≡ locateOf layout (address .0) ⌝ }
 {
-    let judged = layout::judge(layout);
-    match judged {
-        Judged::Refused(why) => Located::Refused(why),
-        Judged::Accepted { step, span: _ } => {
-            if address.0 < layout.base.0 {
-                return Located::Refused(Refusal::Unowned);
-            }
-            let o = address.0 - layout.base.0;
-            let pair = offset::back(layout.tiled, layout.size, step, o);
-            if layout.height <= pair.y {
-                return Located::Refused(Refusal::Unowned);
-            }
-            let place = offset::byte_place(layout.size, o);
-            Located::Pair {
-                x: pair.x,
-                y: pair.y,
-                place,
-            }
-        }
+    let base = layout.base.0;
+    let size = layout.size;
+    let tiled = layout.tiled;
+    if !layout::well_formed(base, layout.pitch, size) {
+        return Located::Refused(Refusal::Malformed);
+    }
+    let row = layout::window_row(base, layout.pitch, layout.height, size, tiled);
+    if row < 1 {
+        return Located::Refused(Refusal::WindowRule);
+    }
+    if address.0 < base {
+        return Located::Refused(Refusal::Unowned);
+    }
+    let o = address.0 - base;
+    let pair = offset::back(tiled, size, row, o);
+    if layout.height <= pair.y {
+        return Located::Refused(Refusal::Unowned);
+    }
+    let place = offset::byte_place(size, o);
+    Located::Pair {
+        x: pair.x,
+        y: pair.y,
+        place,
     }
 }

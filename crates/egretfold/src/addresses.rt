@@ -1,11 +1,11 @@
 // Layouts and addresses.
 use address::Located;
-use address::Translated;
 use layout::ByteAddress;
 use layout::Judged;
 use layout::Layout;
+ghost use Prim.Native.Nat.{_<_};
 ghost use Rattle.layout.specs.Layout.{judgeOf};
-ghost use Rattle.address.specs.Address.{translateOf, locateOf};
+ghost use Rattle.address.specs.Address.{translateOf, locateOf, toldNumber};
 ghost use Rattle.egretfold.specs.Crossing.{Crosses, layoutOf};
 
 // The row step and the span of a layout; 3 or 6.
@@ -36,6 +36,19 @@ pub extern "C" fn egretfold_layout(
     }
 }
 
+// A translation's number as status and room.
+fn cross(number: u64, room: &mut [u32; 1]) -> u32
+    requires { ⌜ number < 8589934592 ⌝ }
+    ensures { λ r. ⌜ Crosses (toldNumber number) r (now (room .entry)) (now (room .exit)) ⌝ }
+{
+    if number < 4294967296 {
+        *room = [number as u32];
+        0
+    } else {
+        (number - 4294967296) as u32
+    }
+}
+
 // The address of the element at (x, y); 3, 6 or 10.
 #[no_mangle]
 pub extern "C" fn egretfold_translate(
@@ -50,19 +63,14 @@ pub extern "C" fn egretfold_translate(
 ) -> u32
     ensures { λ r. ⌜ Crosses (translateOf (layoutOf base pitch height size tiled) x y) r (now (room .entry)) (now (room .exit)) ⌝ }
 {
-    let layout = Layout {
-        base: ByteAddress(base),
-        pitch,
-        height,
-        size,
-        tiled,
-    };
-    match address::translate(layout, x, y) {
-        Translated::Refused(why) => refusal::number(why),
-        Translated::At { address } => {
-            *room = [address.0];
-            0
-        }
+    // the branch stands here, so that the linear kind needs no call
+    if tiled {
+        cross(address::tiled_number(base, pitch, height, size, x, y), room)
+    } else {
+        cross(
+            address::linear_number(base, pitch, height, size, x, y),
+            room,
+        )
     }
 }
 

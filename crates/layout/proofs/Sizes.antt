@@ -6,10 +6,13 @@ use mathlib.Core.List.{List, [], _∷_}
 use Prim.Native.Nat.{ℕ, zero, suc, _+_, _*_, _/_, _<_, _≤_}
 use native.Mathlib.Nat.{not-suc-le-zero, le-of-suc-le-suc}
 use native.Mathlib.Omega.{arith}
+use lib.Dec.{eqb}
 use lib.ListN.{length, getD}
-use borrow.Author.Tests.{ltb-true, ne-eqb}
-use Rattle.laws.specs.Choice.{pick, placeOf}
-use Rattle.laws.proofs.Choice.{place-found}
+use borrow.Author.Tests.{ltb-true, eqb-true, ne-eqb}
+use Rattle.laws.specs.Bits.{bit}
+use Rattle.laws.specs.Choice.{_and_, pick, placeOf}
+use Rattle.laws.proofs.Choice.{place-found, pick-yes, pick-no, Tested, tested, holds, fails}
+use Rattle.laws.proofs.Table.{everyBelow, every}
 use Rattle.layout.specs.Sizes.{sizes, isSize, widthOf, heightOf}
 
 -- what holds of each of the five sizes holds of every size
@@ -60,3 +63,33 @@ sixteen =
     (λ n1 n2 n4 n8. absurd (n4 refl))
     (λ n1 n2 n4 n8. absurd (n8 refl))
     (λ n1 n2 n4 n8. refl)
+
+-- the sizes as the bits of one number
+bitRight : ℕ → Bool
+bitRight s = pick (isSize s) (eqb (bit s 65814) 1) (eqb (bit s 65814) 0)
+
+bits-right : (s : ℕ) → s < 17 → bitRight s ≡ true
+unfolding bitRight isSize placeOf everyBelow pick _and_
+bits-right = every bitRight 17 refl
+
+pub size-bit : (s : ℕ) → s ≤ 16 → eqb (bit s 65814) 1 ≡ isSize s
+unfolding bitRight
+size-bit s h = go (tested (isSize s)) (bits-right s (omega arith))
+  where
+    go : Tested (isSize s) → bitRight s ≡ true → eqb (bit s 65814) 1 ≡ isSize s
+    go (holds z) e = sym (pick-yes _ _ z) ∙ e ∙ sym z
+    go (fails z) e =
+        let none : bit s 65814 ≡ 0 = eqb-true (bit s 65814) 0 (sym (pick-no _ _ z) ∙ e) in
+        ne-eqb (bit s 65814) 1 (λ one. zero-one (sym none ∙ one)) ∙ sym z
+      where
+        zero-one : _≡_ {A = ℕ} 0 1 → ⊥
+        zero-one q = omega arith
+
+pub past-sizes : (s : ℕ) → 16 < s → false ≡ isSize s
+past-sizes s h = go (tested (isSize s))
+  where
+    go : Tested (isSize s) → false ≡ isSize s
+    go (holds z) =
+        absurd
+        (omega (arith, by-size (λ s. s ≤ 16) (omega arith) (omega arith) (omega arith) (omega arith) (omega arith) s z))
+    go (fails z) = sym z

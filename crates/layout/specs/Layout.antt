@@ -2,7 +2,7 @@
 use mathlib.Core.Path.{_≡_}
 use mathlib.Core.Bool.{Bool, true}
 use mathlib.Core.List.{[], _∷_}
-use Prim.Native.Nat.{ℕ, _+_, _-_, _*_, _/_, _%_, _^_, _≤_}
+use Prim.Native.Nat.{ℕ, _+_, _-_, _*_, _/_, _%_, _^_}
 use lib.Dec.{leb, eqb}
 use Rattle.laws.specs.Choice.{_and_, pick}
 use Rattle.refusal.specs.Number.{numberOf}
@@ -36,15 +36,18 @@ spanOf tiled s e h = pick tiled (tileRows s h * (e / widthOf s) * 2048) (h * e *
 unfoldable pub inBounds : ℕ → ℕ → Bool
 inBounds e h = leb 1 e and leb e 4096 and leb 1 h and leb h 4096
 
--- what the span is asked of: a size, and a row step and height in bounds
-pub record SpanAsked (e h s : ℕ) : Type 0 where
-  pub size : isSize s ≡ true
-  pub step : e ≤ 4096
-  pub rows : h ≤ 4096
-
 -- "Window rule: E from 1 to 4,096, height H from 1 to 4,096, base plus span at most 2^32"
 unfoldable pub windowRule : ℕ → Bool → ℕ → ℕ → ℕ → Bool
 windowRule base tiled s e h = inBounds e h and leb (base + spanOf tiled s e h) (2 ^ 32)
+
+-- the rows that a window's bytes make up: where tiled, those of whole tiles
+unfoldable pub rowsTaken : Bool → ℕ → ℕ → ℕ
+rowsTaken tiled s h = pick tiled (tileRows s h * heightOf s) h
+
+-- the bytes from one row to the next where the window rule holds, else 0
+unfoldable pub rowBytes : ℕ → ℕ → ℕ → ℕ → Bool → ℕ
+rowBytes base pitch h s tiled =
+    pick (windowRule base tiled s (rowStep tiled s pitch) h) (rowStep tiled s pitch * s) 0
 
 -- "A layout (base, pitch, height, size, linear or tiled) is accepted when it gets neither 3 nor 6": its row step and span
 unfoldable pub judgeOf : ℕ → ℕ → ℕ → ℕ → Bool → Told

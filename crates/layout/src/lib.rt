@@ -3,10 +3,10 @@
 use refusal::Refusal;
 ghost use mathlib.Core.Path.{_≡_};
 ghost use mathlib.Core.Bool.{true, false};
-ghost use Prim.Native.Nat.{_/_, _<_, _≤_};
+ghost use Prim.Native.Nat.{_*_, _<_, _≤_};
 ghost use lib.ListN.{getD};
 ghost use Rattle.layout.specs.Sizes.{isSize, sizes, widths, heights, widthOf, heightOf};
-ghost use Rattle.layout.specs.Layout.{wellFormed, rowStep, tileRows, spanOf, SpanAsked, inBounds, judgeOf, toldJudged};
+ghost use Rattle.layout.specs.Layout.{wellFormed, rowStep, rowsTaken, rowBytes, judgeOf, toldJudged};
 
 // The address of a byte: one of document 01's three kinds of number, never a word's position or a slot number.
 pub struct ByteAddress(pub u32);
@@ -58,18 +58,14 @@ pub fn tile_height_in_table(line: usize) -> u32
     TILE_HEIGHTS[line]
 }
 
-// Whether a number is one of the five sizes.
+// Whether a number is one of the five sizes: 65,814 has just the bits 1, 2, 4, 8 and 16.
 pub fn is_size(size: u32) -> bool
     ensures { λ r. ⌜ r ≡ isSize size ⌝ }
 {
-    match size {
-        1 => true,
-        2 => true,
-        4 => true,
-        8 => true,
-        16 => true,
-        _ => false,
+    if 16 < size {
+        return false;
     }
+    (65814u32 >> size) % 2 == 1
 }
 
 // The tile's width for a size; 0 for what is no size.
@@ -101,7 +97,7 @@ pub fn tile_height(size: u32) -> u32
 }
 
 // Whether base, pitch and size are what a layout may have: where they aren't, the layout gets 3.
-fn well_formed(base: u32, pitch: u32, size: u32) -> bool
+pub fn well_formed(base: u32, pitch: u32, size: u32) -> bool
     ensures { λ r. ⌜ r ≡ wellFormed base pitch size ⌝ }
 {
     if base % 2048 != 0 {
@@ -156,62 +152,85 @@ pub fn row_step(pitch: u32, size: u32, tiled: bool) -> u32
     }
 }
 
-// Whether row step and height are each from 1 to 4,096.
-fn in_bounds(step: u32, height: u32) -> bool
-    ensures { λ r. ⌜ r ≡ inBounds step height ⌝ }
+// The bytes from one row to the next where tiled: the pitch's bytes cut down to whole tiles. Tiles of sizes 1 and 2 are 64
+// bytes wide, of 4 and 8 twice that, of 16 four times.
+fn tiled_row(pitch: u32, size: u32) -> u32
+    requires { ⌜ (isSize size ≡ true) × (pitch ≤ 8188) ⌝ }
+    ensures { λ r. ⌜ r ≡ rowStep true size pitch * size ⌝ }
 {
-    if step < 1 {
-        return false;
+    let bytes = pitch * size;
+    if size < 4 {
+        return bytes / 64 * 64;
     }
-    if 4096 < step {
-        return false;
+    if size < 16 {
+        return bytes / 128 * 128;
     }
-    if height < 1 {
-        return false;
-    }
-    height <= 4096
+    bytes / 256 * 256
 }
 
-// The rows of tiles that a window's rows touch.
-pub fn tile_rows(height: u32, size: u32) -> u32
-    requires { ⌜ (isSize size ≡ true) × (height ≤ 4096) ⌝ }
-    ensures { λ r. ⌜ r ≡ tileRows size height ⌝ }
-{
-    match size {
-        1 => (height + 31) / 32,
-        2 => (height + 31) / 32,
-        4 => (height + 15) / 16,
-        8 => (height + 15) / 16,
-        _ => (height + 7) / 8,
-    }
-}
-
-// The tiles that stand side by side in a row of tiles.
-pub fn tile_columns(step: u32, size: u32) -> u32
-    requires { ⌜ isSize size ≡ true ⌝ }
-    ensures { λ r. ⌜ r ≡ step / widthOf size ⌝ }
-{
-    match size {
-        1 => step / 64,
-        2 => step / 32,
-        4 => step / 32,
-        8 => step / 16,
-        _ => step / 16,
-    }
-}
-
-// The bytes from the base to the window's end. Row step and height are in bounds, so it is at most 2^28.
-pub fn span(step: u32, height: u32, size: u32, tiled: bool) -> u32
-    requires { ⌜ SpanAsked step height size ⌝ }
-    ensures { λ r. ⌜ r ≡ spanOf tiled size step height ⌝ }
+// The row step in bytes. Counted so, a linear row is cut to 32 bytes at every size, and no branch on the size is needed.
+fn row(pitch: u32, size: u32, tiled: bool) -> u32
+    requires { ⌜ (isSize size ≡ true) × (pitch ≤ 8188) ⌝ }
+    ensures { λ r. ⌜ r ≡ rowStep tiled size pitch * size ⌝ }
 {
     if tiled {
-        let rows = tile_rows(height, size);
-        let columns = tile_columns(step, size);
-        rows * columns * 2048
+        tiled_row(pitch, size)
     } else {
-        height * step * size
+        pitch * size / 32 * 32
     }
+}
+
+// The height filled up to whole tiles.
+fn tiled_rows(height: u32, size: u32) -> u32
+    requires { ⌜ (isSize size ≡ true) × (height ≤ 4096) ⌝ }
+    ensures { λ r. ⌜ r ≡ rowsTaken true size height ⌝ }
+{
+    if size < 4 {
+        return (height + 31) / 32 * 32;
+    }
+    if size < 16 {
+        return (height + 15) / 16 * 16;
+    }
+    (height + 7) / 8 * 8
+}
+
+// The rows that a window's bytes make up.
+fn rows_taken(height: u32, size: u32, tiled: bool) -> u32
+    requires { ⌜ (isSize size ≡ true) × (height ≤ 4096) ⌝ }
+    ensures { λ r. ⌜ r ≡ rowsTaken tiled size height ⌝ }
+{
+    if tiled {
+        tiled_rows(height, size)
+    } else {
+        height
+    }
+}
+
+// The bytes from one row to the next, or 0 where the window rule is broken. It is a number, so that it stays in a register;
+// a row has at most 2^16 bytes and a window 2^12 rows, so the span is at most 2^28.
+pub fn window_row(base: u32, pitch: u32, height: u32, size: u32, tiled: bool) -> u32
+    requires { ⌜ wellFormed base pitch size ≡ true ⌝ }
+    ensures { λ r. ⌜ r ≡ rowBytes base pitch height size tiled ⌝ }
+{
+    let row = row(pitch, size, tiled);
+    if row < 1 {
+        return 0;
+    }
+    if 4096 * size < row {
+        return 0;
+    }
+    if height < 1 {
+        return 0;
+    }
+    if 4096 < height {
+        return 0;
+    }
+    let rows = rows_taken(height, size, tiled);
+    // base plus span is at most 2^32, asked so that nothing wraps
+    if 4294967295 - base < rows * row - 1 {
+        return 0;
+    }
+    row
 }
 
 // A layout's row step and span, or 3 where base, pitch or size is malformed, or 6 where the window rule is broken.
@@ -226,14 +245,14 @@ pub fn judge(layout: Layout) -> Judged
     if !well_formed(base, pitch, size) {
         return Judged::Refused(Refusal::Malformed);
     }
-    let step = row_step(pitch, size, tiled);
-    if !in_bounds(step, height) {
+    let row = window_row(base, pitch, height, size, tiled);
+    if row < 1 {
         return Judged::Refused(Refusal::WindowRule);
     }
-    let span = span(step, height, size, tiled);
-    if span as u64 <= 4294967296 - base as u64 {
-        Judged::Accepted { step, span }
-    } else {
-        Judged::Refused(Refusal::WindowRule)
+    let step = row_step(pitch, size, tiled);
+    let rows = rows_taken(height, size, tiled);
+    Judged::Accepted {
+        step,
+        span: rows * row,
     }
 }

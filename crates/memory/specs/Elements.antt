@@ -3,9 +3,9 @@
 use mathlib.Core.Path.{_≡_}
 use mathlib.Core.Bool.{Bool}
 use mathlib.Core.List.{List, [], _∷_, _++_}
-use Prim.Native.Nat.{ℕ, _+_, _-_, _^_}
+use Prim.Native.Nat.{ℕ, _+_, _-_, _*_, _^_}
 use lib.Dec.{leb, eqb}
-use lib.ListN.{length, take, drop}
+use lib.ListN.{length, take, drop, replicate}
 use Rattle.laws.specs.Choice.{_and_, pick}
 use Rattle.refusal.specs.Number.{numberOf}
 use Rattle.refusal.specs.Told.{Told, gives, refuses}
@@ -50,6 +50,10 @@ writeOf l x y first given m =
 -- memory with new bytes in place of the bytes from place `a` on
 unfoldable pub stored : ℕ → List ℕ → List ℕ → List ℕ
 stored a given m = take a m ++ (given ++ drop (a + length given) m)
+
+-- 16 zeros with four parts of `n` bytes put in, one after the other
+unfoldable pub inLine : ℕ → List ℕ → List ℕ → List ℕ → List ℕ → List ℕ
+inLine n a b c d = stored (n * 3) d (stored (n * 2) c (stored n b (stored 0 a (replicate 16 0))))
 
 -- "Writing an element touches only the part of memory that holds that element"; a refusal touches nothing
 unfoldable pub memoryAfter : Told → Layout → ℕ → ℕ → ℕ → List ℕ → List ℕ → List ℕ

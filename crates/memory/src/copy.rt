@@ -5,21 +5,37 @@ use refusal::Refusal;
 ghost use mathlib.Core.Path.{_≡_};
 ghost use mathlib.Core.List.{_++_};
 ghost use Prim.Native.Nat.{_≤_};
-ghost use lib.ListN.{length};
+ghost use lib.ListN.{length, replicate};
 ghost use Rattle.refusal.specs.Number.{numberOf};
 ghost use Rattle.refusal.specs.Told.{gives, refuses};
 ghost use Rattle.memory.specs.Answers.{Answered, PutAsked, FourAsked};
-ghost use Rattle.memory.specs.Elements.{stored};
+ghost use Rattle.memory.specs.Elements.{stored, inLine};
+
+// The given bytes, which are `n`, into a part of memory that is as long. Where `n` is a constant, no loop is left.
+fn store_all(part: &mut [u8], given: &[u8], n: usize)
+    requires { ⌜ (length (now part) ≡ length (now given)) × (n ≡ length (now given)) ⌝ }
+    ensures { λ _. ⌜ now (part .exit) ≡ now (given .entry) ⌝ }
+{
+    let mut i = 0;
+    while i < n {
+        part[i] = given[i];
+        i += 1;
+    }
+}
 
 // Given bytes into a part of memory that is as long.
 pub fn store(part: &mut [u8], given: &[u8])
     requires { ⌜ length (now part) ≡ length (now given) ⌝ }
     ensures { λ _. ⌜ now (part .exit) ≡ now (given .entry) ⌝ }
 {
-    let mut i = 0;
-    while i < given.len() {
-        part[i] = given[i];
-        i += 1;
+    let n = given.len();
+    match n {
+        1 => store_all(part, given, 1),
+        2 => store_all(part, given, 2),
+        4 => store_all(part, given, 4),
+        8 => store_all(part, given, 8),
+        16 => store_all(part, given, 16),
+        _ => store_all(part, given, n),
     }
 }
 
@@ -32,15 +48,30 @@ pub fn refused(why: Refusal) -> Reading
     }
 }
 
-// Bytes of a reading with a part of memory put in place `at`.
-fn put(bytes: [u8; 16], at: usize, part: &[u8]) -> [u8; 16]
-    requires { ⌜ PutAsked bytes at (now part) ⌝ }
+// Bytes of a reading with a part of memory, of `n` bytes, put in place `at`.
+fn put(bytes: [u8; 16], at: usize, part: &[u8], n: usize) -> [u8; 16]
+    requires { ⌜ PutAsked bytes at (now part) × (n ≡ length (now part)) ⌝ }
     ensures { λ r. ⌜ r ≡ stored at (now (part .entry)) bytes ⌝ }
 {
     let mut room = bytes;
-    let n = part.len();
-    store(&mut room[at..at + n], part);
+    store_all(&mut room[at..at + n], part, n);
     room
+}
+
+// The bytes of a reading of one element: each size is a constant in its arm.
+fn first(element: &[u8]) -> [u8; 16]
+    requires { ⌜ length (now element) ≤ 16 ⌝ }
+    ensures { λ r. ⌜ r ≡ stored 0 (now (element .entry)) (replicate 16 0) ⌝ }
+{
+    let n = element.len();
+    match n {
+        1 => put([0; 16], 0, element, 1),
+        2 => put([0; 16], 0, element, 2),
+        4 => put([0; 16], 0, element, 4),
+        8 => put([0; 16], 0, element, 8),
+        16 => put([0; 16], 0, element, 16),
+        _ => put([0; 16], 0, element, n),
+    }
 }
 
 // A reading of one element.
@@ -48,10 +79,34 @@ pub fn one(element: &[u8]) -> Reading
     requires { ⌜ length (now element) ≤ 16 ⌝ }
     ensures { λ r. ⌜ Answered (gives (now (element .entry))) r ⌝ }
 {
-    let bytes = put([0; 16], 0, element);
+    let bytes = first(element);
     Reading {
         answer: Answer::Bytes(element.len()),
         bytes,
+    }
+}
+
+// Four parts of `n` bytes each, one after the other.
+fn in_line(a: &[u8], b: &[u8], c: &[u8], d: &[u8], n: usize) -> [u8; 16]
+    requires { ⌜ FourAsked (now a) (now b) (now c) (now d) × (n ≡ length (now a)) ⌝ }
+    ensures { λ r. ⌜ r ≡ inLine n (now (a .entry)) (now (b .entry)) (now (c .entry)) (now (d .entry)) ⌝ }
+{
+    let bytes = put([0; 16], 0, a, n);
+    let bytes = put(bytes, n, b, n);
+    let bytes = put(bytes, n * 2, c, n);
+    put(bytes, n * 3, d, n)
+}
+
+// The bytes of a reading of four elements: the sizes of a superfine read are constants in their arms.
+fn first_four(a: &[u8], b: &[u8], c: &[u8], d: &[u8]) -> [u8; 16]
+    requires { ⌜ FourAsked (now a) (now b) (now c) (now d) ⌝ }
+    ensures { λ r. ⌜ r ≡ inLine (length (now (a .entry))) (now (a .entry)) (now (b .entry)) (now (c .entry)) (now (d .entry)) ⌝ }
+{
+    let n = a.len();
+    match n {
+        2 => in_line(a, b, c, d, 2),
+        4 => in_line(a, b, c, d, 4),
+        _ => in_line(a, b, c, d, n),
     }
 }
 
@@ -61,10 +116,7 @@ pub fn four(a: &[u8], b: &[u8], c: &[u8], d: &[u8]) -> Reading
     ensures { λ r. ⌜ Answered (gives (now (a .entry) ++ (now (b .entry) ++ (now (c .entry) ++ now (d .entry))))) r ⌝ }
 {
     let n = a.len();
-    let bytes = put([0; 16], 0, a);
-    let bytes = put(bytes, n, b);
-    let bytes = put(bytes, n * 2, c);
-    let bytes = put(bytes, n * 3, d);
+    let bytes = first_four(a, b, c, d);
     Reading {
         answer: Answer::Bytes(n * 4),
         bytes,

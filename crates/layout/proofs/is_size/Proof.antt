@@ -1,38 +1,17 @@
--- `layout::is_size` meets its contract: each arm by the definition at that size. Assumes nothing.
-use mathlib.Core.Path.{sym, ap}
-use lib.Dec.{ltb}
-use Prim.Native.Nat.{ℕ}
-use Rattle.laws.specs.Choice.{pick, placeOf}
-use Rattle.layout.specs.Sizes.{isSize}
-use Rattle.layout.proofs.Sizes.{no-size}
+-- `layout::is_size` meets its contract: the sizes are the bits of one number. Assumes nothing.
+use Rattle.layout.proofs.Sizes.{size-bit, past-sizes}
+use borrow.Author.Needs.{needs}
 use Rattle.layout.proofs.is_size.Statement.{statement}
 use Rattle.layout.proofs.is_size.Tie as tie
 
 returns : tie.Need-returns
-unfolding isSize placeOf pick
-returns c = sym (ap isSize (c .match .keys1))
+returns c = past-sizes _ (c .if1 .taken)
+
+shr-result : tie.Need-shr-result
+shr-result c = search needs
 
 returns-2 : tie.Need-returns-2
-unfolding isSize placeOf pick
-returns-2 c = sym (ap isSize (c .match .keys2))
-
-returns-3 : tie.Need-returns-3
-unfolding isSize placeOf pick
-returns-3 c = sym (ap isSize (c .match .keys3))
-
-returns-4 : tie.Need-returns-4
-unfolding isSize placeOf pick
-returns-4 c = sym (ap isSize (c .match .keys4))
-
-returns-5 : tie.Need-returns-5
-unfolding isSize placeOf pick
-returns-5 c = sym (ap isSize (c .match .keys5))
-
-returns-6 : tie.Need-returns-6
-unfolding isSize
-returns-6 c =
-    let r = c .match .rest in
-    sym (ap (λ (n : ℕ). ltb n 5) (no-size _ (r .0 .0 .0 .0 .1) (r .0 .0 .0 .1) (r .0 .0 .1) (r .0 .1) (r .1)))
+returns-2 c = size-bit _ (c .if1 .left)
 
 pub is-size-spec : {M : Type 1} → statement M
-is-size-spec = tie.close (tie.spec returns returns-2 returns-3 returns-4 returns-5 returns-6)
+is-size-spec = tie.close (tie.spec returns shr-result returns-2)

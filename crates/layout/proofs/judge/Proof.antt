@@ -2,9 +2,10 @@
 -- Assumes nothing.
 use mathlib.Core.Path.{_∙_, sym}
 use native.Mathlib.Omega.{arith}
-use borrow.Author.Needs.{needs}
 use borrow.Author.Tests.{not-true, not-false}
-use Rattle.layout.proofs.Window.{form-size, asked-of, judged-malformed, judged-out-of-bounds, judged-too-high, judged-accepted}
+use Rattle.layout.proofs.Window.{form-size, rule-bounds, judged-malformed, judged-broken, judged-accepted}
+use Rattle.layout.proofs.Rows.{ruled, unruled, window-span}
+use borrow.Author.Needs.{needs}
 use Rattle.layout.proofs.judge.Statement.{statement}
 use Rattle.layout.proofs.judge.Tie as tie
 
@@ -14,43 +15,23 @@ well-formed-requires c κs = search needs
 returns : tie.Need-returns
 returns c = sym (judged-malformed _ _ _ _ _ (sym (c .before .well-formed .ensures) ∙ not-true _ (c .if1 .taken)))
 
-row-step-requires : tie.Need-row-step-requires
-row-step-requires c κs = form-size _ _ _ (sym (c .before .well-formed .ensures) ∙ not-false _ (c .if1 .left))
-
-in-bounds-requires : tie.Need-in-bounds-requires
-in-bounds-requires c κs = search needs
+window-row-requires : tie.Need-window-row-requires
+window-row-requires c κs = sym (c .before .well-formed .ensures) ∙ not-false _ (c .if1 .left)
 
 returns-2 : tie.Need-returns-2
-returns-2 c =
-    sym
-    (judged-out-of-bounds _ _ _ _ _ (sym (c .before .before .before .before .well-formed .ensures) ∙ not-false _ (c .before .before .before .if1 .left)) _ (c .before .before .row-step .ensures)
-    (sym (c .before .in-bounds .ensures) ∙ not-true _ (c .if2 .taken)))
+returns-2 c = sym (judged-broken _ _ _ _ _ (sym (c .before .before .before .well-formed .ensures) ∙ not-false _ (c .before .before .if1 .left)) (unruled _ _ _ _ _ (sym (c .before .before .before .well-formed .ensures) ∙ not-false _ (c .before .before .if1 .left)) _ (c .before .window-row .ensures) (c .if2 .taken)))
 
-span-requires : tie.Need-span-requires
-span-requires c κs =
-    asked-of _ _ _ (form-size _ _ _ (sym (c .before .before .before .before .well-formed .ensures) ∙ not-false _ (c .before .before .before .if1 .left)))
-    (sym (c .before .in-bounds .ensures) ∙ not-false _ (c .if2 .left))
+row-step-requires : tie.Need-row-step-requires
+row-step-requires c κs = form-size _ _ _ (sym (c .before .before .before .well-formed .ensures) ∙ not-false _ (c .before .before .if1 .left))
 
-cast-if3 : tie.Need-cast-if3
-cast-if3 c = search needs
+rows-taken-requires : tie.Need-rows-taken-requires
+rows-taken-requires c κs = (form-size _ _ _ (sym (c .before .before .before .before .well-formed .ensures) ∙ not-false _ (c .before .before .before .if1 .left)), rule-bounds _ _ _ _ _ ((ruled _ _ _ _ _ (sym (c .before .before .before .before .well-formed .ensures) ∙ not-false _ (c .before .before .before .if1 .left)) _ (c .before .before .window-row .ensures) (c .before .if2 .left)) .rule) .height-most)
 
-cast-if3-2 : tie.Need-cast-if3-2
-cast-if3-2 c = search needs
-
-sub-if3 : tie.Need-sub-if3
-sub-if3 c = search needs
+mul-t14 : tie.Need-mul-t14
+mul-t14 c = omega (arith, (window-span _ _ _ _ _ (sym (c .before .before .before .before .before .well-formed .ensures) ∙ not-false _ (c .before .before .before .before .if1 .left)) _ _ (ruled _ _ _ _ _ (sym (c .before .before .before .before .before .well-formed .ensures) ∙ not-false _ (c .before .before .before .before .if1 .left)) _ (c .before .before .before .window-row .ensures) (c .before .before .if2 .left)) (c .rows-taken .ensures)) .1)
 
 returns-3 : tie.Need-returns-3
-returns-3 c =
-    sym
-    (judged-accepted _ _ _ _ _ (sym (c .before .before .before .before .before .before .well-formed .ensures) ∙ not-false _ (c .before .before .before .before .before .if1 .left)) _ (c .before .before .before .before .row-step .ensures)
-    (sym (c .before .before .before .in-bounds .ensures) ∙ not-false _ (c .before .before .if2 .left)) _ (c .before .span .ensures) (omega arith))
-
-returns-4 : tie.Need-returns-4
-returns-4 c =
-    sym
-    (judged-too-high _ _ _ _ _ (sym (c .before .before .before .before .before .before .well-formed .ensures) ∙ not-false _ (c .before .before .before .before .before .if1 .left)) _ (c .before .before .before .before .row-step .ensures)
-    (sym (c .before .before .before .in-bounds .ensures) ∙ not-false _ (c .before .before .if2 .left)) _ (c .before .span .ensures) (omega arith))
+returns-3 c = sym (judged-accepted _ _ _ _ _ (sym (c .before .before .before .before .before .well-formed .ensures) ∙ not-false _ (c .before .before .before .before .if1 .left)) _ _ (c .before .row-step .ensures) ((window-span _ _ _ _ _ (sym (c .before .before .before .before .before .well-formed .ensures) ∙ not-false _ (c .before .before .before .before .if1 .left)) _ _ (ruled _ _ _ _ _ (sym (c .before .before .before .before .before .well-formed .ensures) ∙ not-false _ (c .before .before .before .before .if1 .left)) _ (c .before .before .before .window-row .ensures) (c .before .before .if2 .left)) (c .rows-taken .ensures)) .0) ((ruled _ _ _ _ _ (sym (c .before .before .before .before .before .well-formed .ensures) ∙ not-false _ (c .before .before .before .before .if1 .left)) _ (c .before .before .before .window-row .ensures) (c .before .before .if2 .left)) .rule))
 
 pub judge-spec : {M : Type 1} → statement M
 judge-spec =
@@ -58,12 +39,9 @@ judge-spec =
     (tie.spec
     well-formed-requires
     returns
-    row-step-requires
-    in-bounds-requires
+    window-row-requires
     returns-2
-    span-requires
-    cast-if3
-    cast-if3-2
-    sub-if3
-    returns-3
-    returns-4)
+    row-step-requires
+    rows-taken-requires
+    mul-t14
+    returns-3)

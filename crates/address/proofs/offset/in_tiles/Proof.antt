@@ -5,6 +5,9 @@ use borrow.Author.Needs.{needs}
 use Rattle.address.proofs.offset.in_tiles.Statement.{statement}
 use Rattle.address.proofs.offset.in_tiles.Tie as tie
 
+div-step : tie.Need-div-step
+div-step c = search needs
+
 mul-number : tie.Need-mul-number
 mul-number c = search needs
 
@@ -72,6 +75,7 @@ pub in-tiles-spec : {M : Type 1} → statement M
 in-tiles-spec =
     tie.close
     (tie.spec
+    div-step
     mul-number
     div-number
     mul-number-2

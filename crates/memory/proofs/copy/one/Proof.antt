@@ -4,11 +4,11 @@ use borrow.Author.Needs.{needs}
 use Rattle.memory.proofs.copy.one.Statement.{statement}
 use Rattle.memory.proofs.copy.one.Tie as tie
 
-put-requires : tie.Need-put-requires
-put-requires c κs = search needs
+first-requires : tie.Need-first-requires
+first-requires c κs = search needs
 
 returns : tie.Need-returns
-returns c = reading-of-one _ _ (c .before .before .pre) (c .put .ensures)
+returns c = reading-of-one _ _ (c .before .before .pre) (c .first .ensures)
 
 pub one-spec : {M : Type 1} → statement M
-one-spec = tie.close (tie.spec put-requires returns)
+one-spec = tie.close (tie.spec first-requires returns)
