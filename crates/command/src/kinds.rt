@@ -74,7 +74,7 @@ pub fn kind_at(line: u32, k: u32) -> Kind
 }
 
 // Whether a format word has its reserved bits zero and a code that is known.
-fn format_allowed(word: u32) -> bool
+pub fn format_allowed(word: u32) -> bool
     ensures { λ r. ⌜ r ≡ formatAllowed word ⌝ }
 {
     if word % 4 != 0 {
@@ -93,7 +93,7 @@ fn format_allowed(word: u32) -> bool
 }
 
 // Whether an input's format word is superfine with one channel only, or not superfine.
-fn superfine_allowed(word: u32) -> bool
+pub fn superfine_allowed(word: u32) -> bool
     ensures { λ r. ⌜ r ≡ superfineAllowed word ⌝ }
 {
     if superfine(word) {
