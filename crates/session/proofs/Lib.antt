@@ -17,4 +17,5 @@ pub mod Stepping
 pub mod Taking
 pub mod Tallies
 pub mod Ways
+pub mod WholeCommands
 pub mod WriteBack

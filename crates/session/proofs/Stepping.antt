@@ -94,7 +94,7 @@ unfolding startRuleOf
 start-rule s e = ap (λ (c : Command). startRuleOf c s) {x = command.Start} (sym e)
 
 -- an input's and an output's number is in range where its kind allows it
-numbered : (c : Command) → EachAllowed (lineOf c) (fieldsOf c) → Numbered c
+pub numbered : (c : Command) → EachAllowed (lineOf c) (fieldsOf c) → Numbered c
 unfolding lineOf fieldsOf countOf kindOf allowed
 numbered (command.Domain i0 j0 i1 j1) a = tt
 numbered command.Start a = tt
