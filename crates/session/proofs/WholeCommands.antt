@@ -120,7 +120,7 @@ module _ (c : Command) (l t h : List ℕ) (y : Ready l t h) (l1 : List ℕ) (e1 
     pub tried : (l2 t2 h2 : List ℕ) → HeldOwn (ownAfter c (sharedOf h) (partyOf l1 t)) l2 t2 →
         h2 ≡ sharedCells (sharedAfter c (sharedOf h)) → Tried ws l t h size l2 t2 h2
     unfolding after
-    tried l2 t2 h2 held e = takenWhole c rest l2 t2 h2 begins fine rule kept
+    tried l2 t2 h2 held e = takenWhole c rest l2 t2 h2 y begins fine rule kept
       where
         own-held : HeldOwn (standing (after c (sessionOf l t h)) (partyOf l t .taken + size) none .party) l2 t2
         own-held = subst (λ (p : Party). HeldOwn p l2 t2) own-after held

@@ -42,7 +42,7 @@ tookWords n p =
 pub data Tried (ws own tallies shared : List ℕ) : ℕ → List ℕ → List ℕ → List ℕ → Type 0 where
   untaken : Tried ws own tallies shared 0 own tallies shared
   takenWhole :
-      (c : Command) (rest own1 tallies1 shared1 : List ℕ) → ws ≡ wordsOf c ++ rest → judgeCommandOf c ≡ gives [] →
+      (c : Command) (rest own1 tallies1 shared1 : List ℕ) → Ready own tallies shared → ws ≡ wordsOf c ++ rest → judgeCommandOf c ≡ gives [] →
       startRuleOf c (sessionOf own tallies shared) ≡ gives [] →
       Held (standing (after c (sessionOf own tallies shared)) (partyOf own tallies .taken + length (wordsOf c)) none) own1 tallies1 shared1 →
       Tried ws own tallies shared (length (wordsOf c)) own1 tallies1 shared1

@@ -3,6 +3,7 @@ use crate::accept;
 use crate::own;
 use crate::settings;
 use crate::start;
+use crate::whole;
 use command::commands;
 use command::commands::Command;
 use command::kinds;
@@ -184,7 +185,8 @@ fn completed_by(answer: Answer) -> u64
     }
 }
 
-// A piece of words, one after another up to the first refused one; words after that aren't looked at.
+// A piece of words, one after another up to the first refused one; words after that aren't looked at. A command that lies
+// whole in the piece and is accepted is taken at once.
 pub fn feed(
     own: &mut [u32; 17],
     tallies: &mut [u64; 2],
@@ -197,6 +199,12 @@ pub fn feed(
     let mut i: usize = 0;
     let mut commands: u64 = 0;
     while i < words.len() {
+        let whole = whole::take(own, tallies, shared, words, i);
+        if 0 < whole {
+            commands = commands + 1;
+            i = i + whole as usize;
+            continue;
+        }
         let answer = word(own, tallies, shared, words[i]);
         if let Answer::Refused(why) = answer {
             return Fed {

@@ -38,7 +38,12 @@ fn take_domain(own: &mut [u32; 17], i0: u32, j0: u32, i1: u32, j1: u32) -> u32
     }
 }
 
-fn take_start(own: &mut [u32; 17], tallies: &mut [u64; 2], shared: &[u32; 101], reserved: u32) -> u32
+fn take_start(
+    own: &mut [u32; 17],
+    tallies: &mut [u64; 2],
+    shared: &[u32; 101],
+    reserved: u32,
+) -> u32
     requires { ⌜ Ready (now own) (now tallies) (now shared) ⌝ }
     ensures { λ r. ⌜ ((rest : List ℕ) → Tried (headerOf 1 ∷ reserved ∷ rest) (now (own .entry)) (now (tallies .entry)) (now (shared .entry)) r (now (own .exit)) (now (tallies .exit)) (now (shared .entry))) ⌝ }
 {
@@ -80,7 +85,13 @@ fn take_instructions(own: &mut [u32; 17], base: u32, format: u32) -> u32
 }
 
 // A format of constants, to its place.
-fn take_constants(own: &mut [u32; 17], shared: &mut [u32; 101], at: usize, base: u32, format: u32) -> u32
+fn take_constants(
+    own: &mut [u32; 17],
+    shared: &mut [u32; 101],
+    at: usize,
+    base: u32,
+    format: u32,
+) -> u32
     requires { ⌜ Roomy (now own) × ((length (now shared) ≡ 101) × (at < 98)) ⌝ }
     ensures { λ r. ⌜ ((what : Stored) → KeptAt what at → SharedTried (headerOf (storedLine what) ∷ base ∷ format ∷ []) r (now (own .entry)) (now (shared .entry)) (now (own .exit)) (now (shared .exit))) ⌝ }
 {
@@ -93,33 +104,65 @@ fn take_constants(own: &mut [u32; 17], shared: &mut [u32; 101], at: usize, base:
     }
 }
 
-fn take_input(own: &mut [u32; 17], shared: &mut [u32; 101], number: u32, base: u32, format: u32, height: u32) -> u32
+fn take_input(
+    own: &mut [u32; 17],
+    shared: &mut [u32; 101],
+    number: u32,
+    base: u32,
+    format: u32,
+    height: u32,
+) -> u32
     requires { ⌜ Roomy (now own) × (length (now shared) ≡ 101) ⌝ }
     ensures { λ r. ⌜ SharedTried (headerOf 4 ∷ number ∷ base ∷ format ∷ height ∷ []) r (now (own .entry)) (now (shared .entry)) (now (own .exit)) (now (shared .exit)) ⌝ }
 {
     if fits::input(number, base, format, height) {
         own::count_words(own, 5);
-        settings::put(shared, settings::INPUTS + 4 * number as usize, base, format, height);
+        settings::put(
+            shared,
+            settings::INPUTS + 4 * number as usize,
+            base,
+            format,
+            height,
+        );
         5
     } else {
         0
     }
 }
 
-fn take_output(own: &mut [u32; 17], shared: &mut [u32; 101], number: u32, base: u32, format: u32, height: u32) -> u32
+fn take_output(
+    own: &mut [u32; 17],
+    shared: &mut [u32; 101],
+    number: u32,
+    base: u32,
+    format: u32,
+    height: u32,
+) -> u32
     requires { ⌜ Roomy (now own) × (length (now shared) ≡ 101) ⌝ }
     ensures { λ r. ⌜ SharedTried (headerOf 5 ∷ number ∷ base ∷ format ∷ height ∷ []) r (now (own .entry)) (now (shared .entry)) (now (own .exit)) (now (shared .exit)) ⌝ }
 {
     if fits::output(number, base, format, height) {
         own::count_words(own, 5);
-        settings::put(shared, settings::OUTPUTS + 4 * number as usize, base, format, height);
+        settings::put(
+            shared,
+            settings::OUTPUTS + 4 * number as usize,
+            base,
+            format,
+            height,
+        );
         5
     } else {
         0
     }
 }
 
-fn take_conditional(own: &mut [u32; 17], shared: &mut [u32; 101], base: u32, format: u32, height: u32) -> u32
+fn take_conditional(
+    own: &mut [u32; 17],
+    shared: &mut [u32; 101],
+    base: u32,
+    format: u32,
+    height: u32,
+) -> u32
     requires { ⌜ Roomy (now own) × (length (now shared) ≡ 101) ⌝ }
     ensures { λ r. ⌜ SharedTried (headerOf 6 ∷ base ∷ format ∷ height ∷ []) r (now (own .entry)) (now (shared .entry)) (now (own .exit)) (now (shared .exit)) ⌝ }
 {

@@ -84,9 +84,10 @@ shared-slice-read-take-line-4 : tie.Need-shared-slice-read-take-line-4
 shared-slice-read-take-line-4 c = search needs
 
 take-line-requires : tie.Need-take-line-requires
-take-line-requires c κs =
-    (accepted-stands _ _ (sym (c .before .before .before .before .before .before .before .before .before .before .line-of .ensures) ∙ ap toldLine (c .before .before .before .before .before .before .before .before .line .given .1)) .line,
-    ready _ _ _ (c .before .before .before .before .before .before .before .before .before .before .before .before .before .before .before .before .before .before .before .before .pre .0) (c .before .before .before .before .before .before .before .before .before .before .before .before .before .before .before .before .if2 .left) (c .before .before .before .before .before .before .before .before .before .before .before .before .before .before .if3 .left) (c .before .before .before .before .before .before .before .before .before .before .before .before .if4 .left))
+take-line-requires c κs = (
+  accepted-stands _ _ (sym (c .before .before .before .before .before .before .before .before .before .before .line-of .ensures) ∙ ap toldLine (c .before .before .before .before .before .before .before .before .line .given .1)) .line,
+  ready _ _ _ (c .before .before .before .before .before .before .before .before .before .before .before .before .before .before .before .before .before .before .before .before .pre .0) (c .before .before .before .before .before .before .before .before .before .before .before .before .before .before .before .before .if2 .left) (c .before .before .before .before .before .before .before .before .before .before .before .before .before .before .if3 .left) (c .before .before .before .before .before .before .before .before .before .before .before .before .if4 .left),
+)
 
 returns-5 : tie.Need-returns-5
 returns-5 c = untaken
