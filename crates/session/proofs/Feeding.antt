@@ -17,11 +17,11 @@ use Rattle.command.specs.Writer.{judgeCommandOf}
 use Rattle.command.specs.declared.commands.Command.{Command}
 use Rattle.command.proofs.Headers.{count-most}
 use Rattle.command.proofs.WriteBack.{lined}
-use Rattle.session.specs.State.{Session, none}
+use Rattle.session.specs.State.{Open as Opened, Session, none}
 use Rattle.session.specs.Step.{Reply, stillOpen, completed, refused, Stepped, startRuleOf, after, stepOf}
 use Rattle.session.specs.Valid.{Valid}
 use Rattle.session.specs.Again.{fed, standing}
-use Rattle.session.specs.Whole.{Ready, Tried, untaken, takenWhole}
+use Rattle.session.specs.Whole.{Ready, Tried, untaken, accepted as takenWhole, Begun, begun, unbegun}
 use Rattle.session.specs.Feed.{First, nothing, first, onward, ended, proceed, feedOf, joined}
 use Rattle.session.specs.Feed as piece
 use Rattle.session.specs.Answers.{replyOf, completedBy, PieceLeft}
@@ -108,7 +108,7 @@ module _ (s : Session) (ws l t c : List ℕ) (i n : ℕ) (f : Fold s ws l t c i 
       (begins : drop i ws ≡ wordsOf x ++ later)
       (fine : judgeCommandOf x ≡ gives [])
       (rule : startRuleOf x (sessionOf l t c) ≡ gives [])
-      (held : Held (standing (after x (sessionOf l t c)) (sessionOf l t c .party .taken + length (wordsOf x)) none) l1 t1 c1)
+      (held : Held (standing (after x (sessionOf l t c)) (sessionOf l t c .party .taken + length (wordsOf x)) (sessionOf l t c .party .opened)) l1 t1 c1)
     where
       abbrev size : ℕ
       size = length (wordsOf x)
@@ -118,6 +118,11 @@ module _ (s : Session) (ws l t c : List ℕ) (i n : ℕ) (f : Fold s ws l t c i 
 
       read : feedOf (sessionOf l t c) (wordsOf x) ≡ fed size (x ∷ []) nothing left
       read = reads-back (sessionOf l t c) x (y .idle) fine (omega (arith, y .room, words-most x .1)) [] rule
+
+      now-held : Held left l1 t1 c1
+      now-held =
+          subst (λ (o : Opened). Held (standing (after x (sessionOf l t c)) (sessionOf l t c .party .taken + size) o) l1 t1 c1)
+          (y .idle .unopened) held
 
       valid : Valid left
       valid =
@@ -139,28 +144,38 @@ module _ (s : Session) (ws l t c : List ℕ) (i n : ℕ) (f : Fold s ws l t c i 
       whole-goes less =
           record {
             done = f .done ++ (x ∷ []);
-            given = held-given left valid l1 t1 c1 held;
+            given = held-given left valid l1 t1 c1 now-held;
             within = omega (arith, fits, less);
             number = length-append (f .done) (x ∷ []) ∙ ap (λ (a : ℕ). a + 1) (f .number);
             fewer = omega (arith, f .fewer, words-most x .0);
             rest =
                 f .rest ∙ ap (ahead i (f .done)) rejoined ∙
                 fed-path (plus i size (feedOf left later .taken)) (sym (append-assoc (f .done) (x ∷ []) (feedOf left later .commands))) ∙
-                ap (ahead (i + size) (f .done ++ (x ∷ []))) (ap₂ feedOf (sym (held-view left valid l1 t1 c1 held)) behind);
+                ap (ahead (i + size) (f .done ++ (x ∷ []))) (ap₂ feedOf (sym (held-view left valid l1 t1 c1 now-held)) behind);
           }
         where
           plus : (a b d : ℕ) → a + (b + d) ≡ a + b + d
           plus a b d = omega arith
 
-  pub fold-whole : (m : ℕ) (l1 t1 c1 : List ℕ) → i < length ws → 0 < m → Tried (drop i ws) l t c m l1 t1 c1 →
-      Fold s ws l1 t1 c1 (i + m) (n + 1)
-  fold-whole m l1 t1 c1 less k untaken = absurd (omega arith)
-  fold-whole m l1 t1 c1 less k (takenWhole x later l2 t2 c2 y begins fine rule held) =
+  tried-goes : (x : Command) (m : ℕ) (l1 t1 c1 : List ℕ) → Ready l t c → i < length ws → 0 < m →
+      Tried x (drop i ws) (length (wordsOf x)) l t c m l1 t1 c1 → Fold s ws l1 t1 c1 (i + m) (n + 1)
+  tried-goes x m l1 t1 c1 y less k untaken = absurd (omega arith)
+  tried-goes x m l1 t1 c1 y less k (takenWhole later l2 t2 c2 begins fine rule held) =
       whole-goes x later l2 t2 c2 y begins fine rule held less
 
-  pub fold-same : (m : ℕ) (l1 t1 c1 : List ℕ) → m ≤ 0 → Tried (drop i ws) l t c m l1 t1 c1 → Fold s ws l1 t1 c1 i n
-  fold-same m l1 t1 c1 k untaken = f
-  fold-same m l1 t1 c1 k (takenWhole x later l2 t2 c2 y begins fine rule held) = absurd (omega (arith, words-most x .0))
+  pub fold-whole : (m : ℕ) (l1 t1 c1 : List ℕ) → i < length ws → 0 < m → Begun (drop i ws) l t c m l1 t1 c1 →
+      Fold s ws l1 t1 c1 (i + m) (n + 1)
+  fold-whole m l1 t1 c1 less k (begun x m2 l2 t2 c2 y q) = tried-goes x m2 l2 t2 c2 y less k q
+  fold-whole m l1 t1 c1 less k unbegun = absurd (omega arith)
+
+  tried-same : (x : Command) (m : ℕ) (l1 t1 c1 : List ℕ) → m ≤ 0 →
+      Tried x (drop i ws) (length (wordsOf x)) l t c m l1 t1 c1 → Fold s ws l1 t1 c1 i n
+  tried-same x m l1 t1 c1 k untaken = f
+  tried-same x m l1 t1 c1 k (takenWhole later l2 t2 c2 begins fine rule held) = absurd (omega (arith, words-most x .0))
+
+  pub fold-same : (m : ℕ) (l1 t1 c1 : List ℕ) → m ≤ 0 → Begun (drop i ws) l t c m l1 t1 c1 → Fold s ws l1 t1 c1 i n
+  fold-same m l1 t1 c1 k (begun x m2 l2 t2 c2 y q) = tried-same x m2 l2 t2 c2 k q
+  fold-same m l1 t1 c1 k unbegun = f
 
   module _ (less : i < length ws) (l1 t1 c1 : List ℕ) where
     abbrev w : ℕ

@@ -2,7 +2,7 @@
 use mathlib.Core.Path.{sym, ap, _∙_}
 use Rattle.command.specs.Table.{toldLine}
 use Rattle.command.proofs.Headers.{accepted-stands}
-use Rattle.session.specs.Whole.{untaken}
+use Rattle.session.specs.Whole.{unbegun}
 use Rattle.session.proofs.WholeCommands.{ready, piece-tried}
 use borrow.Author.Needs.{needs}
 use Rattle.session.proofs.whole.take.Statement.{statement}
@@ -12,25 +12,25 @@ sub-if1 : tie.Need-sub-if1
 sub-if1 c = search needs
 
 returns : tie.Need-returns
-returns c = untaken
+returns c = unbegun
 
 element-copy-out-if2 : tie.Need-element-copy-out-if2
 element-copy-out-if2 c = search needs
 
 returns-2 : tie.Need-returns-2
-returns-2 c = untaken
+returns-2 c = unbegun
 
 element-copy-out-if3 : tie.Need-element-copy-out-if3
 element-copy-out-if3 c = search needs
 
 returns-3 : tie.Need-returns-3
-returns-3 c = untaken
+returns-3 c = unbegun
 
 element-copy-out-if4 : tie.Need-element-copy-out-if4
 element-copy-out-if4 c = search needs
 
 returns-4 : tie.Need-returns-4
-returns-4 c = untaken
+returns-4 c = unbegun
 
 mul-line-of : tie.Need-mul-line-of
 mul-line-of c = search needs
@@ -90,10 +90,10 @@ take-line-requires c κs = (
 )
 
 returns-5 : tie.Need-returns-5
-returns-5 c = untaken
+returns-5 c = unbegun
 
 returns-6 : tie.Need-returns-6
-returns-6 c = piece-tried _ _ _ (c .before .before .before .before .before .before .before .before .before .before .before .before .before .before .before .before .before .before .before .before .before .pre .0) _ _ (c .before .before .before .before .before .before .before .before .before .before .before .before .before .before .before .before .before .before .before .if1 .left) (c .before .before .before .before .before .before .before .before .before .before .before .before .before .before .before .before .before .before .before .before .before .pre .1) _ (sym (c .before .before .before .before .before .before .before .before .before .before .before .line-of .ensures) ∙ ap toldLine (c .before .before .before .before .before .before .before .before .before .line .given .1)) _ _ _ _ (c .take-line .ensures)
+returns-6 c = piece-tried (c .before .before .before .before .before .before .before .before .before .before .before .before .before .before .before .before .before .before .before .before .before .args .own .now) (c .before .before .before .before .before .before .before .before .before .before .before .before .before .before .before .before .before .before .before .before .before .args .tallies .now) (c .before .before .before .before .before .before .before .before .before .before .before .before .before .before .before .before .before .before .before .before .before .args .shared .now) (c .before .before .before .before .before .before .before .before .before .before .before .before .before .before .before .before .before .before .before .before .before .pre .0) _ _ (c .before .before .before .before .before .before .before .before .before .before .before .before .before .before .before .before .before .before .before .if1 .left) (c .before .before .before .before .before .before .before .before .before .before .before .before .before .before .before .before .before .before .before .before .before .pre .1) (ready _ _ _ (c .before .before .before .before .before .before .before .before .before .before .before .before .before .before .before .before .before .before .before .before .before .pre .0) (c .before .before .before .before .before .before .before .before .before .before .before .before .before .before .before .before .before .if2 .left) (c .before .before .before .before .before .before .before .before .before .before .before .before .before .before .before .if3 .left) (c .before .before .before .before .before .before .before .before .before .before .before .before .before .if4 .left)) _ (sym (c .before .before .before .before .before .before .before .before .before .before .before .line-of .ensures) ∙ ap toldLine (c .before .before .before .before .before .before .before .before .before .line .given .1)) _ _ _ _ _ (c .take-line .ensures)
 
 pub take-spec : {M : Type 1} → statement M
 take-spec =

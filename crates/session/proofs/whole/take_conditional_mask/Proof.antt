@@ -16,10 +16,10 @@ element-write-shared-2 : tie.Need-element-write-shared-2
 element-write-shared-2 c = search needs
 
 returns : tie.Need-returns
-returns c = conditional-mask-tried _ _ _ _ _ (c .before .before .if1 .taken) (c .count-words .ensures) refl
+returns c = conditional-mask-tried _ _ _ (c .count-words .ensures) _ _ _ (c .before .before .if1 .taken) refl
 
 returns-2 : tie.Need-returns-2
-returns-2 c t rest y = untaken
+returns-2 c t rest z = untaken
 
 pub take-conditional-mask-spec : {M : Type 1} → statement M
 take-conditional-mask-spec = tie.close (tie.spec count-words-requires element-write-shared element-write-shared-2 returns returns-2)

@@ -15,10 +15,10 @@ put-requires : tie.Need-put-requires
 put-requires c κs = search needs
 
 returns : tie.Need-returns
-returns c = constants-tried _ _ _ _ _ _ _ (c .before .before .before .before .before .window .ensures (c .before .before .before .before .if1 .taken)) (c .before .before .count-words .ensures) (c .put .ensures)
+returns c = constants-tried _ _ _ (c .before .before .count-words .ensures) _ _ _ _ _ (c .before .before .before .before .before .window .ensures (c .before .before .before .before .if1 .taken)) (c .put .ensures)
 
 returns-2 : tie.Need-returns-2
-returns-2 c what a t rest y = untaken
+returns-2 c what a t rest z = untaken
 
 pub take-constants-spec : {M : Type 1} → statement M
 take-constants-spec = tie.close (tie.spec window-requires count-words-requires put-requires returns returns-2)

@@ -15,10 +15,10 @@ set-domain-requires : tie.Need-set-domain-requires
 set-domain-requires c κs = counted-length _ _ _ (c .before .count-words .ensures)
 
 returns : tie.Need-returns
-returns c = domain-tried _ _ _ _ _ _ (c .before .before .before .before .before .domain .ensures (c .before .before .before .before .if1 .taken)) (c .before .before .count-words .ensures) _ (c .set-domain .ensures)
+returns c = domain-tried _ _ _ (c .before .before .count-words .ensures) _ _ _ _ (c .before .before .before .before .before .domain .ensures (c .before .before .before .before .if1 .taken)) _ (c .set-domain .ensures)
 
 returns-2 : tie.Need-returns-2
-returns-2 c t h rest y = untaken
+returns-2 c t h rest z = untaken
 
 pub take-domain-spec : {M : Type 1} → statement M
 take-domain-spec = tie.close (tie.spec domain-requires count-words-requires set-domain-requires returns returns-2)

@@ -15,10 +15,10 @@ set-instructions-requires : tie.Need-set-instructions-requires
 set-instructions-requires c κs = counted-length _ _ _ (c .before .count-words .ensures)
 
 returns : tie.Need-returns
-returns c = instructions-tried _ _ _ _ (c .before .before .before .before .before .window .ensures (c .before .before .before .before .if1 .taken)) (c .before .before .count-words .ensures) _ (c .set-instructions .ensures)
+returns c = instructions-tried _ _ _ (c .before .before .count-words .ensures) _ _ (c .before .before .before .before .before .window .ensures (c .before .before .before .before .if1 .taken)) _ (c .set-instructions .ensures)
 
 returns-2 : tie.Need-returns-2
-returns-2 c t h rest y = untaken
+returns-2 c t h rest z = untaken
 
 pub take-instructions-spec : {M : Type 1} → statement M
 take-instructions-spec = tie.close (tie.spec window-requires count-words-requires set-instructions-requires returns returns-2)

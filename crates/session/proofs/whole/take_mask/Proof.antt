@@ -13,10 +13,10 @@ element-write-shared : tie.Need-element-write-shared
 element-write-shared c = search needs
 
 returns : tie.Need-returns
-returns c = mask-tried _ _ _ _ _ (c .before .before .if1 .taken) (c .count-words .ensures) refl
+returns c = mask-tried _ _ _ (c .count-words .ensures) _ _ _ (c .before .before .if1 .taken) refl
 
 returns-2 : tie.Need-returns-2
-returns-2 c t rest y = untaken
+returns-2 c t rest z = untaken
 
 pub take-mask-spec : {M : Type 1} → statement M
 take-mask-spec = tie.close (tie.spec count-words-requires element-write-shared returns returns-2)

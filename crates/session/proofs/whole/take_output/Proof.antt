@@ -21,10 +21,10 @@ put-requires : tie.Need-put-requires
 put-requires c κs = (c .before .before .before .before .before .pre .1, output-place _ _ _ _ (c .before .before .before .before .output .ensures (c .before .before .before .if1 .taken)))
 
 returns : tie.Need-returns
-returns c = output-tried _ _ _ _ _ _ _ _ (c .before .before .before .before .before .output .ensures (c .before .before .before .before .if1 .taken)) (c .before .before .count-words .ensures) (c .put .ensures)
+returns c = output-tried _ _ _ (c .before .before .count-words .ensures) _ _ _ _ _ _ (c .before .before .before .before .before .output .ensures (c .before .before .before .before .if1 .taken)) (c .put .ensures)
 
 returns-2 : tie.Need-returns-2
-returns-2 c t rest y = untaken
+returns-2 c t rest z = untaken
 
 pub take-output-spec : {M : Type 1} → statement M
 take-output-spec = tie.close (tie.spec output-requires count-words-requires mul-put add-put put-requires returns returns-2)

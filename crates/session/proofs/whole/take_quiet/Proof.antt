@@ -9,10 +9,10 @@ count-words-requires : tie.Need-count-words-requires
 count-words-requires c κs = search needs
 
 returns : tie.Need-returns
-returns c = quiet-tried _ _ _ (c .before .before .if1 .taken) (c .count-words .ensures)
+returns c = quiet-tried _ _ _ (c .count-words .ensures) _ (c .before .before .if1 .taken)
 
 returns-2 : tie.Need-returns-2
-returns-2 c what t h rest y = untaken
+returns-2 c what t h rest z = untaken
 
 pub take-quiet-spec : {M : Type 1} → statement M
 take-quiet-spec = tie.close (tie.spec count-words-requires returns returns-2)

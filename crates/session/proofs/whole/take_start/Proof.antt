@@ -1,8 +1,6 @@
 -- `session::whole::take_start` meets its contract. Assumes nothing.
 use mathlib.Core.Path.{sym, ap, _∙_}
-use native.Mathlib.Omega.{arith}
 use Rattle.command.specs.Kinds.{toldChecked}
-use Rattle.session.specs.Cells.{partyOf}
 use Rattle.session.specs.Whole.{untaken}
 use Rattle.session.proofs.WholeCommands.{start-asked, start-tried}
 use borrow.Author.Needs.{needs}
@@ -25,14 +23,13 @@ returns-2 : tie.Need-returns-2
 returns-2 c rest = untaken
 
 count-words-requires : tie.Need-count-words-requires
-unfolding partyOf
-count-words-requires c κs = (c .before .before .before .before .before .before .pre .given .sized .own-length, omega (arith, c .before .before .before .before .before .before .pre .room))
+count-words-requires c κs = (c .before .before .before .before .before .before .pre .0 .own-length, c .before .before .before .before .before .before .pre .0 .room)
 
 count-start-requires : tie.Need-count-start-requires
-count-start-requires c κs = start-asked (c .before .before .before .before .before .before .before .before .before .args .own .now) (c .before .before .before .before .before .before .before .before .before .args .tallies .now) (c .before .before .before .before .before .before .before .before .before .args .shared .now) (c .before .before .before .before .before .before .before .before .before .pre) _ (c .before .before .count-words .ensures)
+count-start-requires c κs = start-asked _ _ _ (c .before .before .count-words .ensures) (c .before .before .before .before .before .before .before .before .before .args .tallies .now) (c .before .before .before .before .before .before .before .before .before .args .shared .now) (c .before .before .before .before .before .before .before .before .before .pre .1)
 
 returns-3 : tie.Need-returns-3
-returns-3 c = start-tried (c .before .before .before .before .before .before .before .before .before .before .args .own .now) (c .before .before .before .before .before .before .before .before .before .before .args .tallies .now) (c .before .before .before .before .before .before .before .before .before .before .args .shared .now) (c .before .before .before .before .before .before .before .before .before .before .pre) _ (c .before .before .before .count-words .ensures) _ (c .before .before .before .before .before .before .before .before .before .if1 .left) _ (c .before .before .before .before .before .before .before .ready .ensures) (ap toldChecked (c .before .before .before .before .before .enum-told .given .1)) _ (c .count-start .ensures)
+returns-3 c = start-tried _ _ _ (c .before .before .before .count-words .ensures) (c .before .before .before .before .before .before .before .before .before .before .args .tallies .now) (c .before .before .before .before .before .before .before .before .before .before .args .shared .now) (c .before .before .before .before .before .before .before .before .before .before .pre .1) _ (c .before .before .before .before .before .before .before .before .before .if1 .left) _ (c .before .before .before .before .before .before .before .ready .ensures) (ap toldChecked (c .before .before .before .before .before .enum-told .given .1)) _ (c .count-start .ensures)
 
 pub take-start-spec : {M : Type 1} → statement M
 take-start-spec =
