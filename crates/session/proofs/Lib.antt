@@ -4,6 +4,7 @@ pub mod Cut
 pub mod Feeding
 pub mod Handed
 pub mod Kept
+pub mod LastWords
 pub mod OwnPuts
 pub mod Parameters
 pub mod Puts

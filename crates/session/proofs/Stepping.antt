@@ -143,7 +143,7 @@ module _ (l t s : List ℕ) (a : CompleteAsked l t s) where
       passed : EachAllowed (o .line) (parametersOf o)
       passed = unfold partyOf in a .passed
 
-  same-rule : (c : Command) → thenTold (lastRuleOf c) (startRuleOf c (sessionOf l [] s)) ≡ thenTold (lastRuleOf c) (startRuleOf c ss)
+  pub same-rule : (c : Command) → thenTold (lastRuleOf c) (startRuleOf c (sessionOf l [] s)) ≡ thenTold (lastRuleOf c) (startRuleOf c ss)
   same-rule c =
       ap (thenTold (lastRuleOf c)) (start-rule-same c (partyOf l []) (partyOf l t) (sharedOf s) (unfold partyOf in refl) (unfold partyOf in refl))
 

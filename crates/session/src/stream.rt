@@ -52,18 +52,22 @@ fn whole_rule(own: &[u32; 17], shared: &[u32; 101], command: Command) -> Checked
     }
 }
 
-// All parameters are there: the command is judged as a whole, and accepted or refused.
+// All parameters are there: the command is judged as a whole, and accepted or refused. Where the tests of its line accept
+// it, nothing more is asked.
 fn complete(own: &mut [u32; 17], tallies: &mut [u64; 2], shared: &mut [u32; 101]) -> Answer
     requires { ⌜ CompleteAsked (now own) (now tallies) (now shared) ⌝ }
     ensures { λ r. ⌜ Left (completing (partyOf (now (own .entry)) [] .opened) (sessionOf (now (own .entry)) (now (tallies .entry)) (now (shared .entry)))) (replyOf r) (now (own .exit)) (now (tallies .exit)) (now (shared .exit)) ⌝ }
 {
-    let command = commands::build(
-        own[own::LINE],
-        own[own::PARAMETER_0],
-        own[own::PARAMETER_1],
-        own[own::PARAMETER_2],
-        own[own::PARAMETER_3],
-    );
+    let line = own[own::LINE];
+    let p0 = own[own::PARAMETER_0];
+    let p1 = own[own::PARAMETER_1];
+    let p2 = own[own::PARAMETER_2];
+    let p3 = own[own::PARAMETER_3];
+    let command = commands::build(line, p0, p1, p2, p3);
+    if 0 < whole::take_last(own, tallies, shared, line, p0, p1, p2, p3) {
+        own::close(own);
+        return Answer::Done(command);
+    }
     let rule = whole_rule(own, shared, command);
     match rule {
         Checked::Refused(why) => {
