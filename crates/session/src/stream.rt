@@ -106,15 +106,14 @@ fn parameter(
     requires { ⌜ OpenAsked (now own) (now tallies) (now shared) ⌝ }
     ensures { λ r. ⌜ Left (parameterStep (sessionOf (now (own .entry)) (now (tallies .entry)) (now (shared .entry))) word) (replyOf r) (now (own .exit)) (now (tallies .exit)) (now (shared .exit)) ⌝ }
 {
-    let kind = kinds::kind_at(own[own::LINE], own[own::COUNT]);
-    let checked = kinds::check(kind, word);
-    match checked {
-        Checked::Refused(why) => {
-            own::stop(own);
-            Answer::Refused(why)
-        }
-        Checked::Fine => placed(own, tallies, shared, word),
+    let line = own[own::LINE];
+    let count = own[own::COUNT];
+    if kinds::place_allowed(line, count, word) {
+        return placed(own, tallies, shared, word);
     }
+    let kind = kinds::kind_at(line, count);
+    own::stop(own);
+    Answer::Refused(kinds::fault(kind))
 }
 
 // One word. 1 comes before 17, and 17 before the word is looked at.
