@@ -1,3 +1,4 @@
+pub mod Fitting
 pub mod Headers
 pub mod Judging
 pub mod Readable

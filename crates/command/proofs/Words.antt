@@ -96,6 +96,9 @@ kind-at-place l k n h e =
     let r : k ≡ n % 4 = omega arith in
     cc
 
+pub allowed-at-place : (l k n w : ℕ) → k < 4 → l * 4 + k ≡ n → allowed (kindAt n) w ≡ allowed (kindOf l k) w
+allowed-at-place l k n w h e = ap (λ (x : Kind). allowed x w) (sym (kind-at-place l k n h e))
+
 isReserved : Kind → Bool
 isReserved Reserved = true
 isReserved InputNumber = false

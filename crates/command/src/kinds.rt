@@ -74,7 +74,7 @@ pub fn kind_at(line: u32, k: u32) -> Kind
 }
 
 // Whether a format word has its reserved bits zero and a code that is known.
-fn format_allowed(word: u32) -> bool
+pub fn format_allowed(word: u32) -> bool
     ensures { λ r. ⌜ r ≡ formatAllowed word ⌝ }
 {
     if word % 4 != 0 {
@@ -93,7 +93,7 @@ fn format_allowed(word: u32) -> bool
 }
 
 // Whether an input's format word is superfine with one channel only, or not superfine.
-fn superfine_allowed(word: u32) -> bool
+pub fn superfine_allowed(word: u32) -> bool
     ensures { λ r. ⌜ r ≡ superfineAllowed word ⌝ }
 {
     if superfine(word) {
@@ -129,6 +129,42 @@ pub fn is_allowed(kind: Kind, word: u32) -> bool
         Kind::MaskBits => word < 65536,
         Kind::ConditionalMaskBit => word < 2,
         Kind::TestBits => word < 8,
+    }
+}
+
+// Whether a word is allowed as parameter `k` of a line: the two matches above as one, for what runs at every word.
+pub fn place_allowed(line: u32, k: u32, word: u32) -> bool
+    requires { ⌜ (line < 21) × (k < 4) ⌝ }
+    ensures { λ r. ⌜ r ≡ allowed (kindOf line k) word ⌝ }
+{
+    match line * 4 + k {
+        0 => word < 4096,
+        1 => word < 4096,
+        2 => word < 4096,
+        3 => word < 4096,
+        12 => word % 2048 == 0,
+        13 => format_allowed(word),
+        16 => word <= 15,
+        17 => word % 2048 == 0,
+        18 => input_format_allowed(word),
+        19 => word < 8192,
+        20 => word <= 3,
+        21 => word % 2048 == 0,
+        22 => format_allowed(word),
+        23 => word < 8192,
+        24 => word % 2048 == 0,
+        25 => format_allowed(word),
+        26 => word < 8192,
+        28 => word % 2048 == 0,
+        29 => format_allowed(word),
+        32 => word % 2048 == 0,
+        33 => format_allowed(word),
+        36 => word % 2048 == 0,
+        37 => format_allowed(word),
+        72 => word < 65536,
+        76 => word < 2,
+        80 => word < 8,
+        _ => word == 0,
     }
 }
 

@@ -21,7 +21,7 @@ fn domain_kept(command: Command) -> bool
 }
 
 // Whether the window of the three words is accepted.
-fn is_window(base: u32, format: u32, height: u32) -> bool
+pub fn is_window(base: u32, format: u32, height: u32) -> bool
     ensures { λ r. ⌜ r ≡ isGiven (windowOf base format height) ⌝ }
 {
     match window(base, format, height) {

@@ -1,20 +1,28 @@
 -- A piece, word by word as the code feeds it, is the definition's fold. Assumes nothing.
 use mathlib.Core.Path.{_≡_, refl, sym, ap, ap₂, _∙_, subst}
 use mathlib.Core.List.{List, [], _∷_, _++_, append-assoc, append-nil}
-use Prim.Native.Nat.{ℕ, zero, suc, _+_, _<_, _≤_}
+use Prim.Native.Nat.{ℕ, zero, suc, _+_, _-_, _<_, _≤_}
 use native.Mathlib.Nat.{zero-add, add-zero}
 use native.Mathlib.Numerals.{add-one}
 use native.Mathlib.Omega.{arith}
-use lib.ListN.{length, getD, drop, length-append, drop-of-length-le}
-use lib.Seq.{drop-cons}
+use lib.ListN.{length, getD, drop, length-append, length-drop, drop-of-length-le}
+use lib.Seq.{drop-cons, drop-drop}
 use denote.Enum.Declared.{tagOf}
 use types.Run.{OneOf, miss}
 use Rattle.refusal.specs.Number.{numberOf}
 use Rattle.refusal.specs.declared.Refusal.{Refusal}
+use Rattle.refusal.specs.Told.{gives}
+use Rattle.command.specs.Commands.{wordsOf}
+use Rattle.command.specs.Writer.{judgeCommandOf}
 use Rattle.command.specs.declared.commands.Command.{Command}
-use Rattle.session.specs.State.{Session}
-use Rattle.session.specs.Step.{Reply, stillOpen, completed, refused, Stepped, stepOf}
-use Rattle.session.specs.Feed.{First, nothing, first, onward, ended, proceed, feedOf}
+use Rattle.command.proofs.Headers.{count-most}
+use Rattle.command.proofs.WriteBack.{lined}
+use Rattle.session.specs.State.{Open as Opened, Session, none}
+use Rattle.session.specs.Step.{Reply, stillOpen, completed, refused, Stepped, startRuleOf, after, stepOf}
+use Rattle.session.specs.Valid.{Valid}
+use Rattle.session.specs.Again.{fed, standing}
+use Rattle.session.specs.Whole.{Ready, Tried, untaken, accepted as takenWhole, Begun, begun, unbegun}
+use Rattle.session.specs.Feed.{First, nothing, first, onward, ended, proceed, feedOf, joined}
 use Rattle.session.specs.Feed as piece
 use Rattle.session.specs.Answers.{replyOf, completedBy, PieceLeft}
 use Rattle.session.specs.Asked.{Given, Held, Left}
@@ -26,9 +34,12 @@ use Rattle.session.specs.declared.stream.First.the-variants as firstly
 use Rattle.session.specs.declared.stream.Fed.{Fed}
 use Rattle.session.specs.declared.stream.WordPosition.{WordPosition}
 use Rattle.session.proofs.stream.Answer.{the-type}
-use Rattle.session.proofs.Cells.{held-view}
+use Rattle.session.proofs.Cells.{held-view, held-given}
+use Rattle.session.proofs.Cut.{cut}
 use Rattle.session.proofs.Handed.{word-given}
 use Rattle.session.proofs.Kept.{kept}
+use Rattle.session.proofs.ReadBack.{reads-back}
+use Rattle.session.proofs.Refusals.{fed-valid}
 use Rattle.session.proofs.Taking.{same}
 
 -- an answer to the rest, with the words taken and the commands completed before it
@@ -64,6 +75,15 @@ fold-begins ws l t c g =
       rest = fed-path (sym (zero-add _)) refl;
     }
 
+-- a command has two to five words
+words-most : (x : Command) → (1 ≤ length (wordsOf x)) × (length (wordsOf x) ≤ 5)
+unfolding wordsOf
+words-most x = (omega arith, omega (arith, lined x .fields-count, count-most _ (lined x .line-most)))
+
+drop-front : (xs ys : List ℕ) → drop (length xs) (xs ++ ys) ≡ ys
+drop-front [] ys = refl
+drop-front (x ∷ xs) ys = drop-front xs ys
+
 abbrev answered : ℕ → ℕ → firsts.First → Fed
 answered i n r = record { taken = record { 0 = i }; commands = n; refusal = r }
 
@@ -79,6 +99,83 @@ module _ (s : Session) (ws l t c : List ℕ) (i n : ℕ) (f : Fold s ws l t c i 
         refusal = refl;
         held = same l t c 0 (f .given);
       })
+
+  -- a command that is taken whole
+  module _
+      (x : Command)
+      (later l1 t1 c1 : List ℕ)
+      (y : Ready l t c)
+      (begins : drop i ws ≡ wordsOf x ++ later)
+      (fine : judgeCommandOf x ≡ gives [])
+      (rule : startRuleOf x (sessionOf l t c) ≡ gives [])
+      (held : Held (standing (after x (sessionOf l t c)) (sessionOf l t c .party .taken + length (wordsOf x)) (sessionOf l t c .party .opened)) l1 t1 c1)
+    where
+      abbrev size : ℕ
+      size = length (wordsOf x)
+
+      abbrev left : Session
+      left = standing (after x (sessionOf l t c)) (sessionOf l t c .party .taken + size) none
+
+      read : feedOf (sessionOf l t c) (wordsOf x) ≡ fed size (x ∷ []) nothing left
+      read = reads-back (sessionOf l t c) x (y .idle) fine (omega (arith, y .room, words-most x .1)) [] rule
+
+      now-held : Held left l1 t1 c1
+      now-held =
+          subst (λ (o : Opened). Held (standing (after x (sessionOf l t c)) (sessionOf l t c .party .taken + size) o) l1 t1 c1)
+          (y .idle .unopened) held
+
+      valid : Valid left
+      valid =
+          subst (λ (a : piece.Fed). Valid (a .session)) read (fed-valid (sessionOf l t c) (wordsOf x) (f .given .valid))
+
+      rejoined : feedOf (sessionOf l t c) (drop i ws) ≡ ahead size (x ∷ []) (feedOf left later)
+      unfolding joined
+      rejoined =
+          ap (feedOf (sessionOf l t c)) begins ∙ cut (sessionOf l t c) (wordsOf x) later ∙
+          ap (λ (a : piece.Fed). joined a (feedOf (a .session) later)) read
+
+      behind : later ≡ drop (i + size) ws
+      behind = sym (drop-front (wordsOf x) later) ∙ ap (drop size) (sym begins) ∙ drop-drop size i ws
+
+      fits : size + length later ≡ length ws - i
+      fits = sym (length-append (wordsOf x) later) ∙ ap length (sym begins) ∙ length-drop i ws
+
+      whole-goes : i < length ws → Fold s ws l1 t1 c1 (i + size) (n + 1)
+      whole-goes less =
+          record {
+            done = f .done ++ (x ∷ []);
+            given = held-given left valid l1 t1 c1 now-held;
+            within = omega (arith, fits, less);
+            number = length-append (f .done) (x ∷ []) ∙ ap (λ (a : ℕ). a + 1) (f .number);
+            fewer = omega (arith, f .fewer, words-most x .0);
+            rest =
+                f .rest ∙ ap (ahead i (f .done)) rejoined ∙
+                fed-path (plus i size (feedOf left later .taken)) (sym (append-assoc (f .done) (x ∷ []) (feedOf left later .commands))) ∙
+                ap (ahead (i + size) (f .done ++ (x ∷ []))) (ap₂ feedOf (sym (held-view left valid l1 t1 c1 now-held)) behind);
+          }
+        where
+          plus : (a b d : ℕ) → a + (b + d) ≡ a + b + d
+          plus a b d = omega arith
+
+  tried-goes : (x : Command) (m : ℕ) (l1 t1 c1 : List ℕ) → Ready l t c → i < length ws → 0 < m →
+      Tried x (drop i ws) (length (wordsOf x)) l t c m l1 t1 c1 → Fold s ws l1 t1 c1 (i + m) (n + 1)
+  tried-goes x m l1 t1 c1 y less k untaken = absurd (omega arith)
+  tried-goes x m l1 t1 c1 y less k (takenWhole later l2 t2 c2 begins fine rule held) =
+      whole-goes x later l2 t2 c2 y begins fine rule held less
+
+  pub fold-whole : (m : ℕ) (l1 t1 c1 : List ℕ) → i < length ws → 0 < m → Begun (drop i ws) l t c m l1 t1 c1 →
+      Fold s ws l1 t1 c1 (i + m) (n + 1)
+  fold-whole m l1 t1 c1 less k (begun x m2 l2 t2 c2 y q) = tried-goes x m2 l2 t2 c2 y less k q
+  fold-whole m l1 t1 c1 less k unbegun = absurd (omega arith)
+
+  tried-same : (x : Command) (m : ℕ) (l1 t1 c1 : List ℕ) → m ≤ 0 →
+      Tried x (drop i ws) (length (wordsOf x)) l t c m l1 t1 c1 → Fold s ws l1 t1 c1 i n
+  tried-same x m l1 t1 c1 k untaken = f
+  tried-same x m l1 t1 c1 k (takenWhole later l2 t2 c2 begins fine rule held) = absurd (omega (arith, words-most x .0))
+
+  pub fold-same : (m : ℕ) (l1 t1 c1 : List ℕ) → m ≤ 0 → Begun (drop i ws) l t c m l1 t1 c1 → Fold s ws l1 t1 c1 i n
+  fold-same m l1 t1 c1 k (begun x m2 l2 t2 c2 y q) = tried-same x m2 l2 t2 c2 k q
+  fold-same m l1 t1 c1 k unbegun = f
 
   module _ (less : i < length ws) (l1 t1 c1 : List ℕ) where
     abbrev w : ℕ

@@ -4,6 +4,7 @@ pub mod Cut
 pub mod Feeding
 pub mod Handed
 pub mod Kept
+pub mod LastWords
 pub mod OwnPuts
 pub mod Parameters
 pub mod Puts
@@ -17,4 +18,5 @@ pub mod Stepping
 pub mod Taking
 pub mod Tallies
 pub mod Ways
+pub mod WholeCommands
 pub mod WriteBack

@@ -9,6 +9,7 @@ use Rattle.laws.proofs.Table.{each, _&_}
 use Rattle.session.specs.State.{Buffer, Open, Domain, Party, atLine, none}
 use Rattle.session.specs.Step.{domainFrom, opening, took, stop, withParameter, withDomain, withInstructions, buffer}
 use Rattle.session.specs.Cells.{partyOf, partyCells}
+use Rattle.session.specs.Whole.{tookWords}
 use Rattle.session.proofs.Cells.{own-canon}
 
 module _ (l : List ℕ) (h : length l ≡ 17) where
@@ -24,6 +25,10 @@ module _ (l : List ℕ) (h : length l ≡ 17) where
   pub took-cells : set l 1 (getD l 1 0 + 1) ≡ partyCells (took (partyOf l []))
   unfolding partyOf partyCells
   took-cells = ap (λ (x : List ℕ). set x 1 (getD x 1 0 + 1)) (sym (own-canon l [] h))
+
+  pub words-cells : (n : ℕ) → set l 1 (getD l 1 0 + n) ≡ partyCells (tookWords n (partyOf l []))
+  unfolding partyOf partyCells
+  words-cells n = ap (λ (x : List ℕ). set x 1 (getD x 1 0 + n)) (sym (own-canon l [] h))
 
   pub line-cells : (n : ℕ) → partyOf l [] .opened ≡ none →
       partyCells (took (partyOf (set l 2 n) [])) ≡ partyCells (took (opening (atLine n) (partyOf l [])))

@@ -30,7 +30,7 @@ use Rattle.session.proofs.Refusals.{header-taken}
 use Rattle.session.proofs.Parameters.{lastly, rest, full-piece, onward-full, overfull, lastly-completed, lastly-refused}
 
 -- a command does the same whatever the count
-after-standing : (c : Command) (s : Session) (n : ℕ) (o : Open) → after c (standing s n o) ≡ standing (after c s) (n + 1) none
+pub after-standing : (c : Command) (s : Session) (n : ℕ) (o : Open) → after c (standing s n o) ≡ standing (after c s) (n + 1) none
 unfolding after ownAfter sharedAfter
 after-standing (command.Domain i0 j0 i1 j1) s n o = refl
 after-standing command.Start s n o = refl

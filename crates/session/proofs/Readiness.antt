@@ -48,20 +48,57 @@ use Rattle.session.specs.Windows.{
 }
 
 -- an output by the judgement of its window
-abbrev judged : ℕ → ℕ → ℕ → Told → Output
-judged flag base height t =
-    record { counts = eqb flag 1; base = base; step = valueOf t 0; height = height; span = valueOf t 1 }
+abbrev judged : ℕ → ℕ → Told → Output
+judged base height t = record { counts = true; base = base; step = valueOf t 0; height = height; span = valueOf t 1 }
+
+abbrev uncounted : Output
+uncounted = record { counts = false; base = 0; step = 0; height = 0; span = 0 }
 
 module _ (flag base format height : ℕ) where
-  pub output-given : {step span : ℕ} → gives (step ∷ span ∷ []) ≡ windowOf base format height →
-      record { counts = eqb flag 1; base = base; step = step; height = height; span = span } ≡ outputOf (cellsBuffer flag base format height)
-  unfolding outputOf stepOfBuffer spanOfBuffer valueOf
-  output-given e = ap (judged flag base height) e
+  pub output-unset : (flag ≡ 1 → ⊥) → uncounted ≡ outputOf (cellsBuffer flag base format height)
+  unfolding outputOf
+  output-unset n = sym (pick-no _ _ (ne-eqb flag 1 n))
 
-  pub output-refused : {n : ℕ} → refuses n ≡ windowOf base format height →
-      record { counts = eqb flag 1; base = base; step = 0; height = height; span = 0 } ≡ outputOf (cellsBuffer flag base format height)
-  unfolding outputOf stepOfBuffer spanOfBuffer valueOf
-  output-refused e = ap (judged flag base height) e
+  module _ (one : flag ≡ 1) where
+    pub output-given : {step span : ℕ} → gives (step ∷ span ∷ []) ≡ windowOf base format height →
+        record { counts = true; base = base; step = step; height = height; span = span } ≡ outputOf (cellsBuffer flag base format height)
+    unfolding outputOf stepOfBuffer spanOfBuffer valueOf
+    output-given e = ap (judged base height) e ∙ sym (pick-yes _ _ (eq-eqb flag 1 one))
+
+    pub output-refused : {n : ℕ} → refuses n ≡ windowOf base format height →
+        record { counts = true; base = base; step = 0; height = height; span = 0 } ≡ outputOf (cellsBuffer flag base format height)
+    unfolding outputOf stepOfBuffer spanOfBuffer valueOf
+    output-refused e = ap (judged base height) e ∙ sym (pick-yes _ _ (eq-eqb flag 1 one))
+
+-- what a start asks of an output that it sees, said of the buffer
+module _ (b : Buffer) where
+  abbrev counted : Output
+  counted = record { counts = true; base = b .base; step = stepOfBuffer b; height = b .height; span = spanOfBuffer b }
+
+  counts-of : outputOf b .counts ≡ eqb (b .isSet) 1
+  unfolding outputOf pick
+  counts-of = go (eqb (b .isSet) 1)
+    where
+      go : (t : Bool) → pick t counted uncounted .counts ≡ t
+      go true = refl
+      go false = refl
+
+  holds-of : (i j : ℕ) → holdsPair i j (outputOf b) ≡ pick (eqb (b .isSet) 1) (ltb i (stepOfBuffer b) and ltb j (b .height)) true
+  unfolding outputOf holdsPair pick
+  holds-of i j = go (eqb (b .isSet) 1)
+    where
+      go : (t : Bool) → holdsPair i j (pick t counted uncounted) ≡ pick t (ltb i (stepOfBuffer b) and ltb j (b .height)) true
+      go true = refl
+      go false = refl
+
+apart-of : (b c : Buffer) → keepsApart (outputOf b) (outputOf c) ≡ pick (eqb (b .isSet) 1 and eqb (c .isSet) 1) (apart b c) true
+unfolding outputOf keepsApart spansApart apart pick _and_
+apart-of b c = go (eqb (b .isSet) 1) (eqb (c .isSet) 1)
+  where
+    go : (t u : Bool) → keepsApart (pick t (counted b) uncounted) (pick u (counted c) uncounted) ≡ pick (t and u) (apart b c) true
+    go true true = refl
+    go true false = refl
+    go false u = refl
 
 -- one output, and two
 pub holds-counted : (i j : ℕ) (a : Output) {r : Bool} → a .counts ≡ true → r ≡ (ltb i (a .step) and ltb j (a .height)) →
@@ -133,18 +170,27 @@ module _ (own shared : List ℕ) where
   abbrev instructions : Buffer
   instructions = partyOf own [] .instructions
 
+  abbrev at : ℕ → Buffer
+  at k = bufferAt shared k
+
   complete-seen : (eqb (getD own 8 0) 1 and (eqb (getD own 13 0) 1 and someCounts (seen 21) (seen 25) (seen 29) (seen 33))) ≡
       complete domain instructions outputs
-  unfolding someCounts outputOf complete anyBelow counts output partyOf sharedOf pick
-  complete-seen = refl
+  unfolding someCounts complete anyBelow counts output partyOf sharedOf pick
+  complete-seen = rw (counts-of (at 21), counts-of (at 25), counts-of (at 29), counts-of (at 33)) refl
 
   covered-seen : eachHolds (seen 21) (seen 25) (seen 29) (seen 33) (getD own 11 0) (getD own 12 0) ≡ covered domain instructions outputs
-  unfolding eachHolds holdsPair outputOf covered allBelow counts output containsDomain partyOf sharedOf _and_
-  covered-seen = refl
+  unfolding eachHolds covered allBelow counts output containsDomain partyOf sharedOf _and_
+  covered-seen =
+      let i = getD own 11 0 in
+      let j = getD own 12 0 in
+      rw (holds-of (at 21) i j, holds-of (at 25) i j, holds-of (at 29) i j, holds-of (at 33) i j) refl
 
   disjoint-seen : eachApart (seen 21) (seen 25) (seen 29) (seen 33) ≡ disjoint domain instructions outputs
-  unfolding eachApart keepsApart spansApart outputOf disjoint allBelow counts output apart partyOf sharedOf _and_
-  disjoint-seen = refl
+  unfolding eachApart disjoint allBelow counts output partyOf sharedOf _and_
+  disjoint-seen =
+      rw
+      (apart-of (at 25) (at 21), apart-of (at 29) (at 21), apart-of (at 29) (at 25), apart-of (at 33) (at 21), apart-of (at 33) (at 25), apart-of (at 33) (at 29))
+      refl
 
   pub ready-told : {a b c d : Output} {t : Told} {some p x y z : Bool} → a ≡ seen 21 → b ≡ seen 25 → c ≡ seen 29 → d ≡ seen 33 →
       some ≡ someCounts a b c d → p ≡ (eqb (getD own 13 0) 1 and some) → x ≡ (eqb (getD own 8 0) 1 and p) →

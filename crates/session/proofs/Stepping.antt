@@ -94,7 +94,7 @@ unfolding startRuleOf
 start-rule s e = ap (λ (c : Command). startRuleOf c s) {x = command.Start} (sym e)
 
 -- an input's and an output's number is in range where its kind allows it
-numbered : (c : Command) → EachAllowed (lineOf c) (fieldsOf c) → Numbered c
+pub numbered : (c : Command) → EachAllowed (lineOf c) (fieldsOf c) → Numbered c
 unfolding lineOf fieldsOf countOf kindOf allowed
 numbered (command.Domain i0 j0 i1 j1) a = tt
 numbered command.Start a = tt
@@ -143,7 +143,7 @@ module _ (l t s : List ℕ) (a : CompleteAsked l t s) where
       passed : EachAllowed (o .line) (parametersOf o)
       passed = unfold partyOf in a .passed
 
-  same-rule : (c : Command) → thenTold (lastRuleOf c) (startRuleOf c (sessionOf l [] s)) ≡ thenTold (lastRuleOf c) (startRuleOf c ss)
+  pub same-rule : (c : Command) → thenTold (lastRuleOf c) (startRuleOf c (sessionOf l [] s)) ≡ thenTold (lastRuleOf c) (startRuleOf c ss)
   same-rule c =
       ap (thenTold (lastRuleOf c)) (start-rule-same c (partyOf l []) (partyOf l t) (sharedOf s) (unfold partyOf in refl) (unfold partyOf in refl))
 

@@ -11,7 +11,7 @@ use Rattle.laws.specs.Choice.{pick, placeOf}
 use Rattle.laws.proofs.Choice.{pick-yes, pick-no, Tested, tested, holds, fails}
 use Rattle.refusal.specs.Told.{Told, gives, refuses}
 use Rattle.command.specs.Table.{headers, lineWith}
-use Rattle.command.specs.Kinds.{allowed, faultOf, kindOf, checkOf}
+use Rattle.command.specs.Kinds.{allowed, faultOf, kindOf}
 use Rattle.command.specs.declared.kinds.Kind.{Kind}
 use Rattle.command.proofs.Headers.{count-most}
 use Rattle.session.specs.State.{Open, Party, Session, atLine, none, newSession}
@@ -40,27 +40,6 @@ use Rattle.session.proofs.Stepping.{refusing-left}
 told-apart : {v : List ℕ} {n : ℕ} → gives v ≡ refuses n → ⊥
 told-apart h = let z : _≡_ {A = ℕ} 0 1 = cc in omega arith
 
-same-number : {m n : ℕ} → refuses m ≡ refuses n → m ≡ n
-same-number h = cc
-
--- what a parameter's check tells
-module _ (k : Kind) (w : ℕ) where
-  is-allowed : (v : List ℕ) → checkOf k w ≡ gives v → allowed k w ≡ true
-  unfolding checkOf
-  is-allowed v e = go (tested (allowed k w))
-    where
-      go : Tested (allowed k w) → allowed k w ≡ true
-      go (holds t) = t
-      go (fails t) = absurd (told-apart (sym e ∙ pick-no _ _ t))
-
-  not-allowed : (n : ℕ) → checkOf k w ≡ refuses n → (allowed k w ≡ false) × (faultOf k ≡ n)
-  unfolding checkOf
-  not-allowed n e = go (tested (allowed k w))
-    where
-      go : Tested (allowed k w) → (allowed k w ≡ false) × (faultOf k ≡ n)
-      go (holds t) = absurd (told-apart (sym (pick-yes _ _ t) ∙ e))
-      go (fails t) = (t, same-number (sym (pick-no _ _ t) ∙ e))
-
 -- a word where a command is open
 module _ (l t s : List ℕ) (w : ℕ) (a : OpenAsked l t s) where
   abbrev so : Session
@@ -74,28 +53,24 @@ module _ (l t s : List ℕ) (w : ℕ) (a : OpenAsked l t s) where
   unfolding partyOf
   kind-asked = (a .line, count-lt)
 
-  module _ (k : Kind) (e : k ≡ kindOf (getD l 2 0) (getD l 3 0)) where
-    pub kind-refused : (n : ℕ) → checkOf k w ≡ refuses n → (l1 : List ℕ) → l1 ≡ partyCells (stop (partyOf l [])) →
-        Left (parameterStep so w) (refused n) l1 t s
+  module _ (r : Bool) (e : r ≡ allowed (kindOf (getD l 2 0) (getD l 3 0)) w) where
+    pub kind-refused : r ≡ false → (k : Kind) → k ≡ kindOf (getD l 2 0) (getD l 3 0) → (n : ℕ) → n ≡ faultOf k → (l1 : List ℕ) →
+        l1 ≡ partyCells (stop (partyOf l [])) → Left (parameterStep so w) (refused n) l1 t s
     unfolding parameterStep partyOf
-    kind-refused n r l1 q =
-        let no = not-allowed (kindOf (getD l 2 0) (getD l 3 0)) w n (ap (λ (x : Kind). checkOf x w) (sym e) ∙ r) in
+    kind-refused fails-it k at n f l1 q =
         subst (λ (x : Stepped). Left x (refused n) l1 t s)
-        (ap (refusing so) (sym (no .1)) ∙ sym (pick-no _ _ (no .0)))
+        (ap (refusing so) (f ∙ ap faultOf at) ∙ sym (pick-no _ _ (sym e ∙ fails-it)))
         (refusing-left l t s (a .given .sized) n l1 q)
 
-    module _ (v : List ℕ) (r : checkOf k w ≡ gives v) where
-      allows : allowed (kindOf (getD l 2 0) (getD l 3 0)) w ≡ true
-      allows = is-allowed (kindOf (getD l 2 0) (getD l 3 0)) w v (ap (λ (x : Kind). checkOf x w) (sym e) ∙ r)
-
+    module _ (passes : r ≡ true) where
       pub parameter-asked : ParameterAsked l t s w
       parameter-asked =
-          record { given = a .given; taken = a .taken; line = a .line; kindAllows = unfold partyOf in allows }
+          record { given = a .given; taken = a .taken; line = a .line; kindAllows = unfold partyOf in (sym e ∙ passes) }
 
       pub kind-passed : (y : Reply) (l1 t1 s1 : List ℕ) → Left (placing (withParameter (partyOf l [] .opened) w) so) y l1 t1 s1 →
           Left (parameterStep so w) y l1 t1 s1
       unfolding parameterStep partyOf
-      kind-passed y l1 t1 s1 h = subst (λ (x : Stepped). Left x y l1 t1 s1) (sym (pick-yes _ _ allows)) h
+      kind-passed y l1 t1 s1 h = subst (λ (x : Stepped). Left x y l1 t1 s1) (sym (pick-yes _ _ (sym e ∙ passes))) h
 
 -- a word
 module _ (l t s : List ℕ) (w : ℕ) (g : Given l t s) where

@@ -10,4 +10,5 @@ pub mod State
 pub mod Step
 pub mod Tallies
 pub mod Valid
+pub mod Whole
 pub mod Windows

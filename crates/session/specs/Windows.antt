@@ -1,5 +1,5 @@
 -- An output as a start sees it, and what a start asks of one output and of two, said of what it sees. Assumes nothing.
-use mathlib.Core.Bool.{Bool, true}
+use mathlib.Core.Bool.{Bool, true, false}
 use mathlib.Core.List.{[]}
 use Prim.Native.Nat.{ℕ, _+_}
 use lib.Dec.{eqb, leb, ltb}
@@ -13,9 +13,12 @@ use Rattle.session.specs.Start.{stepOfBuffer, spanOfBuffer}
 abbrev pub cellsBuffer : ℕ → ℕ → ℕ → ℕ → Buffer
 cellsBuffer isSet base format height = record { isSet = isSet; base = base; format = format; height = height }
 
+-- one that isn't set doesn't count, and nothing of it is looked at
 unfoldable pub outputOf : Buffer → Output
 outputOf b =
-    record { counts = eqb (b .isSet) 1; base = b .base; step = stepOfBuffer b; height = b .height; span = spanOfBuffer b }
+    pick (eqb (b .isSet) 1)
+    (record { counts = true; base = b .base; step = stepOfBuffer b; height = b .height; span = spanOfBuffer b })
+    (record { counts = false; base = 0; step = 0; height = 0; span = 0 })
 
 -- the output doesn't count, or its window has the pair (i, j)
 unfoldable pub holdsPair : ℕ → ℕ → Output → Bool

@@ -28,7 +28,7 @@ fn store_own(own: &mut [u32; 17], what: Stored, base: u32, format: u32)
 }
 
 // A start that passes: one run more, and the elements that it claims.
-fn count_start(own: &[u32; 17], tallies: &mut [u64; 2], shared: &[u32; 101])
+pub fn count_start(own: &[u32; 17], tallies: &mut [u64; 2], shared: &[u32; 101])
     requires { ⌜ OwnAsked (now own) (now tallies) (now shared) ⌝ }
     ensures { λ _. ⌜ now (tallies .exit) ≡ tallyCells (ownAfter Command.Start (sharedOf (now (shared .entry))) (partyOf (now (own .entry)) (now (tallies .entry)))) ⌝ }
 {

@@ -7,3 +7,4 @@ pub mod queries;
 pub mod settings;
 pub mod start;
 pub mod stream;
+pub mod whole;

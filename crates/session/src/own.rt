@@ -1,11 +1,12 @@
 // A party's own cells: the stop, the words taken, the open command, the domain and the instruction format.
 ghost use mathlib.Core.Path.{_≡_};
-ghost use Prim.Native.Nat.{_<_};
+ghost use Prim.Native.Nat.{_+_, _<_, _≤_};
 ghost use mathlib.Core.List.{[]};
 ghost use lib.ListN.{length};
 ghost use Rattle.session.specs.State.{atLine, none};
 ghost use Rattle.session.specs.Step.{buffer, domainFrom, opening, stop as stopped, took, withDomain, withInstructions, withParameter};
 ghost use Rattle.session.specs.Cells.{partyOf, partyCells};
+ghost use Rattle.session.specs.Whole.{tookWords};
 
 // Places of the cells.
 pub const STOPPED: usize = 0;
@@ -73,6 +74,14 @@ pub fn count_word(own: &mut [u32; 17])
     ensures { λ _. ⌜ now (own .exit) ≡ partyCells (took (partyOf (now (own .entry)) [])) ⌝ }
 {
     own[TAKEN] = own[TAKEN] + 1;
+}
+
+// So many words more are taken.
+pub fn count_words(own: &mut [u32; 17], words: u32)
+    requires { ⌜ (length (now own) ≡ 17) × (partyOf (now own) [] .taken + words ≤ 1000000000) ⌝ }
+    ensures { λ _. ⌜ now (own .exit) ≡ partyCells (tookWords words (partyOf (now (own .entry)) [])) ⌝ }
+{
+    own[TAKEN] = own[TAKEN] + words;
 }
 
 // A header is taken: the command of this line is open.

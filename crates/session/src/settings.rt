@@ -40,7 +40,7 @@ pub const OUTPUTS: usize = 21;
 pub const INPUTS: usize = 37;
 
 // Stores a buffer from a place on.
-fn put(shared: &mut [u32; 101], at: usize, base: u32, format: u32, height: u32)
+pub fn put(shared: &mut [u32; 101], at: usize, base: u32, format: u32, height: u32)
     requires { ⌜ (length (now shared) ≡ 101) × (at < 98) ⌝ }
     ensures { λ _. ⌜ now (shared .exit) ≡ setBuffer (now (shared .entry)) at (buffer base format height) ⌝ }
 {

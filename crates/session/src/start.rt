@@ -27,21 +27,29 @@ pub struct Output {
     pub span: u32,
 }
 
-// The output that four cells describe.
+// The output that four cells describe. The window of one that isn't set is asked for nothing, so it isn't judged.
 fn output_of(flag: u32, base: u32, format: u32, height: u32) -> Output
     ensures { λ r. ⌜ r ≡ outputOf (cellsBuffer flag base format height) ⌝ }
 {
-    let counts = flag == 1;
+    if flag != 1 {
+        return Output {
+            counts: false,
+            base: 0,
+            step: 0,
+            height: 0,
+            span: 0,
+        };
+    }
     match window(base, format, height) {
         Judged::Accepted { step, span } => Output {
-            counts,
+            counts: true,
             base,
             step,
             height,
             span,
         },
         Judged::Refused(_) => Output {
-            counts,
+            counts: true,
             base,
             step: 0,
             height,

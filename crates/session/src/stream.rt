@@ -3,6 +3,7 @@ use crate::accept;
 use crate::own;
 use crate::settings;
 use crate::start;
+use crate::whole;
 use command::commands;
 use command::commands::Command;
 use command::kinds;
@@ -51,18 +52,22 @@ fn whole_rule(own: &[u32; 17], shared: &[u32; 101], command: Command) -> Checked
     }
 }
 
-// All parameters are there: the command is judged as a whole, and accepted or refused.
+// All parameters are there: the command is judged as a whole, and accepted or refused. Where the tests of its line accept
+// it, nothing more is asked.
 fn complete(own: &mut [u32; 17], tallies: &mut [u64; 2], shared: &mut [u32; 101]) -> Answer
     requires { ⌜ CompleteAsked (now own) (now tallies) (now shared) ⌝ }
     ensures { λ r. ⌜ Left (completing (partyOf (now (own .entry)) [] .opened) (sessionOf (now (own .entry)) (now (tallies .entry)) (now (shared .entry)))) (replyOf r) (now (own .exit)) (now (tallies .exit)) (now (shared .exit)) ⌝ }
 {
-    let command = commands::build(
-        own[own::LINE],
-        own[own::PARAMETER_0],
-        own[own::PARAMETER_1],
-        own[own::PARAMETER_2],
-        own[own::PARAMETER_3],
-    );
+    let line = own[own::LINE];
+    let p0 = own[own::PARAMETER_0];
+    let p1 = own[own::PARAMETER_1];
+    let p2 = own[own::PARAMETER_2];
+    let p3 = own[own::PARAMETER_3];
+    let command = commands::build(line, p0, p1, p2, p3);
+    if 0 < whole::take_last(own, tallies, shared, line, p0, p1, p2, p3) {
+        own::close(own);
+        return Answer::Done(command);
+    }
     let rule = whole_rule(own, shared, command);
     match rule {
         Checked::Refused(why) => {
@@ -101,15 +106,14 @@ fn parameter(
     requires { ⌜ OpenAsked (now own) (now tallies) (now shared) ⌝ }
     ensures { λ r. ⌜ Left (parameterStep (sessionOf (now (own .entry)) (now (tallies .entry)) (now (shared .entry))) word) (replyOf r) (now (own .exit)) (now (tallies .exit)) (now (shared .exit)) ⌝ }
 {
-    let kind = kinds::kind_at(own[own::LINE], own[own::COUNT]);
-    let checked = kinds::check(kind, word);
-    match checked {
-        Checked::Refused(why) => {
-            own::stop(own);
-            Answer::Refused(why)
-        }
-        Checked::Fine => placed(own, tallies, shared, word),
+    let line = own[own::LINE];
+    let count = own[own::COUNT];
+    if kinds::place_allowed(line, count, word) {
+        return placed(own, tallies, shared, word);
     }
+    let kind = kinds::kind_at(line, count);
+    own::stop(own);
+    Answer::Refused(kinds::fault(kind))
 }
 
 // One word. 1 comes before 17, and 17 before the word is looked at.
@@ -184,7 +188,8 @@ fn completed_by(answer: Answer) -> u64
     }
 }
 
-// A piece of words, one after another up to the first refused one; words after that aren't looked at.
+// A piece of words, one after another up to the first refused one; words after that aren't looked at. A command that lies
+// whole in the piece and is accepted is taken at once.
 pub fn feed(
     own: &mut [u32; 17],
     tallies: &mut [u64; 2],
@@ -197,6 +202,12 @@ pub fn feed(
     let mut i: usize = 0;
     let mut commands: u64 = 0;
     while i < words.len() {
+        let whole = whole::take(own, tallies, shared, words, i);
+        if 0 < whole {
+            commands = commands + 1;
+            i = i + whole as usize;
+            continue;
+        }
         let answer = word(own, tallies, shared, words[i]);
         if let Answer::Refused(why) = answer {
             return Fed {

@@ -1,11 +1,11 @@
--- `session::stream::feed` meets its contract: each turn takes one word. Assumes nothing.
+-- `session::stream::feed` meets its contract: each turn takes a whole command or one word. Assumes nothing.
 use Prim.Native.Nat.{_-_}
 use native.Mathlib.Omega.{arith}
 use lib.ListN.{length}
 use borrow.Author.Needs.{needs}
 use Rattle.session.specs.Cells.{sessionOf}
 use Rattle.session.specs.Answers.{replyOf}
-use Rattle.session.proofs.Feeding.{Fold, fold-begins, fold-refused, fold-goes, fold-ends, completed-most}
+use Rattle.session.proofs.Feeding.{Fold, fold-begins, fold-whole, fold-same, fold-refused, fold-goes, fold-ends, completed-most}
 use Rattle.session.proofs.stream.feed.Statement.{statement}
 use Rattle.session.proofs.stream.feed.Tie as tie
 
@@ -19,6 +19,24 @@ abbrev μ-loop : tie.MeasureT-loop
 loop-holds : tie.Need-loop-holds Inv-loop μ-loop
 loop-holds c = fold-begins (c .before .args .words .now) (c .before .args .own .now) (c .before .args .tallies .now) (c .before .args .shared .now) (c .before .pre)
 
+take-requires : tie.Need-take-requires Inv-loop μ-loop
+take-requires c κs = (c .before .before .before .before .loop .inv .given, c .before .before .before .loop-test .taken)
+
+add-commands : tie.Need-add-commands Inv-loop μ-loop
+add-commands c = omega (arith, c .before .before .before .before .before .before .loop .inv .fewer, c .before .before .before .before .before .loop-test .taken)
+
+cast-i : tie.Need-cast-i Inv-loop μ-loop
+cast-i c = search needs
+
+add-i : tie.Need-add-i Inv-loop μ-loop
+add-i c = omega (arith, (fold-whole _ _ _ _ _ _ _ (c .before .before .before .before .before .before .loop .inv) _ _ _ _ (c .before .before .before .before .before .loop-test .taken) (c .if1 .taken) (c .before .take .ensures)) .within)
+
+loop-less : tie.Need-loop-less Inv-loop μ-loop
+loop-less c = omega (arith, c .if1 .taken, c .before .before .before .before .before .loop-test .taken)
+
+loop-again : tie.Need-loop-again Inv-loop μ-loop
+loop-again c = (fold-whole _ _ _ _ _ _ _ (c .before .before .before .before .before .before .loop .inv) _ _ _ _ (c .before .before .before .before .before .loop-test .taken) (c .if1 .taken) (c .before .take .ensures))
+
 mul-word : tie.Need-mul-word Inv-loop μ-loop
 mul-word c = search needs
 
@@ -26,29 +44,29 @@ shared-slice-read-word : tie.Need-shared-slice-read-word Inv-loop μ-loop
 shared-slice-read-word c = search needs
 
 word-requires : tie.Need-word-requires Inv-loop μ-loop
-word-requires c κs = c .before .before .before .before .before .loop .inv .given
+word-requires c κs = (fold-same _ _ _ _ _ _ _ (c .before .before .before .before .before .before .before .before .before .before .loop .inv) _ _ _ _ (c .before .before .before .before .if1 .left) (c .before .before .before .before .before .take .ensures)) .given
 
 enum-known-answer : tie.Need-enum-known-answer Inv-loop μ-loop
 enum-known-answer c = search needs
 
 returns : tie.Need-returns Inv-loop μ-loop
-returns c = fold-refused _ _ _ _ _ _ _ (c .before .before .before .before .before .before .before .before .before .loop .inv) (c .before .before .before .before .before .before .before .before .loop-test .taken) _ _ _ _ _ (c .before .answer .given .1) (c .before .before .before .word .ensures)
+returns c = fold-refused _ _ _ _ _ _ _ (fold-same _ _ _ _ _ _ _ (c .before .before .before .before .before .before .before .before .before .before .before .before .before .before .loop .inv) _ _ _ _ (c .before .before .before .before .before .before .before .before .if1 .left) (c .before .before .before .before .before .before .before .before .before .take .ensures)) (c .before .before .before .before .before .before .before .before .before .before .before .before .before .loop-test .taken) _ _ _ _ _ (c .before .answer .given .1) (c .before .before .before .word .ensures)
 
 completed-by-requires : tie.Need-completed-by-requires Inv-loop μ-loop
 completed-by-requires c κs = search needs
 
-add-commands : tie.Need-add-commands Inv-loop μ-loop
-add-commands c = omega (arith, c .before .before .before .before .before .before .before .before .loop .inv .fewer, c .before .before .before .before .before .before .before .loop-test .taken, completed-most (replyOf (c .before .before .word .result)), c .completed-by .ensures)
+add-commands-2 : tie.Need-add-commands-2 Inv-loop μ-loop
+add-commands-2 c = omega (arith, c .before .before .before .before .before .before .before .before .before .before .before .before .before .loop .inv .fewer, c .before .before .before .before .before .before .before .before .before .before .before .before .loop-test .taken, completed-most (replyOf (c .before .before .word .result)), c .completed-by .ensures)
 
-add-i : tie.Need-add-i Inv-loop μ-loop
-add-i c = search needs
+add-i-2 : tie.Need-add-i-2 Inv-loop μ-loop
+add-i-2 c = search needs
 
-loop-less : tie.Need-loop-less Inv-loop μ-loop
-loop-less c = search needs
+loop-less-2 : tie.Need-loop-less-2 Inv-loop μ-loop
+loop-less-2 c = search needs
 
-loop-again : tie.Need-loop-again Inv-loop μ-loop
-loop-again c =
-    fold-goes _ _ _ _ _ _ _ (c .before .before .before .before .before .before .before .before .loop .inv) (c .before .before .before .before .before .before .before .loop-test .taken) _ _ _ (c .before .before .word .result) (c .before .match .keys2) (c .before .before .word .ensures) _ (c .completed-by .ensures)
+loop-again-2 : tie.Need-loop-again-2 Inv-loop μ-loop
+loop-again-2 c =
+    fold-goes _ _ _ _ _ _ _ (fold-same _ _ _ _ _ _ _ (c .before .before .before .before .before .before .before .before .before .before .before .before .before .loop .inv) _ _ _ _ (c .before .before .before .before .before .before .before .if1 .left) (c .before .before .before .before .before .before .before .before .take .ensures)) (c .before .before .before .before .before .before .before .before .before .before .before .before .loop-test .taken) _ _ _ (c .before .before .word .result) (c .before .match .keys2) (c .before .before .word .ensures) _ (c .completed-by .ensures)
 
 returns-2 : tie.Need-returns-2 Inv-loop μ-loop
 returns-2 c = fold-ends _ _ _ _ _ _ _ (c .before .loop .inv) (c .loop-test .left)
@@ -60,14 +78,20 @@ feed-spec =
     Inv-loop
     μ-loop
     loop-holds
+    take-requires
+    add-commands
+    cast-i
+    add-i
+    loop-less
+    loop-again
     mul-word
     shared-slice-read-word
     word-requires
     enum-known-answer
     returns
     completed-by-requires
-    add-commands
-    add-i
-    loop-less
-    loop-again
+    add-commands-2
+    add-i-2
+    loop-less-2
+    loop-again-2
     returns-2)
