@@ -76,29 +76,41 @@ fn put(cells: &mut [u32; 20], w: Worked)
     cells[6] = w.p4;
 }
 
-// The branch operation on the cells. Where there is none, the planes are neither read nor stored.
+// The branch operation on the cells: 1 decrement, 2 increment, else none, where the planes are neither read nor stored.
 fn mark(op: u32, count: u32, jump: bool, active: u32, wish: u32, cells: &mut [u32; 20])
     requires { ⌜ (Spelled (now cells)) × (count < 32) × (MarksIn (now cells) active) ⌝ }
     ensures { λ r. ⌜ now (cells .exit) ≡ withMarks (now (cells .entry)) (shownAs (λ i. worked op count jump (on i wish) (withActive (now (cells .entry)) active i))) ⌝ }
 {
-    if op == 0 {
-        cells[1] = active;
+    if op == 1 {
+        let w = planes::lower(
+            count,
+            cells[0],
+            active,
+            cells[2],
+            cells[3],
+            cells[4],
+            cells[5],
+            cells[6],
+        );
+        put(cells, w);
         return;
     }
-    let w = planes::work(
-        op,
-        count,
-        jump,
-        cells[0],
-        active,
-        wish,
-        cells[2],
-        cells[3],
-        cells[4],
-        cells[5],
-        cells[6],
-    );
-    put(cells, w);
+    if op == 2 {
+        let w = planes::lift(
+            jump,
+            cells[0],
+            active,
+            wish,
+            cells[2],
+            cells[3],
+            cells[4],
+            cells[5],
+            cells[6],
+        );
+        put(cells, w);
+        return;
+    }
+    cells[1] = active;
 }
 
 // The rest of a step once B_ELSE, the wishes and the decision are known: branch counters, returns, next position. Nothing is
@@ -116,7 +128,7 @@ fn settle(
     ensures { λ r. ⌜ StepDone (now (cells .entry)) (now (cells .exit)) (answerOf r (getD (now (cells .exit)) 7 0)) (settled 31 slots first second jump (λ i. on i wish) (withActive (now (cells .entry)) active) (groupOf (now (cells .entry)))) ⌝ }
 {
     let op = slot::branch_op(first, jump);
-    if planes::over_limit(op, cells[2], cells[3], cells[4], cells[5], cells[6]) {
+    if planes::over_limit(op, cells) {
         return refusal::number(Refusal::AtLimit);
     }
     let went = place::go(first / 64 % 4, jump, second / 65536 % 512, slots, cells);
@@ -142,16 +154,7 @@ fn step_slot(
 {
     if slot::allowed(first, second) {
         let was = cells[1];
-        let active = planes::turn_if(
-            first / 16 % 2 == 1,
-            cells[0],
-            was,
-            cells[2],
-            cells[3],
-            cells[4],
-            cells[5],
-            cells[6],
-        );
+        let active = planes::turn_if(first / 16 % 2 == 1, was, cells);
         let boolean = (booleans >> (second % 32)) % 2;
         let wish = planes::wishes(first / 256 % 256, boolean, alu, predicate);
         let jump = planes::decides(first / 32 % 2 == 1, active, wish);

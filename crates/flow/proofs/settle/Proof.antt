@@ -13,52 +13,32 @@ use Rattle.flow.proofs.settle.Tie as tie
 branch-op-requires : tie.Need-branch-op-requires
 branch-op-requires c κs = search needs
 
-element-copy-out-over-limit : tie.Need-element-copy-out-over-limit
-element-copy-out-over-limit c = search needs
-
-element-copy-out-over-limit-2 : tie.Need-element-copy-out-over-limit-2
-element-copy-out-over-limit-2 c = search needs
-
-element-copy-out-over-limit-3 : tie.Need-element-copy-out-over-limit-3
-element-copy-out-over-limit-3 c = search needs
-
-element-copy-out-over-limit-4 : tie.Need-element-copy-out-over-limit-4
-element-copy-out-over-limit-4 c = search needs
-
-element-copy-out-over-limit-5 : tie.Need-element-copy-out-over-limit-5
-element-copy-out-over-limit-5 c = search needs
-
 over-limit-requires : tie.Need-over-limit-requires
-over-limit-requires c κs = search needs
+over-limit-requires c κs = c .before .before .pre .0 .size
 
 number-requires : tie.Need-number-requires
 number-requires c κs = search needs
 
 returns : tie.Need-returns
-returns c = settle-over (now (c .before .before .before .before .before .before .before .before .before .args .cells)) (c .before .before .before .before .before .before .before .before .before .args .first) (c .before .before .before .before .before .before .before .before .before .args .second) (c .before .before .before .before .before .before .before .before .before .args .slots) (c .before .before .before .before .before .before .before .before .before .args .active) (c .before .before .before .before .before .before .before .before .before .args .wish) (c .before .before .before .before .before .before .before .before .before .args .jump) (c .before .before .before .before .before .before .before .before .before .pre .0) (c .before .before .before .before .before .before .before .before .before .pre .3) (c .before .before .before .before .before .before .before .before .branch-op .ensures) (c .before .before .over-limit .ensures) _ _ (c .number .ensures) (c .before .if1 .taken)
+returns c = settle-over (now (c .before .before .before .before .before .args .cells)) (c .before .before .before .before .before .args .first) (c .before .before .before .before .before .args .second) (c .before .before .before .before .before .args .slots) (c .before .before .before .before .before .args .active) (c .before .before .before .before .before .args .wish) (c .before .before .before .before .before .args .jump) (c .before .before .before .before .before .pre .0) (c .before .before .before .before .before .pre .3) (c .before .before .before .before .branch-op .ensures) (c .before .before .over-limit .ensures) _ _ (c .number .ensures) (c .before .if1 .taken)
 
 go-requires : tie.Need-go-requires
 go-requires c κs = search needs
 
 returns-2 : tie.Need-returns-2
-returns-2 c = settle-refused (now (c .before .before .before .before .before .before .before .before .before .before .before .args .cells)) (c .before .before .before .before .before .before .before .before .before .before .before .args .first) (c .before .before .before .before .before .before .before .before .before .before .before .args .second) (c .before .before .before .before .before .before .before .before .before .before .before .args .slots) (c .before .before .before .before .before .before .before .before .before .before .before .args .active) (c .before .before .before .before .before .before .before .before .before .before .before .args .wish) (c .before .before .before .before .before .before .before .before .before .before .before .args .jump) (c .before .before .before .before .before .before .before .before .before .before .before .pre .0) (c .before .before .before .before .before .before .before .before .before .before .before .pre .3) (c .before .before .before .before .before .before .before .before .before .before .branch-op .ensures) (c .before .before .before .before .over-limit .ensures) (c .before .before .before .if1 .left) _ _ (c .before .go .ensures) (c .if2 .taken)
+returns-2 c = settle-refused (now (c .before .before .before .before .before .before .before .args .cells)) (c .before .before .before .before .before .before .before .args .first) (c .before .before .before .before .before .before .before .args .second) (c .before .before .before .before .before .before .before .args .slots) (c .before .before .before .before .before .before .before .args .active) (c .before .before .before .before .before .before .before .args .wish) (c .before .before .before .before .before .before .before .args .jump) (c .before .before .before .before .before .before .before .pre .0) (c .before .before .before .before .before .before .before .pre .3) (c .before .before .before .before .before .before .branch-op .ensures) (c .before .before .before .before .over-limit .ensures) (c .before .before .before .if1 .left) _ _ (c .before .go .ensures) (c .if2 .taken)
 
 mark-requires : tie.Need-mark-requires
-mark-requires c κs = (gone-spelled (wayOf (field 7 6 (c .before .before .before .before .before .before .before .before .before .before .before .before .args .first)) (c .before .before .before .before .before .before .before .before .before .before .before .before .args .jump) (getD (now (c .before .before .before .before .before .before .before .before .before .before .before .before .args .cells)) 7 0) (field 24 16 (c .before .before .before .before .before .before .before .before .before .before .before .before .args .second)) (groupOf (now (c .before .before .before .before .before .before .before .before .before .before .before .before .args .cells)) .returns)) (c .before .before .go .ensures) (c .before .if2 .left), omega arith, gone-marks (wayOf (field 7 6 (c .before .before .before .before .before .before .before .before .before .before .before .before .args .first)) (c .before .before .before .before .before .before .before .before .before .before .before .before .args .jump) (getD (now (c .before .before .before .before .before .before .before .before .before .before .before .before .args .cells)) 7 0) (field 24 16 (c .before .before .before .before .before .before .before .before .before .before .before .before .args .second)) (groupOf (now (c .before .before .before .before .before .before .before .before .before .before .before .before .args .cells)) .returns)) (c .before .before .go .ensures) (c .before .if2 .left) (c .before .before .before .before .before .before .before .before .before .before .before .before .args .active) (c .before .before .before .before .before .before .before .before .before .before .before .before .pre .3))
+mark-requires c κs = (gone-spelled (wayOf (field 7 6 (c .before .before .before .before .before .before .before .before .args .first)) (c .before .before .before .before .before .before .before .before .args .jump) (getD (now (c .before .before .before .before .before .before .before .before .args .cells)) 7 0) (field 24 16 (c .before .before .before .before .before .before .before .before .args .second)) (groupOf (now (c .before .before .before .before .before .before .before .before .args .cells)) .returns)) (c .before .before .go .ensures) (c .before .if2 .left), omega arith, gone-marks (wayOf (field 7 6 (c .before .before .before .before .before .before .before .before .args .first)) (c .before .before .before .before .before .before .before .before .args .jump) (getD (now (c .before .before .before .before .before .before .before .before .args .cells)) 7 0) (field 24 16 (c .before .before .before .before .before .before .before .before .args .second)) (groupOf (now (c .before .before .before .before .before .before .before .before .args .cells)) .returns)) (c .before .before .go .ensures) (c .before .if2 .left) (c .before .before .before .before .before .before .before .before .args .active) (c .before .before .before .before .before .before .before .before .pre .3))
 
 returns-3 : tie.Need-returns-3
-returns-3 c = settle-made (now (c .before .before .before .before .before .before .before .before .before .before .before .before .before .args .cells)) (c .before .before .before .before .before .before .before .before .before .before .before .before .before .args .first) (c .before .before .before .before .before .before .before .before .before .before .before .before .before .args .second) (c .before .before .before .before .before .before .before .before .before .before .before .before .before .args .slots) (c .before .before .before .before .before .before .before .before .before .before .before .before .before .args .active) (c .before .before .before .before .before .before .before .before .before .before .before .before .before .args .wish) (c .before .before .before .before .before .before .before .before .before .before .before .before .before .args .jump) (c .before .before .before .before .before .before .before .before .before .before .before .before .before .pre .0) (c .before .before .before .before .before .before .before .before .before .before .before .before .before .pre .3) (c .before .before .before .before .before .before .before .before .before .before .before .before .branch-op .ensures) (c .before .before .before .before .before .before .over-limit .ensures) (c .before .before .before .before .before .if1 .left) _ _ _ (c .before .before .before .go .ensures) (c .before .before .if2 .left) (c .mark .ensures)
+returns-3 c = settle-made (now (c .before .before .before .before .before .before .before .before .before .args .cells)) (c .before .before .before .before .before .before .before .before .before .args .first) (c .before .before .before .before .before .before .before .before .before .args .second) (c .before .before .before .before .before .before .before .before .before .args .slots) (c .before .before .before .before .before .before .before .before .before .args .active) (c .before .before .before .before .before .before .before .before .before .args .wish) (c .before .before .before .before .before .before .before .before .before .args .jump) (c .before .before .before .before .before .before .before .before .before .pre .0) (c .before .before .before .before .before .before .before .before .before .pre .3) (c .before .before .before .before .before .before .before .before .branch-op .ensures) (c .before .before .before .before .before .before .over-limit .ensures) (c .before .before .before .before .before .if1 .left) _ _ _ (c .before .before .before .go .ensures) (c .before .before .if2 .left) (c .mark .ensures)
 
 pub settle-spec : {M : Type 1} → statement M
 settle-spec =
     tie.close
     (tie.spec
     branch-op-requires
-    element-copy-out-over-limit
-    element-copy-out-over-limit-2
-    element-copy-out-over-limit-3
-    element-copy-out-over-limit-4
-    element-copy-out-over-limit-5
     over-limit-requires
     number-requires
     returns

@@ -12,26 +12,8 @@ allowed-requires c κs = search needs
 element-copy-out-was : tie.Need-element-copy-out-was
 element-copy-out-was c = search needs
 
-element-copy-out-turn-if : tie.Need-element-copy-out-turn-if
-element-copy-out-turn-if c = search needs
-
-element-copy-out-turn-if-2 : tie.Need-element-copy-out-turn-if-2
-element-copy-out-turn-if-2 c = search needs
-
-element-copy-out-turn-if-3 : tie.Need-element-copy-out-turn-if-3
-element-copy-out-turn-if-3 c = search needs
-
-element-copy-out-turn-if-4 : tie.Need-element-copy-out-turn-if-4
-element-copy-out-turn-if-4 c = search needs
-
-element-copy-out-turn-if-5 : tie.Need-element-copy-out-turn-if-5
-element-copy-out-turn-if-5 c = search needs
-
-element-copy-out-turn-if-6 : tie.Need-element-copy-out-turn-if-6
-element-copy-out-turn-if-6 c = search needs
-
 turn-if-requires : tie.Need-turn-if-requires
-turn-if-requires c κs = made-masks (now (c .before .before .before .before .before .before .before .before .before .args .cells)) (c .before .before .before .before .before .before .before .before .before .pre .0)
+turn-if-requires c κs = (c .before .before .before .before .pre .0 .size, made-masks (now (c .before .before .before .before .args .cells)) (c .before .before .before .before .pre .0))
 
 shr-boolean : tie.Need-shr-boolean
 shr-boolean c = search needs
@@ -43,10 +25,10 @@ decides-requires : tie.Need-decides-requires
 decides-requires c κs = search needs
 
 settle-requires : tie.Need-settle-requires
-settle-requires c κs = (c .before .before .before .before .before .before .before .before .before .before .before .before .before .pre .0, c .before .before .before .before .before .before .before .before .before .before .before .before .before .pre .1, c .before .before .before .before .before .before .before .before .before .before .before .before .before .pre .2, slot-marks (now (c .before .before .before .before .before .before .before .before .before .before .before .before .before .args .cells)) (c .before .before .before .before .before .before .before .before .before .before .before .before .before .args .first) (c .before .before .before .before .before .before .before .before .before .before .before .before .before .args .second) (c .before .before .before .before .before .before .before .before .before .before .before .before .before .args .slots) (c .before .before .before .before .before .before .before .before .before .before .before .before .before .args .alu) (c .before .before .before .before .before .before .before .before .before .before .before .before .before .args .predicate) (c .before .before .before .before .before .before .before .before .before .before .before .before .before .args .booleans) (c .before .before .before .before .before .before .before .before .before .before .before .before .before .pre .0) (c .before .before .before .before .before .before .before .before .before .before .before .before .allowed .ensures) (c .before .before .before .turn-if .ensures))
+settle-requires c κs = (c .before .before .before .before .before .before .before .before .pre .0, c .before .before .before .before .before .before .before .before .pre .1, c .before .before .before .before .before .before .before .before .pre .2, slot-marks (now (c .before .before .before .before .before .before .before .before .args .cells)) (c .before .before .before .before .before .before .before .before .args .first) (c .before .before .before .before .before .before .before .before .args .second) (c .before .before .before .before .before .before .before .before .args .slots) (c .before .before .before .before .before .before .before .before .args .alu) (c .before .before .before .before .before .before .before .before .args .predicate) (c .before .before .before .before .before .before .before .before .args .booleans) (c .before .before .before .before .before .before .before .before .pre .0) (c .before .before .before .before .before .before .before .allowed .ensures) (c .before .before .before .turn-if .ensures))
 
 returns : tie.Need-returns
-returns c = slot-done (now (c .before .before .before .before .before .before .before .before .before .before .before .before .before .before .args .cells)) (c .before .before .before .before .before .before .before .before .before .before .before .before .before .before .args .first) (c .before .before .before .before .before .before .before .before .before .before .before .before .before .before .args .second) (c .before .before .before .before .before .before .before .before .before .before .before .before .before .before .args .slots) (c .before .before .before .before .before .before .before .before .before .before .before .before .before .before .args .alu) (c .before .before .before .before .before .before .before .before .before .before .before .before .before .before .args .predicate) (c .before .before .before .before .before .before .before .before .before .before .before .before .before .before .args .booleans) (c .before .before .before .before .before .before .before .before .before .before .before .before .before .before .pre .0) (c .before .before .before .before .before .before .before .before .before .before .before .before .before .allowed .ensures) (c .before .before .before .before .turn-if .ensures) (c .before .before .before .before .before .before .before .before .before .before .before .before .if1 .taken) (c .before .before .before .wishes .ensures) (c .before .before .decides .ensures) (c .settle .ensures)
+returns c = slot-done (now (c .before .before .before .before .before .before .before .before .before .args .cells)) (c .before .before .before .before .before .before .before .before .before .args .first) (c .before .before .before .before .before .before .before .before .before .args .second) (c .before .before .before .before .before .before .before .before .before .args .slots) (c .before .before .before .before .before .before .before .before .before .args .alu) (c .before .before .before .before .before .before .before .before .before .args .predicate) (c .before .before .before .before .before .before .before .before .before .args .booleans) (c .before .before .before .before .before .before .before .before .before .pre .0) (c .before .before .before .before .before .before .before .before .allowed .ensures) (c .before .before .before .before .turn-if .ensures) (c .before .before .before .before .before .before .before .if1 .taken) (c .before .before .before .wishes .ensures) (c .before .before .decides .ensures) (c .settle .ensures)
 
 number-requires : tie.Need-number-requires
 number-requires c κs = search needs
@@ -60,12 +42,6 @@ step-slot-spec =
     (tie.spec
     allowed-requires
     element-copy-out-was
-    element-copy-out-turn-if
-    element-copy-out-turn-if-2
-    element-copy-out-turn-if-3
-    element-copy-out-turn-if-4
-    element-copy-out-turn-if-5
-    element-copy-out-turn-if-6
     turn-if-requires
     shr-boolean
     wishes-requires
