@@ -1,6 +1,7 @@
 pub mod Beginning
 pub mod Cases
 pub mod Given
+pub mod Going
 pub mod Loading
 pub mod Places
 pub mod Running

@@ -1,6 +1,6 @@
 -- What the functions on masks work out, processor by processor. A law of a processor is a test that is computed for an
 -- active and an absent one and for every counter from 0 to 31. Assumes nothing.
-use mathlib.Core.Path.{_≡_, refl, sym, ap, _∙_, fun-ext}
+use mathlib.Core.Path.{_≡_, refl, sym, ap, ap₂, _∙_, fun-ext}
 use mathlib.Core.Bool.{Bool, true, false, not}
 use Prim.Native.Nat.{ℕ, zero, suc, _-_, _*_, _/_, _%_, _^_, _<_, _≤_}
 use native.Mathlib.Nat.{div-one}
@@ -85,7 +85,7 @@ turned-active =
 
 -- decrement: what each plane borrows from the next
 abbrev lent : Bool → Bool → Bool → Bool
-lent p c b = (not p and (c or b)) or (c and b)
+lent p c b = differ b (differ p c and differ b c)
 
 module _ (k : ℕ) (q : Proc) where
   abbrev lent0 : Bool
@@ -108,7 +108,7 @@ kept k q = isIdle q and not (lent4 k q)
 
 module _ (k : ℕ) (h : k < 32) where
   lowered-active : (p : Proc) → within 31 p ≡ true → (isActive p or (isIdle p and lent4 k p)) ≡ isActive (lowered k p)
-  unfolding _and_ _or_ on every pick
+  unfolding _and_ _or_ differ on every pick
   lowered-active = agree-count (λ k q. isActive q or (isIdle q and lent4 k q)) (λ k q. isActive (lowered k q)) refl k h
 
   lowered0 : (p : Proc) → within 31 p ≡ true → (differ (counterBit 0 p) (on 0 k) and kept k p) ≡ counterBit 0 (lowered k p)
@@ -199,19 +199,35 @@ spread-word (suc (suc n)) h = absurd (two n h)
     two : (n : ℕ) → suc (suc n) < 2 → ⊥
     two n h = omega arith
 
--- JUMP_FUNC's bit: the four terms of the code are a choice by the two masks' bits
+-- a choice by a bit, as the code makes it of words
+abbrev muxed : Bool → Bool → Bool → Bool
+muxed a t f = differ f (differ f t and a)
+
+abbrev muxWord : ℕ → ℕ → ℕ → ℕ
+muxWord a t f = bitXor f (bitAnd (bitXor f t) a)
+
+mux :
+    {a t f : ℕ} {p q r : ℕ → Bool} → Places 32 p a → Places 32 q t → Places 32 r f →
+    Places 32 (λ i. muxed (p i) (q i) (r i)) (muxWord a t f)
+mux x y z = xor-places z (and-places (xor-places z y) x)
+
+mux-pick : (a t f : Bool) → muxed a t f ≡ pick a t f
+unfolding _and_ differ pick
+mux-pick true true true = refl
+mux-pick true true false = refl
+mux-pick true false true = refl
+mux-pick true false false = refl
+mux-pick false true true = refl
+mux-pick false true false = refl
+mux-pick false false true = refl
+mux-pick false false false = refl
+
+-- JUMP_FUNC's bit: three choices by the two masks' bits
 chosen :
     (a p t0 t1 t2 t3 : Bool) →
-    (((((not a and not p) and t0) or ((not a and p) and t1)) or ((a and not p) and t2)) or ((a and p) and t3)) ≡
-    pick a (pick p t3 t2) (pick p t1 t0)
-unfolding _and_ _or_ pick
-chosen true true t0 t1 t2 t3 = refl
-chosen true false t0 t1 true t3 = refl
-chosen true false t0 t1 false t3 = refl
-chosen false true t0 true t2 t3 = refl
-chosen false true t0 false t2 t3 = refl
-chosen false false true t1 t2 t3 = refl
-chosen false false false t1 t2 t3 = refl
+    muxed a (muxed p t3 t2) (muxed p t1 t0) ≡ pick a (pick p t3 t2) (pick p t1 t0)
+chosen a p t0 t1 t2 t3 =
+    mux-pick a (muxed p t3 t2) (muxed p t1 t0) ∙ ap₂ (pick a) (mux-pick p t3 t2) (mux-pick p t1 t0)
 
 wanted :
     (func boolean : ℕ) → boolean < 2 → (a p : Bool) →
@@ -243,19 +259,11 @@ module _ (func alu boolean predicate : ℕ) (low : boolean < 2) (ha : alu < 2 ^ 
     (e2 : s2 ≡ pack 32 (λ i. eqb (func / 2 ^ boolean / 16 % 2) 1))
     (e3 : s3 ≡ pack 32 (λ i. eqb (func / 2 ^ boolean / 64 % 2) 1)) where
   pub wishes-word :
-      bitOr
-      (bitOr (bitOr (bitAnd (bitAnd (4294967295 - alu) (4294967295 - predicate)) s0) (bitAnd (bitAnd (4294967295 - alu) predicate) s1))
-      (bitAnd (bitAnd alu (4294967295 - predicate)) s2)) (bitAnd (bitAnd alu predicate) s3) ≡
-      pack 32 (wishOf func (eqb boolean 1) alu predicate)
+      muxWord alu (muxWord predicate s3 s2) (muxWord predicate s1 s0) ≡ pack 32 (wishOf func (eqb boolean 1) alu predicate)
   unfolding wishOf
   wishes-word =
-      let a = own alu ha in
       let p = own predicate hp in
-      or-places
-      (or-places
-      (or-places (and-places (and-places (not-places a) (not-places p)) (record { word = e0 }))
-      (and-places (and-places (not-places a) p) (record { word = e1 })))
-      (and-places (and-places a (not-places p)) (record { word = e2 }))) (and-places (and-places a p) (record { word = e3 })) .word ∙
+      mux (own alu ha) (mux p (record { word = e3 }) (record { word = e2 })) (mux p (record { word = e1 }) (record { word = e0 })) .word ∙
       pack-same 32 _ (λ i. wants func (on i alu) (on i predicate) (eqb boolean 1))
       (λ i h. chosen (on i alu) (on i predicate) _ _ _ _ ∙ wanted func boolean low (on i alu) (on i predicate))
 
@@ -349,7 +357,7 @@ abbrev pub idleWord : ℕ → ℕ → ℕ
 idleWord live active = bitAnd live (4294967295 - active)
 
 abbrev pub lendWord : ℕ → ℕ → ℕ → ℕ
-lendWord p c b = bitOr (bitAnd (4294967295 - p) (bitOr c b)) (bitAnd c b)
+lendWord p c b = bitXor b (bitAnd (bitXor p c) (bitXor b c))
 
 module _ (p0 p1 p2 p3 p4 c0 c1 c2 c3 c4 : ℕ) where
   abbrev pub borrowed0 : ℕ
@@ -478,7 +486,7 @@ module _ {procs : ℕ → Proc} {live active p0 p1 p2 p3 p4 : ℕ} (m : MasksOf 
     lend :
         {p c b : ℕ} {f g e : ℕ → Bool} → Places 32 f p → Places 32 g c → Places 32 e b →
         Places 32 (λ i. lent (f i) (g i) (e i)) (lendWord p c b)
-    lend x y z = or-places (and-places (not-places x) (or-places y z)) (and-places y z)
+    lend x y z = xor-places z (and-places (xor-places x y) (xor-places z y))
 
     b1 : Places 32 (λ i. lent1 k (procs i)) (borrowed1 p0 p1 p2 p3 p4 c0 c1 c2 c3 c4)
     b1 = lend at1 k1 b0

@@ -18,9 +18,6 @@ use Rattle.refusal.specs.Number.{numberOf}
 use Rattle.refusal.specs.Told.{gives, refuses}
 use Rattle.refusal.specs.declared.Refusal.{Refusal}
 use Rattle.refusal.specs.declared.Refusal.the-variants.{Ended}
-use Rattle.flow.specs.declared.SlotNumber.{SlotNumber}
-use Rattle.flow.specs.declared.Stepped.{Stepped}
-use Rattle.flow.specs.declared.Stepped.the-variants as stepped
 use Rattle.flow.specs.declared.Ran.{Ran}
 use Rattle.flow.specs.declared.Ran.the-variants as ran
 use Rattle.flow.specs.declared.Walked.{Walked}
@@ -28,7 +25,8 @@ use Rattle.flow.specs.declared.Walked.the-variants as walked
 use Rattle.flow.specs.Proc.{isActive}
 use Rattle.flow.specs.Group.{Group, Outcome, Steps, Fails, Program, Run, Makes, Breaks, ended, stepOf, stepTold, onceMore, goOn, stepsOf, runOf, runTold, firstActive, numberActive}
 use Rattle.flow.specs.Cells.{groupOf, Sound, Made, stepLeaves, runLeaves}
-use Rattle.flow.specs.Answers.{toldStepped, StepDone, RunDone, walkTold, WalkDone, programOf}
+use Rattle.flow.specs.Answers.{refusalOf, answerOf, toldStepped, StepDone, RunDone, walkTold, WalkDone, programOf}
+use Rattle.flow.proofs.Stepping.{told-low, told-high}
 use Rattle.flow.proofs.State.{SoundAfter, made-of, group-back, made-masks, step-sound}
 
 -- a run of one step
@@ -53,23 +51,20 @@ module _ {l leaves : List ℕ} (m : Made l) where
       number : refuses (numberOf why) ≡ refuses n → numberOf why ≡ n
       number q = cc
 
--- by what the step answered
-module _ {leaves : List ℕ} (l firsts seconds : List ℕ) (slots alu predicate booleans : ℕ) (m : Made l) {r : Stepped}
-    (d : StepDone l leaves r (stepOf 31 (programOf firsts seconds slots) alu predicate booleans (groupOf l))) where
+-- by the number that the step answered
+module _ {leaves : List ℕ} (l firsts seconds : List ℕ) (slots alu predicate booleans : ℕ) (m : Made l) (n at : ℕ)
+    (d : StepDone l leaves (answerOf n at) (stepOf 31 (programOf firsts seconds slots) alu predicate booleans (groupOf l))) where
   abbrev here : Outcome
   here = stepOf 31 (programOf firsts seconds slots) alu predicate booleans (groupOf l)
 
-  kept : SoundAfter 31 here
-  kept = step-sound 31 (programOf firsts seconds slots) alu predicate booleans (groupOf l) (m .sound)
+  pub one-went : n ≤ 1 → WalkDone leaves (walked.Made 1) (single here)
+  one-went h =
+      one-made m here (step-sound 31 (programOf firsts seconds slots) alu predicate booleans (groupOf l) (m .sound)) n at
+      (sym (told-low n at h) ∙ d .told) (d .left)
 
-  pub one-jumped : {p : SlotNumber} → r ≡ stepped.Jumped p → WalkDone leaves (walked.Made 1) (single here)
-  one-jumped {p} e = one-made m here kept 1 (p .0) (sym (ap toldStepped e) ∙ d .told) (d .left)
-
-  pub one-stayed : {p : SlotNumber} → r ≡ stepped.Stayed p → WalkDone leaves (walked.Made 1) (single here)
-  one-stayed {p} e = one-made m here kept 0 (p .0) (sym (ap toldStepped e) ∙ d .told) (d .left)
-
-  pub one-stopped : {why : Refusal} → r ≡ stepped.Refused why → WalkDone leaves (walked.Refused why) (single here)
-  one-stopped {why} e = one-refused m here why (sym (ap toldStepped e) ∙ d .told) (d .left)
+  pub one-stopped : {why : Refusal} → 1 < n → why ≡ refusalOf n → WalkDone leaves (walked.Refused why) (single here)
+  one-stopped {why} h e =
+      one-refused m here why (ap (λ (x : Refusal). refuses (numberOf x)) e ∙ sym (ap toldStepped (told-high n at h)) ∙ d .told) (d .left)
 
 -- a run after so many steps
 abbrev pub plus : ℕ → Run → Run

@@ -4,77 +4,54 @@ use mathlib.Core.Bool.{Bool, true, false, not}
 use mathlib.Core.List.{List, [], _∷_}
 use Prim.Native.Nat.{ℕ, zero, suc, _/_, _%_, _^_, _<_, _≤_, zero-le}
 use native.Mathlib.Omega.{arith}
-use lib.Dec.{eqb, ltb}
+use lib.Dec.{eqb, leb, ltb}
 use lib.ListN.{getD}
-use borrow.Author.Tests.{ltb-true, ltb-false, le-leb, lt-leb}
+use borrow.Author.Tests.{ltb-true, ltb-false, le-leb, lt-leb, lt-ltb}
 use Rattle.laws.specs.Choice.{_and_, pick}
 use Rattle.laws.specs.Masks.{_or_, differ, digit, on, pack, some}
 use Rattle.laws.proofs.Choice.{Tested, holds, fails, tested, pick-yes, pick-no}
 use Rattle.laws.proofs.Split.{by-test}
-use Rattle.laws.proofs.Masks.{pack-same, on-pack, on-above, some-same, every-same}
+use Rattle.laws.proofs.Masks.{digit-lt, pack-same, on-pack, on-above, some-same, every-same}
 use Rattle.refusal.specs.Number.{numberOf}
-use Rattle.refusal.specs.Told.{gives}
+use Rattle.refusal.specs.Told.{gives, refuses}
 use Rattle.refusal.specs.declared.Refusal.{Refusal}
 use Rattle.refusal.specs.declared.Refusal.the-variants.{AtLimit, PastEnd, FlowField, Ended}
-use Rattle.flow.specs.declared.planes.Worked.{Worked}
 use Rattle.flow.specs.declared.Stepped.{Stepped}
 use Rattle.flow.specs.declared.Stepped.the-variants as stepped
-use Rattle.flow.specs.declared.slot.Next.{Next}
-use Rattle.flow.specs.declared.slot.Next.the-variants as next
 use Rattle.flow.specs.Proc.{Proc, Active, Idle, Absent, isLive, isActive, counterBit, within, turned, lowered, raised, worked, decided}
 use Rattle.flow.specs.Group.{Group, Outcome, Steps, Fails, Way, Goes, Stuck, field, allowed, turnedIf, wishOf, overLimit, wayOf, arrived, settled, slotStep, ended, stepOf, stepTold}
-use Rattle.flow.specs.Cells.{liveMask, activeMask, counterOf, withActive, groupOf, cellsWith, cellsOf, Made, stepLeaves}
-use Rattle.flow.specs.Masks.{MasksOf, MarksIn, shownAs}
-use Rattle.flow.specs.Answers.{StepDone, Stack, nextOf, programOf}
+use Rattle.flow.specs.Cells.{liveMask, activeMask, plane, counterOf, withActive, groupOf, cellsWith, cellsOf, Made, stepLeaves}
+use Rattle.flow.specs.Masks.{MasksOf, MarksIn, withMarks, shownAs}
+use Rattle.flow.specs.Answers.{refusalOf, answerOf, toldStepped, StepDone, GoDone, programOf}
+use Rattle.flow.proofs.Going.{Gone, went-on}
 use Rattle.flow.proofs.Places.{limit-shown}
 use Rattle.flow.proofs.State.{made-masks, shows, turned-absent, turned-within, worked-absent}
 
--- a refusal leaves the cells as they were
-pub refused : {l : List ℕ} {o : Outcome} (why : Refusal) → o ≡ Fails (numberOf why) → StepDone l l (stepped.Refused why) o
-refused {l} why e = record { told = sym (ap stepTold e); left = sym (ap (stepLeaves l) e) }
-
--- the cells of the returns, as the code takes them
-pub made-stack :
-    (l : List ℕ) → Made l →
-    Stack (groupOf l .returns) (getD l 8 0) (getD l 9 0) (getD l 10 0) (getD l 11 0)
-made-stack l m =
+-- a refusal's number stands for it, and the cells are as they were
+pub refused :
+    {l : List ℕ} {o : Outcome} (n at : ℕ) (why : Refusal) → n ≡ numberOf why →
+    toldStepped (answerOf (numberOf why) at) ≡ refuses (numberOf why) → o ≡ Fails (numberOf why) →
+    StepDone l l (answerOf n at) o
+refused {l} n at why en same e =
     record {
-      cell0 = ap (λ (x : List ℕ). getD x 8 0) (m .whole);
-      cell1 = ap (λ (x : List ℕ). getD x 9 0) (m .whole);
-      cell2 = ap (λ (x : List ℕ). getD x 10 0) (m .whole);
-      cell3 = ap (λ (x : List ℕ). getD x 11 0) (m .whole);
-      depth = m .sound .depth;
-      slots = m .sound .slots;
+      told = ap (λ (k : ℕ). toldStepped (answerOf k at)) en ∙ same ∙ sym (ap stepTold e);
+      left = sym (ap (stepLeaves l) e);
     }
 
--- what the code finds of the way, said of the way itself
-pub record Went (w : Way) (at r0 r1 r2 r3 : ℕ) : Type 0 where
-  pub rest : List ℕ
-  pub goes : w ≡ Goes at rest
-  pub cell0 : r0 ≡ getD rest 0 0
-  pub cell1 : r1 ≡ getD rest 1 0
-  pub cell2 : r2 ≡ getD rest 2 0
-  pub cell3 : r3 ≡ getD rest 3 0
+-- an answer by another name
+pub answered : {l leaves : List ℕ} {o : Outcome} {r s : Stepped} → s ≡ r → StepDone l leaves r o → StepDone l leaves s o
+answered e d = record { told = ap toldStepped e ∙ d .told; left = d .left }
 
-went : (w : Way) {at r0 r1 r2 r3 : ℕ} → next.To at r0 r1 r2 r3 ≡ nextOf w → Went w at r0 r1 r2 r3
-went (Goes to rs) {at} {r0} {r1} {r2} {r3} e =
-    record {
-      rest = rs;
-      goes = ap (λ (n : ℕ). Goes n rs) (cc);
-      cell0 = cc;
-      cell1 = cc;
-      cell2 = cc;
-      cell3 = cc;
-    }
-went Stuck {at} e = let z : _≡_ {A = ℕ} 0 1 = ap kind e in absurd (omega arith)
-  where
-    kind : Next → ℕ
-    kind (next.To a b c d f) = 0
-    kind next.Stuck = 1
+-- 1 stands for a jump and 0 for a stay, a higher number for a refusal
+pub told-low : (n at : ℕ) → n ≤ 1 → toldStepped (answerOf n at) ≡ gives (n ∷ at ∷ [])
+unfolding answerOf pick
+told-low zero at h = refl
+told-low (suc zero) at h = refl
+told-low (suc (suc n)) at h = absurd (omega arith)
 
-stopped : (w : Way) → next.Stuck ≡ nextOf w → w ≡ Stuck
-stopped (Goes to rs) e = cc
-stopped Stuck e = refl
+pub told-high : (n at : ℕ) → 1 < n → answerOf n at ≡ stepped.Refused (refusalOf n)
+unfolding answerOf
+told-high n at h = pick-yes _ _ (lt-ltb 1 n h)
 
 -- an operation leaves everybody in the group
 live-worked : (op k : ℕ) (jump wish : Bool) (p : Proc) → isLive p ≡ isLive (worked op k jump wish p)
@@ -109,9 +86,9 @@ module _ (l : List ℕ) (first second slots active wish : ℕ) (jump : Bool) (m 
     unfolding overLimit
     over-is = eover ∙ ap₂ (λ (n : ℕ) (b : Bool). eqb n 2 and b) eop (limit-shown k)
 
-    pub settle-over : over ≡ true → StepDone l l (stepped.Refused AtLimit) outcome
-    unfolding settled
-    settle-over t = refused AtLimit (pick-yes _ _ (sym over-is ∙ t))
+    pub settle-over : (n at : ℕ) → n ≡ 14 → over ≡ true → StepDone l l (answerOf n at) outcome
+    unfolding settled answerOf refusalOf pick
+    settle-over n at en t = refused n at AtLimit en refl (pick-yes _ _ (sym over-is ∙ t))
 
     module _ (free : over ≡ false) where
       abbrev wayHere : Way
@@ -125,59 +102,63 @@ module _ (l : List ℕ) (first second slots active wish : ℕ) (jump : Bool) (m 
       unfolding settled
       on-way = pick-no _ _ (sym over-is ∙ free)
 
-      pub settle-stuck : next.Stuck ≡ nextOf wayHere → StepDone l l (stepped.Refused AtLimit) outcome
-      settle-stuck e = refused AtLimit (on-way ∙ ap (arrived slots jump procsHere) (stopped wayHere e))
+      -- the way is refused
+      settle-by :
+          (w : Way) → outcome ≡ arrived slots jump procsHere w → (n : ℕ) (l' : List ℕ) → GoDone l l' n slots jump w → 1 < n →
+          StepDone l l' (answerOf n (getD l' 7 0)) outcome
+      unfolding answerOf refusalOf pick
+      settle-by Stuck e n l' d h =
+          subst (λ (x : List ℕ). StepDone l x (answerOf n (getD l' 7 0)) outcome) (sym (d .left))
+          (refused n (getD l' 7 0) AtLimit (d .number) refl e)
+      settle-by (Goes at rs) e n l' d h = by (tested (leb at slots))
+        where
+          by : Tested (leb at slots) → StepDone l l' (answerOf n (getD l' 7 0)) outcome
+          by (holds t) =
+              let z : n ≡ digit jump = d .number ∙ pick-yes _ _ t in
+              let q : digit jump < 2 = digit-lt jump in
+              absurd (omega arith)
+          by (fails t) =
+              subst (λ (x : List ℕ). StepDone l x (answerOf n (getD l' 7 0)) outcome) (sym (d .left ∙ pick-no _ _ t))
+              (refused n (getD l' 7 0) PastEnd (d .number ∙ pick-no _ _ t) refl (e ∙ pick-no _ _ t))
 
-      module _ {at r0 r1 r2 r3 : ℕ} (e : next.To at r0 r1 r2 r3 ≡ nextOf wayHere) where
-        w : Went wayHere at r0 r1 r2 r3
-        w = went wayHere e
+      pub settle-refused :
+          (n : ℕ) (l' : List ℕ) → GoDone l l' n slots jump wayHere → 1 < n →
+          StepDone l l' (answerOf n (getD l' 7 0)) outcome
+      settle-refused n l' d h = settle-by wayHere on-way n l' d h
 
-        pub settle-past : slots < at → StepDone l l (stepped.Refused PastEnd) outcome
-        settle-past h =
-            refused PastEnd (on-way ∙ ap (arrived slots jump procsHere) (w .goes) ∙ pick-no _ _ (lt-leb at slots h))
+      -- the group goes on, and the branch operation does its work at the new place
+      live-here : getD l 0 0 ≡ liveMask procsHere
+      live-here =
+          k .live-word ∙
+          pack-same 32 _ _
+          (λ i h. live-worked (pick jump (field 27 26 first) (field 25 24 first)) (field 20 16 first) jump (on i wish) (withActive l active i))
 
-        abbrev groupThen : Group
-        groupThen = record { procs = procsHere; position = at; returns = w .rest }
+      pub settle-made :
+          (n : ℕ) (l' leaves : List ℕ) → GoDone l l' n slots jump wayHere → n ≤ 1 →
+          leaves ≡ withMarks l' (shownAs (λ i. worked op (field 20 16 first) jump (on i wish) (withActive l' active i))) →
+          StepDone l leaves (answerOf n (getD leaves 7 0)) outcome
+      settle-made n l' leaves d h written =
+          record {
+            told =
+                told-low n (getD leaves 7 0) h ∙
+                ap₂ (λ (m a : ℕ). gives (m ∷ a ∷ [])) (g .number) (ap (λ (x : List ℕ). getD x 7 0) there) ∙ sym (ap stepTold steps);
+            left = there ∙ sym (ap (stepLeaves l) steps);
+          }
+        where
+          g : Gone l l' n slots jump wayHere
+          g = went-on wayHere d h
 
-        steps : at ≤ slots → outcome ≡ Steps jump groupThen
-        steps h = on-way ∙ ap (arrived slots jump procsHere) (w .goes) ∙ pick-yes _ _ (le-leb at slots h)
+          groupThen : Group
+          groupThen = record { procs = procsHere; position = g .at; returns = g .rest }
 
-        module _ {x : Worked} (ex : x ≡ shownAs (λ i. worked op (field 20 16 first) jump (on i wish) (withActive l active i))) where
-          shown-here : x ≡ shownAs procsHere
-          shown-here = ex ∙ ap (λ (n : ℕ). shownAs (λ i. worked n (field 20 16 first) jump (on i wish) (withActive l active i))) eop
+          steps : outcome ≡ Steps jump groupThen
+          steps = on-way ∙ ap (arrived slots jump procsHere) (g .goes) ∙ pick-yes _ _ (g .near)
 
-          live-here : getD l 0 0 ≡ liveMask procsHere
-          live-here =
-              k .live-word ∙
-              pack-same 32 _ _
-              (λ i h. live-worked (pick jump (field 27 26 first) (field 25 24 first)) (field 20 16 first) jump (on i wish) (withActive l active i))
-
-          cells-then :
-              cellsWith (getD l 0 0) (x .active) (x .p0) (x .p1) (x .p2) (x .p3) (x .p4) at r0 r1 r2 r3 ≡ cellsOf groupThen
-          cells-then =
-              λ j. cellsWith (live-here j) (shown-here j .active) (shown-here j .p0) (shown-here j .p1) (shown-here j .p2) (shown-here j .p3) (shown-here j .p4) at (w .cell0 j) (w .cell1 j) (w .cell2 j) (w .cell3 j)
-
-          pub settle-jumped :
-              {leaves : List ℕ} →
-              leaves ≡ cellsWith (getD l 0 0) (x .active) (x .p0) (x .p1) (x .p2) (x .p3) (x .p4) at r0 r1 r2 r3 →
-              at ≤ slots → jump ≡ true → StepDone l leaves (stepped.Jumped (record { 0 = at })) outcome
-          unfolding digit
-          settle-jumped written h t =
-              record {
-                told = sym (ap stepTold (steps h) ∙ ap (λ (b : Bool). gives (digit b ∷ at ∷ [])) t);
-                left = written ∙ cells-then ∙ sym (ap (stepLeaves l) (steps h));
-              }
-
-          pub settle-stayed :
-              {leaves : List ℕ} →
-              leaves ≡ cellsWith (getD l 0 0) (x .active) (x .p0) (x .p1) (x .p2) (x .p3) (x .p4) at r0 r1 r2 r3 →
-              at ≤ slots → jump ≡ false → StepDone l leaves (stepped.Stayed (record { 0 = at })) outcome
-          unfolding digit
-          settle-stayed written h t =
-              record {
-                told = sym (ap stepTold (steps h) ∙ ap (λ (b : Bool). gives (digit b ∷ at ∷ [])) t);
-                left = written ∙ cells-then ∙ sym (ap (stepLeaves l) (steps h));
-              }
+          there : leaves ≡ cellsOf groupThen
+          there =
+              written ∙
+              (λ j. withMarks (g .left j) (shownAs (λ i. worked (eop j) (field 20 16 first) jump (on i wish) (withActive (g .left j) active i)))) ∙
+              (λ j. cellsWith (live-here j) (activeMask procsHere) (plane 0 procsHere) (plane 1 procsHere) (plane 2 procsHere) (plane 3 procsHere) (plane 4 procsHere) (g .at) (getD (g .rest) 0 0) (getD (g .rest) 1 0) (getD (g .rest) 2 0) (getD (g .rest) 3 0))
 
 -- the first half: B_ELSE keeps everybody in the group and every bit of a counter
 live-turned : (p : Proc) → isLive p ≡ isLive (turned p)
@@ -263,9 +244,10 @@ boolean-field n = omega arith
 module _ (l : List ℕ) (first second slots alu predicate booleans : ℕ) (m : Made l)
     {ok : Bool} (eok : ok ≡ allowed first second) where
   pub slot-refused :
-      ok ≡ false → StepDone l l (stepped.Refused FlowField) (slotStep 31 slots first second alu predicate booleans (groupOf l))
-  unfolding slotStep
-  slot-refused f = refused FlowField (pick-no _ _ (sym eok ∙ f))
+      (n at : ℕ) → n ≡ 13 → ok ≡ false →
+      StepDone l l (answerOf n at) (slotStep 31 slots first second alu predicate booleans (groupOf l))
+  unfolding slotStep answerOf refusalOf pick
+  slot-refused n at en f = refused n at FlowField en refl (pick-no _ _ (sym eok ∙ f))
 
   module _ {active : ℕ} (ea : active ≡ activeMask (turnedIf (eqb (first / 16 % 2) 1) (groupOf l .procs))) where
     procs-turned : withActive l active ≡ turnedIf (eqb (first / 16 % 2) 1) (groupOf l .procs)
@@ -328,13 +310,14 @@ module _ (l firsts seconds : List ℕ) (slots alu predicate booleans : ℕ) wher
   abbrev wholeStep : Outcome
   wholeStep = stepOf 31 (programOf firsts seconds slots) alu predicate booleans (groupOf l)
 
-  pub step-ended : slots ≤ getD l 7 0 → StepDone l l (stepped.Refused Ended) wholeStep
-  unfolding stepOf ended
-  step-ended h = refused Ended (pick-yes _ _ (le-leb slots (getD l 7 0) h))
+  pub step-ended : (n at : ℕ) → n ≡ 16 → slots ≤ getD l 7 0 → StepDone l l (answerOf n at) wholeStep
+  unfolding stepOf ended answerOf refusalOf pick
+  step-ended n at en h = refused n at Ended en refl (pick-yes _ _ (le-leb slots (getD l 7 0) h))
 
-  pub step-many : getD l 7 0 < slots → 512 < slots → StepDone l l (stepped.Refused PastEnd) wholeStep
-  unfolding stepOf ended
-  step-many h k = refused PastEnd (pick-no _ _ (lt-leb slots (getD l 7 0) h) ∙ pick-no _ _ (lt-leb slots 512 k))
+  pub step-many : (n at : ℕ) → n ≡ 15 → getD l 7 0 < slots → 512 < slots → StepDone l l (answerOf n at) wholeStep
+  unfolding stepOf ended answerOf refusalOf pick
+  step-many n at en h k =
+      refused n at PastEnd en refl (pick-no _ _ (lt-leb slots (getD l 7 0) h) ∙ pick-no _ _ (lt-leb slots 512 k))
 
   pub step-done :
       {leaves : List ℕ} {r : Stepped} → getD l 7 0 < slots → slots ≤ 512 →

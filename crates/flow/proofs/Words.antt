@@ -9,11 +9,9 @@ use lib.ListN.{length, getD}
 use borrow.Author.Tests.{leb-true, lt-ltb, le-ltb, le-leb, lt-leb, eq-eqb, ne-eqb}
 use Rattle.laws.specs.Choice.{_and_}
 use Rattle.laws.proofs.Choice.{pick-yes, pick-no, and-left, and-right, and-yes, and-no-left}
-use Rattle.flow.specs.declared.slot.Next.{Next}
-use Rattle.flow.specs.declared.slot.Next.the-variants as next
-use Rattle.flow.specs.Group.{Goes, Stuck, field, allowed, popped, pushed, wayOf}
+use Rattle.flow.specs.Group.{Way, Goes, Stuck, field, allowed, popped, pushed, wayOf}
 use Rattle.flow.specs.Cells.{aReturn, areReturns}
-use Rattle.flow.specs.Answers.{Stack, nextOf}
+use Rattle.flow.specs.Answers.{Stack}
 
 -- the lowest field needs no division
 low-field : (n : ℕ) → field 3 0 n ≡ n % 16
@@ -90,9 +88,17 @@ past (a ∷ (b ∷ (c ∷ (d ∷ l)))) h = absurd (four (length l) h)
     four : (n : ℕ) → suc (suc (suc (suc n))) ≤ 3 → ⊥
     four n h = omega arith
 
+-- a way that goes on, with its returns in four cells
+pub record Went (w : Way) (at r0 r1 r2 r3 : ℕ) : Type 0 where
+  pub rest : List ℕ
+  pub goes : w ≡ Goes at rest
+  pub cell0 : r0 ≡ getD rest 0 0
+  pub cell1 : r1 ≡ getD rest 1 0
+  pub cell2 : r2 ≡ getD rest 2 0
+  pub cell3 : r3 ≡ getD rest 3 0
+
 -- pop: the first cell tells an empty stack
-pub pop-empty :
-    (rs : List ℕ) {r0 r1 r2 r3 : ℕ} → Stack rs r0 r1 r2 r3 → r0 ≡ 0 → next.Stuck ≡ nextOf (popped rs)
+pub pop-empty : (rs : List ℕ) {r0 r1 r2 r3 : ℕ} → Stack rs r0 r1 r2 r3 → r0 ≡ 0 → popped rs ≡ Stuck
 pop-empty [] s z = refl
 pop-empty (r ∷ rs) {r0} s z =
     let p : 1 ≤ r = return-positive r rs (s .slots) in
@@ -100,16 +106,17 @@ pop-empty (r ∷ rs) {r0} s z =
     absurd (omega arith)
 
 pub pop-last :
-    (rs : List ℕ) {r0 r1 r2 r3 : ℕ} → Stack rs r0 r1 r2 r3 → (r0 ≡ 0 → ⊥) → next.To r0 r1 r2 r3 0 ≡ nextOf (popped rs)
+    (rs : List ℕ) {r0 r1 r2 r3 : ℕ} → Stack rs r0 r1 r2 r3 → (r0 ≡ 0 → ⊥) → Went (popped rs) r0 r1 r2 r3 0
 pop-last [] s n = absurd (n (s .cell0))
-pop-last (r ∷ rs) {r0} {r1} {r2} {r3} s n =
-    let h : length rs ≤ 3 = shorter (length rs) (s .depth) in
-    let z : getD rs 3 0 ≡ 0 = past rs h in
-    let q0 : r0 ≡ r = s .cell0 in
-    let q1 : r1 ≡ getD rs 0 0 = s .cell1 in
-    let q2 : r2 ≡ getD rs 1 0 = s .cell2 in
-    let q3 : r3 ≡ getD rs 2 0 = s .cell3 in
-    λ j. next.To (q0 j) (q1 j) (q2 j) (q3 j) (sym z j)
+pop-last (r ∷ rs) s n =
+    record {
+      rest = rs;
+      goes = ap (λ (at : ℕ). Goes at rs) (sym (s .cell0));
+      cell0 = s .cell1;
+      cell1 = s .cell2;
+      cell2 = s .cell3;
+      cell3 = sym (past rs (shorter (length rs) (s .depth)));
+    }
   where
     shorter : (n : ℕ) → suc n ≤ 4 → n ≤ 3
     shorter n h = omega arith
@@ -140,38 +147,39 @@ fourth-free (a ∷ (b ∷ (c ∷ (d ∷ l)))) e z =
     absurd (omega arith)
 
 module _ (position address : ℕ) (rs : List ℕ) {r0 r1 r2 r3 : ℕ} (s : Stack rs r0 r1 r2 r3) where
-  pub push-full : (r3 ≡ 0 → ⊥) → next.Stuck ≡ nextOf (pushed position address rs)
-  push-full n =
-      sym (ap nextOf (pick-no _ _ (le-ltb (length rs) 4 (fourth-taken rs (λ z. n (s .cell3 ∙ z))))))
+  pub push-full : (r3 ≡ 0 → ⊥) → pushed position address rs ≡ Stuck
+  push-full n = pick-no _ _ (le-ltb (length rs) 4 (fourth-taken rs (λ z. n (s .cell3 ∙ z))))
 
-  pub push-last : r3 ≡ 0 → next.To address (position + 1) r0 r1 r2 ≡ nextOf (pushed position address rs)
+  pub push-last : r3 ≡ 0 → Went (pushed position address rs) address (position + 1) r0 r1 r2
   push-last z =
-      (λ j. next.To address (position + 1) (s .cell0 j) (s .cell1 j) (s .cell2 j)) ∙
-      sym (ap nextOf (pick-yes _ _ (lt-ltb (length rs) 4 (fourth-free rs (s .slots) (sym (s .cell3) ∙ z)))))
+      record {
+        rest = (position + 1) ∷ rs;
+        goes = pick-yes _ _ (lt-ltb (length rs) 4 (fourth-free rs (s .slots) (sym (s .cell3) ∙ z)));
+        cell0 = refl;
+        cell1 = s .cell0;
+        cell2 = s .cell1;
+        cell3 = s .cell2;
+      }
+
+-- the cells as they stand
+pub standing : (at : ℕ) (rs : List ℕ) {r0 r1 r2 r3 : ℕ} → Stack rs r0 r1 r2 r3 → Went (Goes at rs) at r0 r1 r2 r3
+standing at rs s =
+    record { rest = rs; goes = refl; cell0 = s .cell0; cell1 = s .cell1; cell2 = s .cell2; cell3 = s .cell3 }
 
 -- the way, by the decision and the operation
 module _ (op position address : ℕ) {jump : Bool} (rs : List ℕ) where
-  pub way-pop : jump ≡ true → op ≡ 1 → nextOf (popped rs) ≡ nextOf (wayOf op jump position address rs)
+  pub way-pop : jump ≡ true → op ≡ 1 → popped rs ≡ wayOf op jump position address rs
   unfolding wayOf
-  way-pop j e = sym (ap nextOf (pick-yes _ _ j ∙ pick-yes _ _ (eq-eqb op 1 e)))
+  way-pop j e = sym (pick-yes _ _ j ∙ pick-yes _ _ (eq-eqb op 1 e))
 
-  pub way-push :
-      jump ≡ true → op ≡ 2 → nextOf (pushed position address rs) ≡ nextOf (wayOf op jump position address rs)
+  pub way-push : jump ≡ true → op ≡ 2 → pushed position address rs ≡ wayOf op jump position address rs
   unfolding wayOf
-  way-push j e =
-      sym (ap nextOf (pick-yes _ _ j ∙ pick-no _ _ (ne-eqb op 1 (λ z. omega arith)) ∙ pick-yes _ _ (eq-eqb op 2 e)))
+  way-push j e = sym (pick-yes _ _ j ∙ pick-no _ _ (ne-eqb op 1 (λ z. omega arith)) ∙ pick-yes _ _ (eq-eqb op 2 e))
 
-  pub way-address :
-      jump ≡ true → (op ≡ 1 → ⊥) → (op ≡ 2 → ⊥) → nextOf (Goes address rs) ≡ nextOf (wayOf op jump position address rs)
+  pub way-address : jump ≡ true → (op ≡ 1 → ⊥) → (op ≡ 2 → ⊥) → Goes address rs ≡ wayOf op jump position address rs
   unfolding wayOf
-  way-address j n1 n2 =
-      sym (ap nextOf (pick-yes _ _ j ∙ pick-no _ _ (ne-eqb op 1 n1) ∙ pick-no _ _ (ne-eqb op 2 n2)))
+  way-address j n1 n2 = sym (pick-yes _ _ j ∙ pick-no _ _ (ne-eqb op 1 n1) ∙ pick-no _ _ (ne-eqb op 2 n2))
 
-  pub way-on : jump ≡ false → nextOf (Goes (position + 1) rs) ≡ nextOf (wayOf op jump position address rs)
+  pub way-on : jump ≡ false → Goes (position + 1) rs ≡ wayOf op jump position address rs
   unfolding wayOf
-  way-on j = sym (ap nextOf (pick-no _ _ j))
-
--- the cells as they stand
-pub standing :
-    (at : ℕ) (rs : List ℕ) {r0 r1 r2 r3 : ℕ} → Stack rs r0 r1 r2 r3 → next.To at r0 r1 r2 r3 ≡ nextOf (Goes at rs)
-standing at rs s = λ j. next.To at (s .cell0 j) (s .cell1 j) (s .cell2 j) (s .cell3 j)
+  way-on j = sym (pick-no _ _ j)

@@ -95,6 +95,19 @@ pub record Made (l : List ℕ) : Type 0 where
   pub sound : Sound 31 (groupOf l)
   pub whole : l ≡ cellsOf (groupOf l)
 
+-- the same processors at another place, with other returns
+abbrev pub placedAt : List ℕ → ℕ → ℕ → ℕ → ℕ → ℕ → List ℕ
+placedAt l at r0 r1 r2 r3 =
+    cellsWith (getD l 0 0) (getD l 1 0) (getD l 2 0) (getD l 3 0) (getD l 4 0) (getD l 5 0) (getD l 6 0) at r0 r1 r2 r3
+
+abbrev pub withPlace : List ℕ → ℕ → List ℕ → List ℕ
+withPlace l at rs = placedAt l at (getD rs 0 0) (getD rs 1 0) (getD rs 2 0) (getD rs 3 0)
+
+-- cells 0 to 11 as they are, the rest 0, and 20 of them
+pub record Spelled (l : List ℕ) : Type 0 where
+  pub size : length l ≡ 20
+  pub cells : l ≡ placedAt l (getD l 7 0) (getD l 8 0) (getD l 9 0) (getD l 10 0) (getD l 11 0)
+
 -- the cells after a step: those of the state that it leads to; a refusal leaves them as they were
 abbrev pub stepLeaves : List ℕ → Outcome → List ℕ
 stepLeaves l (Steps jump g) = cellsOf g

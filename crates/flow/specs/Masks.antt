@@ -7,7 +7,7 @@ use Prim.Native.Nat.{ℕ}
 use lib.ListN.{getD}
 use Rattle.flow.specs.declared.planes.Worked.{Worked}
 use Rattle.flow.specs.Proc.{Proc, within}
-use Rattle.flow.specs.Cells.{procAt, liveMask, activeMask, plane}
+use Rattle.flow.specs.Cells.{procAt, liveMask, activeMask, plane, cellsWith}
 
 -- the seven words are the masks of these processors, whose counters five planes hold
 pub record MasksOf (procs : ℕ → Proc) (live active p0 p1 p2 p3 p4 : ℕ) : Type 0 where
@@ -40,3 +40,9 @@ shownAs procs =
       p3 = plane 3 procs;
       p4 = plane 4 procs;
     }
+
+-- a group's cells with these words for the active processors and the counters, at the same place
+abbrev pub withMarks : List ℕ → Worked → List ℕ
+withMarks l w =
+    cellsWith (getD l 0 0) (w .active) (w .p0) (w .p1) (w .p2) (w .p3) (w .p4)
+    (getD l 7 0) (getD l 8 0) (getD l 9 0) (getD l 10 0) (getD l 11 0)

@@ -3,12 +3,13 @@
 ghost use mathlib.Core.Path.{_≡_};
 ghost use Prim.Native.Nat.{_<_};
 ghost use lib.Dec.{eqb};
+ghost use lib.ListN.{length, getD};
 ghost use Rattle.laws.specs.Choice.{_and_};
 ghost use Rattle.laws.specs.Masks.{differ, on, pack, some};
 ghost use Rattle.flow.specs.Proc.{turned, lowered, raised, worked, decided};
 ghost use Rattle.flow.specs.Group.{turnedIf, wishOf};
-ghost use Rattle.flow.specs.Cells.{procAt, activeMask, counterOf};
-ghost use Rattle.flow.specs.Masks.{Marks, shownAs};
+ghost use Rattle.flow.specs.Cells.{procAt, withActive, activeMask, counterOf};
+ghost use Rattle.flow.specs.Masks.{Marks, MarksIn, shownAs};
 
 // The active processors and the five planes that a branch operation leaves.
 pub struct Worked {
@@ -43,11 +44,13 @@ pub fn wishes(func: u32, boolean: u32, alu: u32, predicate: u32) -> u32
     ensures { λ r. ⌜ r ≡ pack 32 (wishOf func (eqb boolean 1) alu predicate) ⌝ }
 {
     let rule = func >> boolean;
-    let neither = !alu & !predicate & spread(rule % 2);
-    let second = !alu & predicate & spread(rule / 4 % 2);
-    let first = alu & !predicate & spread(rule / 16 % 2);
-    let both = alu & predicate & spread(rule / 64 % 2);
-    neither | second | first | both
+    let neither = spread(rule % 2);
+    let second = spread(rule / 4 % 2);
+    let first = spread(rule / 16 % 2);
+    let both = spread(rule / 64 % 2);
+    let without = neither ^ (neither ^ second) & predicate;
+    let with = first ^ (first ^ both) & predicate;
+    without ^ (without ^ with) & alu
 }
 
 // Whether the group jumps: with JUMP_ANY if some active processor wants to, without it if every active one does.
@@ -68,38 +71,39 @@ pub fn at_limit(p0: u32, p1: u32, p2: u32, p3: u32, p4: u32) -> bool
     p0 & p1 & p2 & p3 & p4 != 0
 }
 
-// Whether the operation is an increment that a counter of 31 forbids.
-pub fn over_limit(op: u32, p0: u32, p1: u32, p2: u32, p3: u32, p4: u32) -> bool
-    ensures { λ r. ⌜ r ≡ (eqb op 2 and some 32 (λ i. eqb (counterOf (on i p0) (on i p1) (on i p2) (on i p3) (on i p4)) 31)) ⌝ }
+// Whether the operation is an increment that a counter of 31 forbids. The planes are read for an increment alone.
+pub fn over_limit(op: u32, cells: &[u32; 20]) -> bool
+    requires { ⌜ length (now cells) ≡ 20 ⌝ }
+    ensures { λ r. ⌜ r ≡ (eqb op 2 and some 32 (λ i. eqb (counterOf (on i (getD (now (cells .entry)) 2 0)) (on i (getD (now (cells .entry)) 3 0)) (on i (getD (now (cells .entry)) 4 0)) (on i (getD (now (cells .entry)) 5 0)) (on i (getD (now (cells .entry)) 6 0))) 31)) ⌝ }
 {
     if op == 2 {
-        return at_limit(p0, p1, p2, p3, p4);
+        return at_limit(cells[2], cells[3], cells[4], cells[5], cells[6]);
     }
     false
 }
 
-// The active processors as the wishes see them: turned by B_ELSE where the slot has it.
-pub fn turn_if(
-    otherwise: bool,
-    live: u32,
-    active: u32,
-    p0: u32,
-    p1: u32,
-    p2: u32,
-    p3: u32,
-    p4: u32,
-) -> u32
-    requires { ⌜ Marks live active p0 p1 p2 p3 p4 ⌝ }
-    ensures { λ r. ⌜ r ≡ activeMask (turnedIf otherwise (procAt live active p0 p1 p2 p3 p4)) ⌝ }
+// The active processors as the wishes see them: turned by B_ELSE where the slot has it. The planes are read for that alone.
+pub fn turn_if(otherwise: bool, active: u32, cells: &[u32; 20]) -> u32
+    requires { ⌜ (length (now cells) ≡ 20) × MarksIn (now cells) active ⌝ }
+    ensures { λ r. ⌜ r ≡ activeMask (turnedIf otherwise (withActive (now (cells .entry)) active)) ⌝ }
 {
     if otherwise {
-        return turn(live, active, p0, p1, p2, p3, p4);
+        return turn(
+            cells[0],
+            active,
+            cells[2],
+            cells[3],
+            cells[4],
+            cells[5],
+            cells[6],
+        );
     }
     active
 }
 
 // Decrement: idle counters lose `count`, plane by plane with a borrow; where a borrow is left over, the counter would go
-// below zero and the processor wakes with counter 0.
+// below zero and the processor wakes with counter 0. A borrow goes on as it is where a plane's bit equals the count's; where
+// they differ it is the count's.
 pub fn lower(
     count: u32,
     live: u32,
@@ -119,10 +123,10 @@ pub fn lower(
     let c3 = spread(count / 8 % 2);
     let c4 = spread(count / 16 % 2);
     let b0 = !p0 & c0;
-    let b1 = !p1 & (c1 | b0) | c1 & b0;
-    let b2 = !p2 & (c2 | b1) | c2 & b1;
-    let b3 = !p3 & (c3 | b2) | c3 & b2;
-    let b4 = !p4 & (c4 | b3) | c4 & b3;
+    let b1 = b0 ^ (p1 ^ c1) & (b0 ^ c1);
+    let b2 = b1 ^ (p2 ^ c2) & (b1 ^ c2);
+    let b3 = b2 ^ (p3 ^ c3) & (b2 ^ c3);
+    let b4 = b3 ^ (p4 ^ c4) & (b3 ^ c4);
     let idle = live & !active;
     let kept = idle & !b4;
     Worked {
@@ -170,36 +174,5 @@ pub fn lift(
         p2: p2 ^ c1,
         p3: p3 ^ c2,
         p4: p4 ^ c3,
-    }
-}
-
-// The branch operation: 1 decrement, 2 increment, else nothing.
-pub fn work(
-    op: u32,
-    count: u32,
-    jump: bool,
-    live: u32,
-    active: u32,
-    wish: u32,
-    p0: u32,
-    p1: u32,
-    p2: u32,
-    p3: u32,
-    p4: u32,
-) -> Worked
-    requires { ⌜ (count < 32) × Marks live active p0 p1 p2 p3 p4 ⌝ }
-    ensures { λ r. ⌜ r ≡ shownAs (λ i. worked op count jump (on i wish) (procAt live active p0 p1 p2 p3 p4 i)) ⌝ }
-{
-    match op {
-        1 => lower(count, live, active, p0, p1, p2, p3, p4),
-        2 => lift(jump, live, active, wish, p0, p1, p2, p3, p4),
-        _ => Worked {
-            active,
-            p0,
-            p1,
-            p2,
-            p3,
-            p4,
-        },
     }
 }

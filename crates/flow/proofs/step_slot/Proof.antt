@@ -12,28 +12,8 @@ allowed-requires c κs = search needs
 element-copy-out-was : tie.Need-element-copy-out-was
 element-copy-out-was c = search needs
 
-element-copy-out-turn-if : tie.Need-element-copy-out-turn-if
-element-copy-out-turn-if c = search needs
-
-element-copy-out-turn-if-2 : tie.Need-element-copy-out-turn-if-2
-element-copy-out-turn-if-2 c = search needs
-
-element-copy-out-turn-if-3 : tie.Need-element-copy-out-turn-if-3
-element-copy-out-turn-if-3 c = search needs
-
-element-copy-out-turn-if-4 : tie.Need-element-copy-out-turn-if-4
-element-copy-out-turn-if-4 c = search needs
-
-element-copy-out-turn-if-5 : tie.Need-element-copy-out-turn-if-5
-element-copy-out-turn-if-5 c = search needs
-
-element-copy-out-turn-if-6 : tie.Need-element-copy-out-turn-if-6
-element-copy-out-turn-if-6 c = search needs
-
 turn-if-requires : tie.Need-turn-if-requires
-turn-if-requires c κs =
-    let s = c .before .before .before .before .before .before .before .before .before in
-    made-masks (now (s .args .cells)) (s .pre .0)
+turn-if-requires c κs = (c .before .before .before .before .pre .0 .size, made-masks (now (c .before .before .before .before .args .cells)) (c .before .before .before .before .pre .0))
 
 shr-boolean : tie.Need-shr-boolean
 shr-boolean c = search needs
@@ -45,31 +25,16 @@ decides-requires : tie.Need-decides-requires
 decides-requires c κs = search needs
 
 settle-requires : tie.Need-settle-requires
-settle-requires c κs =
-    let s = c .before .before .before .before .before .before .before .before .before .before .before .before .before in (
-      s .pre .0,
-      s .pre .1,
-      slot-marks (now (s .args .cells)) (s .args .first) (s .args .second) (s .args .slots) (s .args .alu)
-          (s .args .predicate) (s .args .booleans) (s .pre .0)
-          (c .before .before .before .before .before .before .before .before .before .before .before .before .allowed .ensures)
-          (c .before .before .before .turn-if .ensures),
-    )
+settle-requires c κs = (c .before .before .before .before .before .before .before .before .pre .0, c .before .before .before .before .before .before .before .before .pre .1, c .before .before .before .before .before .before .before .before .pre .2, slot-marks (now (c .before .before .before .before .before .before .before .before .args .cells)) (c .before .before .before .before .before .before .before .before .args .first) (c .before .before .before .before .before .before .before .before .args .second) (c .before .before .before .before .before .before .before .before .args .slots) (c .before .before .before .before .before .before .before .before .args .alu) (c .before .before .before .before .before .before .before .before .args .predicate) (c .before .before .before .before .before .before .before .before .args .booleans) (c .before .before .before .before .before .before .before .before .pre .0) (c .before .before .before .before .before .before .before .allowed .ensures) (c .before .before .before .turn-if .ensures))
 
 returns : tie.Need-returns
-returns c =
-    let s = c .before .before .before .before .before .before .before .before .before .before .before .before .before .before in
-    slot-done (now (s .args .cells)) (s .args .first) (s .args .second) (s .args .slots) (s .args .alu)
-    (s .args .predicate) (s .args .booleans) (s .pre .0)
-    (c .before .before .before .before .before .before .before .before .before .before .before .before .before .allowed .ensures)
-    (c .before .before .before .before .turn-if .ensures)
-    (c .before .before .before .before .before .before .before .before .before .before .before .before .if1 .taken)
-    (c .before .before .before .wishes .ensures) (c .before .before .decides .ensures) (c .settle .ensures)
+returns c = slot-done (now (c .before .before .before .before .before .before .before .before .before .args .cells)) (c .before .before .before .before .before .before .before .before .before .args .first) (c .before .before .before .before .before .before .before .before .before .args .second) (c .before .before .before .before .before .before .before .before .before .args .slots) (c .before .before .before .before .before .before .before .before .before .args .alu) (c .before .before .before .before .before .before .before .before .before .args .predicate) (c .before .before .before .before .before .before .before .before .before .args .booleans) (c .before .before .before .before .before .before .before .before .before .pre .0) (c .before .before .before .before .before .before .before .before .allowed .ensures) (c .before .before .before .before .turn-if .ensures) (c .before .before .before .before .before .before .before .if1 .taken) (c .before .before .before .wishes .ensures) (c .before .before .decides .ensures) (c .settle .ensures)
+
+number-requires : tie.Need-number-requires
+number-requires c κs = search needs
 
 returns-2 : tie.Need-returns-2
-returns-2 c =
-    let s = c .before .before in
-    slot-refused (now (s .args .cells)) (s .args .first) (s .args .second) (s .args .slots) (s .args .alu)
-    (s .args .predicate) (s .args .booleans) (s .pre .0) (c .before .allowed .ensures) (c .if1 .left)
+returns-2 c = slot-refused (now (c .before .before .before .args .cells)) (c .before .before .before .args .first) (c .before .before .before .args .second) (c .before .before .before .args .slots) (c .before .before .before .args .alu) (c .before .before .before .args .predicate) (c .before .before .before .args .booleans) (c .before .before .before .pre .0) (c .before .before .allowed .ensures) _ _ (c .number .ensures) (c .before .if1 .left)
 
 pub step-slot-spec : {M : Type 1} → statement M
 step-slot-spec =
@@ -77,16 +42,11 @@ step-slot-spec =
     (tie.spec
     allowed-requires
     element-copy-out-was
-    element-copy-out-turn-if
-    element-copy-out-turn-if-2
-    element-copy-out-turn-if-3
-    element-copy-out-turn-if-4
-    element-copy-out-turn-if-5
-    element-copy-out-turn-if-6
     turn-if-requires
     shr-boolean
     wishes-requires
     decides-requires
     settle-requires
     returns
+    number-requires
     returns-2)
