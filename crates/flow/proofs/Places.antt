@@ -11,7 +11,7 @@ use borrow.Author.Tests.{leb-true, ne-eqb}
 use Rattle.laws.proofs.Choice.{pick-yes, pick-no, and-left, and-right}
 use Rattle.laws.specs.Choice.{_and_, pick}
 use Rattle.laws.specs.Masks.{_or_, differ, digit, on, pack, Places, some, every}
-use Rattle.laws.proofs.Masks.{pack-same, and-places, or-places, xor-places, not-places, on-zero, on-suc, pack-on, on-pack, none-zero, every-none, some-same, every-at}
+use Rattle.laws.proofs.Masks.{pack-same, and-places, or-places, xor-places, not-places, on-zero, on-suc, pack-on, on-pack, none-zero, every-none, some-same, every-at, none-at}
 use Rattle.flow.specs.declared.planes.Worked.{Worked}
 use Rattle.flow.specs.Proc.{Proc, Active, Idle, Absent, isLive, isActive, counterBit, within, turned, wants, decided, lowered, raised, atLimit, worked}
 use Rattle.flow.specs.Group.{turnedIf, wishOf}
@@ -351,6 +351,27 @@ limit-word p0 p1 p2 p3 p4 h0 h1 h2 h3 h4 =
     (and-places (and-places (and-places (and-places (own p0 h0) (own p1 h1)) (own p2 h2)) (own p3 h3)) (own p4 h4) .word) ∙
     ap not (none-zero 32 _) ∙ not-not _ ∙
     some-same 32 _ _ (λ i h. full (on i p0) (on i p1) (on i p2) (on i p3) (on i p4))
+
+and-no-part : (a b c : Bool) → (b and c) ≡ false → ((a and b) and c) ≡ false
+unfolding _and_
+and-no-part true b c z = z
+and-no-part false b c z = refl
+
+-- the two upper bits of a counter, and where none has both, none is 31
+pub upper-word :
+    (p3 p4 : ℕ) → p3 < 2 ^ 32 → p4 < 2 ^ 32 → not (eqb (bitAnd p3 p4) 0) ≡ some 32 (λ i. on i p3 and on i p4)
+upper-word p3 p4 h3 h4 =
+    ap (λ (n : ℕ). not (eqb n 0)) (and-places (own p3 h3) (own p4 h4) .word) ∙ ap not (none-zero 32 _) ∙ not-not _
+
+pub upper-clear :
+    (p0 p1 p2 p3 p4 : ℕ) → some 32 (λ i. on i p3 and on i p4) ≡ false →
+    some 32 (λ i. eqb (counterOf (on i p0) (on i p1) (on i p2) (on i p3) (on i p4)) 31) ≡ false
+unfolding some _or_
+upper-clear p0 p1 p2 p3 p4 e =
+    some-same 32 _ (λ i. false)
+    (λ i h.
+    sym (full (on i p0) (on i p1) (on i p2) (on i p3) (on i p4)) ∙
+    and-no-part ((on i p0 and on i p1) and on i p2) (on i p3) (on i p4) (none-at 32 (λ j. on j p3 and on j p4) e i h))
 
 -- the words as the code works them out
 abbrev pub idleWord : ℕ → ℕ → ℕ

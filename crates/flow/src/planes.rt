@@ -71,13 +71,24 @@ pub fn at_limit(p0: u32, p1: u32, p2: u32, p3: u32, p4: u32) -> bool
     p0 & p1 & p2 & p3 & p4 != 0
 }
 
-// Whether the operation is an increment that a counter of 31 forbids. The planes are read for an increment alone.
+// Whether some counter has both upper bits, as 31 has.
+pub fn upper_bits(p3: u32, p4: u32) -> bool
+    ensures { λ r. ⌜ r ≡ some 32 (λ i. on i p3 and on i p4) ⌝ }
+{
+    p3 & p4 != 0
+}
+
+// Whether the operation is an increment that a counter of 31 forbids. Few groups have a counter with both upper bits, so that
+// test is first: the processor can predict it, which it often can't the operation.
 pub fn over_limit(op: u32, cells: &[u32; 20]) -> bool
     requires { ⌜ length (now cells) ≡ 20 ⌝ }
     ensures { λ r. ⌜ r ≡ (eqb op 2 and some 32 (λ i. eqb (counterOf (on i (getD (now (cells .entry)) 2 0)) (on i (getD (now (cells .entry)) 3 0)) (on i (getD (now (cells .entry)) 4 0)) (on i (getD (now (cells .entry)) 5 0)) (on i (getD (now (cells .entry)) 6 0))) 31)) ⌝ }
 {
-    if op == 2 {
-        return at_limit(cells[2], cells[3], cells[4], cells[5], cells[6]);
+    if upper_bits(cells[5], cells[6]) {
+        if op == 2 {
+            return at_limit(cells[2], cells[3], cells[4], cells[5], cells[6]);
+        }
+        return false;
     }
     false
 }

@@ -1,0 +1,10 @@
+-- `flow::planes::upper_bits` meets its contract: a word of the places that have both bits. Assumes nothing.
+use Rattle.flow.proofs.Places.{upper-word}
+use Rattle.flow.proofs.planes.upper_bits.Statement.{statement}
+use Rattle.flow.proofs.planes.upper_bits.Tie as tie
+
+returns : tie.Need-returns
+returns c = upper-word (c .args .p3) (c .args .p4) (c .fits .p3 .fits) (c .fits .p4 .fits)
+
+pub upper-bits-spec : {M : Type 1} → statement M
+upper-bits-spec = tie.close (tie.spec returns)
