@@ -5,7 +5,6 @@ use mathlib.Core.Bool.{Bool, true, false}
 use mathlib.Core.List.{List}
 use Prim.Native.Nat.{ℕ}
 use Rattle.refusal.specs.Told.{Told, gives, refuses}
-use Rattle.layout.specs.declared.Layout.{Layout}
 
 abbrev pub statusOf : Told → ℕ
 statusOf (gives values) = 0
@@ -18,11 +17,6 @@ roomOf (refuses number) room = room
 pub record Crosses (t : Told) (r : ℕ) (before after : List ℕ) : Type 0 where
   pub status : r ≡ statusOf t
   pub room : after ≡ roomOf t before
-
--- a layout from its numbers
-abbrev pub layoutOf : ℕ → ℕ → ℕ → ℕ → Bool → Layout
-layoutOf base pitch height size tiled =
-    record { base = record { 0 = base }; pitch = pitch; height = height; size = size; tiled = tiled }
 
 -- a flag as a number
 abbrev pub flag : Bool → ℕ

@@ -5,8 +5,8 @@ use layout::Judged;
 use layout::Layout;
 ghost use Prim.Native.Nat.{_<_};
 ghost use Rattle.layout.specs.Layout.{judgeOf};
-ghost use Rattle.address.specs.Address.{translateOf, locateOf, toldNumber};
-ghost use Rattle.egretfold.specs.Crossing.{Crosses, layoutOf};
+ghost use Rattle.address.specs.Address.{layoutOf, translateOf, locateOf, toldNumber};
+ghost use Rattle.egretfold.specs.Crossing.{Crosses};
 
 // The row step and the span of a layout; 3 or 6.
 #[no_mangle]

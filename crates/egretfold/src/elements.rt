@@ -3,9 +3,10 @@ use layout::ByteAddress;
 use layout::Layout;
 use memory::Answer;
 use memory::Written;
+ghost use Rattle.address.specs.Address.{layoutOf};
 ghost use Rattle.memory.specs.Elements.{readOf};
 ghost use Rattle.memory.specs.Superfine.{superfineReadOf};
-ghost use Rattle.egretfold.specs.Crossing.{Crosses, layoutOf};
+ghost use Rattle.egretfold.specs.Crossing.{Crosses};
 ghost use Rattle.egretfold.specs.Elements.{inSixteen, SuperfineCrosses, WriteCrosses};
 
 // The bytes of the element at (x, y), then zeros; 3, 6, 10 or 11.

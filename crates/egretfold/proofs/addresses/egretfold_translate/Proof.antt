@@ -1,9 +1,8 @@
 -- `egretfold::addresses::egretfold_translate` meets its contract: each answer crosses as it is told. Assumes nothing.
 use mathlib.Core.Path.{sym, ap, _∙_}
 use mathlib.Core.Bool.{Bool, true, false}
-use Rattle.address.specs.Address.{translateOf}
+use Rattle.address.specs.Address.{layoutOf, translateOf}
 use Rattle.address.proofs.Answers.{number-small}
-use Rattle.egretfold.specs.Crossing.{layoutOf}
 use Rattle.egretfold.proofs.Crossings.{crosses-same}
 use borrow.Author.Needs.{needs}
 use Rattle.egretfold.proofs.addresses.egretfold_translate.Statement.{statement}
