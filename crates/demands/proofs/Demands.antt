@@ -18,10 +18,11 @@ use Rattle.refusal.specs.Told.{gives}
 use Rattle.memory.specs.Elements.{Wrote}
 use Rattle.memory.specs.Reads.{ReadBack}
 use Rattle.memory.proofs.ReadBack.{read-back}
-use Rattle.session.specs.State.{Session}
-use Rattle.session.specs.Step.{refused, limit, stepOf}
+use Rattle.cells.specs.State.{Session}
+use Rattle.cells.specs.Effects.{limit}
+use Rattle.session.specs.Step.{refused, stepOf}
 use Rattle.session.specs.Feed.{nothing, feedOf, written, fedPieces, uncut}
-use Rattle.session.specs.Valid.{Valid, heldOf}
+use Rattle.cells.specs.Valid.{Valid, heldOf}
 use Rattle.session.specs.Refusals.{RefusedTo}
 use Rattle.session.specs.Again.{Idle, SameSettings, ReadAgain}
 use Rattle.session.proofs.Cut.{cut-anywhere}

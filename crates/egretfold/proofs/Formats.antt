@@ -13,11 +13,11 @@ use Rattle.command.specs.Table.{headers, headerOf}
 use Rattle.command.specs.Commands.{lineOf, placesOf}
 use Rattle.command.specs.declared.commands.Command.{Command}
 use Rattle.command.specs.declared.commands.Places.{Places}
-use Rattle.session.specs.State.{Party, Shared}
+use Rattle.cells.specs.State.{Party, Shared}
 use Rattle.session.specs.Step.{completed}
-use Rattle.session.specs.Queries.{boundsOf}
-use Rattle.session.specs.declared.queries.Bounds.{Bounds}
-use Rattle.session.specs.declared.queries.Setting.{Setting}
+use Rattle.cells.specs.Queries.{boundsOf}
+use Rattle.cells.specs.declared.queries.Bounds.{Bounds}
+use Rattle.cells.specs.declared.queries.Setting.{Setting}
 use Rattle.egretfold.specs.Crossing.{flag}
 use Rattle.egretfold.specs.Sessions.{Shows, statusOf, domainOf, masksOf, openHeader, formatTold, numberedTold, formatAt, replyTold, valuesOf}
 

@@ -12,12 +12,12 @@ use Rattle.refusal.specs.Told.{Told, gives, refuses}
 use Rattle.command.specs.Table.{headerOf}
 use Rattle.command.specs.Commands.{lineOf, fieldsOf}
 use Rattle.command.specs.declared.commands.Command.{Command}
-use Rattle.session.specs.State.{Party, Shared, Buffer, Domain, unset, newSession}
+use Rattle.cells.specs.State.{Party, Shared, Buffer, Domain, unset, newSession}
 use Rattle.session.specs.Step.{Reply, Stepped, stillOpen, completed, refused}
 use Rattle.session.specs.Feed.{Fed, First, nothing, first}
-use Rattle.session.specs.Asked.{Held}
-use Rattle.session.specs.Queries.{settingOf}
-use Rattle.session.specs.declared.queries.Setting.{Setting}
+use Rattle.cells.specs.Asked.{Held}
+use Rattle.cells.specs.Queries.{settingOf}
+use Rattle.cells.specs.declared.queries.Setting.{Setting}
 use Rattle.egretfold.specs.declared.sessions.Found.{Found}
 use Rattle.egretfold.specs.declared.sessions.Found.the-variants as found
 use Rattle.egretfold.specs.Crossing.{Crosses, flag}

@@ -1,19 +1,19 @@
 // Sessions: words one by one and in pieces, and what a session holds. Its three arrays are as `egretfold_session_begin` and
 // these functions left them.
+use cells::own;
+use cells::queries;
+use cells::queries::Setting;
 use command::commands;
 use command::table;
 use command::table::Line;
 use refusal::Refusal;
-use session::own;
-use session::queries;
-use session::queries::Setting;
 use session::stream;
 use session::stream::Answer;
 use session::stream::First;
 ghost use mathlib.Core.Path.{_≡_};
 ghost use mathlib.Core.List.{[]};
-ghost use Rattle.session.specs.Asked.{Given};
-ghost use Rattle.session.specs.Cells.{partyOf, sessionOf, sharedOf};
+ghost use Rattle.cells.specs.Asked.{Given};
+ghost use Rattle.cells.specs.Cells.{partyOf, sessionOf, sharedOf};
 ghost use Rattle.session.specs.Feed.{feedOf};
 ghost use Rattle.session.specs.Step.{stepOf};
 ghost use Rattle.egretfold.specs.Crossing.{Crosses, flag};

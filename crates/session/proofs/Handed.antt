@@ -2,12 +2,13 @@
 -- again. Assumes nothing.
 use mathlib.Core.List.{List}
 use Prim.Native.Nat.{ℕ}
-use Rattle.session.specs.State.{newSession}
+use Rattle.cells.specs.State.{newSession}
 use Rattle.session.specs.Step.{Reply, stepOf}
 use Rattle.session.specs.Feed.{feedOf}
-use Rattle.session.specs.Cells.{sessionOf}
-use Rattle.session.specs.Asked.{Given, Held, Left}
-use Rattle.session.proofs.Cells.{held-given}
+use Rattle.cells.specs.Cells.{sessionOf}
+use Rattle.cells.specs.Asked.{Given, Held}
+use Rattle.session.specs.Asked.{Left}
+use Rattle.cells.proofs.Cells.{held-given}
 use Rattle.session.proofs.Kept.{new-valid, kept}
 use Rattle.session.proofs.Refusals.{fed-valid}
 

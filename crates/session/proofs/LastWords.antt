@@ -12,11 +12,13 @@ use Rattle.command.specs.Writer.{thenTold, judgeCommandOf}
 use Rattle.command.specs.declared.commands.Command.{Command}
 use Rattle.command.proofs.Judging.{then-given}
 use Rattle.command.proofs.Readable.{readable}
-use Rattle.session.specs.State.{Open, Session, none}
-use Rattle.session.specs.Step.{Reply, completed, refused, limit, opening, stop, startRuleOf, after, completing}
+use Rattle.cells.specs.State.{Open, Session, none}
+use Rattle.cells.specs.Effects.{limit, opening, stop, after}
+use Rattle.session.specs.Step.{Reply, completed, refused, startRuleOf, completing}
 use Rattle.session.specs.Again.{standing}
-use Rattle.session.specs.Asked.{Held, Left, OwnAsked, AcceptAsked, CompleteAsked}
-use Rattle.session.specs.Cells.{partyOf, partyCells, tallyCells, sessionOf}
+use Rattle.cells.specs.Asked.{Held, OwnAsked, AcceptAsked}
+use Rattle.session.specs.Asked.{Left, CompleteAsked}
+use Rattle.cells.specs.Cells.{partyOf, partyCells, tallyCells, sessionOf}
 use Rattle.session.specs.Whole.{Roomy, Tried, untaken, accepted, LineTried}
 use Rattle.session.proofs.ReadBack.{after-standing}
 use Rattle.session.proofs.Stepping.{same-rule, whole-numbered, whole-refused, whole-accepted}

@@ -22,32 +22,15 @@ use Rattle.command.specs.declared.commands.Command.the-variants as command
 use Rattle.command.proofs.commands.Command.{the-type}
 use Rattle.command.proofs.Headers.{count-most}
 use Rattle.command.proofs.Judging.{then-refused, then-given}
-use Rattle.session.specs.State.{Open, Party, Shared, Session, none}
-use Rattle.session.specs.Start.{readyOf}
-use Rattle.session.specs.Step.{
-  Reply,
-  stillOpen,
-  completed,
-  refused,
-  Stepped,
-  Numbered,
-  limit,
-  opening,
-  took,
-  stop,
-  refusing,
-  withParameter,
-  startRuleOf,
-  after,
-  judged,
-  completing,
-  placing,
-  stepOf,
-}
-use Rattle.session.specs.Valid.{parametersOf, OpenValid, Valid}
-use Rattle.session.specs.Asked.{Held, Left, OwnAsked, AcceptAsked, CompleteAsked, ParameterAsked, Given}
-use Rattle.session.specs.Cells.{Sized, partyOf, partyCells, tallyCells, sharedOf, sharedCells, sessionOf}
-use Rattle.session.proofs.Cells.{own-canon, tally-canon, shared-canon}
+use Rattle.cells.specs.State.{Open, Party, Shared, Session, none}
+use Rattle.cells.specs.Start.{readyOf}
+use Rattle.cells.specs.Effects.{Numbered, limit, opening, took, stop, withParameter, after}
+use Rattle.session.specs.Step.{Reply, stillOpen, completed, refused, Stepped, refusing, startRuleOf, judged, completing, placing, stepOf}
+use Rattle.cells.specs.Valid.{parametersOf, OpenValid, Valid}
+use Rattle.cells.specs.Asked.{Held, OwnAsked, AcceptAsked, Given}
+use Rattle.session.specs.Asked.{Left, CompleteAsked, ParameterAsked}
+use Rattle.cells.specs.Cells.{Sized, partyOf, partyCells, tallyCells, sharedOf, sharedCells, sessionOf}
+use Rattle.cells.proofs.Cells.{own-canon, tally-canon, shared-canon}
 use Rattle.session.proofs.Kept.{whole-allowed, allowed-more}
 use Rattle.session.proofs.Ways.{whole}
 

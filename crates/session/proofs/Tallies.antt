@@ -8,8 +8,9 @@ use native.Mathlib.Omega.{arith}
 use Rattle.command.specs.declared.commands.Stored.the-variants as stored
 use Rattle.command.specs.declared.commands.Command.{Command}
 use Rattle.command.specs.declared.commands.Command.the-variants as command
-use Rattle.session.specs.State.{Domain, Session, newSession}
-use Rattle.session.specs.Step.{stillOpen, completed, refused, Stepped, ownAfter, sharedAfter, after, stepOf}
+use Rattle.cells.specs.State.{Domain, Session, newSession}
+use Rattle.cells.specs.Effects.{ownAfter, sharedAfter, after}
+use Rattle.session.specs.Step.{stillOpen, completed, refused, Stepped, stepOf}
 use Rattle.session.specs.Feed.{Fed, proceed, feedOf}
 use Rattle.session.specs.Tallies.{runOf, claimBy, domainAfter, outputsAfter, runsOf, claimsOf}
 use Rattle.session.proofs.Ways.{Way, wasStopped, stops, opens, fills, ends, way}

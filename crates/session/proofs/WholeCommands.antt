@@ -26,24 +26,16 @@ use Rattle.command.specs.declared.commands.Command.the-variants as command
 use Rattle.command.proofs.Fitting.{conditional-fits, store-fits, start-fits, quiet-fits, mask-fits, conditional-mask-fits, test-fits}
 use Rattle.command.proofs.Headers.{accepted-stands}
 use Rattle.command.proofs.Readable.{readable}
-use Rattle.session.specs.State.{Party, Shared, Session}
-use Rattle.session.specs.Start.{readyOf}
-use Rattle.session.specs.Step.{
-  limit,
-  buffer,
-  domainFrom,
-  withDomain,
-  withInstructions,
-  ownAfter,
-  sharedAfter,
-  startRuleOf,
-  after,
-}
+use Rattle.cells.specs.State.{Party, Shared, Session}
+use Rattle.cells.specs.Start.{readyOf}
+use Rattle.cells.specs.Effects.{limit, buffer, domainFrom, withDomain, withInstructions, ownAfter, sharedAfter, after}
+use Rattle.session.specs.Step.{startRuleOf}
 use Rattle.session.specs.Again.{standing}
-use Rattle.session.specs.Asked.{Given, Held, HeldOwn, OwnAsked}
-use Rattle.session.specs.Cells.{Sized, partyOf, partyCells, tallyCells, sharedOf, sharedCells, sessionOf, setBuffer}
-use Rattle.session.specs.Whole.{Ready, Roomy, tookWords, Tried, accepted, Begun, begun, OwnTried, SharedTried, KeptAt}
-use Rattle.session.proofs.OwnPuts.{
+use Rattle.cells.specs.Asked.{Given, Held, HeldOwn, OwnAsked}
+use Rattle.cells.specs.Cells.{Sized, partyOf, partyCells, tallyCells, sharedOf, sharedCells, sessionOf, setBuffer}
+use Rattle.cells.specs.Effects.{tookWords}
+use Rattle.session.specs.Whole.{Ready, Roomy, Tried, accepted, Begun, begun, OwnTried, SharedTried, KeptAt}
+use Rattle.cells.proofs.OwnPuts.{
   stored-cells,
   own-instructions,
   own-floats,
@@ -60,7 +52,7 @@ use Rattle.session.proofs.OwnPuts.{
   conditional-mask-own,
   test-own,
 }
-use Rattle.session.proofs.SharedPuts.{
+use Rattle.cells.proofs.SharedPuts.{
   domain-shared,
   start-shared,
   quiet-shared,

@@ -7,8 +7,9 @@ use Rattle.refusal.specs.Told.{gives, refuses}
 use Rattle.command.specs.Commands.{fieldsOf, wordsOf}
 use Rattle.command.specs.Writer.{judgeCommandOf}
 use Rattle.command.specs.declared.commands.Command.{Command}
-use Rattle.session.specs.State.{Open, Session, none}
-use Rattle.session.specs.Step.{limit, refusing, startRuleOf, after}
+use Rattle.cells.specs.State.{Open, Session, none}
+use Rattle.cells.specs.Effects.{limit, after}
+use Rattle.session.specs.Step.{refusing, startRuleOf}
 use Rattle.session.specs.Feed.{First, nothing, first, Fed, written}
 
 -- a running session without an open command

@@ -1,14 +1,8 @@
 pub mod Again
 pub mod Answers
 pub mod Asked
-pub mod Cells
 pub mod Feed
-pub mod Queries
 pub mod Refusals
-pub mod Start
-pub mod State
 pub mod Step
 pub mod Tallies
-pub mod Valid
 pub mod Whole
-pub mod Windows

@@ -5,9 +5,9 @@ use Prim.Native.Nat.{ℕ, _+_}
 use lib.ListN.{set}
 use Rattle.command.specs.declared.commands.Command.{Command}
 use Rattle.command.specs.declared.commands.Command.the-variants as command
-use Rattle.session.specs.State.{Buffer, Domain}
-use Rattle.session.specs.Start.{claimOf}
-use Rattle.session.specs.Step.{buffer}
+use Rattle.cells.specs.State.{Buffer, Domain}
+use Rattle.cells.specs.Start.{claimOf}
+use Rattle.cells.specs.Effects.{buffer}
 
 -- a start is a run, and no other command is
 unfoldable pub runOf : Command → ℕ

@@ -10,11 +10,11 @@ use Rattle.command.specs.Writer.{judgeCommandOf}
 use Rattle.command.specs.declared.commands.Stored.{Stored}
 use Rattle.command.specs.declared.commands.Stored.the-variants as stored
 use Rattle.command.specs.declared.commands.Command.{Command}
-use Rattle.session.specs.State.{Party}
-use Rattle.session.specs.Step.{limit, startRuleOf, after}
+use Rattle.cells.specs.Effects.{limit, after}
+use Rattle.session.specs.Step.{startRuleOf}
 use Rattle.session.specs.Again.{Idle, standing}
-use Rattle.session.specs.Asked.{Given, Held}
-use Rattle.session.specs.Cells.{Sized, partyOf, sessionOf}
+use Rattle.cells.specs.Asked.{Given, Held}
+use Rattle.cells.specs.Cells.{Sized, partyOf, sessionOf}
 
 -- own cells with room for so many words more
 pub record Roomy (words : ℕ) (own : List ℕ) : Type 0 where
@@ -26,18 +26,6 @@ pub record Ready (own tallies shared : List ℕ) : Type 0 where
   pub given : Given own tallies shared
   pub idle : Idle (sessionOf own tallies shared)
   pub room : partyOf own tallies .taken + 5 ≤ limit
-
--- so many words more taken
-abbrev pub tookWords : ℕ → Party → Party
-tookWords n p =
-    record {
-      stopped = p .stopped;
-      taken = p .taken + n;
-      opened = p .opened;
-      domain = p .domain;
-      instructions = p .instructions;
-      tally = p .tally;
-    }
 
 -- an attempt at a command whose words a list begins with: it was accepted and so many words counted, or 0 is told and nothing was
 -- changed

@@ -1,9 +1,10 @@
 // The words of a stream, one by one and in pieces.
-use crate::accept;
-use crate::own;
-use crate::settings;
-use crate::start;
 use crate::whole;
+use cells::accept;
+use cells::own;
+use cells::own::WordPosition;
+use cells::settings;
+use cells::start;
 use command::commands;
 use command::commands::Command;
 use command::kinds;
@@ -19,10 +20,12 @@ ghost use lib.ListN.{length};
 ghost use Rattle.command.specs.Kinds.{toldChecked};
 ghost use Rattle.command.specs.Rules.{lastRuleOf};
 ghost use Rattle.command.specs.Writer.{thenTold};
-ghost use Rattle.session.specs.State.{newSession};
-ghost use Rattle.session.specs.Step.{completing, parameterStep, placing, startRuleOf, stepOf, withParameter};
-ghost use Rattle.session.specs.Cells.{Sized, partyOf, sessionOf};
-ghost use Rattle.session.specs.Asked.{CompleteAsked, Given, Held, Left, OpenAsked, ParameterAsked};
+ghost use Rattle.cells.specs.State.{newSession};
+ghost use Rattle.cells.specs.Effects.{withParameter};
+ghost use Rattle.session.specs.Step.{completing, parameterStep, placing, startRuleOf, stepOf};
+ghost use Rattle.cells.specs.Cells.{Sized, partyOf, sessionOf};
+ghost use Rattle.cells.specs.Asked.{Given, Held};
+ghost use Rattle.session.specs.Asked.{CompleteAsked, Left, OpenAsked, ParameterAsked};
 ghost use Rattle.session.specs.Answers.{PieceLeft, completedBy, replyOf};
 ghost use Rattle.session.specs.Feed.{feedOf};
 
@@ -158,10 +161,6 @@ pub fn begin(own: &mut [u32; 17], tallies: &mut [u64; 2], shared: &mut [u32; 101
     *shared = [0; 101];
     shared[settings::MASK] = 65535;
 }
-
-// A word's place in a piece or in a session, counted from 0: one of document 01's three kinds of number, never a byte
-// address or a slot number.
-pub struct WordPosition(pub u64);
 
 // The first refusal of a piece, or none.
 pub enum First {

@@ -1,10 +1,10 @@
 // Commands judged by the tests of their lines alone and taken at once: all the words of one that lies whole inside a piece,
 // or the last word of an open one. A command that isn't accepted so changes nothing here: it is then read the way that finds
 // its refusal. Each routine is told how many words to count, and answers them where it took the command, else 0.
-use crate::accept;
-use crate::own;
-use crate::settings;
-use crate::start;
+use cells::accept;
+use cells::own;
+use cells::settings;
+use cells::start;
 use command::fits;
 use command::kinds::Checked;
 use command::table;
@@ -18,7 +18,7 @@ ghost use Rattle.command.specs.Commands.{commandOf, noEffectLine, storedLine, w
 ghost use Rattle.command.specs.declared.commands.NoEffect.{NoEffect};
 ghost use Rattle.command.specs.declared.commands.Stored.{Stored};
 ghost use Rattle.command.specs.declared.commands.Command.{Command};
-ghost use Rattle.session.specs.Asked.{Given, OwnAsked};
+ghost use Rattle.cells.specs.Asked.{Given, OwnAsked};
 ghost use Rattle.session.specs.Whole.{Begun, KeptAt, LineTried, OwnTried, Ready, Roomy, SharedTried, Tried};
 
 // The most words that a command has, and the words taken at which there is room for so many.

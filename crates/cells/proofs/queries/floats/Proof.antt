@@ -1,0 +1,15 @@
+-- `session::queries::floats` meets its contract: it reads the cells that the view reads. Assumes nothing.
+use Rattle.cells.specs.Cells.{sharedOf}
+use borrow.Author.Needs.{needs}
+use Rattle.cells.proofs.queries.floats.Statement.{statement}
+use Rattle.cells.proofs.queries.floats.Tie as tie
+
+setting-at-requires : tie.Need-setting-at-requires
+setting-at-requires c κs = search needs
+
+returns : tie.Need-returns
+unfolding sharedOf
+returns c = c .setting-at .ensures
+
+pub floats-spec : {M : Type 1} → statement M
+floats-spec = tie.close (tie.spec setting-at-requires returns)
