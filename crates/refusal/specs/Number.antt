@@ -1,4 +1,4 @@
--- Document 01, "Refusal numbers": the number of each refusal. Assumes nothing.
+-- Document 01, "Refusal numbers", with those that document 02's requests add: the number of each refusal. Assumes nothing.
 use Prim.Native.Nat.{ℕ}
 use Rattle.refusal.specs.declared.Refusal.{Refusal}
 use Rattle.refusal.specs.declared.Refusal.the-variants.{
@@ -19,6 +19,8 @@ use Rattle.refusal.specs.declared.Refusal.the-variants.{
   PastEnd,
   Ended,
   WordLimit,
+  RecordKind,
+  MidnightDay,
 }
 
 abbrev pub numberOf : Refusal → ℕ
@@ -39,3 +41,5 @@ numberOf AtLimit = 14
 numberOf PastEnd = 15
 numberOf Ended = 16
 numberOf WordLimit = 17
+numberOf RecordKind = 18
+numberOf MidnightDay = 19

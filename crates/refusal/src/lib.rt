@@ -1,5 +1,5 @@
-// Document 01's refusals: each cause by name, and its number. Every answer that can refuse holds a `Refusal`, so the
-// numbers stand here and nowhere else in the code.
+// Document 01's refusals, and those that document 02's requests add: each cause by name, and its number. Every answer that
+// can refuse holds a `Refusal`, so the numbers stand here and nowhere else in the code.
 ghost use mathlib.Core.Path.{_≡_};
 ghost use Rattle.refusal.specs.Number.{numberOf};
 
@@ -38,9 +38,13 @@ pub enum Refusal {
     Ended,
     // 17: the session has taken 1,000,000,000 words.
     WordLimit,
+    // 18: the kind byte of a log's record is neither 1 nor 2.
+    RecordKind,
+    // 19: a midnight's day isn't one more than the last, or it is the 401st midnight.
+    MidnightDay,
 }
 
-// Document 01's number of a refusal, 1 to 17.
+// The number of a refusal, 1 to 19.
 pub fn number(r: Refusal) -> u32
     ensures { λ n. ⌜ n ≡ numberOf r ⌝ }
 {
@@ -62,5 +66,7 @@ pub fn number(r: Refusal) -> u32
         Refusal::PastEnd => 15,
         Refusal::Ended => 16,
         Refusal::WordLimit => 17,
+        Refusal::RecordKind => 18,
+        Refusal::MidnightDay => 19,
     }
 }
