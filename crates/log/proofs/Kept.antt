@@ -1,0 +1,153 @@
+-- Validity holds of a new replay and is kept by every byte. Assumes nothing.
+use mathlib.Core.Path.{_≡_, refl, sym, ap, _∙_, subst}
+use mathlib.Core.Bool.{Bool, true, false}
+use mathlib.Core.List.{List, [], _∷_}
+use Prim.Native.Nat.{ℕ, zero, suc, _+_, _*_, _<_, _≤_}
+use native.Mathlib.Omega.{arith}
+use lib.Dec.{eqb, ltb}
+use lib.ListN.{length, replicate, length-set, length-replicate}
+use borrow.Author.Tests.{ltb-true, ltb-false, eqb-true, eqb-false}
+use Rattle.laws.specs.Choice.{pick}
+use Rattle.laws.proofs.Choice.{by-pick}
+use Rattle.cells.specs.State.{Session, newSession}
+use Rattle.session.specs.Feed.{feedOf}
+use Rattle.session.proofs.Kept.{new-valid}
+use Rattle.session.proofs.Refusals.{fed-valid}
+use Rattle.session.proofs.Tallies.{tallied}
+use Rattle.log.specs.State.{OpenRecord, Replay, noRecord, newReplay}
+use Rattle.log.specs.Step.{Stepped, opening, stopped, stopping, taking, isKind, ofKind, kindStep, withByte, afterWord, mayBegin, marked, afterMidnight, midnightStep, recordStep, openStep, byteStep}
+use Rattle.log.specs.Report.{beganWith, endedWith}
+use Rattle.log.specs.Feed.{afterWords}
+use Rattle.log.specs.Cells.{StopNumber, running, byKind, byDay, Grows, LogValid}
+use Rattle.log.proofs.Marks.{grows-on, grows-marked}
+use Rattle.log.proofs.Steps.{one-word, few}
+
+-- a new replay
+pub new-replay-valid : LogValid newReplay
+new-replay-valid =
+    record {
+      session = new-valid;
+      stops = running;
+      dropped = λ h. refl;
+      count-most = omega arith;
+      closed = λ e. refl;
+      low-byte = omega arith;
+      second-byte = omega arith;
+      third-byte = omega arith;
+      midnights-most = omega arith;
+      marks-length = length-replicate {A = ℕ} 800 0;
+      growing = λ k h. nothing-yet k (omega arith);
+    }
+  where
+    nothing-yet : (k : ℕ) → k ≡ 0 → Grows (replicate 800 0) 0 0 0 k
+    nothing-yet k e = subst (λ (j : ℕ). Grows (replicate 800 0) 0 0 0 j) (sym e) (unfold beganWith endedWith pick in record { runs-grow = omega arith; claims-grow = omega arith })
+
+module _ (r : Replay) (v : LogValid r) where
+  -- a replay that stops
+  stopped-valid : (n : ℕ) → StopNumber n → LogValid (stopped n r)
+  stopped-valid n k =
+      record {
+        session = v .session;
+        stops = k;
+        dropped = λ h. refl;
+        count-most = omega arith;
+        closed = λ e. refl;
+        low-byte = omega arith;
+        second-byte = omega arith;
+        third-byte = omega arith;
+        midnights-most = v .midnights-most;
+        marks-length = v .marks-length;
+        growing = v .growing;
+      }
+
+  -- words that were fed
+  pub words-valid : (ws : List ℕ) → LogValid (afterWords r ws)
+  unfolding afterWords
+  words-valid ws =
+      record {
+        session = fed-valid (r .session) ws (v .session);
+        stops = v .stops;
+        dropped = λ h. refl;
+        count-most = omega arith;
+        closed = λ e. refl;
+        low-byte = omega arith;
+        second-byte = omega arith;
+        third-byte = omega arith;
+        midnights-most = v .midnights-most;
+        marks-length = v .marks-length;
+        growing =
+            λ k h.
+            grows-on (r .marks) (r .midnights) _ _ _ _ k (omega (arith, tallied (r .session) ws .runs)) (omega (arith, tallied (r .session) ws .claims))
+            (v .growing k h);
+      }
+
+  word-valid : (w : ℕ) → LogValid (afterWord r w)
+  word-valid w = subst LogValid (sym (one-word r w)) (words-valid (w ∷ []))
+
+  midnight-valid : (day : ℕ) → mayBegin (r .midnights) (r .lastDay) day ≡ true → LogValid (afterMidnight r day)
+  unfolding afterMidnight
+  midnight-valid day e =
+      let less : r .midnights < 400 = few (r .midnights) (r .lastDay) day e in
+      record {
+        session = v .session;
+        stops = v .stops;
+        dropped = λ h. refl;
+        count-most = omega arith;
+        closed = λ e. refl;
+        low-byte = omega arith;
+        second-byte = omega arith;
+        third-byte = omega arith;
+        midnights-most = omega arith;
+        marks-length = simp length-set (v .marks-length);
+        growing =
+            λ k h.
+            grows-marked (r .marks) (r .midnights) (r .session .party .tally) (omega (arith, v .marks-length)) k h (v .growing);
+      }
+
+  record-valid : (kind n : ℕ) → LogValid (recordStep kind r n .replay)
+  unfolding recordStep midnightStep
+  record-valid kind n =
+      by-pick (λ (t : Stepped). LogValid (t .replay)) _ _ _ (λ e. word-valid n)
+      (λ e. by-pick (λ (t : Stepped). LogValid (t .replay)) _ _ _ (midnight-valid n) (λ f. stopped-valid 19 byDay))
+
+  -- a record that is open in a running replay
+  opening-valid : (o : OpenRecord) → r .stoppedBy ≡ 0 → 0 < o .count → o .count ≤ 4 → o .low < 256 → o .second < 256 → o .third < 256 →
+      LogValid (opening o r)
+  opening-valid o going h k a b c =
+      record {
+        session = v .session;
+        stops = v .stops;
+        dropped = λ f. absurd (f going);
+        count-most = k;
+        closed = λ e. absurd (omega arith);
+        low-byte = a;
+        second-byte = b;
+        third-byte = c;
+        midnights-most = v .midnights-most;
+        marks-length = v .marks-length;
+        growing = v .growing;
+      }
+
+  byte-or : (b x : ℕ) (t : Bool) → b < 256 → x < 256 → pick t b x < 256
+  byte-or b x t hb hx = by-pick (λ (n : ℕ). n < 256) t b x (λ e. hb) (λ e. hx)
+
+  -- every byte
+  pub byte-valid : (b : ℕ) → b < 256 → LogValid (byteStep r b .replay)
+  unfolding byteStep kindStep openStep
+  byte-valid b h =
+      by-pick (λ (t : Stepped). LogValid (t .replay)) _ _ _
+      (λ e.
+      by-pick (λ (t : Stepped). LogValid (t .replay)) _ _ _
+      (λ f.
+      by-pick (λ (t : Stepped). LogValid (t .replay)) _ _ _
+      (λ g. opening-valid (ofKind b) (eqb-true (r .stoppedBy) 0 e) (omega arith) (omega arith) (omega arith) (omega arith) (omega arith))
+      (λ g. stopped-valid 18 byKind))
+      (λ f.
+      by-pick (λ (t : Stepped). LogValid (t .replay)) _ _ _
+      (λ g.
+      let more : r .opened .count < 4 = ltb-true (r .opened .count) 4 g in
+      opening-valid (withByte (r .opened) b) (eqb-true (r .stoppedBy) 0 e) (omega arith) (omega arith)
+      (byte-or b (r .opened .low) _ h (v .low-byte)) (byte-or b (r .opened .second) _ h (v .second-byte))
+      (byte-or b (r .opened .third) _ h (v .third-byte)))
+      (λ g. record-valid (r .opened .kind) _)))
+      (λ e. v)

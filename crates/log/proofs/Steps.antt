@@ -1,0 +1,277 @@
+-- What the routines of a replay leave, return by return: each is the step that the definitions say. Assumes nothing.
+use mathlib.Core.Path.{_≡_, refl, sym, ap, ap₂, _∙_, subst}
+use mathlib.Core.Bool.{Bool, true, false}
+use mathlib.Core.List.{List, [], _∷_}
+use Prim.Native.Nat.{ℕ, _+_, _*_, _<_, _≤_}
+use native.Mathlib.Omega.{arith}
+use lib.Dec.{eqb, ltb}
+use lib.ListN.{length, getD, set, length-set}
+use borrow.Author.Tests.{eq-eqb, ne-eqb, lt-ltb, le-ltb, ltb-true}
+use Rattle.laws.specs.Choice.{_and_, pick}
+use Rattle.laws.specs.Masks.{_or_}
+use Rattle.laws.proofs.Choice.{pick-yes, pick-no, and-left, and-yes, and-no-left}
+use Rattle.refusal.specs.Number.{numberOf}
+use Rattle.refusal.specs.declared.Refusal.{Refusal}
+use Rattle.cells.specs.State.{Session, Tally}
+use Rattle.cells.specs.Cells.{Sized, partyOf, sessionOf}
+use Rattle.cells.specs.Asked.{Given, Held}
+use Rattle.cells.proofs.Cells.{held-view}
+use Rattle.session.specs.Step.{stillOpen, completed, refused as denied, stepOf}
+use Rattle.session.specs.Step as stream
+use Rattle.session.specs.Feed.{First, nothing, first, feedOf, proceed as feeding}
+use Rattle.session.specs.Feed as pieces
+use Rattle.session.specs.Answers.{PieceLeft as WordsFed, firstOf}
+use Rattle.session.specs.declared.stream.Fed as declared
+use Rattle.session.specs.declared.stream.First as firsts
+use Rattle.session.specs.declared.stream.First.the-variants as firstly
+use Rattle.session.proofs.Handed.{piece-given}
+use Rattle.session.proofs.Refusals.{fed-valid}
+use Rattle.log.specs.State.{WordRefused, Replay, noRecord}
+use Rattle.log.specs.Step.{Reply, taken, refused, Stepped, opening, stopped, stopping, taking, isKind, ofKind, kindStep, withByte, numberFrom, noted, notedReply, withWords, afterWord, mayBegin, marked, afterMidnight, midnightStep, recordStep, openStep, byteStep}
+use Rattle.log.specs.Feed.{notedFirst, afterWords}
+use Rattle.log.specs.Cells.{viewed, replayIn, LogGiven, StopNumber, running, byKind, byDay}
+use Rattle.log.specs.Own.{Changed, Answered, noting, dayBegun}
+use Rattle.log.specs.Asked.{Became, LogSized, MidnightLeft, NumberAsked, OpenAsked, WordsAsked, WordsLeft, StopCause, kindCause, dayCause}
+
+-- a replay and what a step tells of it
+abbrev told : Reply → Replay → Stepped
+told reply r = record { reply = reply; replay = r }
+
+-- the kind byte
+module _ (l l1 : List ℕ) (b : ℕ) where
+  pub kind-taken : isKind b ≡ true → Changed (opening (ofKind b)) l l1 → Answered (λ r. kindStep r b) taken l l1
+  unfolding kindStep
+  kind-taken e c = record { log-length = c .log-length; view = λ m s. pick-yes _ _ e ∙ ap taking (sym (c .view m s)) }
+
+  pub kind-refused : isKind b ≡ false → Changed (stopped 18) l l1 → Answered (λ r. kindStep r b) (refused 18) l l1
+  unfolding kindStep
+  kind-refused e c =
+      record { log-length = c .log-length; view = λ m s. pick-no _ _ e ∙ ap (told (refused 18)) (sym (c .view m s)) }
+
+pub kind-first : (b : ℕ) → b ≡ 1 → true ≡ isKind b
+unfolding _or_
+kind-first b e = subst (λ (t : Bool). true ≡ (t or eqb b 2)) (sym (eq-eqb b 1 e)) refl
+
+pub kind-second : (b : ℕ) → (b ≡ 1 → ⊥) → eqb b 2 ≡ isKind b
+unfolding _or_
+kind-second b e = subst (λ (t : Bool). eqb b 2 ≡ (t or eqb b 2)) (sym (ne-eqb b 1 e)) refl
+
+-- which day may begin
+module _ (midnights last day : ℕ) where
+  pub first-midnight : midnights < 400 → midnights ≡ 0 → true ≡ mayBegin midnights last day
+  unfolding mayBegin
+  first-midnight h e = sym (and-yes _ (lt-ltb midnights 400 h) ∙ pick-yes _ _ (eq-eqb midnights 0 e))
+
+  pub later-midnight : midnights < 400 → (midnights ≡ 0 → ⊥) → eqb day (last + 1) ≡ mayBegin midnights last day
+  unfolding mayBegin
+  later-midnight h e = sym (and-yes _ (lt-ltb midnights 400 h) ∙ pick-no _ _ (ne-eqb midnights 0 e))
+
+  pub too-many : 400 ≤ midnights → false ≡ mayBegin midnights last day
+  unfolding mayBegin
+  too-many h = sym (and-no-left _ (le-ltb midnights 400 h))
+
+  pub few : mayBegin midnights last day ≡ true → midnights < 400
+  unfolding mayBegin
+  few e = ltb-true midnights 400 (and-left _ _ e)
+
+-- a midnight
+module _ (l marks tallies l1 : List ℕ) (day : ℕ) where
+  pub midnight-taken : mayBegin (getD l 3 0) (getD l 4 0) day ≡ true → length marks ≡ 800 →
+      Changed (dayBegun (getD l 3 0 + 1) day) l l1 →
+      MidnightLeft (λ r. midnightStep r day) taken l marks tallies l1
+      (set (set marks (2 * getD l 3 0) (getD tallies 0 0)) (2 * getD l 3 0 + 1) (getD tallies 1 0))
+  midnight-taken e h c =
+      record {
+        log-length = c .log-length;
+        marks-length = simp length-set h;
+        view =
+            λ own shared.
+            unfold midnightStep viewed afterMidnight partyOf in (pick-yes _ _ e ∙ ap taking (sym (c .view _ (sessionOf own tallies shared))));
+      }
+
+  pub midnight-refused : mayBegin (getD l 3 0) (getD l 4 0) day ≡ false → length marks ≡ 800 → Changed (stopped 19) l l1 →
+      MidnightLeft (λ r. midnightStep r day) (refused 19) l marks tallies l1 marks
+  midnight-refused e h c =
+      record {
+        log-length = c .log-length;
+        marks-length = h;
+        view =
+            λ own shared.
+            unfold midnightStep viewed in (pick-no _ _ e ∙ ap (told (refused 19)) (sym (c .view marks (sessionOf own tallies shared))));
+      }
+
+-- words of records
+module _ (ws l own tallies shared l1 own1 tallies1 shared1 : List ℕ) (g : Given own tallies shared) (r : declared.Fed) (p : WordsFed (feedOf (sessionOf own tallies shared) ws) r own1 tallies1 shared1) where
+  abbrev fed : pieces.Fed
+  fed = feedOf (sessionOf own tallies shared) ws
+
+  session-after : sessionOf own1 tallies1 shared1 ≡ fed .session
+  session-after = held-view (fed .session) (fed-valid (sessionOf own tallies shared) ws (g .valid)) own1 tallies1 shared1 (p .held)
+
+  -- the replay after words with this first refusal
+  after-first : (f : First) → f ≡ fed .refusal → (marks : List ℕ) →
+      withWords (sessionOf own1 tallies1 shared1) (notedFirst f (getD l 3 0) (record { number = getD l 1 0; midnights = getD l 2 0 })) (replayIn l marks own tallies shared) ≡
+      afterWords (replayIn l marks own tallies shared) ws
+  unfolding afterWords viewed
+  after-first f e marks =
+      ap₂
+      (λ (s : Session) (x : First).
+      withWords s (notedFirst x (getD l 3 0) (record { number = getD l 1 0; midnights = getD l 2 0 })) (replayIn l marks own tallies shared))
+      session-after e
+
+  pub words-fine : Changed (opening noRecord) l l1 → nothing ≡ fed .refusal →
+      WordsLeft ws l own tallies shared l1 own1 tallies1 shared1
+  words-fine c e =
+      record {
+        log-length = c .log-length;
+        session-sized = piece-given ws g (p .held) .sized;
+        view = λ marks. c .view marks (sessionOf own1 tallies1 shared1) ∙ unfold viewed in after-first nothing e marks;
+      }
+
+  pub words-noted : (l2 : List ℕ) (n : ℕ) → Changed (opening noRecord) l l1 → Changed (noting n) l1 l2 → first n ≡ fed .refusal →
+      WordsLeft ws l own tallies shared l2 own1 tallies1 shared1
+  words-noted l2 n c d e =
+      record {
+        log-length = d .log-length;
+        session-sized = piece-given ws g (p .held) .sized;
+        view =
+            λ marks.
+            d .view marks (sessionOf own1 tallies1 shared1) ∙ ap (noting n) (c .view marks (sessionOf own1 tallies1 shared1)) ∙
+            unfold viewed in after-first (first n) e marks;
+      }
+
+-- one word's record is a piece of one word
+one-reply : (r : stream.Reply) (s : Session) → (midnights : ℕ) (f : WordRefused) →
+    notedReply r midnights f ≡ notedFirst (feeding r s (pieces.ended nothing s) .refusal) midnights f
+unfolding feeding
+one-reply stillOpen s midnights f = refl
+one-reply (completed c) s midnights f = refl
+one-reply (denied n) s midnights f = refl
+
+one-session : (r : stream.Reply) (s : Session) → s ≡ feeding r s (pieces.ended nothing s) .session
+unfolding feeding
+one-session stillOpen s = refl
+one-session (completed c) s = refl
+one-session (denied n) s = refl
+
+pub one-word : (r : Replay) (w : ℕ) → afterWord r w ≡ afterWords r (w ∷ [])
+unfolding afterWord afterWords feedOf
+one-word r w =
+    ap₂ (λ (s : Session) (f : WordRefused). withWords s f r)
+    (one-session (stepOf (r .session) w .reply) (stepOf (r .session) w .session))
+    (one-reply (stepOf (r .session) w .reply) (stepOf (r .session) w .session) (r .midnights) (r .refused))
+
+-- a byte of an open record
+module _ (l marks own tallies shared : List ℕ) (b : ℕ) (a : OpenAsked l marks own tallies shared b) where
+  abbrev here : Replay
+  here = replayIn l marks own tallies shared
+
+  pub number-asked : NumberAsked (getD l 7 0) (getD l 8 0) (getD l 9 0) b
+  unfolding viewed
+  number-asked =
+      record {
+        low-byte = a .given .valid .low-byte;
+        second-byte = a .given .valid .second-byte;
+        third-byte = a .given .valid .third-byte;
+        high-byte = a .bounded;
+      }
+
+  pub words-asked : WordsAsked l own tallies shared
+  unfolding viewed
+  words-asked =
+      record {
+        log-length = a .given .log-length;
+        session-given = record { sized = a .given .session-sized; valid = a .given .valid .session };
+      }
+
+  same-sized : (l1 : List ℕ) → length l1 ≡ 10 → LogSized l1 marks own tallies shared
+  same-sized l1 h = record { log-length = h; marks-length = a .given .marks-length; session-sized = a .given .session-sized }
+
+  pub byte-added : (l1 : List ℕ) → getD l 5 0 < 4 → Changed (λ r. opening (withByte (r .opened) b) r) l l1 →
+      Became (openStep here b) taken l1 marks own tallies shared
+  byte-added l1 h c =
+      record {
+        sized = same-sized l1 (c .log-length);
+        view =
+            unfold openStep in
+            (pick-yes _ _ (unfold viewed in lt-ltb (getD l 5 0) 4 h) ∙ ap taking (sym (c .view marks (sessionOf own tallies shared))));
+      }
+
+  -- the record's number
+  abbrev value : ℕ
+  value = numberFrom (getD l 7 0) (getD l 8 0) (getD l 9 0) b
+
+  last-byte : 4 ≤ getD l 5 0 → openStep here b ≡ recordStep (getD l 6 0) here value
+  unfolding openStep viewed
+  last-byte h = pick-no _ _ (le-ltb (getD l 5 0) 4 h)
+
+  pub word-read : (w : ℕ) (l1 own1 tallies1 shared1 : List ℕ) → 4 ≤ getD l 5 0 → getD l 6 0 ≡ 1 → w ≡ value →
+      WordsLeft (w ∷ []) l own tallies shared l1 own1 tallies1 shared1 →
+      Became (openStep here b) taken l1 marks own1 tallies1 shared1
+  word-read w l1 own1 tallies1 shared1 h k e c =
+      record {
+        sized = record { log-length = c .log-length; marks-length = a .given .marks-length; session-sized = c .session-sized };
+        view =
+            last-byte h ∙
+            unfold recordStep in
+            (pick-yes _ _ (eq-eqb (getD l 6 0) 1 k) ∙
+            ap taking (ap (afterWord here) (sym e) ∙ one-word here w ∙ sym (c .view marks)));
+      }
+
+  pub midnight-read : (day : ℕ) (r : Reply) (l1 marks1 : List ℕ) → 4 ≤ getD l 5 0 → (getD l 6 0 ≡ 1 → ⊥) → day ≡ value →
+      MidnightLeft (λ r. midnightStep r day) r l marks tallies l1 marks1 →
+      Became (openStep here b) r l1 marks1 own tallies shared
+  midnight-read day r l1 marks1 h k e c =
+      record {
+        sized =
+            record { log-length = c .log-length; marks-length = c .marks-length; session-sized = a .given .session-sized };
+        view =
+            last-byte h ∙
+            unfold recordStep in
+            (pick-no _ _ (ne-eqb (getD l 6 0) 1 k) ∙ ap (midnightStep here) (sym e) ∙ c .view own shared);
+      }
+
+-- a byte
+module _ (l marks own tallies shared : List ℕ) (b : ℕ) (g : LogGiven l marks own tallies shared) where
+  abbrev start : Replay
+  start = replayIn l marks own tallies shared
+
+  pub again : (n : ℕ) → n ≡ getD l 0 0 → (getD l 0 0 ≡ 0 → ⊥) → Became (byteStep start b) (refused n) l marks own tallies shared
+  again n e h =
+      record {
+        sized =
+            record { log-length = g .log-length; marks-length = g .marks-length; session-sized = g .session-sized };
+        view =
+            unfold byteStep in
+            (pick-no _ _ (unfold viewed in ne-eqb (getD l 0 0) 0 h) ∙
+            ap (λ (m : ℕ). told (refused m) start) (unfold viewed in sym e));
+      }
+
+  going : (getD l 0 0 ≡ 0) → byteStep start b ≡ pick (eqb (getD l 5 0) 0) (kindStep start b) (openStep start b)
+  unfolding byteStep viewed
+  going e = pick-yes _ _ (eq-eqb (getD l 0 0) 0 e)
+
+  pub begins : (r : Reply) (l1 : List ℕ) → getD l 0 0 ≡ 0 → getD l 5 0 ≡ 0 → Answered (λ r. kindStep r b) r l l1 →
+      Became (byteStep start b) r l1 marks own tallies shared
+  begins r l1 e h c =
+      record {
+        sized = record { log-length = c .log-length; marks-length = g .marks-length; session-sized = g .session-sized };
+        view = going e ∙ pick-yes _ _ (eq-eqb (getD l 5 0) 0 h) ∙ c .view marks (sessionOf own tallies shared);
+      }
+
+  pub goes-on : (r : Reply) (l1 marks1 own1 tallies1 shared1 : List ℕ) → getD l 0 0 ≡ 0 → (getD l 5 0 ≡ 0 → ⊥) →
+      Became (openStep start b) r l1 marks1 own1 tallies1 shared1 → Became (byteStep start b) r l1 marks1 own1 tallies1 shared1
+  goes-on r l1 marks1 own1 tallies1 shared1 e h c =
+      record { sized = c .sized; view = going e ∙ pick-no _ _ (ne-eqb (getD l 5 0) 0 h) ∙ c .view }
+
+  pub cause : (getD l 0 0 ≡ 0 → ⊥) → StopCause (getD l 0 0)
+  cause h = go (getD l 0 0) (unfold viewed in g .valid .stops) h
+    where
+      go : (n : ℕ) → StopNumber n → (n ≡ 0 → ⊥) → StopCause n
+      go n running k = absurd (k refl)
+      go n byKind k = kindCause
+      go n byDay k = dayCause
+
+pub other-cause : (n : ℕ) → StopCause n → (n ≡ 18 → ⊥) → 19 ≡ n
+other-cause n kindCause h = absurd (h refl)
+other-cause n dayCause h = refl

@@ -1,0 +1,104 @@
+-- What the routines of a replay ask of the arrays that they are lent, and what these hold at return. Assumes nothing.
+use mathlib.Core.Path.{_≡_}
+use mathlib.Core.List.{List, _++_}
+use Prim.Native.Nat.{ℕ, _*_, _≤_, _<_}
+use lib.ListN.{length, take, drop, getD}
+use Rattle.refusal.specs.Number.{numberOf}
+use Rattle.cells.specs.Asked.{Given}
+use Rattle.cells.specs.Cells.{Sized}
+use Rattle.session.specs.Answers.{firstOf}
+use Rattle.log.specs.State.{Replay, mostMidnights}
+use Rattle.log.specs.Step.{Reply, taken, refused, Stepped}
+use Rattle.log.specs.Feed as piece
+use Rattle.log.specs.Feed.{afterWords, wordRecords}
+use Rattle.log.specs.Cells.{replayIn, LogHeld, LogGiven}
+use Rattle.log.specs.declared.replay.Answer.{Answer}
+use Rattle.log.specs.declared.replay.Answer.the-variants as answer
+use Rattle.log.specs.declared.replay.Fed.{Fed}
+
+abbrev pub replyOf : Answer → Reply
+replyOf answer.Taken = taken
+replyOf (answer.Refused why) = refused (numberOf why)
+
+-- a piece's answer, and arrays that hold the replay after it
+pub record PieceLeft (f : piece.Fed) (r : Fed) (log marks own tallies shared : List ℕ) : Type 0 where
+  pub taken : r .taken .0 ≡ f .taken
+  pub refusal : firstOf (r .refusal) ≡ f .refusal
+  pub held : LogHeld (f .replay) log marks own tallies shared
+
+-- arrays of the right lengths
+pub record LogSized (log marks own tallies shared : List ℕ) : Type 0 where
+  pub log-length : length log ≡ 10
+  pub marks-length : length marks ≡ 800
+  pub session-sized : Sized own tallies shared
+
+-- a step, told whole by its reply and the arrays after it
+pub record Became (t : Stepped) (r : Reply) (log marks own tallies shared : List ℕ) : Type 0 where
+  pub sized : LogSized log marks own tallies shared
+  pub view : t ≡ record { reply = r; replay = replayIn log marks own tallies shared }
+
+-- four bytes
+pub record NumberAsked (low second third high : ℕ) : Type 0 where
+  pub low-byte : low < 256
+  pub second-byte : second < 256
+  pub third-byte : third < 256
+  pub high-byte : high < 256
+
+-- a byte of an open record
+pub record OpenAsked (log marks own tallies shared : List ℕ) (byte : ℕ) : Type 0 where
+  pub given : LogGiven log marks own tallies shared
+  pub begun : 0 < getD log 5 0
+  pub bounded : byte < 256
+
+pub record MidnightAsked (log marks tallies : List ℕ) : Type 0 where
+  pub log-length : length log ≡ 10
+  pub marks-length : length marks ≡ 800
+  pub tallies-length : length tallies ≡ 2
+
+-- a midnight was read
+pub record MidnightLeft (f : Replay → Stepped) (r : Reply) (log marks tallies log1 marks1 : List ℕ) : Type 0 where
+  pub log-length : length log1 ≡ 10
+  pub marks-length : length marks1 ≡ 800
+  pub view :
+      (own shared : List ℕ) →
+      f (replayIn log marks own tallies shared) ≡ record { reply = r; replay = replayIn log1 marks1 own tallies shared }
+
+pub record WordsAsked (log own tallies shared : List ℕ) : Type 0 where
+  pub log-length : length log ≡ 10
+  pub session-given : Given own tallies shared
+
+-- words of records were fed to the session
+pub record WordsLeft (ws log own tallies shared log1 own1 tallies1 shared1 : List ℕ) : Type 0 where
+  pub log-length : length log1 ≡ 10
+  pub session-sized : Sized own1 tallies1 shared1
+  pub view :
+      (marks : List ℕ) → replayIn log1 marks own1 tallies1 shared1 ≡ afterWords (replayIn log marks own tallies shared) ws
+
+-- each is a word of 32 bits
+abbrev pub Words32 : List ℕ → Type 0
+Words32 ws = (k : ℕ) → k < length ws → getD ws k 0 < 4294967296
+
+-- bytes begin with `n` records of words, and these words are the first of a list
+pub record Gathered (bs : List ℕ) (n : ℕ) (words : List ℕ) : Type 0 where
+  pub fit : 5 * n ≤ length bs
+  pub room : n ≤ length words
+  pub bounded : (k : ℕ) → k < n → getD words k 0 < 4294967296
+  pub records : bs ≡ wordRecords (take n words) ++ drop (5 * n) bs
+
+-- a running replay without an open record
+pub record Idle (log : List ℕ) : Type 0 where
+  pub running : getD log 0 0 ≡ 0
+  pub unopened : getD log 5 0 ≡ 0
+
+-- bytes begin with records of words, and these were read; or nothing was changed
+pub data RecordsLeft (bs log own tallies shared : List ℕ) : ℕ → List ℕ → List ℕ → List ℕ → List ℕ → Type 0 where
+  unread : RecordsLeft bs log own tallies shared 0 log own tallies shared
+  read :
+      (ws log1 own1 tallies1 shared1 : List ℕ) → Idle log → Words32 ws → 5 * length ws ≤ length bs →
+      bs ≡ wordRecords ws ++ drop (5 * length ws) bs → WordsLeft ws log own tallies shared log1 own1 tallies1 shared1 →
+      RecordsLeft bs log own tallies shared (length ws) log1 own1 tallies1 shared1
+
+-- a replay was stopped by one of two numbers
+pub data StopCause : ℕ → Type 0 where
+  kindCause : StopCause 18
+  dayCause : StopCause 19
