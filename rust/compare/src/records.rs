@@ -21,7 +21,10 @@ pub fn any(random: &mut Random) -> Vec<u8> {
     if random.once_in(3) {
         damage(random, &mut records);
     }
-    let mut bytes: Vec<u8> = records.iter().flat_map(Record::bytes).collect();
+    let mut bytes: Vec<u8> = records
+        .iter()
+        .flat_map(|r| record(r.kind, r.number))
+        .collect();
     match random.below(8) {
         0 => bytes.truncate(place_in(random, &bytes)),
         1 => damage_byte(random, &mut bytes),
@@ -30,11 +33,10 @@ pub fn any(random: &mut Random) -> Vec<u8> {
     bytes
 }
 
-impl Record {
-    fn bytes(&self) -> [u8; 5] {
-        let [a, b, c, d] = self.number.to_le_bytes();
-        [self.kind, a, b, c, d]
-    }
+/// A record's bytes: its kind, then its number, low byte first.
+pub fn record(kind: u8, number: u32) -> [u8; 5] {
+    let [a, b, c, d] = number.to_le_bytes();
+    [kind, a, b, c, d]
 }
 
 /// A stream of words, of which some may be refused, with midnights between them.
