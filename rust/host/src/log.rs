@@ -37,7 +37,8 @@ pub type RefusedAt = (Place, Refused);
 
 pub struct Log {
     pub replay: Replay,
-    /// The inputs by their names, with the byte of the log that each begins at.
+    /// The inputs by their names, with the byte of the log that each begins at; one
+    /// that isn't reached yet begins at no byte, `u64::MAX`.
     pub inputs: Vec<(String, u64)>,
     /// Bytes read, and of these the ones that were taken.
     pub bytes: u64,

@@ -67,6 +67,7 @@ const CASES: &[(&str, &str, &str)] = &[
         "",
     ),
     ("replay-nothing", "replay", ""),
+    ("replay-folder", "replay samples/three-days.log samples", ""),
     ("replay-kind", "replay -", "\u{1}\0\u{9}\0\0\u{7}more"),
     (
         "replay-missing",
