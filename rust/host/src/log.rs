@@ -136,7 +136,7 @@ impl Log {
     fn near(&self, piece: &[u8]) -> Near {
         Near {
             begin: self.bytes - self.tail.len() as u64,
-            bytes: [&self.tail, piece].concat(),
+            bytes: [self.tail.as_slice(), piece].concat(),
         }
     }
 

@@ -549,7 +549,7 @@ mod tests {
         let before = after(&whole);
         for next in [record(WORD, 0), midnight(3), midnight(9), record(WORD, 1)] {
             for count in 1..RECORD {
-                let replay = after(&[&whole, &next[..count]].concat());
+                let replay = after(&[&whole[..], &next[..count]].concat());
                 assert_eq!(replay.unfinished(), count);
                 let open = next[..count].to_vec();
                 assert_eq!(
