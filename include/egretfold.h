@@ -1,4 +1,5 @@
-/* Egretfold: CTM command streams, tile addresses, elements in lent memory, and flow words for one group.
+/* Egretfold: CTM command streams, logs of them over midnight, tile addresses, elements in lent memory, and flow words for one
+ * group.
  *
  * Every function returns 0, or the number of a refusal of document 01; a refusal touches no room and no state except where
  * its function says so. Nothing is allocated and nothing is kept between calls: all state lies in arrays that the caller
@@ -21,11 +22,14 @@
  *     15  a jump past the program's end, or a program of a wrong length
  *     16  the program has already ended
  *     17  the session has taken 1,000,000,000 words
+ *     18  the kind byte of a log's record is neither 1 nor 2
+ *     19  a midnight's day isn't one more than the last, or it is the 401st midnight
  *
  * What the caller owes: pointers to arrays of the lengths shown, no two of them overlapping where one is written (a session's
- * three arrays, rooms and memory are apart), and states as these functions left them: a session's arrays from
- * egretfold_session_begin on, a group's cells from an egretfold_group_begin that returned 0 on. A state may be copied and
- * kept (on disk, say) as it is. A pointer that comes with a length of 0 is not read, but is not null. */
+ * three arrays, a replay's five, rooms and memory are apart), and states as these functions left them: a session's arrays
+ * from egretfold_session_begin on, a replay's from egretfold_log_begin on, a group's cells from an egretfold_group_begin
+ * that returned 0 on. A state may be copied and kept (on disk, say) as it is. A pointer that comes with a length of 0 is not
+ * read, but is not null. */
 #ifndef EGRETFOLD_H
 #define EGRETFOLD_H
 
@@ -39,6 +43,9 @@ extern "C" {
 
 /* A session's state: its own numbers, its tallies, and the settings. */
 enum { EGRETFOLD_OWN = 17, EGRETFOLD_TALLIES = 2, EGRETFOLD_SHARED = 101 };
+
+/* A replay's state besides its session's arrays: its own numbers, and what the tallies were at each midnight. */
+enum { EGRETFOLD_LOG = 10, EGRETFOLD_MARKS = 800 };
 
 /* A program's store, and a group's cells:
  *   0        the processors in the group, bit i for processor i
@@ -83,6 +90,34 @@ uint32_t egretfold_session_format(const uint32_t own[17], const uint32_t shared[
 /* masks: the output mask; 1 if the conditional mask is set, else 0, and the mask; 1 if the test is set, else 0, and the
  * test. Returns 0. */
 uint32_t egretfold_session_masks(const uint32_t shared[101], uint32_t masks[5]);
+
+/* ---- A station's log over midnight: records of five bytes, one of kind and four of a number, low byte first ----
+ *
+ * Kind 1 is a command word, kind 2 a midnight with the number of the day that begins. The words go to one session across all
+ * midnights, which lies in own, tallies and shared: the functions above that change nothing may be asked about it. */
+
+/* A new replay, with a new session. Returns 0. */
+uint32_t egretfold_log_begin(uint32_t log[10], uint64_t marks[800], uint32_t own[17], uint64_t tallies[2],
+                             uint32_t shared[101]);
+
+/* A piece of bytes, one after another up to the first refused one; it may be cut inside a record. Returns that byte's
+ * refusal, or 0. taken, written in any case: the bytes taken (where a byte is refused, its place in the piece). 18 for a
+ * record's first byte, 19 for a midnight's last one; both stop the replay and drop the open record, and every later byte
+ * gets the same number. What came before stands. The bytes of a word that the session refuses are taken. */
+uint32_t egretfold_log_feed(uint32_t log[10], uint64_t marks[800], uint32_t own[17], uint64_t tallies[2],
+                            uint32_t shared[101], const uint8_t *bytes, size_t length, uint64_t taken[1]);
+
+/* status: 18 or 19 if it stopped the replay, else 0; the first refused word's refusal, 0 if none was refused; how many
+ * midnights came before that word; how many midnights came; the first day and the last one (0 before the first midnight);
+ * and how many bytes of an unfinished record stand, 0 to 4. Returns 0.
+ * The first refused word stands in the record whose number, counted from 0, is the words that the session has taken plus
+ * the midnights before that word. */
+uint32_t egretfold_log_status(const uint32_t log[10], uint32_t status[7]);
+
+/* counts: runs and claimed elements of a part of the log. Part 0 is what ended before the first midnight, part k the k-th
+ * day; 0 and 0 past the last day. Returns 0. */
+uint32_t egretfold_log_part(const uint32_t log[10], const uint64_t marks[800], const uint64_t tallies[2], uint32_t part,
+                            uint64_t counts[2]);
 
 /* ---- Commands by themselves ---- */
 

@@ -66,6 +66,24 @@ pub fn mixed_stream(words: usize) -> Vec<u32> {
     stream
 }
 
+/// The mixed stream of about this many words as a log, with a midnight before every so many of them.
+pub fn mixed_log(words: usize, day: usize) -> Vec<u8> {
+    let mut log = Vec::new();
+    for (number, words) in (0..).zip(mixed_stream(words).chunks(day)) {
+        record(&mut log, 2, number);
+        for word in words {
+            record(&mut log, 1, *word);
+        }
+    }
+    log
+}
+
+/// One byte of kind, then the number, low byte first.
+fn record(log: &mut Vec<u8>, kind: u8, number: u32) {
+    log.push(kind);
+    log.extend(number.to_le_bytes());
+}
+
 fn job(stream: &mut Vec<u32>, random: &mut Random) {
     if random.once_in(2) {
         stream.extend([INVALIDATE_INSTRUCTIONS, 0]);

@@ -30,6 +30,7 @@ fn main() {
     });
     let mut table = Table::begin(options.repeats, options.only);
     lines::feed::add(&mut table);
+    lines::log::add(&mut table);
     lines::writer::add(&mut table);
     lines::address::add(&mut table);
     lines::element::add(&mut table);

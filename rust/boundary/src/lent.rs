@@ -1,7 +1,7 @@
 //! The header's functions one by one, made safe, with rooms that the caller
 //! lends. Each returns 0 or the refusal's number. A refusal touches no room,
-//! except [`session_feed`]'s, which is written in any case: a caller who fills
-//! the rooms first can see that.
+//! except [`session_feed`]'s and [`log_feed`]'s, which are written in any case: a
+//! caller who fills the rooms first can see that.
 //!
 //! All `unsafe` of the Rust side is on this page. The header asks three things,
 //! and they hold in every block below for the same reasons:
@@ -11,22 +11,27 @@
 //!   an empty slice's pointer is not null);
 //! * nothing written overlaps anything else: every array that is written comes
 //!   as a `&mut`, which nothing else can share;
-//! * states as the library left them: [`Session`] and [`Group`] keep their
-//!   arrays private and are made only by a begin that was accepted.
+//! * states as the library left them: [`Session`], [`Replay`] and [`Group`] keep
+//!   their arrays private and are made only by a begin that was accepted. A
+//!   replay's session is shown but never handed out to be changed.
 
 use crate::flow::{Group, Program};
 use crate::layout::Layout;
+use crate::log::Replay;
 use crate::raw;
 use crate::session::Session;
+
+/// Arrays that no begin has filled yet.
+const UNFILLED: Session = Session {
+    own: [0; 17],
+    tallies: [0; 2],
+    shared: [0; 101],
+};
 
 /// A new session. This call has no refusal.
 #[inline]
 pub fn session_begin() -> Session {
-    let mut session = Session {
-        own: [0; 17],
-        tallies: [0; 2],
-        shared: [0; 101],
-    };
+    let mut session = UNFILLED;
     let Session {
         own,
         tallies,
@@ -102,6 +107,68 @@ pub fn session_format(session: &Session, header: u32, number: u32, format: &mut 
 pub fn session_masks(session: &Session, masks: &mut [u32; 5]) -> u32 {
     // SAFETY: the array is a session's that the library gave out.
     unsafe { raw::egretfold_session_masks(&session.shared, masks) }
+}
+
+/// A new replay. This call has no refusal.
+#[inline]
+pub fn log_begin() -> Replay {
+    let mut replay = Replay {
+        log: [0; 10],
+        marks: Box::new([0; 800]),
+        session: UNFILLED,
+    };
+    let Replay {
+        log,
+        marks,
+        session,
+    } = &mut replay;
+    let Session {
+        own,
+        tallies,
+        shared,
+    } = session;
+    // SAFETY: five separate arrays of the right lengths; no state is read.
+    let number = unsafe { raw::egretfold_log_begin(log, marks, own, tallies, shared) };
+    assert_eq!(number, 0, "a replay's begin has no refusal");
+    replay
+}
+
+/// A piece of bytes. taken: the bytes taken. Returns the first refused byte's
+/// refusal, or 0.
+#[inline]
+pub fn log_feed(replay: &mut Replay, bytes: &[u8], taken: &mut [u64; 1]) -> u32 {
+    let Replay {
+        log,
+        marks,
+        session,
+    } = replay;
+    let Session {
+        own,
+        tallies,
+        shared,
+    } = session;
+    let (start, length) = (bytes.as_ptr(), bytes.len());
+    // SAFETY: the arrays are a replay's that the library gave out; start and
+    // length are one slice's; the room is apart from all of them.
+    unsafe { raw::egretfold_log_feed(log, marks, own, tallies, shared, start, length, taken) }
+}
+
+/// status: what stopped the replay, the first refused word's refusal and the
+/// midnights before it, the midnights, the first and the last day, and the bytes
+/// of an unfinished record.
+#[inline]
+pub fn log_status(replay: &Replay, status: &mut [u32; 7]) -> u32 {
+    // SAFETY: the array is a replay's that the library gave out.
+    unsafe { raw::egretfold_log_status(&replay.log, status) }
+}
+
+/// counts: runs and claimed elements of a part: 0 is before the first midnight, k
+/// the k-th day.
+#[inline]
+pub fn log_part(replay: &Replay, part: u32, counts: &mut [u64; 2]) -> u32 {
+    let tallies = &replay.session.tallies;
+    // SAFETY: the arrays are a replay's that the library gave out.
+    unsafe { raw::egretfold_log_part(&replay.log, &replay.marks, tallies, part, counts) }
 }
 
 /// count: how many parameters a header announces. 2.

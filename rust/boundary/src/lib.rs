@@ -20,6 +20,7 @@ mod element;
 mod flow;
 mod layout;
 pub mod lent;
+mod log;
 mod raw;
 mod session;
 
@@ -27,6 +28,7 @@ pub use command::{parameters, write_command, Command};
 pub use element::{read, superfine, write, Element};
 pub use flow::{Group, Program, Report, Stepped};
 pub use layout::{layout, locate, translate, Layout, Window};
+pub use log::{BytesFed, Day, LogStatus, Part, RefusedWord, Replay};
 pub use session::{Fed, Format, Reply, Session, Status};
 
 /// What a call answers: its result, or document 01's refusal number.

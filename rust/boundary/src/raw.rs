@@ -42,6 +42,35 @@ extern "C" {
 
     pub fn egretfold_session_masks(shared: &[u32; 101], masks: &mut [u32; 5]) -> u32;
 
+    pub fn egretfold_log_begin(
+        log: &mut [u32; 10],
+        marks: &mut [u64; 800],
+        own: &mut [u32; 17],
+        tallies: &mut [u64; 2],
+        shared: &mut [u32; 101],
+    ) -> u32;
+
+    pub fn egretfold_log_feed(
+        log: &mut [u32; 10],
+        marks: &mut [u64; 800],
+        own: &mut [u32; 17],
+        tallies: &mut [u64; 2],
+        shared: &mut [u32; 101],
+        bytes: *const u8,
+        length: usize,
+        taken: &mut [u64; 1],
+    ) -> u32;
+
+    pub fn egretfold_log_status(log: &[u32; 10], status: &mut [u32; 7]) -> u32;
+
+    pub fn egretfold_log_part(
+        log: &[u32; 10],
+        marks: &[u64; 800],
+        tallies: &[u64; 2],
+        part: u32,
+        counts: &mut [u64; 2],
+    ) -> u32;
+
     pub fn egretfold_command_parameters(header: u32, count: &mut [u32; 1]) -> u32;
 
     pub fn egretfold_command_write(

@@ -151,6 +151,101 @@ static void check_refused_piece(void)
     agree("session_feed, commands before the refused one", fed[1], 1);
 }
 
+struct replay {
+    uint32_t log[EGRETFOLD_LOG];
+    uint64_t marks[EGRETFOLD_MARKS];
+    struct session s;
+};
+
+static uint32_t feed_log(struct replay *r, const uint8_t *bytes, size_t length, uint64_t taken[1])
+{
+    return egretfold_log_feed(r->log, r->marks, r->s.own, r->s.tallies, r->s.shared, bytes, length, taken);
+}
+
+/* A record at the front of the room: its kind, then its number, low byte first. */
+static size_t put_record(uint8_t *room, uint8_t kind, uint32_t number)
+{
+    room[0] = kind;
+    for (unsigned i = 0; i < 4; i++)
+        room[1 + i] = (uint8_t)(number >> 8 * i);
+    return 5;
+}
+
+static void check_part(const char *call, const struct replay *r, uint32_t part, uint64_t runs, uint64_t elements)
+{
+    uint64_t counts[2] = {9, 9};
+    agree(call, egretfold_log_part(r->log, r->marks, r->s.tallies, part, counts), 0);
+    agree(call, counts[0], runs);
+    agree(call, counts[1], elements);
+}
+
+static void check_log_status(const char *call, const struct replay *r, const uint32_t expected[7])
+{
+    uint32_t status[7] = {9, 9, 9, 9, 9, 9, 9};
+    agree(call, egretfold_log_status(r->log, status), 0);
+    agree_words(call, status, expected, 7);
+}
+
+/* The whole stream before the first midnight, a start that midnight cuts, and on the second day a refused word and one more.
+ * Gives the log's length. */
+static size_t put_log(uint8_t *room)
+{
+    const uint32_t later[7][2] = {{1, 0xC0000800}, {2, 30}, {1, 0}, {2, 31}, {1, 0xC0030C00}, {1, 4}, {1, 0xC0000900}};
+    size_t length = 0;
+    for (unsigned i = 0; i < 15; i++)
+        length += put_record(room + length, 1, stream[i]);
+    for (unsigned i = 0; i < 7; i++)
+        length += put_record(room + length, (uint8_t)later[i][0], later[i][1]);
+    return length;
+}
+
+/* That log in two pieces, cut inside the second midnight; then a record of no kind. */
+static void check_log(void)
+{
+    const uint32_t fresh[7] = {0, 0, 0, 0, 0, 0, 0}, open[7] = {0, 0, 0, 1, 30, 30, 4};
+    const uint32_t refused[7] = {0, 4, 2, 2, 30, 31, 0}, stopped[7] = {18, 4, 2, 2, 30, 31, 0};
+    static uint8_t bytes[110];
+    static struct replay r;
+    uint64_t taken[1] = {9};
+    const size_t length = put_log(bytes);
+    agree("log_begin", egretfold_log_begin(r.log, r.marks, r.s.own, r.s.tallies, r.s.shared), 0);
+    check_log_status("log_status of a new replay", &r, fresh);
+    check_part("log_part of a new replay", &r, 0, 0, 0);
+    agree("log_feed, first piece", feed_log(&r, bytes, 94, taken), 0);
+    agree("log_feed, bytes of the first piece", taken[0], 94);
+    check_log_status("log_status inside a record", &r, open);
+    agree("log_feed, a refused word", feed_log(&r, bytes + 94, length - 94, taken), 0);
+    agree("log_feed, bytes of a refused word too", taken[0], 16);
+    check_log_status("log_status after a refused word", &r, refused);
+    check_part("log_part before the first midnight", &r, 0, 1, 1728);
+    check_part("log_part of the first day", &r, 1, 1, 1728);
+    check_part("log_part of the second day", &r, 2, 0, 0);
+    check_part("log_part past the last day", &r, 3, 0, 0);
+    check_status("session_status of a replay", &r.s, 18, 1, 0, 0);
+    put_record(bytes + 5, 3, 0);
+    agree("log_feed, a wrong kind", feed_log(&r, bytes, 10, taken), 18);
+    agree("log_feed, bytes before the wrong kind", taken[0], 5);
+    check_log_status("log_status, stopped", &r, stopped);
+    agree("log_feed, stopped", feed_log(&r, bytes, 5, taken), 18);
+    agree("log_feed, bytes of a stopped replay", taken[0], 0);
+    agree("log_feed, an empty piece", feed_log(&r, bytes, 0, taken), 0);
+}
+
+/* A day that isn't one more than the last: refused at its last byte. */
+static void check_log_days(void)
+{
+    const uint32_t stopped[7] = {19, 0, 0, 1, 4294967295, 4294967295, 0};
+    static struct replay r;
+    uint8_t bytes[10];
+    uint64_t taken[1] = {9};
+    put_record(bytes, 2, 4294967295);
+    put_record(bytes + 5, 2, 0);
+    agree("log_begin", egretfold_log_begin(r.log, r.marks, r.s.own, r.s.tallies, r.s.shared), 0);
+    agree("log_feed, a wrong day", feed_log(&r, bytes, 10, taken), 19);
+    agree("log_feed, bytes before a wrong day's last", taken[0], 9);
+    check_log_status("log_status after a wrong day", &r, stopped);
+}
+
 static void check_commands(void)
 {
     const uint32_t output[4] = {0, 0x800, 0x2010064, 0x12};
@@ -311,6 +406,8 @@ int main(void)
     check_formats(&s);
     check_words(&s);
     check_refused_piece();
+    check_log();
+    check_log_days();
     check_commands();
     check_addresses();
     check_elements();

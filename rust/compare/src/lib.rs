@@ -2,13 +2,14 @@
 //! made apart from it, on millions of made-up inputs: good ones, ones at the
 //! edges of the rules, damaged ones and noise.
 //!
-//! There are five kinds of cases, one module each:
+//! There are six kinds of cases, one module each:
 //!
 //! * [`addresses`]: layouts judged, pairs translated, addresses located back;
 //! * [`memory`]: elements read and written in lent memory, superfine reads;
 //! * [`streams`]: streams of command words, by words, in pieces and uncut;
 //! * [`writer`]: commands written to words;
-//! * [`flow`]: programs loaded, groups stepped and run.
+//! * [`flow`]: programs loaded, groups stepped and run;
+//! * [`logs`]: logs of a station over midnight, cut anywhere.
 //!
 //! Every case is made from its kind, a seed and its number alone, so that any
 //! case can be run again by itself. The tests run fixed cases; the program
@@ -22,10 +23,12 @@ pub mod commands;
 pub mod flow;
 pub mod groups;
 pub mod layouts;
+pub mod logs;
 pub mod memory;
 pub mod options;
 pub mod programs;
 pub mod random;
+pub mod records;
 pub mod settings;
 pub mod streams;
 pub mod tally;
@@ -47,15 +50,17 @@ pub enum Kind {
     Streams,
     Writer,
     Flow,
+    Logs,
 }
 
 impl Kind {
-    pub const ALL: [Kind; 5] = [
+    pub const ALL: [Kind; 6] = [
         Kind::Addresses,
         Kind::Memory,
         Kind::Streams,
         Kind::Writer,
         Kind::Flow,
+        Kind::Logs,
     ];
 
     pub fn name(self) -> &'static str {
@@ -65,6 +70,7 @@ impl Kind {
             Kind::Streams => "streams",
             Kind::Writer => "writer",
             Kind::Flow => "flow",
+            Kind::Logs => "logs",
         }
     }
 
@@ -79,6 +85,7 @@ impl Kind {
             Kind::Streams => streams::run(case),
             Kind::Writer => writer::run(case),
             Kind::Flow => flow::run(case),
+            Kind::Logs => logs::run(case),
         }
     }
 }

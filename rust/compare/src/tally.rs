@@ -4,8 +4,8 @@
 
 use std::collections::BTreeMap;
 
-/// Document 01's refusals have the numbers 1 to 17.
-pub const REFUSALS: usize = 17;
+/// Document 01's refusals have the numbers 1 to 17; request 1 added 18 and 19.
+pub const REFUSALS: usize = 19;
 
 #[derive(Clone, Debug, Default, PartialEq, Eq)]
 pub struct Tally {

@@ -8,7 +8,7 @@
 
 use compare::commands::TABLE;
 use compare::layouts::SHAPES;
-use compare::tally::Tally;
+use compare::tally::{Tally, REFUSALS};
 use compare::{run_cases, Kind};
 use std::ops::Range;
 
@@ -28,7 +28,7 @@ fn agree(kind: Kind, numbers: Range<u64>) -> Tally {
 
 /// Demands that each of these refusals came up at least so often, and no other.
 fn refusals(tally: &Tally, expected: &[(usize, u64)]) {
-    for number in 1..=17 {
+    for number in 1..=REFUSALS {
         let seen = tally.refused(number);
         match expected.iter().find(|line| line.0 == number) {
             Some((_, least)) => assert!(seen >= *least, "refusal {number} came {seen} times"),
@@ -155,4 +155,35 @@ fn flow_first_half() {
 #[test]
 fn flow_second_half() {
     flow(150_000..300_000);
+}
+
+fn logs(numbers: Range<u64>) {
+    let tally = agree(Kind::Logs, numbers);
+    marks(&tally, &[("bytes", 20_000_000), ("midnights", 500_000)]);
+    marks(&tally, &[("unfinished records", 2_000)]);
+    marks(&tally, &[("later bytes refused", 20_000)]);
+    marks(&tally, &[("logs with 400 midnights", 500)]);
+    marks(&tally, &[("logs up to the last day's number", 2_000)]);
+    marks(
+        &tally,
+        &[("logs with runs before the first midnight", 4_000)],
+    );
+    marks(&tally, &[("logs with runs on several days", 4_000)]);
+    // Of words the first refusal counts, which is never 1.
+    let words_at_fault = [(2, 4_000), (3, 6_000), (4, 1_000)];
+    let last_parameters = [(5, 300), (6, 200), (7, 300), (8, 1_500), (9, 800)];
+    let mut expected = vec![(18, 3_000), (19, 6_000)];
+    expected.extend(words_at_fault);
+    expected.extend(last_parameters);
+    refusals(&tally, &expected);
+}
+
+#[test]
+fn logs_first_half() {
+    logs(0..50_000);
+}
+
+#[test]
+fn logs_second_half() {
+    logs(50_000..100_000);
 }

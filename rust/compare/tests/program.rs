@@ -38,7 +38,7 @@ fn a_wrong_line_ends_with_2_and_the_help_text() {
 
 #[test]
 fn one_case_prints_both_answers() {
-    for kind in ["addresses", "memory", "streams", "writer", "flow"] {
+    for kind in ["addresses", "memory", "streams", "writer", "flow", "logs"] {
         let output = compare(&format!("--kind {kind} --seed 5 --case 3"));
         assert_eq!(output.status.code(), Some(0), "{kind}");
         let text = text(&output);
@@ -60,7 +60,7 @@ fn all_kinds_run_until_the_seconds_are_over() {
     let output = compare("--seconds 1 --seed 2");
     assert_eq!(output.status.code(), Some(0));
     let text = text(&output);
-    for kind in ["addresses", "memory", "streams", "writer", "flow"] {
+    for kind in ["addresses", "memory", "streams", "writer", "flow", "logs"] {
         assert!(text.contains(&format!("{kind}: ")), "{kind}");
     }
     assert!(text.ends_with(" cases, 0 differences\n"), "{text}");

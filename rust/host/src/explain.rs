@@ -1,4 +1,4 @@
-//! `egretfold explain [N]`: what a refusal means, in document 01's words.
+//! `egretfold explain [N]`: what a refusal means, in the documents' words.
 
 use crate::failure::{Failure, Outcome};
 use crate::refusals::{self, Refusal};
@@ -52,13 +52,10 @@ fn one(refusal: &Refusal, out: &mut dyn Write) -> Outcome {
     writeln!(out)?;
     text::paragraph(out, "given by     ", refusal.given)?;
     text::paragraph(out, "effect       ", effect(refusal.number))?;
+    let document = refusals::document(refusal.number);
     for (place, sentence) in refusal.says.iter().enumerate() {
-        let head = if place == 0 {
-            "document 01  "
-        } else {
-            "             "
-        };
-        text::paragraph(out, head, &format!("\"{sentence}\""))?;
+        let head = if place == 0 { document } else { "" };
+        text::paragraph(out, &format!("{head:13}"), &format!("\"{sentence}\""))?;
     }
     Ok(())
 }
@@ -67,17 +64,22 @@ fn effect(number: u32) -> &'static str {
     if refusals::stops(number) {
         "changes no byte of lent memory and no setting; a session's word that gets it isn't counted, drops the open \
          command and stops the session"
+    } else if refusals::stops_replay(number) {
+        "changes no day, no tally and no setting; drops the open record and stops the replay"
     } else {
         "changes no byte of lent memory, no setting and no flow state"
     }
 }
 
 fn as_json(refusal: &Refusal) -> Value {
+    let number = refusal.number;
+    let document = refusals::document(number).replace(' ', "_");
     json!({
-        "number": refusal.number,
+        "number": number,
         "cause": refusal.cause,
         "given_by": refusal.given,
-        "stops_a_session": refusals::stops(refusal.number),
-        "document_01": refusal.says,
+        "stops_a_session": refusals::stops(number),
+        "stops_a_replay": refusals::stops_replay(number),
+        document: refusal.says,
     })
 }

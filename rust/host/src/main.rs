@@ -3,8 +3,8 @@
 //! `boundary`; here it is only named, laid out and parsed.
 //!
 //! One module a subcommand: `decode` (with `walk`, and its forms `listing` and
-//! `json`), `encode`, `address`, `locate` (with `owners`), `flow` (with `slots`, `steps`),
-//! `explain`, and `sample` for no arguments. `names`, `tiles` and `refusals` hold
+//! `json`), `encode`, `replay` (with `log`, and its forms in `days`), `address`, `locate`
+//! (with `owners`), `flow` (with `slots`, `steps`), `explain`, and `sample` for no arguments. `names`, `tiles` and `refusals` hold
 //! document 01's tables; `source`, `words` and `lines` read; `settings` and `text`
 //! have shapes that several print; `cause` puts refusals in words; `work` is the
 //! working of an address by hand.
@@ -13,6 +13,7 @@
 
 mod address;
 mod cause;
+mod days;
 mod decode;
 mod encode;
 mod explain;
@@ -24,11 +25,13 @@ mod layouts;
 mod lines;
 mod listing;
 mod locate;
+mod log;
 mod names;
 mod numbers;
 mod owners;
 mod progress;
 mod refusals;
+mod replay;
 mod sample;
 mod settings;
 mod slots;
@@ -51,7 +54,7 @@ Words and addresses are hex, with or without 0x; counts are decimal, or hex with
 With no command, a sample is shown.
 Exit status: 0 fine, 1 something was refused, 2 a wrong command line or file.";
 
-/// Command streams decoded, tile addresses worked both ways, flow programs stepped
+/// Command streams decoded, logs replayed, tile addresses worked both ways, flow programs stepped
 #[derive(Parser)]
 #[command(name = "egretfold", version, after_help = AFTER)]
 struct Line {
@@ -67,6 +70,9 @@ enum What {
     /// A listing, or its terse form, back to words
     #[command(after_help = encode::EXAMPLES)]
     Encode(encode::Options),
+    /// A station's log over midnight: runs and claimed elements, day by day
+    #[command(after_help = replay::EXAMPLES)]
+    Replay(replay::Options),
     /// A pair of a window to the address of its element
     #[command(after_help = address::EXAMPLES)]
     Address(address::Options),
@@ -78,7 +84,7 @@ enum What {
     /// A flow program listed, or stepped with given masks
     #[command(after_help = flow::EXAMPLES)]
     Flow(flow::Options),
-    /// What a refusal means, in document 01's words
+    /// What a refusal means, in the documents' words
     Explain(explain::Options),
 }
 
@@ -98,6 +104,7 @@ fn run(line: &Line, out: &mut dyn Write) -> Outcome {
         None => sample::run(out),
         Some(What::Decode(options)) => decode::run(options, out),
         Some(What::Encode(options)) => encode::run(options, out),
+        Some(What::Replay(options)) => replay::run(options, out),
         Some(What::Address(options)) => address::run(options, out),
         Some(What::Locate(options)) => locate::run(options, out),
         Some(What::Tile(options)) => tile::run(options, out),

@@ -1,11 +1,11 @@
-//! Document 01's refusals: each number's cause as its table has it, the sentences
-//! that spell the cause out, and who gives it.
+//! Document 01's refusals, and those that document 02's requests added to its
+//! table: each number's cause, the sentences that spell it out, and who gives it.
 
 pub struct Refusal {
     pub number: u32,
     /// The table's words.
     pub cause: &'static str,
-    /// Sentences of document 01, word for word.
+    /// Sentences of the document that has it, word for word.
     pub says: &'static [&'static str],
     /// The words and calls that can get this number.
     pub given: &'static str,
@@ -16,6 +16,20 @@ const STOPS: &[u32] = &[2, 3, 4, 5, 6, 7, 8, 9, 17];
 /// Whether a session that gives this number to a word is stopped by it.
 pub fn stops(number: u32) -> bool {
     STOPS.contains(&number)
+}
+
+/// Whether a replay that gives this number to a byte is stopped by it.
+pub fn stops_replay(number: u32) -> bool {
+    number == 18 || number == 19
+}
+
+/// The document that has the number: requests added those from 18 on.
+pub fn document(number: u32) -> &'static str {
+    if number < 18 {
+        "document 01"
+    } else {
+        "document 02"
+    }
 }
 
 pub fn refusal(number: u32) -> Option<&'static Refusal> {
@@ -41,7 +55,7 @@ const fn entry(
     }
 }
 
-pub const ALL: [Refusal; 17] = [
+pub const ALL: [Refusal; 19] = [
     entry(
         1,
         "the session is stopped",
@@ -173,5 +187,23 @@ pub const ALL: [Refusal; 17] = [
         "the session has taken 1,000,000,000 words",
         "any word after the 1,000,000,000th",
         &["Order: 1, then 17, then the rest in table order among those that the present word can cause."],
+    ),
+    entry(
+        18,
+        "the kind byte of a log's record is neither 1 nor 2",
+        "the first byte of a log's record, and every byte after it",
+        &[
+            "Stations will send a log of records: one byte of kind, then 4 bytes, low byte first. Kind 1 is a command word, kind 2 midnight, the number of the day that begins.",
+            "another kind byte is 18. Both stop the replay and drop the open record. What came before stands; later bytes get that number again.",
+        ],
+    ),
+    entry(
+        19,
+        "a midnight's day isn't one more than the last, or it is the 401st midnight",
+        "the last byte of a midnight's record, and every byte after it",
+        &[
+            "The first midnight may name any day; each later one is one more than the last, and at most 400 come in all, else refusal 19 at its last byte",
+            "Both stop the replay and drop the open record. What came before stands; later bytes get that number again.",
+        ],
     ),
 ];

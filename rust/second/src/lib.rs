@@ -9,7 +9,8 @@
 //! * [`layout`]: what a layout is, the row step, the span, the window rule;
 //! * [`address`]: a pair's address, and the way back by search;
 //! * [`memory`]: elements read and written in lent memory, the superfine read;
-//! * [`flow`]: programs of flow words, and a group stepped through them.
+//! * [`flow`]: programs of flow words, and a group stepped through them;
+//! * [`log`]: a station's log over midnight, from document 02's request 1.
 //!
 //! Every refusal is document 01's number, as the `Err` of an [`Answer`].
 
@@ -19,6 +20,7 @@ pub mod address;
 pub mod command;
 pub mod flow;
 pub mod layout;
+pub mod log;
 pub mod memory;
 pub mod session;
 

@@ -1,4 +1,5 @@
-//! Document 01 as a Rust programmer would write it for speed: sessions, the writer, addresses, elements and flow words.
+//! Document 01 as a Rust programmer would write it for speed: sessions, logs over midnight, the writer, addresses, elements and
+//! flow words.
 //!
 //! Every entry that stands for one call of the product is marked `#[inline(never)]`. A host reaches the product through a
 //! call that nothing inlines; without the mark the compiler could melt these entries into the timing loop and move the work
@@ -9,6 +10,7 @@ pub mod command;
 pub mod element;
 pub mod group;
 pub mod layout;
+pub mod log;
 pub mod planes;
 pub mod processors;
 pub mod program;

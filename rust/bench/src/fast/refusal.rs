@@ -1,4 +1,4 @@
-//! Document 01's refusal numbers.
+//! Document 01's refusal numbers, and those of a log.
 
 /// What a call gives: its result, or the number of its refusal.
 pub type Answer<T> = Result<T, u32>;
@@ -20,3 +20,5 @@ pub const AT_LIMIT: u32 = 14;
 pub const PAST_END: u32 = 15;
 pub const ENDED: u32 = 16;
 pub const FULL: u32 = 17;
+pub const KIND: u32 = 18;
+pub const DAY: u32 = 19;

@@ -168,8 +168,9 @@ impl Session {
         (&words[words.len() - left..], commands)
     }
 
+    /// A word, where the caller's loop is ours too.
     #[inline(always)]
-    fn take(&mut self, word: u32) -> Answer<Reply> {
+    pub(super) fn take(&mut self, word: u32) -> Answer<Reply> {
         if self.stopped {
             return Err(STOPPED);
         }

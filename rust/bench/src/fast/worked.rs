@@ -4,6 +4,7 @@ use super::address::{locate, translate, translate_by_table};
 use super::command::{write_command, Command, Domain, Format};
 use super::element::{read, superfine, write};
 use super::layout::{judge, Layout};
+use super::log::Replay;
 use super::program::{Program, Stepped};
 use super::session::{Fed, Reply, Session};
 use super::{planes, processors};
@@ -282,4 +283,70 @@ fn steps_are_refused_in_order() {
     assert_eq!(step(&mut group, &[0x0000_FF00, 0x0001_0000]), Ok(end));
     assert_eq!(step(&mut group, &[0x0000_FF00, 0]), Err(16));
     assert!(Program::load(&[0; 3]).is_err());
+}
+
+/// A record's bytes: its kind, then its number, low byte first.
+fn record(kind: u8, number: u32) -> Vec<u8> {
+    let mut bytes = vec![kind];
+    bytes.extend(number.to_le_bytes());
+    bytes
+}
+
+fn log_of(words: &[u32]) -> Vec<u8> {
+    words.iter().flat_map(|word| record(1, *word)).collect()
+}
+
+/// The whole stream with its start cut by a midnight, one more start, and a second day with a refused word.
+fn two_days() -> Vec<u8> {
+    [
+        log_of(&WHOLE_STREAM),
+        log_of(&[0xC000_0800]),
+        record(2, 30),
+        log_of(&[0]),
+        record(2, 31),
+        log_of(&[0xC003_0C00, 4, 0xC000_0800, 0]),
+    ]
+    .concat()
+}
+
+#[test]
+fn a_log_is_counted_day_by_day_however_it_is_cut() {
+    let log = two_days();
+    for length in [1, 2, 3, 4, 5, 7, log.len()] {
+        let mut replay = Replay::new();
+        for piece in log.chunks(length) {
+            let fed = replay.feed(piece);
+            assert_eq!((fed.taken as usize, fed.refusal), (piece.len(), None));
+        }
+        assert_eq!((replay.midnights(), replay.first_day()), (2, 30));
+        assert_eq!(replay.part(0), (1, 1_728));
+        assert_eq!(replay.part(1), (1, 1_728));
+        assert_eq!(replay.part(2), (0, 0));
+        assert_eq!(replay.part(3), (0, 0));
+        assert_eq!(replay.refused(), Some((4, 2)));
+        assert_eq!((replay.stopped(), replay.unfinished()), (None, 0));
+    }
+}
+
+#[test]
+fn a_log_stops_at_a_wrong_kind_and_a_wrong_day() {
+    let cases = [
+        ([log_of(&[0xC000_0900]), vec![3, 1]].concat(), 5, 18),
+        ([record(2, 9), record(2, 9)].concat(), 9, 19),
+        ([record(2, u32::MAX), record(2, 0)].concat(), 9, 19),
+        ((0..401).flat_map(|day| record(2, day)).collect(), 2_004, 19),
+    ];
+    for (log, taken, number) in cases {
+        for length in [1, 3, log.len()] {
+            let mut replay = Replay::new();
+            let fed: Vec<_> = log.chunks(length).map(|piece| replay.feed(piece)).collect();
+            assert_eq!(fed.iter().map(|fed| fed.taken).sum::<u64>(), taken);
+            let refusal = fed.iter().find_map(|fed| fed.refusal);
+            assert_eq!((refusal, replay.stopped()), (Some(number), Some(number)));
+            assert_eq!(replay.unfinished(), 0);
+            let later = replay.feed(&record(1, 0));
+            assert_eq!((later.taken, later.refusal), (0, Some(number)));
+            assert_eq!(replay.feed(&[]).refusal, None);
+        }
+    }
 }

@@ -181,7 +181,7 @@ pub fn lent_command(command: &Command) -> boundary::Command {
 }
 
 /// Tallies, settings and standing of both sessions.
-fn check_sessions(product: &boundary::Session, rust: &fast::Session) {
+pub fn check_sessions(product: &boundary::Session, rust: &fast::Session) {
     let status = product.status();
     assert_eq!(status.taken as usize, rust.taken(), "words taken");
     assert_eq!(status.stopped, rust.stopped(), "stopped");

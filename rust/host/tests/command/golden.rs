@@ -53,6 +53,27 @@ const CASES: &[(&str, &str, &str)] = &[
     ("encode-name", "encode --hex", "set_domian 0 0 0 0\n"),
     ("encode-count", "encode --hex", "set_domain 0 0 0\n"),
     ("encode-reserved", "encode --hex", "start_program 1\n"),
+    ("replay", "replay samples/three-days.log", ""),
+    ("replay-json", "replay --json samples/three-days.log", ""),
+    ("replay-refused", "replay samples/refused.log", ""),
+    (
+        "replay-refused-json",
+        "replay --json samples/refused.log",
+        "",
+    ),
+    (
+        "replay-several",
+        "replay samples/three-days.log samples/refused.log",
+        "",
+    ),
+    ("replay-nothing", "replay", ""),
+    ("replay-folder", "replay samples/three-days.log samples", ""),
+    ("replay-kind", "replay -", "\u{1}\0\u{9}\0\0\u{7}more"),
+    (
+        "replay-missing",
+        "replay samples/three-days.log samples/nothing.log",
+        "",
+    ),
     (
         "address-linear",
         "address --base 800 --pitch 100 --height 3 --size 4 --work 5,2 95,0 96,0",
@@ -171,6 +192,9 @@ const CASES: &[(&str, &str, &str)] = &[
     ("explain-6", "explain 6", ""),
     ("explain-json", "explain --json 9", ""),
     ("explain-18", "explain 18", ""),
+    ("explain-19", "explain 19", ""),
+    ("explain-20", "explain 20", ""),
+    ("explain-json-18", "explain --json 18", ""),
     ("missing-file", "decode samples/nothing.ctm", ""),
     ("a-folder", "decode samples", ""),
 ];

@@ -1,11 +1,12 @@
 //! The command `egretfold` run as a user runs it: its outputs held against stored
-//! ones, its command line, streams there and back, the working by hand, and the
-//! examples of the documents.
+//! ones, its command line, streams there and back, logs over midnight, the working by
+//! hand, and the examples of the documents.
 
 mod causes;
 mod common;
 mod examples;
 mod golden;
 mod program;
+mod replay;
 mod round_trip;
 mod working;

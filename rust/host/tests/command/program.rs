@@ -6,8 +6,8 @@ use std::fs;
 use std::io::Write;
 use std::process::{Command, Stdio};
 
-const SUBCOMMANDS: [&str; 7] = [
-    "decode", "encode", "address", "locate", "tile", "flow", "explain",
+const SUBCOMMANDS: [&str; 8] = [
+    "decode", "encode", "replay", "address", "locate", "tile", "flow", "explain",
 ];
 
 #[test]
@@ -130,7 +130,7 @@ fn a_long_stream_takes_no_more_memory() {
     assert!(told(&output).contains(&due), "{}", told(&output));
 }
 
-fn peak(status: &str) -> Option<u64> {
+pub fn peak(status: &str) -> Option<u64> {
     let line = status.lines().find(|line| line.starts_with("VmHWM:"))?;
     line.split_whitespace().nth(1)?.parse().ok()
 }
@@ -164,11 +164,11 @@ fn the_examples_of_the_help_texts_run() {
                 .current_dir(&folder)
                 .stdin(Stdio::null());
             let output = shell.output().expect("the line runs");
-            let refused = line.contains("refused.hex");
+            let refused = line.contains("/refused.");
             assert_eq!(output.status.code(), Some(i32::from(refused)), "{line}");
             count += 1;
         }
     }
     fs::remove_dir_all(&folder).expect("the folder goes");
-    assert!(count >= 14, "{count}");
+    assert!(count >= 17, "{count}");
 }

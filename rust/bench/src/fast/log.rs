@@ -1,0 +1,171 @@
+//! A station's log over midnight: bytes taken in pieces, the words given to one session, and what each day came to.
+//!
+//! A record that lies whole in a piece is read at once. Only what a piece's end cuts is kept, byte by byte.
+
+use super::refusal::{DAY, KIND};
+use super::session::Session;
+
+const RECORD: usize = 5;
+const WORD: u8 = 1;
+const MIDNIGHT: u8 = 2;
+const MOST_MIDNIGHTS: usize = 400;
+
+/// What a piece of bytes answers.
+#[derive(Clone, Copy, Debug, PartialEq, Eq)]
+pub struct Fed {
+    pub taken: u64,
+    pub refusal: Option<u32>,
+}
+
+#[derive(Clone, Default)]
+pub struct Replay {
+    session: Session,
+    stopped: Option<u32>,
+    /// The open record's bytes, and how many there are.
+    open: [u8; RECORD],
+    filled: usize,
+    /// The first refused word's refusal, and the midnights before it.
+    refused: Option<(u32, usize)>,
+    first_day: u32,
+    /// The session's runs and claims at each midnight.
+    marks: Vec<(u64, u64)>,
+}
+
+impl Replay {
+    #[inline(never)]
+    pub fn new() -> Replay {
+        Replay::default()
+    }
+
+    /// Takes a piece of bytes, one after another up to the first refused one. 18 or 19; both stop the replay.
+    #[inline(never)]
+    pub fn feed(&mut self, bytes: &[u8]) -> Fed {
+        let mut rest = bytes;
+        let mut refusal = None;
+        while !rest.is_empty() && refusal.is_none() {
+            refusal = match self.stopped {
+                Some(number) => Some(number),
+                None if self.filled == 0 && rest.len() >= RECORD => self.records(&mut rest),
+                None => self.byte(&mut rest),
+            };
+        }
+        Fed {
+            taken: (bytes.len() - rest.len()) as u64,
+            refusal,
+        }
+    }
+
+    /// Takes whole records off the front, up to one that is refused; gives its refusal.
+    #[inline(always)]
+    fn records(&mut self, rest: &mut &[u8]) -> Option<u32> {
+        while let [kind, a, b, c, d, after @ ..] = rest {
+            let number = u32::from_le_bytes([*a, *b, *c, *d]);
+            match self.record(*kind, number) {
+                Ok(()) => *rest = after,
+                Err(refusal) => {
+                    // a midnight is refused at its last byte, any other kind at once
+                    let before = if refusal == DAY { RECORD - 1 } else { 0 };
+                    *rest = &rest[before..];
+                    return Some(self.stop(refusal));
+                }
+            }
+        }
+        None
+    }
+
+    /// Takes one byte of a record that a piece's end cuts.
+    #[inline(always)]
+    fn byte(&mut self, rest: &mut &[u8]) -> Option<u32> {
+        let (&byte, after) = rest.split_first()?;
+        if self.filled == 0 && byte != WORD && byte != MIDNIGHT {
+            return Some(self.stop(KIND));
+        }
+        self.open[self.filled] = byte;
+        self.filled += 1;
+        if self.filled == RECORD {
+            self.filled = 0;
+            let [kind, a, b, c, d] = self.open;
+            if let Err(refusal) = self.record(kind, u32::from_le_bytes([a, b, c, d])) {
+                return Some(self.stop(refusal));
+            }
+        }
+        *rest = after;
+        None
+    }
+
+    fn stop(&mut self, refusal: u32) -> u32 {
+        self.filled = 0;
+        self.stopped = Some(refusal);
+        refusal
+    }
+
+    #[inline(always)]
+    fn record(&mut self, kind: u8, number: u32) -> Result<(), u32> {
+        match kind {
+            WORD => self.word(number),
+            MIDNIGHT => self.midnight(number)?,
+            _ => return Err(KIND),
+        }
+        Ok(())
+    }
+
+    #[inline(always)]
+    fn word(&mut self, word: u32) {
+        if let Err(number) = self.session.take(word) {
+            let midnights = self.marks.len();
+            self.refused.get_or_insert((number, midnights));
+        }
+    }
+
+    fn midnight(&mut self, day: u32) -> Result<(), u32> {
+        let midnights = self.marks.len();
+        if midnights == 0 {
+            self.first_day = day;
+        } else if midnights == MOST_MIDNIGHTS
+            || self.first_day.checked_add(midnights as u32) != Some(day)
+        {
+            return Err(DAY);
+        }
+        self.marks
+            .push((self.session.runs(), self.session.claims()));
+        Ok(())
+    }
+
+    pub fn stopped(&self) -> Option<u32> {
+        self.stopped
+    }
+
+    /// The first refused word's refusal, and the midnights before it.
+    pub fn refused(&self) -> Option<(u32, usize)> {
+        self.refused
+    }
+
+    /// Bytes of an unfinished record.
+    pub fn unfinished(&self) -> usize {
+        self.filled
+    }
+
+    pub fn midnights(&self) -> usize {
+        self.marks.len()
+    }
+
+    pub fn first_day(&self) -> u32 {
+        self.first_day
+    }
+
+    /// Runs and claimed elements of a part: 0 is what ended before the first midnight, k the k-th day.
+    pub fn part(&self, number: usize) -> (u64, u64) {
+        let now = (self.session.runs(), self.session.claims());
+        let mark = |place: usize| self.marks.get(place).copied().unwrap_or(now);
+        let (runs, claims) = match number.checked_sub(1) {
+            Some(place) => mark(place),
+            None => (0, 0),
+        };
+        let end = mark(number);
+        (end.0 - runs, end.1 - claims)
+    }
+
+    pub fn session(&self) -> &Session {
+        &self.session
+    }
+}

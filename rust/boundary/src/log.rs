@@ -1,0 +1,140 @@
+//! A station's log over midnight: bytes taken in pieces, cut anywhere, one session
+//! across all days, and what each day came to.
+
+use crate::{answer, lent, Session};
+
+/// A replay's state. Its arrays are private, so that it is always one that the
+/// library gave out. It may be cloned and both copies used.
+#[derive(Clone, Debug, PartialEq, Eq)]
+pub struct Replay {
+    pub(crate) log: [u32; 10],
+    // Boxed, so that a replay is cheap to move.
+    pub(crate) marks: Box<[u64; 800]>,
+    pub(crate) session: Session,
+}
+
+/// What a piece of bytes answers.
+#[derive(Clone, Copy, Debug, PartialEq, Eq)]
+pub struct BytesFed {
+    /// Bytes taken. Where a byte was refused, its place in the piece.
+    pub taken: u64,
+    /// The refusal of the first refused byte, or none.
+    pub refusal: Option<u32>,
+}
+
+/// The first word of a log that its session refused.
+#[derive(Clone, Copy, Debug, PartialEq, Eq)]
+pub struct RefusedWord {
+    /// The refusal.
+    pub number: u32,
+    /// How many midnights came before it.
+    pub midnights: u32,
+    /// The number of its record, from 0 on.
+    pub record: u64,
+}
+
+/// Where a replay stands.
+#[derive(Clone, Copy, Debug, PartialEq, Eq)]
+pub struct LogStatus {
+    /// 18 or 19, where one of them has stopped the replay.
+    pub stopped: Option<u32>,
+    pub refused: Option<RefusedWord>,
+    pub midnights: u32,
+    /// The first day and the last one, none before the first midnight.
+    pub days: Option<(u32, u32)>,
+    /// Bytes of an unfinished record that stand, 0 to 4.
+    pub unfinished: u32,
+}
+
+/// Starts that passed in a part of the log, and the elements that they claimed.
+#[derive(Clone, Copy, Debug, PartialEq, Eq)]
+pub struct Part {
+    pub runs: u64,
+    pub claims: u64,
+}
+
+/// A day that a midnight began.
+#[derive(Clone, Copy, Debug, PartialEq, Eq)]
+pub struct Day {
+    pub number: u32,
+    pub part: Part,
+}
+
+impl Replay {
+    /// A new replay, with a new session.
+    #[inline]
+    pub fn new() -> Replay {
+        lent::log_begin()
+    }
+
+    /// Takes a piece of bytes, one after another up to the first refused one. 18 or
+    /// 19, which stop the replay: every later byte gets the same number.
+    #[inline]
+    pub fn feed(&mut self, bytes: &[u8]) -> BytesFed {
+        let mut taken = [0];
+        let number = lent::log_feed(self, bytes, &mut taken);
+        BytesFed {
+            taken: taken[0],
+            refusal: answer(number).err(),
+        }
+    }
+
+    pub fn status(&self) -> LogStatus {
+        let mut status = [0; 7];
+        lent::log_status(self, &mut status);
+        let [stopped, number, before, midnights, first, last, unfinished] = status;
+        LogStatus {
+            stopped: answer(stopped).err(),
+            refused: answer(number).err().map(|number| RefusedWord {
+                number,
+                midnights: before,
+                record: self.words_taken() + u64::from(before),
+            }),
+            midnights,
+            days: (midnights > 0).then_some((first, last)),
+            unfinished,
+        }
+    }
+
+    /// A refused word isn't counted as taken and stops the session, so that from
+    /// then on these are the words before it.
+    fn words_taken(&self) -> u64 {
+        u64::from(self.session.status().taken)
+    }
+
+    /// A part of the log: 0 is what ended before the first midnight, k the k-th
+    /// day; nothing past the last day.
+    pub fn part(&self, number: u32) -> Part {
+        let mut counts = [0; 2];
+        lent::log_part(self, number, &mut counts);
+        let [runs, claims] = counts;
+        Part { runs, claims }
+    }
+
+    /// What ended before the first midnight.
+    pub fn before(&self) -> Part {
+        self.part(0)
+    }
+
+    /// The days so far, in their order.
+    pub fn days(&self) -> impl Iterator<Item = Day> + '_ {
+        let status = self.status();
+        let first = status.days.map_or(0, |(first, _)| first);
+        (0..status.midnights).map(move |place| Day {
+            number: first + place,
+            part: self.part(place + 1),
+        })
+    }
+
+    /// The session that gets the words, to be asked about its settings and tallies.
+    #[inline]
+    pub fn session(&self) -> &Session {
+        &self.session
+    }
+}
+
+impl Default for Replay {
+    fn default() -> Replay {
+        Replay::new()
+    }
+}

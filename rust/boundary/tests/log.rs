@@ -1,0 +1,197 @@
+//! A station's log over midnight, asked through the safe functions. Also a first
+//! look at how a replay is used.
+
+use boundary::{lent, BytesFed, Day, LogStatus, Part, RefusedWord, Replay, Session};
+
+const SET_OUT: u32 = 0xC003_0C00;
+const START: u32 = 0xC000_0800;
+
+/// Document 01's whole stream up to its start, which claims 1,728 elements.
+#[rustfmt::skip]
+const SETTINGS: [u32; 13] = [
+    0xC001_0A00, 0x1000, 0x400_0010,
+    SET_OUT, 0, 0x800, 0x201_0064, 0x12,
+    0xC003_0700, 0, 0, 0x5F, 0x11,
+];
+
+fn record(kind: u8, number: u32) -> Vec<u8> {
+    let mut bytes = vec![kind];
+    bytes.extend(number.to_le_bytes());
+    bytes
+}
+
+fn words(words: &[u32]) -> Vec<u8> {
+    words.iter().flat_map(|word| record(1, *word)).collect()
+}
+
+fn midnight(day: u32) -> Vec<u8> {
+    record(2, day)
+}
+
+fn fed(taken: usize, refusal: Option<u32>) -> BytesFed {
+    let taken = taken as u64;
+    BytesFed { taken, refusal }
+}
+
+fn part(runs: u64) -> Part {
+    let claims = runs * 1_728;
+    Part { runs, claims }
+}
+
+fn day(number: u32, runs: u64) -> Day {
+    let part = part(runs);
+    Day { number, part }
+}
+
+fn days(replay: &Replay) -> Vec<Day> {
+    replay.days().collect()
+}
+
+/// Settings and a start before the first midnight, a start that midnight cuts, two
+/// more on the second day.
+fn three_days() -> Vec<u8> {
+    [
+        words(&SETTINGS),
+        words(&[START, 0, START]),
+        midnight(100),
+        words(&[0]),
+        midnight(101),
+        words(&[START, 0, START, 0]),
+        midnight(102),
+    ]
+    .concat()
+}
+
+#[test]
+fn a_new_replay_has_nothing() {
+    let replay = Replay::new();
+    let status = LogStatus {
+        stopped: None,
+        refused: None,
+        midnights: 0,
+        days: None,
+        unfinished: 0,
+    };
+    assert_eq!(replay.status(), status);
+    assert_eq!((replay.before(), replay.part(1)), (part(0), part(0)));
+    assert_eq!(days(&replay), []);
+    assert_eq!(replay.session(), &Session::new());
+    assert_eq!(Replay::default(), replay);
+}
+
+#[test]
+fn days_are_counted_by_the_last_word() {
+    let bytes = three_days();
+    let mut replay = Replay::new();
+    assert_eq!(replay.feed(&bytes), fed(bytes.len(), None));
+    assert_eq!(replay.before(), part(1));
+    assert_eq!(days(&replay), [day(100, 1), day(101, 2), day(102, 0)]);
+    // There is no part past the last day.
+    for number in [4, 400, 401, u32::MAX] {
+        assert_eq!(replay.part(number), part(0));
+    }
+    let status = replay.status();
+    assert_eq!((status.midnights, status.days), (3, Some((100, 102))));
+    assert_eq!((status.stopped, status.refused), (None, None));
+    // The session's own questions.
+    let session = replay.session();
+    assert_eq!((session.runs(), session.claims()), (4, 4 * 1_728));
+    assert_eq!(session.domain(), Some([0, 0, 0x5F, 0x11]));
+    assert_eq!((session.status().taken, session.status().open), (21, None));
+}
+
+#[test]
+fn pieces_may_be_cut_at_every_byte() {
+    let mut bytes = three_days();
+    bytes.extend([1, 7]);
+    let mut whole = Replay::new();
+    assert_eq!(whole.feed(&bytes), fed(bytes.len(), None));
+    assert_eq!(whole.status().unfinished, 2);
+    for cut in 0..=bytes.len() {
+        let (first, second) = bytes.split_at(cut);
+        let mut replay = Replay::new();
+        assert_eq!(replay.feed(first), fed(first.len(), None));
+        assert_eq!(replay.status().unfinished as usize, cut % 5);
+        assert_eq!(replay.feed(second), fed(second.len(), None));
+        assert_eq!(replay, whole, "cut at {cut}");
+    }
+}
+
+#[test]
+fn a_wrong_kind_byte_is_18() {
+    let mut replay = Replay::new();
+    let bytes = [three_days(), vec![3], words(&[START, 0])].concat();
+    assert_eq!(replay.feed(&bytes), fed(bytes.len() - 11, Some(18)));
+    let stopped = replay.clone();
+    assert_eq!(stopped.status().stopped, Some(18));
+    assert_eq!(stopped.status().unfinished, 0);
+    assert_eq!(replay.feed(&midnight(103)), fed(0, Some(18)));
+    assert_eq!(replay.feed(&[]), fed(0, None));
+    assert_eq!(replay, stopped);
+    assert_eq!(days(&replay), [day(100, 1), day(101, 2), day(102, 0)]);
+    assert!(!replay.session().status().stopped);
+}
+
+#[test]
+fn a_wrong_day_is_19_at_its_last_byte() {
+    for (first, next) in [(7, 7), (7, 6), (7, 9), (u32::MAX, 0), (0, u32::MAX)] {
+        let mut replay = Replay::new();
+        let bytes = [midnight(first), midnight(next), vec![1]].concat();
+        assert_eq!(replay.feed(&bytes), fed(9, Some(19)));
+        let status = replay.status();
+        assert_eq!((status.stopped, status.midnights), (Some(19), 1));
+        assert_eq!((status.days, status.unfinished), (Some((first, first)), 0));
+        assert_eq!(replay.feed(&[1]), fed(0, Some(19)));
+    }
+}
+
+#[test]
+fn four_hundred_midnights_come_and_no_more() {
+    let first = u32::MAX - 399;
+    let all: Vec<u8> = (0..400).flat_map(|place| midnight(first + place)).collect();
+    let mut replay = Replay::new();
+    assert_eq!(replay.feed(&words(&SETTINGS)), fed(65, None));
+    assert_eq!(replay.feed(&all), fed(2_000, None));
+    assert_eq!(replay.feed(&words(&[START, 0])), fed(10, None));
+    assert_eq!(replay.status().days, Some((first, u32::MAX)));
+    assert_eq!(replay.days().count(), 400);
+    assert_eq!(replay.days().last(), Some(day(u32::MAX, 1)));
+    assert_eq!(replay.feed(&midnight(0)), fed(4, Some(19)));
+    let mut low = Replay::new();
+    let all: Vec<u8> = (0..401).flat_map(midnight).collect();
+    assert_eq!(low.feed(&all), fed(2_004, Some(19)));
+    assert_eq!(low.status().days, Some((0, 399)));
+}
+
+#[test]
+fn the_days_go_on_after_a_refused_word() {
+    let bytes = [three_days(), words(&[SET_OUT, 4, START, 0]), midnight(103)].concat();
+    let mut replay = Replay::new();
+    assert_eq!(replay.feed(&bytes), fed(bytes.len(), None));
+    let status = replay.status();
+    let refused = RefusedWord {
+        number: 4,
+        midnights: 3,
+        record: three_days().len() as u64 / 5 + 1,
+    };
+    assert_eq!(status.refused, Some(refused));
+    assert_eq!((status.stopped, status.days), (None, Some((100, 103))));
+    assert_eq!(days(&replay)[2..], [day(102, 0), day(103, 0)]);
+    assert!(replay.session().status().stopped);
+}
+
+#[test]
+fn the_room_of_a_refused_piece_is_written() {
+    let mut replay = Replay::new();
+    let mut taken = [9];
+    assert_eq!(
+        lent::log_feed(&mut replay, &[2, 0, 0, 0, 0, 0], &mut taken),
+        18
+    );
+    assert_eq!(taken, [5]);
+    assert_eq!(lent::log_feed(&mut replay, &[1], &mut taken), 18);
+    assert_eq!(taken, [0]);
+    taken = [9];
+    assert_eq!(lent::log_feed(&mut replay, &[], &mut taken), 0);
+    assert_eq!(taken, [0]);
+}

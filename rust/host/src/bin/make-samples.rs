@@ -1,0 +1,96 @@
+//! Makes the logs in samples/, so that what stands in them can be read here. From
+//! rust/:
+//!
+//!     cargo run -p host --bin make-samples
+//!
+//! With a folder as its argument it writes there.
+
+#![forbid(unsafe_code)]
+
+use std::path::{Path, PathBuf};
+use std::{env, fs, io};
+
+const SET_DOMAIN: u32 = 0xC003_0700;
+const START: u32 = 0xC000_0800;
+const WAIT: u32 = 0xC000_0900;
+const SET_OUT: u32 = 0xC003_0C00;
+
+/// What every start needs: document 01's whole stream up to its start. A start
+/// then claims 96 x 18 elements.
+#[rustfmt::skip]
+const SETTINGS: [u32; 13] = [
+    0xC001_0A00, 0x1000, 0x0400_0010,
+    SET_OUT, 0, 0x800, 0x0201_0064, 18,
+    SET_DOMAIN, 0, 0, 95, 17,
+];
+
+/// A log under way.
+struct Log {
+    bytes: Vec<u8>,
+}
+
+impl Log {
+    fn new() -> Log {
+        Log { bytes: Vec::new() }
+    }
+
+    /// One byte of kind, then the number's four bytes, low byte first.
+    fn record(&mut self, kind: u8, number: u32) {
+        self.bytes.push(kind);
+        self.bytes.extend(number.to_le_bytes());
+    }
+
+    fn words(mut self, words: &[u32]) -> Log {
+        for word in words {
+            self.record(1, *word);
+        }
+        self
+    }
+
+    fn midnight(mut self, day: u32) -> Log {
+        self.record(2, day);
+        self
+    }
+}
+
+/// Settings and a run before the first midnight; a start that the first midnight
+/// cuts, and a domain that the last one does.
+fn three_days() -> Log {
+    Log::new()
+        .words(&SETTINGS)
+        .words(&[START, 0, WAIT, 0, START])
+        .midnight(101)
+        .words(&[0, WAIT, 0, START, 0])
+        .midnight(102)
+        .words(&[START, 0, WAIT, 0, SET_DOMAIN, 0, 0])
+        .midnight(103)
+        .words(&[47, 17, START, 0, START, 0])
+}
+
+/// A word is refused on the second day, and the fourth midnight skips a day.
+fn refused() -> Log {
+    Log::new()
+        .words(&SETTINGS)
+        .midnight(101)
+        .words(&[START, 0, START, 0])
+        .midnight(102)
+        .words(&[START, 0, SET_OUT, 4, START, 0])
+        .midnight(103)
+        .words(&[START, 0])
+        .midnight(105)
+        .words(&[START, 0])
+}
+
+/// Every log by its file's name.
+fn logs() -> [(&'static str, Log); 2] {
+    [("three-days.log", three_days()), ("refused.log", refused())]
+}
+
+fn main() -> io::Result<()> {
+    let samples = Path::new(env!("CARGO_MANIFEST_DIR")).join("../../samples");
+    let folder = env::args_os().nth(1).map_or(samples, PathBuf::from);
+    for (name, log) in logs() {
+        fs::write(folder.join(name), log.bytes)?;
+    }
+    Ok(())
+}
