@@ -5,4 +5,5 @@ pub mod addresses;
 pub mod commands;
 pub mod elements;
 pub mod groups;
+pub mod logs;
 pub mod sessions;

@@ -78,13 +78,13 @@ ahead-ahead m n f = λ i. record { taken = plus i; refusal = f .refusal; replay 
 
 -- a record, byte by byte: its kind, three bytes, and the last one
 module _ (r : Replay) (y : Ready r) where
-  kind-byte : (kind : ℕ) → isKind kind ≡ true → byteStep r kind ≡ taking (opening (ofKind kind) r)
+  pub kind-byte : (kind : ℕ) → isKind kind ≡ true → byteStep r kind ≡ taking (opening (ofKind kind) r)
   unfolding byteStep kindStep
   kind-byte kind k =
       pick-yes _ _ (eq-eqb (r .stoppedBy) 0 (y .going)) ∙
       pick-yes _ _ (eq-eqb (r .opened .count) 0 (ap (λ (o : OpenRecord). o .count) (y .unopened))) ∙ pick-yes _ _ k
 
-  next-byte : (o : OpenRecord) (b : ℕ) → 0 < o .count → o .count < 4 →
+  pub next-byte : (o : OpenRecord) (b : ℕ) → 0 < o .count → o .count < 4 →
       byteStep (opening o r) b ≡ taking (opening (withByte o b) r)
   unfolding byteStep openStep
   next-byte o b h k =
@@ -155,7 +155,7 @@ first-stays : (n m : ℕ) (f : WordRefused) (k : First) → (n ≡ 0 → ⊥) �
 first-stays n m f nothing ne = refl
 first-stays n m f (first k) ne = noted-stays n k m f ne
 
-not-zero : {s u : Session} {n : ℕ} → RefusedTo s n u → n ≡ 0 → ⊥
+pub not-zero : {s u : Session} {n : ℕ} → RefusedTo s n u → n ≡ 0 → ⊥
 not-zero (unchanged k) e = omega arith
 not-zero (stopping (low a b)) e = omega arith
 not-zero (stopping full) e = omega arith
@@ -185,6 +185,19 @@ module _ (r : Replay) (w : ℕ) (ws : List ℕ) where
   pub words-join : afterWords (afterWord r w) ws ≡ afterWords r (w ∷ ws)
   unfolding afterWords afterWord feedOf
   words-join = by-reply (stepOf s w .reply) refl
+
+-- "later words add nothing": once a word is refused, no word changes the replay
+pub later-words : (r : Replay) (w n : ℕ) (ws : List ℕ) → stepOf (r .session) w .reply ≡ denied n →
+    afterWords (afterWord r w) ws ≡ afterWord r w
+unfolding afterWords afterWord
+later-words r w n ws e =
+    ap₂ (λ (t : Session) (f : WordRefused). withWords t f r) (stopped-session _ ws (stopped-for-good (r .session) w n e))
+    (subst
+    (λ (y : stream.Reply).
+    notedFirst (feedOf (stepOf (r .session) w .session) ws .refusal) (r .midnights) (notedReply y (r .midnights) (r .refused)) ≡
+    notedReply y (r .midnights) (r .refused))
+    (sym e)
+    (first-stays n (r .midnights) (r .refused) (feedOf (stepOf (r .session) w .session) ws .refusal) (not-zero (refused-word (r .session) w n e))))
 
 pub after-ready : (r : Replay) (w : ℕ) → Ready r → Ready (afterWord r w)
 unfolding afterWord

@@ -3,6 +3,9 @@ pub mod Cells
 pub mod Feed
 pub mod Own
 pub mod Report
+pub mod Refusals
 pub mod Reported
 pub mod State
 pub mod Step
+pub mod Unfinished
+pub mod Words

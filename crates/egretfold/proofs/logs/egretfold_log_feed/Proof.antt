@@ -1,0 +1,36 @@
+use borrow.Author.Needs.{needs}
+use Rattle.egretfold.proofs.logs.egretfold_log_feed.Statement.{statement}
+use Rattle.egretfold.proofs.logs.egretfold_log_feed.Tie as tie
+use Rattle.egretfold.proofs.logs.egretfold_log_feed.Reads as reads
+use Rattle.egretfold.proofs.logs.egretfold_log_feed.Lts as lts
+use Rattle.log.proofs.replay.feed.Reads as feed-reads
+use Rattle.refusal.proofs.number.Reads as number-reads
+
+-- src/logs.rt:45:9
+feed-requires : tie.Need-feed-requires
+feed-requires c κs = search needs
+
+-- src/logs.rt:49:27
+enum-told : tie.Need-enum-told
+enum-told c = search needs
+
+-- src/logs.rt:50:24
+enum-known-refusal : tie.Need-enum-known-refusal
+enum-known-refusal c = search needs
+
+-- src/logs.rt:50:32
+number-requires : tie.Need-number-requires
+number-requires c κs = search needs
+
+-- src/logs.rt:32:1
+returns : tie.Need-returns
+returns c = ?
+
+-- src/logs.rt:32:1
+returns-2 : tie.Need-returns-2
+returns-2 c = ?
+
+pub egretfold-log-feed-spec : {M : Type 1} → statement M
+egretfold-log-feed-spec =
+    tie.close
+    (tie.spec feed-requires enum-told enum-known-refusal number-requires returns returns-2)

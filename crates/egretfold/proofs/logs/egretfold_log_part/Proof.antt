@@ -1,0 +1,17 @@
+use borrow.Author.Needs.{needs}
+use Rattle.egretfold.proofs.logs.egretfold_log_part.Statement.{statement}
+use Rattle.egretfold.proofs.logs.egretfold_log_part.Tie as tie
+use Rattle.egretfold.proofs.logs.egretfold_log_part.Reads as reads
+use Rattle.egretfold.proofs.logs.egretfold_log_part.Lts as lts
+use Rattle.log.proofs.report.part.Reads as part-reads
+
+-- src/logs.rt:84:9
+part-requires : tie.Need-part-requires
+part-requires c κs = search needs
+
+-- src/logs.rt:74:1
+returns : tie.Need-returns
+returns c = ?
+
+pub egretfold-log-part-spec : {M : Type 1} → statement M
+egretfold-log-part-spec = tie.close (tie.spec part-requires returns)

@@ -1,0 +1,17 @@
+use borrow.Author.Needs.{needs}
+use Rattle.egretfold.proofs.logs.egretfold_log_status.Statement.{statement}
+use Rattle.egretfold.proofs.logs.egretfold_log_status.Tie as tie
+use Rattle.egretfold.proofs.logs.egretfold_log_status.Reads as reads
+use Rattle.egretfold.proofs.logs.egretfold_log_status.Lts as lts
+use Rattle.log.proofs.report.status.Reads as status-reads
+
+-- src/logs.rt:60:9
+status-requires : tie.Need-status-requires
+status-requires c κs = search needs
+
+-- src/logs.rt:56:1
+returns : tie.Need-returns
+returns c = ?
+
+pub egretfold-log-status-spec : {M : Type 1} → statement M
+egretfold-log-status-spec = tie.close (tie.spec status-requires returns)

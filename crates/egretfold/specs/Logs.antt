@@ -1,0 +1,28 @@
+-- A station's log across the boundary: what a piece of bytes is answered, and what a replay reports. Assumes nothing.
+use mathlib.Core.Path.{_≡_}
+use mathlib.Core.List.{List, [], _∷_}
+use Prim.Native.Nat.{ℕ}
+use Rattle.cells.specs.State.{Tally}
+use Rattle.log.specs.State.{newReplay}
+use Rattle.log.specs.Feed.{Fed}
+use Rattle.log.specs.Cells.{LogHeld}
+use Rattle.log.specs.declared.report.Standing.{Standing}
+use Rattle.egretfold.specs.Sessions.{firstStatus}
+
+pub record LogBegins (r : ℕ) (log marks own tallies shared : List ℕ) : Type 0 where
+  pub status : r ≡ 0
+  pub held : LogHeld newReplay log marks own tallies shared
+
+-- a piece: the refusal of its first refused byte or 0, and in any case the bytes taken
+pub record LogCrosses (f : Fed) (r : ℕ) (log marks own tallies shared taken : List ℕ) : Type 0 where
+  pub status : r ≡ firstStatus (f .refusal)
+  pub room : taken ≡ f .taken ∷ []
+  pub held : LogHeld (f .replay) log marks own tallies shared
+
+-- where a replay stands, in seven numbers
+abbrev pub standingOf : Standing → List ℕ
+standingOf s =
+    s .«stopped_by» ∷ s .refused ∷ s .«refused_after» ∷ s .midnights ∷ s .«first_day» ∷ s .«last_day» ∷ s .unfinished ∷ []
+
+abbrev pub tallyNumbers : Tally → List ℕ
+tallyNumbers t = t .runs ∷ t .claims ∷ []

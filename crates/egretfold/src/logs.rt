@@ -1,0 +1,87 @@
+// A station's log: bytes in pieces of any length, and what their replay reports. A replay's five arrays are as
+// `egretfold_log_begin` and `egretfold_log_feed` left them; the last three are its session's.
+use log::replay;
+use log::report;
+use session::stream::First;
+ghost use mathlib.Core.Path.{_≡_};
+ghost use mathlib.Core.List.{[]};
+ghost use Rattle.cells.specs.State.{newSession};
+ghost use Rattle.log.specs.Feed.{replayOf};
+ghost use Rattle.log.specs.Report.{partOf};
+ghost use Rattle.log.specs.Cells.{LogGiven, replayIn, viewed};
+ghost use Rattle.log.specs.Reported.{midnightsIn, nowIn, statusOf};
+ghost use Rattle.egretfold.specs.Sessions.{Shows};
+ghost use Rattle.egretfold.specs.Logs.{LogBegins, LogCrosses, standingOf, tallyNumbers};
+
+// A replay that has read nothing, over a new session.
+#[no_mangle]
+pub extern "C" fn egretfold_log_begin(
+    log: &mut [u32; 10],
+    marks: &mut [u64; 800],
+    own: &mut [u32; 17],
+    tallies: &mut [u64; 2],
+    shared: &mut [u32; 101],
+) -> u32
+    ensures { λ r. ⌜ LogBegins r (now (log .exit)) (now (marks .exit)) (now (own .exit)) (now (tallies .exit)) (now (shared .exit)) ⌝ }
+{
+    replay::begin(log, marks, own, tallies, shared);
+    0
+}
+
+// A piece of bytes: how many were taken, and 18 or 19 for the first that wasn't, if any.
+#[no_mangle]
+pub extern "C" fn egretfold_log_feed(
+    log: &mut [u32; 10],
+    marks: &mut [u64; 800],
+    own: &mut [u32; 17],
+    tallies: &mut [u64; 2],
+    shared: &mut [u32; 101],
+    bytes: &[u8],
+    taken: &mut [u64; 1],
+) -> u32
+    requires { ⌜ LogGiven (now log) (now marks) (now own) (now tallies) (now shared) ⌝ }
+    ensures { λ r. ⌜ LogCrosses (replayOf (replayIn (now (log .entry)) (now (marks .entry)) (now (own .entry)) (now (tallies .entry)) (now (shared .entry))) (now (bytes .entry))) r (now (log .exit)) (now (marks .exit)) (now (own .exit)) (now (tallies .exit)) (now (shared .exit)) (now (taken .exit)) ⌝ }
+{
+    let piece = replay::feed(log, marks, own, tallies, shared, bytes);
+    *taken = [piece.taken.0];
+    let refusal = piece.refusal;
+    match refusal {
+        First::Nothing => 0,
+        First::Refused(why) => refusal::number(why),
+    }
+}
+
+// Where a replay stands: the number that stopped it; the first refused word's number and the midnights before it; the
+// midnights so far, the first and the last day; how many bytes of an unfinished record stand. What isn't there is 0.
+#[no_mangle]
+pub extern "C" fn egretfold_log_status(log: &[u32; 10], status: &mut [u32; 7]) -> u32
+    ensures { λ r. ⌜ Shows (standingOf (statusOf (viewed (now (log .entry)) [] newSession))) r (now (status .exit)) ⌝ }
+{
+    let standing = report::status(log);
+    *status = [
+        standing.stopped_by,
+        standing.refused,
+        standing.refused_after,
+        standing.midnights,
+        standing.first_day,
+        standing.last_day,
+        standing.unfinished,
+    ];
+    0
+}
+
+// Runs and claimed elements of a part: 0 is what ended before the first midnight, k the k-th day; none past the last.
+#[no_mangle]
+pub extern "C" fn egretfold_log_part(
+    log: &[u32; 10],
+    marks: &[u64; 800],
+    tallies: &[u64; 2],
+    part: u32,
+    counts: &mut [u64; 2],
+) -> u32
+    ensures { λ r. ⌜ Shows (tallyNumbers (partOf (now (marks .entry)) (midnightsIn (now (log .entry))) (nowIn (now (tallies .entry))) part)) r (now (counts .exit)) ⌝ }
+{
+    let ended = report::part(log, marks, tallies, part);
+    *counts = [ended.runs, ended.claims];
+    0
+}

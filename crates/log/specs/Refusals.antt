@@ -1,0 +1,18 @@
+-- Document 02, request 1: what a refused byte leaves. "Both stop the replay and drop the open record. What came before stands; later
+-- bytes get that number again." Assumes nothing.
+use mathlib.Core.Path.{_≡_}
+use Prim.Native.Nat.{ℕ}
+use Rattle.log.specs.State.{Replay}
+use Rattle.log.specs.Step.{stopped}
+
+-- the numbers that stop a replay
+pub data NewStop : ℕ → Type 0 where
+  byKind : NewStop 18
+  byDay : NewStop 19
+
+-- the replay after a byte that was refused with a number
+pub data RefusedTo (r : Replay) : ℕ → Replay → Type 0 where
+  -- it was stopped by that number before: nothing at all has changed
+  again : (r .stoppedBy ≡ 0 → ⊥) → RefusedTo r (r .stoppedBy) r
+  -- it is stopped and the open record is dropped; all else stands
+  newly : {n : ℕ} → r .stoppedBy ≡ 0 → NewStop n → RefusedTo r n (stopped n r)
