@@ -1,3 +1,8 @@
+use Rattle.egretfold.specs.Sessions.{firstStatus}
+use Rattle.session.specs.Answers.{firstOf}
+use Prim.Native.Nat.{ℕ}
+use mathlib.Core.List.{[], _∷_}
+use mathlib.Core.Path.{sym, ap, _∙_}
 use borrow.Author.Needs.{needs}
 use Rattle.egretfold.proofs.logs.egretfold_log_feed.Statement.{statement}
 use Rattle.egretfold.proofs.logs.egretfold_log_feed.Tie as tie
@@ -24,11 +29,11 @@ number-requires c κs = search needs
 
 -- src/logs.rt:32:1
 returns : tie.Need-returns
-returns c = ?
+returns c = record { status = ap firstStatus (sym (ap firstOf (c .enum-told .given .1)) ∙ c .before .before .before .feed .ensures .refusal); room = ap (λ (a : ℕ). a ∷ []) (c .before .before .before .feed .ensures .taken); held = c .before .before .before .feed .ensures .held }
 
 -- src/logs.rt:32:1
 returns-2 : tie.Need-returns-2
-returns-2 c = ?
+returns-2 c = record { status = c .number .ensures ∙ ap firstStatus (sym (ap firstOf (c .before .before .refusal .given .1)) ∙ c .before .before .before .before .before .feed .ensures .refusal); room = ap (λ (a : ℕ). a ∷ []) (c .before .before .before .before .before .feed .ensures .taken); held = c .before .before .before .before .before .feed .ensures .held }
 
 pub egretfold-log-feed-spec : {M : Type 1} → statement M
 egretfold-log-feed-spec =

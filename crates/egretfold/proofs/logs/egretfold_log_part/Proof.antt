@@ -1,3 +1,5 @@
+use Rattle.egretfold.specs.Logs.{tallyNumbers}
+use mathlib.Core.Path.{refl, ap}
 use borrow.Author.Needs.{needs}
 use Rattle.egretfold.proofs.logs.egretfold_log_part.Statement.{statement}
 use Rattle.egretfold.proofs.logs.egretfold_log_part.Tie as tie
@@ -11,7 +13,7 @@ part-requires c κs = search needs
 
 -- src/logs.rt:74:1
 returns : tie.Need-returns
-returns c = ?
+returns c = record { status = refl; room = ap tallyNumbers (c .before .part .ensures) }
 
 pub egretfold-log-part-spec : {M : Type 1} → statement M
 egretfold-log-part-spec = tie.close (tie.spec part-requires returns)

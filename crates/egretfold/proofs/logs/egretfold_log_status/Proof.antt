@@ -1,3 +1,5 @@
+use Rattle.egretfold.specs.Logs.{standingOf}
+use mathlib.Core.Path.{refl, ap}
 use borrow.Author.Needs.{needs}
 use Rattle.egretfold.proofs.logs.egretfold_log_status.Statement.{statement}
 use Rattle.egretfold.proofs.logs.egretfold_log_status.Tie as tie
@@ -11,7 +13,7 @@ status-requires c κs = search needs
 
 -- src/logs.rt:56:1
 returns : tie.Need-returns
-returns c = ?
+returns c = record { status = refl; room = ap standingOf (c .before .status .ensures) }
 
 pub egretfold-log-status-spec : {M : Type 1} → statement M
 egretfold-log-status-spec = tie.close (tie.spec status-requires returns)
