@@ -1,14 +1,14 @@
 // Commands judged by the tests of their lines alone and taken at once: all the words of one that lies whole inside a piece,
 // or the last word of an open one. A command that isn't accepted so changes nothing here: it is then read the way that finds
 // its refusal. Each routine is told how many words to count, and answers them where it took the command, else 0.
-use cells::accept;
 use cells::own;
 use cells::settings;
-use cells::start;
 use command::fits;
 use command::kinds::Checked;
 use command::table;
 use command::table::Line;
+use effects::accept;
+use effects::start;
 ghost use mathlib.Core.Path.{_≡_};
 ghost use mathlib.Core.List.{List, [], _∷_};
 ghost use Prim.Native.Nat.{ℕ, _<_};
