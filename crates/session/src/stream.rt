@@ -1,5 +1,4 @@
 // The words of a stream, one by one and in pieces.
-use crate::whole;
 use cells::own;
 use cells::own::WordPosition;
 use cells::settings;
