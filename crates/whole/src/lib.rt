@@ -3,12 +3,12 @@
 // its refusal. Each routine is told how many words to count, and answers them where it took the command, else 0.
 use cells::own;
 use cells::settings;
-use command::fits;
 use command::kinds::Checked;
 use command::table;
 use command::table::Line;
 use effects::accept;
 use effects::start;
+use judging::fits;
 ghost use mathlib.Core.Path.{_≡_};
 ghost use mathlib.Core.List.{List, [], _∷_};
 ghost use Prim.Native.Nat.{ℕ, _<_};
