@@ -372,7 +372,7 @@ fn four_expected(layout: Layout, f: Fine, length: usize) -> u32 {
 }
 
 fn superfine(f: Fine, memory: &[u8]) -> bool {
-    let r = memory::superfine(
+    let r = superfine::superfine(
         ByteAddress(f.base),
         word(f),
         f.height,

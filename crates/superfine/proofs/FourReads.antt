@@ -9,9 +9,9 @@ use Rattle.refusal.specs.Told.{Told, gives, refuses}
 use Rattle.layout.specs.Layout.{wellFormed, windowRule}
 use Rattle.layout.specs.declared.Layout.{Layout}
 use Rattle.address.specs.Address.{stepOf, ifAccepted}
 use Rattle.memory.specs.Elements.{inOrder, readOf}
 use Rattle.memory.specs.Reads.{joined}
-use Rattle.memory.specs.Superfine.{superfineWord, layoutOf, fourInside, fourHeld, fourBytes, fourOf, fourAtOf, superfineReadOf}
+use Rattle.superfine.specs.Superfine.{superfineWord, layoutOf, fourInside, fourHeld, fourBytes, fourOf, fourAtOf, superfineReadOf}
 
 both :
     (i j h k : Bool) (v w : List ℕ) →

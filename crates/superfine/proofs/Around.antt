@@ -9,8 +9,8 @@ use Rattle.refusal.specs.Told.{gives, refuses}
 use Rattle.layout.specs.declared.Layout.{Layout}
 use Rattle.address.specs.Address.{inside, translateOf}
 use Rattle.address.proofs.Inverse.{answered}
-use Rattle.memory.specs.Superfine.{fourInside, cornersOf}
+use Rattle.superfine.specs.Superfine.{fourInside, cornersOf}
 use Rattle.memory.proofs.Pairs.{In, goes-to, grows, stays-out, out-of-window}
 
 module _ (l : Layout) (x y : ℕ) where
   own-inside : fourInside l x y ≡ true → inside l x y ≡ true

@@ -1,12 +1,12 @@
--- `memory::superfine` meets its contract: a law for each return. Assumes nothing.
+-- `superfine::superfine` meets its contract: a law for each return. Assumes nothing.
 use mathlib.Core.Path.{sym, ap, _∙_}
 use borrow.Author.Tests.{not-true, not-false}
-use Rattle.memory.specs.Superfine.{toldCorners}
+use Rattle.superfine.specs.Superfine.{toldCorners}
 use Rattle.memory.proofs.Calls.{told-so}
-use Rattle.memory.proofs.Channels.{word-refused, corners-refused, corners-found, layout-read, four-small}
+use Rattle.superfine.proofs.Channels.{word-refused, corners-refused, corners-found, layout-read, four-small}
 use borrow.Author.Needs.{needs}
-use Rattle.memory.proofs.superfine.Statement.{statement}
-use Rattle.memory.proofs.superfine.Tie as tie
+use Rattle.superfine.proofs.superfine.Statement.{statement}
+use Rattle.superfine.proofs.superfine.Tie as tie
 
 superfine-word-requires : tie.Need-superfine-word-requires
 superfine-word-requires c κs = search needs

@@ -13,12 +13,12 @@ use Rattle.layout.specs.declared.Layout.{Layout}
 use Rattle.layout.specs.declared.ByteAddress.{ByteAddress}
 use Rattle.address.specs.Address.{addressOf}
 use Rattle.command.specs.Format.{pitchOf, tiledOf, codeOf, sizeOf}
 use Rattle.memory.specs.Answers.{FourAsked}
 use Rattle.memory.specs.Elements.{bytesAt, startOf}
-use Rattle.memory.specs.Superfine.{superfineWord, layoutOf, fourInside, fourHeld, fourBytes, fourOf, fourAtOf, superfineReadOf, cornersOf}
+use Rattle.superfine.specs.Superfine.{superfineWord, layoutOf, fourInside, fourHeld, fourBytes, fourOf, fourAtOf, superfineReadOf, cornersOf}
 use Rattle.memory.proofs.Pairs.{given, passed}
 use Rattle.memory.proofs.Places.{not-held, begins}
-use Rattle.memory.proofs.Words.{small-size}
+use Rattle.superfine.proofs.Words.{small-size}
 
 -- the part of memory that an element's place begins
 abbrev part : List ℕ → ℕ → ℕ → List ℕ

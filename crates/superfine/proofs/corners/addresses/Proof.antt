@@ -1,10 +1,10 @@
--- `memory::corners::addresses` meets its contract: the refusal of (x, y), or what `around` finds. Assumes nothing.
+-- `superfine::corners::addresses` meets its contract: the refusal of (x, y), or what `around` finds. Assumes nothing.
 use mathlib.Core.Path.{sym, ap, _∙_}
 use Rattle.address.specs.Address.{toldTranslated}
-use Rattle.memory.proofs.Around.{own-refused}
+use Rattle.superfine.proofs.Around.{own-refused}
 use borrow.Author.Needs.{needs}
-use Rattle.memory.proofs.corners.addresses.Statement.{statement}
-use Rattle.memory.proofs.corners.addresses.Tie as tie
+use Rattle.superfine.proofs.corners.addresses.Statement.{statement}
+use Rattle.superfine.proofs.corners.addresses.Tie as tie
 
 translate-requires : tie.Need-translate-requires
 translate-requires c κs = search needs

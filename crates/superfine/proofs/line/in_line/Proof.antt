@@ -1,11 +1,11 @@
--- `memory::copy::in_line` meets its contract: each part is put right after the one before it. Assumes nothing.
+-- `superfine::line::in_line` meets its contract: each part is put right after the one before it. Assumes nothing.
 use mathlib.Core.Path.{ap, _∙_}
 use mathlib.Core.List.{List}
 use Prim.Native.Nat.{ℕ, _*_}
 use Rattle.memory.specs.Elements.{stored, inLine}
 use borrow.Author.Needs.{needs}
-use Rattle.memory.proofs.copy.in_line.Statement.{statement}
-use Rattle.memory.proofs.copy.in_line.Tie as tie
+use Rattle.superfine.proofs.line.in_line.Statement.{statement}
+use Rattle.superfine.proofs.line.in_line.Tie as tie
 
 put-requires : tie.Need-put-requires
 put-requires c κs = search needs

@@ -1,12 +1,12 @@
--- `memory::four` meets its contract: 11 for the first element that isn't held, or the four parts of memory.
+-- `superfine::four` meets its contract: 11 for the first element that isn't held, or the four parts of memory.
 -- Assumes nothing.
 use mathlib.Core.Path.{sym, ap, _∙_}
 use Rattle.memory.specs.Elements.{toldPlace}
 use Rattle.memory.proofs.Calls.{told-so}
-use Rattle.memory.proofs.Channels.{right-unheld, below-unheld, across-unheld, own-unheld, part-fits, part-ends, four-asked, four-read}
+use Rattle.superfine.proofs.Channels.{right-unheld, below-unheld, across-unheld, own-unheld, part-fits, part-ends, four-asked, four-read}
 use borrow.Author.Needs.{needs}
-use Rattle.memory.proofs.four.Statement.{statement}
-use Rattle.memory.proofs.four.Tie as tie
+use Rattle.superfine.proofs.four.Statement.{statement}
+use Rattle.superfine.proofs.four.Tie as tie
 
 start-requires : tie.Need-start-requires
 start-requires c κs = search needs

@@ -1,10 +1,10 @@
--- `memory::superfine_word` meets its contract: a law for each return. Assumes nothing.
+-- `superfine::superfine_word` meets its contract: a law for each return. Assumes nothing.
 use mathlib.Core.Path.{sym, _∙_}
 use borrow.Author.Tests.{not-true, not-false}
-use Rattle.memory.proofs.Words.{base-refused, format-refused, not-superfine, by-channels}
+use Rattle.superfine.proofs.Words.{base-refused, format-refused, not-superfine, by-channels}
 use borrow.Author.Needs.{needs}
-use Rattle.memory.proofs.superfine_word.Statement.{statement}
-use Rattle.memory.proofs.superfine_word.Tie as tie
+use Rattle.superfine.proofs.superfine_word.Statement.{statement}
+use Rattle.superfine.proofs.superfine_word.Tie as tie
 
 is-allowed-requires : tie.Need-is-allowed-requires
 is-allowed-requires c κs = search needs

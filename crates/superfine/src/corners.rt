@@ -6,7 +6,7 @@ ghost use mathlib.Core.Path.{_≡_};
 ghost use mathlib.Core.List.{[], _∷_};
 ghost use Rattle.refusal.specs.Told.{gives};
 ghost use Rattle.address.specs.Address.{translateOf};
-ghost use Rattle.memory.specs.Superfine.{cornersOf, toldCorners};
+ghost use Rattle.superfine.specs.Superfine.{cornersOf, toldCorners};
 
 // The addresses of (x + 1, y), (x, y + 1), (x + 1, y + 1) and (x, y).
 pub enum Corners {

@@ -10,7 +10,7 @@ use Rattle.laws.proofs.Choice.{and-yes, and-right, and-no-left, and-no-right}
 use Rattle.command.specs.Format.{superfineOf, codeOf, sizeOf, channelsOf}
 use Rattle.command.specs.Kinds.{allowed}
 use Rattle.command.specs.declared.kinds.Kind.the-variants.{Base, Format}
-use Rattle.memory.specs.Superfine.{superfineWord}
+use Rattle.superfine.specs.Superfine.{superfineWord}
 
 module _ (base format : ℕ) where
   pub base-refused : allowed Base base ≡ false → superfineWord base format ≡ false

@@ -1,10 +1,10 @@
--- `memory::copy::four` meets its contract. Assumes nothing.
+-- `superfine::line::four` meets its contract. Assumes nothing.
 use mathlib.Core.Path.{refl}
 use Rattle.memory.specs.Elements.{inLine}
 use Rattle.memory.proofs.Copies.{reading-of-four}
 use borrow.Author.Needs.{needs}
-use Rattle.memory.proofs.copy.four.Statement.{statement}
-use Rattle.memory.proofs.copy.four.Tie as tie
+use Rattle.superfine.proofs.line.four.Statement.{statement}
+use Rattle.superfine.proofs.line.four.Tie as tie
 
 first-four-requires : tie.Need-first-four-requires
 first-four-requires c κs = search needs

@@ -1,10 +1,10 @@
--- `memory::copy::first_four` meets its contract: each arm hands over its size. Assumes nothing.
+-- `superfine::line::first_four` meets its contract: each arm hands over its size. Assumes nothing.
 use mathlib.Core.Path.{sym, ap, _∙_}
 use Prim.Native.Nat.{ℕ}
 use Rattle.memory.specs.Elements.{inLine}
 use borrow.Author.Needs.{needs}
-use Rattle.memory.proofs.copy.first_four.Statement.{statement}
-use Rattle.memory.proofs.copy.first_four.Tie as tie
+use Rattle.superfine.proofs.line.first_four.Statement.{statement}
+use Rattle.superfine.proofs.line.first_four.Tie as tie
 
 in-line-requires : tie.Need-in-line-requires
 in-line-requires c κs = search needs

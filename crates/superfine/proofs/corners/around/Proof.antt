@@ -1,10 +1,10 @@
--- `memory::corners::around` meets its contract: a law for each return. Assumes nothing.
+-- `superfine::corners::around` meets its contract: a law for each return. Assumes nothing.
 use mathlib.Core.Path.{sym, ap, _∙_}
 use Rattle.address.specs.Address.{toldTranslated}
-use Rattle.memory.proofs.Around.{x-grows, y-grows, right-outside, below-outside, across-outside, all-inside}
+use Rattle.superfine.proofs.Around.{x-grows, y-grows, right-outside, below-outside, across-outside, all-inside}
 use borrow.Author.Needs.{needs}
-use Rattle.memory.proofs.corners.around.Statement.{statement}
-use Rattle.memory.proofs.corners.around.Tie as tie
+use Rattle.superfine.proofs.corners.around.Statement.{statement}
+use Rattle.superfine.proofs.corners.around.Tie as tie
 
 add-translate : tie.Need-add-translate
 add-translate c = record { fits = x-grows _ _ _ _ (c .pre) }
