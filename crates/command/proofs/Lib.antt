@@ -2,7 +2,6 @@ pub mod Fitting
 pub mod Headers
 pub mod Judging
 pub mod Readable
-pub mod Room
 pub mod Rule
 pub mod Windows
 pub mod Words

@@ -7,15 +7,12 @@ use Prim.Native.Nat.{ℕ}
 use lib.Dec.{eqb, leb}
 use lib.ListN.{length, getD, drop}
 use Rattle.laws.specs.Choice.{_and_, pick}
-use Rattle.refusal.specs.Number.{numberOf}
 use Rattle.refusal.specs.Told.{Told, gives, refuses}
 use Rattle.command.specs.Kinds.{allowed, faultOf, kinds, kindOf, checkOf}
 use Rattle.command.specs.Commands.{lineOf, fieldsOf, wordsOf}
 use Rattle.command.specs.Rules.{lastRuleOf}
 use Rattle.command.specs.declared.kinds.Kind.{Kind}
 use Rattle.command.specs.declared.commands.Command.{Command}
-use Rattle.command.specs.declared.writer.Written.{Written}
-use Rattle.command.specs.declared.writer.Written.the-variants.{Words, Refused}
 
 -- a word of a kind doesn't cause refusal `n`
 unfoldable pub spares : ℕ → Kind → ℕ → Bool
@@ -56,11 +53,6 @@ writeOf command room =
 unfoldable pub roomAfter : Told → Command → List ℕ → List ℕ
 roomAfter (gives values) command room = wordsOf command ++ drop (length (wordsOf command)) room
 roomAfter (refuses number) command room = room
-
--- what the writer tells, case by case
-abbrev pub toldWritten : Written → Told
-toldWritten (Words n) = gives (n ∷ [])
-toldWritten (Refused why) = refuses (numberOf why)
 
 -- a call of the writer: what it told, and the room before and after
 pub record Wrote (command : Command) (told : Told) (before after : List ℕ) : Type 0 where

@@ -30,8 +30,8 @@ use Rattle.session.proofs.WriteBack.{fed-back}
 use Rattle.session.proofs.ReadAgain.{read-again}
 use Rattle.session.proofs.Refusals.{refused-word}
 use Rattle.session.proofs.Tallies.{Tallied, tallied}
-use Rattle.flow.specs.Proc.{wants, decided, worked}
-use Rattle.flow.specs.Group.{allowed, fresh, turnedIf, wishOf, overLimit, wayOf, settled, slotStep, ended, stepOf as flowStep}
+use Rattle.group.specs.Proc.{wants, decided, worked}
+use Rattle.group.specs.Group.{allowed, fresh, turnedIf, wishOf, overLimit, wayOf, settled, slotStep, ended, stepOf as flowStep}
 use Rattle.flow.specs.Cases.{oneWord, c9, c10, c11, c12}
 use Rattle.demands.specs.Cases.{Agree, cases}
 

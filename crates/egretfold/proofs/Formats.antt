@@ -15,9 +15,9 @@ use Rattle.command.specs.declared.commands.Command.{Command}
 use Rattle.command.specs.declared.commands.Places.{Places}
 use Rattle.cells.specs.State.{Party, Shared}
 use Rattle.session.specs.Step.{completed}
-use Rattle.cells.specs.Queries.{boundsOf}
-use Rattle.cells.specs.declared.queries.Bounds.{Bounds}
-use Rattle.cells.specs.declared.queries.Setting.{Setting}
+use Rattle.queries.specs.Queries.{boundsOf}
+use Rattle.queries.specs.declared.Bounds.{Bounds}
+use Rattle.queries.specs.declared.Setting.{Setting}
 use Rattle.egretfold.specs.Crossing.{flag}
 use Rattle.egretfold.specs.Sessions.{Shows, statusOf, domainOf, masksOf, openHeader, formatTold, numberedTold, formatAt, replyTold, valuesOf}
 

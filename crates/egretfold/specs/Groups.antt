@@ -2,8 +2,8 @@
 use mathlib.Core.Path.{_≡_}
 use mathlib.Core.List.{List}
 use Prim.Native.Nat.{ℕ}
-use Rattle.flow.specs.Group.{Outcome, Run, stepTold, runTold, beginTold}
-use Rattle.flow.specs.Cells.{stepLeaves, runLeaves, beginLeaves}
+use Rattle.group.specs.Group.{Outcome, Run, stepTold, runTold, beginTold}
+use Rattle.group.specs.Cells.{stepLeaves, runLeaves, beginLeaves}
 use Rattle.flow.specs.Store.{loadTold, firstsLeft, secondsLeft}
 use Rattle.egretfold.specs.Crossing.{Crosses, statusOf}
 

@@ -16,8 +16,8 @@ use Rattle.cells.specs.State.{Party, Shared, Buffer, Domain, unset, newSession}
 use Rattle.session.specs.Step.{Reply, Stepped, stillOpen, completed, refused}
 use Rattle.session.specs.Feed.{Fed, First, nothing, first}
 use Rattle.cells.specs.Asked.{Held}
-use Rattle.cells.specs.Queries.{settingOf}
-use Rattle.cells.specs.declared.queries.Setting.{Setting}
+use Rattle.queries.specs.Queries.{settingOf}
+use Rattle.queries.specs.declared.Setting.{Setting}
 use Rattle.egretfold.specs.declared.sessions.Found.{Found}
 use Rattle.egretfold.specs.declared.sessions.Found.the-variants as found
 use Rattle.egretfold.specs.Crossing.{Crosses, flag}

@@ -5,7 +5,7 @@ use memory::Answer;
 use memory::Written;
 ghost use Rattle.address.specs.Address.{layoutOf};
 ghost use Rattle.memory.specs.Elements.{readOf};
-ghost use Rattle.memory.specs.Superfine.{superfineReadOf};
+ghost use Rattle.superfine.specs.Superfine.{superfineReadOf};
 ghost use Rattle.egretfold.specs.Crossing.{Crosses};
 ghost use Rattle.egretfold.specs.Elements.{inSixteen, SuperfineCrosses, WriteCrosses};
 
@@ -88,7 +88,7 @@ pub extern "C" fn egretfold_element_superfine(
 ) -> u32
     ensures { λ r. ⌜ SuperfineCrosses (superfineReadOf base format height x y first (now (memory .entry))) r (now (bytes .entry)) (now (bytes .exit)) (now (count .entry)) (now (count .exit)) ⌝ }
 {
-    let reading = memory::superfine(
+    let reading = superfine::superfine(
         ByteAddress(base),
         format,
         height,

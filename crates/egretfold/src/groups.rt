@@ -2,10 +2,10 @@
 use flow::Begun;
 use flow::Loaded;
 use flow::Ran;
-use flow::Stepped;
-ghost use Rattle.flow.specs.Answers.{programOf};
-ghost use Rattle.flow.specs.Cells.{Made, groupOf};
-ghost use Rattle.flow.specs.Group.{stepOf, runOf};
+use stepper::Stepped;
+ghost use Rattle.stepper.specs.Answers.{programOf};
+ghost use Rattle.group.specs.Cells.{Made, groupOf};
+ghost use Rattle.group.specs.Group.{stepOf, runOf};
 ghost use Rattle.egretfold.specs.Groups.{BeginCrosses, LoadCrosses, RunCrosses, StepCrosses};
 
 // Loads a program, two words a slot, and says how many slots run; 15.

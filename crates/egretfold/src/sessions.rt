@@ -1,11 +1,10 @@
 // Sessions: words one by one and in pieces, and what a session holds. Its three arrays are as `egretfold_session_begin` and
 // these functions left them.
 use cells::own;
-use cells::queries;
-use cells::queries::Setting;
 use command::commands;
 use command::table;
 use command::table::Line;
+use queries::Setting;
 use refusal::Refusal;
 use session::stream;
 use session::stream::Answer;

@@ -14,11 +14,11 @@ use Rattle.laws.proofs.Masks.{pack-same, every-at, least-odd, least-even}
 use Rattle.refusal.specs.declared.Refusal.the-variants.{FlowField}
 use Rattle.flow.specs.declared.Begun.{Begun}
 use Rattle.flow.specs.declared.Begun.the-variants as begun
-use Rattle.flow.specs.Proc.{Proc, Active, Absent, isLive, isActive, counterBit}
-use Rattle.flow.specs.Group.{fresh, isGroupSize, beginTold}
-use Rattle.flow.specs.Cells.{plane, cellsWith, cellsOf, beginLeaves, Made}
+use Rattle.group.specs.Proc.{Proc, Active, Absent, isLive, isActive, counterBit}
+use Rattle.group.specs.Group.{fresh, isGroupSize, beginTold}
+use Rattle.group.specs.Cells.{plane, cellsWith, cellsOf, beginLeaves, Made}
 use Rattle.flow.specs.Answers.{BeginDone}
-use Rattle.flow.proofs.State.{made-of, fresh-sound}
+use Rattle.group.proofs.State.{made-of, fresh-sound}
 
 -- the mask of the first processors, made from the top down
 full-mask : (size : ℕ) → size ≤ 32 → 4294967295 / 2 ^ (32 - size) ≡ pack 32 (λ i. ltb i size)

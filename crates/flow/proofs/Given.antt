@@ -11,13 +11,14 @@ use Rattle.laws.proofs.Choice.{pick-yes, and-intro}
 use Rattle.laws.proofs.Split.{by-test}
 use Rattle.laws.proofs.Masks.{on-pack}
 use Rattle.flow.specs.declared.Begun.{Begun}
-use Rattle.flow.specs.declared.Stepped.{Stepped}
+use Rattle.stepper.specs.declared.Stepped.{Stepped}
 use Rattle.flow.specs.declared.Ran.{Ran}
-use Rattle.flow.specs.Proc.{Proc, Active, Idle, Absent, isLive, isActive, counterBit}
-use Rattle.flow.specs.Group.{Program, Run, Makes, Breaks, isGroupSize, stepOf, runOf, ended}
-use Rattle.flow.specs.Cells.{groupOf, Made, runLeaves, beginLeaves}
-use Rattle.flow.specs.Answers.{BeginDone, StepDone, RunDone}
-use Rattle.flow.proofs.State.{made-of, made-masks, left-made, step-sound}
+use Rattle.group.specs.Proc.{Proc, Active, Idle, Absent, isLive, isActive, counterBit}
+use Rattle.group.specs.Group.{Program, Run, Makes, Breaks, isGroupSize, stepOf, runOf, ended}
+use Rattle.group.specs.Cells.{groupOf, Made, runLeaves, beginLeaves}
+use Rattle.stepper.specs.Answers.{StepDone}
+use Rattle.flow.specs.Answers.{BeginDone, RunDone}
+use Rattle.group.proofs.State.{made-of, made-masks, left-made, step-sound}
 use Rattle.flow.proofs.Beginning.{begin-made}
 use Rattle.flow.proofs.Running.{SoundRun, steps-sound}
 

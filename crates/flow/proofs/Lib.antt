@@ -1,10 +1,5 @@
 pub mod Beginning
 pub mod Cases
 pub mod Given
-pub mod Going
 pub mod Loading
-pub mod Places
 pub mod Running
-pub mod State
-pub mod Stepping
-pub mod Words

@@ -22,12 +22,13 @@ use Rattle.flow.specs.declared.Ran.{Ran}
 use Rattle.flow.specs.declared.Ran.the-variants as ran
 use Rattle.flow.specs.declared.Walked.{Walked}
 use Rattle.flow.specs.declared.Walked.the-variants as walked
-use Rattle.flow.specs.Proc.{isActive}
-use Rattle.flow.specs.Group.{Group, Outcome, Steps, Fails, Program, Run, Makes, Breaks, ended, stepOf, stepTold, onceMore, goOn, stepsOf, runOf, runTold, firstActive, numberActive}
-use Rattle.flow.specs.Cells.{groupOf, Sound, Made, stepLeaves, runLeaves}
-use Rattle.flow.specs.Answers.{refusalOf, answerOf, toldStepped, StepDone, RunDone, walkTold, WalkDone, programOf}
-use Rattle.flow.proofs.Stepping.{told-low, told-high}
-use Rattle.flow.proofs.State.{SoundAfter, made-of, group-back, made-masks, step-sound}
+use Rattle.group.specs.Proc.{isActive}
+use Rattle.group.specs.Group.{Group, Outcome, Steps, Fails, Program, Run, Makes, Breaks, ended, stepOf, stepTold, onceMore, goOn, stepsOf, runOf, runTold, firstActive, numberActive}
+use Rattle.group.specs.Cells.{groupOf, Sound, Made, stepLeaves, runLeaves}
+use Rattle.stepper.specs.Answers.{refusalOf, answerOf, toldStepped, StepDone, programOf}
+use Rattle.flow.specs.Answers.{RunDone, walkTold, WalkDone}
+use Rattle.stepper.proofs.Stepping.{told-low, told-high}
+use Rattle.group.proofs.State.{SoundAfter, made-of, group-back, made-masks, step-sound}
 
 -- a run of one step
 abbrev single : Outcome → Run

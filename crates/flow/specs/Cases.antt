@@ -5,8 +5,8 @@ use Prim.Native.Nat.{ℕ}
 use lib.ListN.{replicate}
 use Rattle.laws.specs.Masks.{digit, pack}
 use Rattle.refusal.specs.Told.{Told, gives, refuses}
-use Rattle.flow.specs.Proc.{isActive}
-use Rattle.flow.specs.Group.{Outcome, Steps, Fails, Program, fresh, stepOf}
+use Rattle.group.specs.Proc.{isActive}
+use Rattle.group.specs.Group.{Outcome, Steps, Fails, Program, fresh, stepOf}
 
 -- "N is 4, second words and other masks 0": the word stands in every slot, so that the position doesn't matter
 unfoldable pub oneWord : ℕ → Program

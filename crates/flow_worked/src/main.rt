@@ -3,10 +3,10 @@
 use flow::Begun;
 use flow::Loaded;
 use flow::Ran;
-use flow::Stepped;
+use stepper::Stepped;
 ghost use mathlib.Core.Path.{_≡_};
 ghost use Prim.Native.Nat.{_<_, _≤_};
-ghost use Rattle.flow.specs.Cells.{Made};
+ghost use Rattle.group.specs.Cells.{Made};
 
 // A step's answer as a number: 101 for a jump, 100 for a stay, else the refusal's number.
 fn told(answer: Stepped) -> u32 {

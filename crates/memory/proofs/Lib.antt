@@ -1,10 +1,6 @@
-pub mod Around
 pub mod Calls
-pub mod Channels
 pub mod Copies
-pub mod FourReads
 pub mod Pairs
 pub mod Places
 pub mod ReadBack
 pub mod Stored
-pub mod Words

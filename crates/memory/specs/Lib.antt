@@ -1,4 +1,3 @@
 pub mod Answers
 pub mod Elements
 pub mod Reads
-pub mod Superfine

@@ -1,4 +1,5 @@
--- Reads after a write, and the superfine read as four reads. The proofs are proofs/ReadBack.antt and proofs/FourReads.antt.
+-- Reads after a write, and the superfine read as four reads. The proofs are proofs/ReadBack.antt and
+-- crates/superfine/proofs/FourReads.antt.
 -- Assumes nothing.
 use mathlib.Core.Path.{_≡_}
 use mathlib.Core.List.{List, _++_}

@@ -3,13 +3,12 @@ use crate::Answer;
 use crate::Reading;
 use refusal::Refusal;
 ghost use mathlib.Core.Path.{_≡_};
-ghost use mathlib.Core.List.{_++_};
 ghost use Prim.Native.Nat.{_≤_};
 ghost use lib.ListN.{length, replicate};
 ghost use Rattle.refusal.specs.Number.{numberOf};
 ghost use Rattle.refusal.specs.Told.{gives, refuses};
-ghost use Rattle.memory.specs.Answers.{Answered, PutAsked, FourAsked};
-ghost use Rattle.memory.specs.Elements.{stored, inLine};
+ghost use Rattle.memory.specs.Answers.{Answered, PutAsked};
+ghost use Rattle.memory.specs.Elements.{stored};
 
 // The given bytes, which are `n`, into a part of memory that is as long. Where `n` is a constant, no loop is left.
 fn store_all(part: &mut [u8], given: &[u8], n: usize)
@@ -49,7 +48,7 @@ pub fn refused(why: Refusal) -> Reading
 }
 
 // Bytes of a reading with a part of memory, of `n` bytes, put in place `at`.
-fn put(bytes: [u8; 16], at: usize, part: &[u8], n: usize) -> [u8; 16]
+pub fn put(bytes: [u8; 16], at: usize, part: &[u8], n: usize) -> [u8; 16]
     requires { ⌜ PutAsked bytes at (now part) × (n ≡ length (now part)) ⌝ }
     ensures { λ r. ⌜ r ≡ stored at (now (part .entry)) bytes ⌝ }
 {
@@ -82,43 +81,6 @@ pub fn one(element: &[u8]) -> Reading
     let bytes = first(element);
     Reading {
         answer: Answer::Bytes(element.len()),
-        bytes,
-    }
-}
-
-// Four parts of `n` bytes each, one after the other.
-fn in_line(a: &[u8], b: &[u8], c: &[u8], d: &[u8], n: usize) -> [u8; 16]
-    requires { ⌜ FourAsked (now a) (now b) (now c) (now d) × (n ≡ length (now a)) ⌝ }
-    ensures { λ r. ⌜ r ≡ inLine n (now (a .entry)) (now (b .entry)) (now (c .entry)) (now (d .entry)) ⌝ }
-{
-    let bytes = put([0; 16], 0, a, n);
-    let bytes = put(bytes, n, b, n);
-    let bytes = put(bytes, n * 2, c, n);
-    put(bytes, n * 3, d, n)
-}
-
-// The bytes of a reading of four elements: the sizes of a superfine read are constants in their arms.
-fn first_four(a: &[u8], b: &[u8], c: &[u8], d: &[u8]) -> [u8; 16]
-    requires { ⌜ FourAsked (now a) (now b) (now c) (now d) ⌝ }
-    ensures { λ r. ⌜ r ≡ inLine (length (now (a .entry))) (now (a .entry)) (now (b .entry)) (now (c .entry)) (now (d .entry)) ⌝ }
-{
-    let n = a.len();
-    match n {
-        2 => in_line(a, b, c, d, 2),
-        4 => in_line(a, b, c, d, 4),
-        _ => in_line(a, b, c, d, n),
-    }
-}
-
-// A reading of four elements of one size, one after the other.
-pub fn four(a: &[u8], b: &[u8], c: &[u8], d: &[u8]) -> Reading
-    requires { ⌜ FourAsked (now a) (now b) (now c) (now d) ⌝ }
-    ensures { λ r. ⌜ Answered (gives (now (a .entry) ++ (now (b .entry) ++ (now (c .entry) ++ now (d .entry))))) r ⌝ }
-{
-    let n = a.len();
-    let bytes = first_four(a, b, c, d);
-    Reading {
-        answer: Answer::Bytes(n * 4),
         bytes,
     }
 }

@@ -22,7 +22,7 @@ use Rattle.cells.specs.Effects.{after}
 use Rattle.session.specs.Step.{Reply, stillOpen, completed, refused, Stepped, startRuleOf, stepOf}
 use Rattle.cells.specs.Valid.{Valid}
 use Rattle.session.specs.Again.{fed, standing}
-use Rattle.session.specs.Whole.{Ready, Tried, untaken, accepted as takenWhole, Begun, begun, unbegun}
+use Rattle.whole.specs.Whole.{Ready, Tried, untaken, accepted as takenWhole, Begun, begun, unbegun}
 use Rattle.session.specs.Feed.{First, nothing, first, onward, ended, proceed, feedOf, joined}
 use Rattle.session.specs.Feed as piece
 use Rattle.session.specs.Answers.{replyOf, completedBy, PieceLeft}

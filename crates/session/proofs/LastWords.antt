@@ -19,7 +19,7 @@ use Rattle.session.specs.Again.{standing}
 use Rattle.cells.specs.Asked.{Held, OwnAsked, AcceptAsked}
 use Rattle.session.specs.Asked.{Left, CompleteAsked}
 use Rattle.cells.specs.Cells.{partyOf, partyCells, tallyCells, sessionOf}
-use Rattle.session.specs.Whole.{Roomy, Tried, untaken, accepted, LineTried}
+use Rattle.whole.specs.Whole.{Roomy, Tried, untaken, accepted, LineTried}
 use Rattle.session.proofs.ReadBack.{after-standing}
 use Rattle.session.proofs.Stepping.{same-rule, whole-numbered, whole-refused, whole-accepted}
 use Rattle.session.proofs.Ways.{whole}

@@ -11,5 +11,4 @@ pub mod Stepping
 pub mod Taking
 pub mod Tallies
 pub mod Ways
-pub mod WholeCommands
 pub mod WriteBack

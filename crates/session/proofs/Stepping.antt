@@ -6,15 +6,14 @@ use Prim.Native.Nat.{ℕ, zero, suc, _+_, _<_, _≤_, _^_}
 use native.Mathlib.Omega.{arith}
 use lib.Dec.{eqb, leb, ltb}
 use lib.ListN.{length, getD}
-use borrow.Author.Tests.{lt-ltb, le-ltb, leb-true}
+use borrow.Author.Tests.{lt-ltb, le-ltb}
 use denote.Enum.Declared.{tagOf}
 use types.Run.{OneOf, miss}
 use Rattle.laws.specs.Choice.{pick}
 use Rattle.laws.proofs.Choice.{pick-yes, pick-no}
 use Rattle.refusal.specs.Told.{Told, gives, refuses}
 use Rattle.command.specs.Table.{countOf}
-use Rattle.command.specs.Kinds.{allowed, kindOf}
-use Rattle.command.specs.Commands.{commandOf, lineOf, fieldsOf, EachAllowed}
+use Rattle.command.specs.Commands.{EachAllowed}
 use Rattle.command.specs.Rules.{lastRuleOf}
 use Rattle.command.specs.Writer.{thenTold}
 use Rattle.command.specs.declared.commands.Command.{Command}
@@ -32,6 +31,7 @@ use Rattle.session.specs.Asked.{Left, CompleteAsked, ParameterAsked}
 use Rattle.cells.specs.Cells.{Sized, partyOf, partyCells, tallyCells, sharedOf, sharedCells, sessionOf}
 use Rattle.cells.proofs.Cells.{own-canon, tally-canon, shared-canon}
 use Rattle.session.proofs.Kept.{whole-allowed, allowed-more}
+use Rattle.whole.proofs.Numbers.{numbered}
 use Rattle.session.proofs.Ways.{whole}
 
 -- only a start asks anything of the settings
@@ -75,20 +75,6 @@ pub start-rule : {c : Command} (s : Session) → c ≡ command.Start →
     readyOf (s .party .domain) (s .party .instructions) (s .shared .outputs) ≡ startRuleOf c s
 unfolding startRuleOf
 start-rule s e = ap (λ (c : Command). startRuleOf c s) {x = command.Start} (sym e)
-
--- an input's and an output's number is in range where its kind allows it
-pub numbered : (c : Command) → EachAllowed (lineOf c) (fieldsOf c) → Numbered c
-unfolding lineOf fieldsOf countOf kindOf allowed
-numbered (command.Domain i0 j0 i1 j1) a = tt
-numbered command.Start a = tt
-numbered (command.Quiet what) a = tt
-numbered (command.Store what base format) a = tt
-numbered (command.Input number base format height) a = omega (arith, leb-true number 15 (a 0 (omega arith)))
-numbered (command.Output number base format height) a = omega (arith, leb-true number 3 (a 0 (omega arith)))
-numbered (command.Conditional base format height) a = tt
-numbered (command.OutputMask mask) a = tt
-numbered (command.ConditionalMask mask) a = tt
-numbered (command.Test test) a = tt
 
 -- a refused word's cells: the session is stopped and its open command dropped, all else stands
 pub refusing-left : (l t s : List ℕ) → Sized l t s → (n : ℕ) (l1 : List ℕ) → l1 ≡ partyCells (stop (partyOf l [])) →

@@ -11,11 +11,8 @@ use Rattle.cells.specs.State.{Open, Session, none}
 use Rattle.cells.specs.Effects.{limit, after}
 use Rattle.session.specs.Step.{refusing, startRuleOf}
 use Rattle.session.specs.Feed.{First, nothing, first, Fed, written}
-
--- a running session without an open command
-pub record Idle (s : Session) : Type 0 where
-  pub unstopped : s .party .stopped ≡ 0
-  pub unopened : s .party .opened ≡ none
+-- a running session without an open command, and one at another word: commands taken whole are stated by them too
+pub use Rattle.whole.specs.Standing.{Idle, standing}
 
 -- the answer to a piece: words taken, commands completed, the first refusal, and the session after it
 abbrev pub fed : ℕ → List Command → First → Session → Fed
@@ -25,22 +22,6 @@ fed taken commands refusal session = record { taken = taken; commands = commands
 abbrev pub holding : ℕ → List ℕ → Open
 holding line ps =
     record { line = line; count = length ps; p0 = getD ps 0 0; p1 = getD ps 1 0; p2 = getD ps 2 0; p3 = getD ps 3 0 }
-
--- a session that has taken `n` words and has the open command `o`, all else the same
-abbrev pub standing : Session → ℕ → Open → Session
-standing s n o =
-    record {
-      party =
-          record {
-            stopped = s .party .stopped;
-            taken = n;
-            opened = o;
-            domain = s .party .domain;
-            instructions = s .party .instructions;
-            tally = s .party .tally;
-          };
-      shared = s .shared;
-    }
 
 -- the answers to the words of a command that the writer accepts, where the session is running and without an open command
 pub data ReadAs (s : Session) (c : Command) : Fed → Type 0 where

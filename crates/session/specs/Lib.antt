@@ -5,4 +5,3 @@ pub mod Feed
 pub mod Refusals
 pub mod Step
 pub mod Tallies
-pub mod Whole

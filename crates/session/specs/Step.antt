@@ -1,6 +1,5 @@
 -- Document 01: what a session answers to a word, and the session after it. "Order: 1, then 17, then the rest in table order
 -- among those that the present word can cause." Assumes nothing.
-use mathlib.Core.List.{[]}
 use Prim.Native.Nat.{ℕ}
 use lib.Dec.{eqb, leb, ltb}
 use lib.ListN.{length}
@@ -12,10 +11,10 @@ use Rattle.command.specs.Commands.{commandOf}
 use Rattle.command.specs.Rules.{lastRuleOf}
 use Rattle.command.specs.Writer.{thenTold}
 use Rattle.command.specs.declared.commands.Command.{Command}
-use Rattle.command.specs.declared.commands.Command.the-variants as command
 use Rattle.cells.specs.State.{Open, Domain, Session, atLine, none}
-use Rattle.cells.specs.Start.{readyOf}
 use Rattle.cells.specs.Effects.{limit, opening, took, stop, withParameter, after}
+-- what a command asks of the settings, which a routine below this crate is stated by too
+unfoldable pub use Rattle.effects.specs.Rules.{startRuleOf}
 
 -- "An accepted word answers "open", or the command that it completes"; a refused one its number
 pub data Reply : Type 0 where
@@ -29,19 +28,6 @@ pub record Stepped : Type 0 where
 
 abbrev pub refusing : Session → ℕ → Stepped
 refusing s n = record { reply = refused n; session = record { party = stop (s .party); shared = s .shared } }
-
--- a start asks 7, 8 and 9 of the settings; no other command does
-unfoldable pub startRuleOf : Command → Session → Told
-startRuleOf (command.Domain i0 j0 i1 j1) s = gives []
-startRuleOf command.Start s = readyOf (s .party .domain) (s .party .instructions) (s .shared .outputs)
-startRuleOf (command.Quiet what) s = gives []
-startRuleOf (command.Store what base format) s = gives []
-startRuleOf (command.Input number base format height) s = gives []
-startRuleOf (command.Output number base format height) s = gives []
-startRuleOf (command.Conditional base format height) s = gives []
-startRuleOf (command.OutputMask mask) s = gives []
-startRuleOf (command.ConditionalMask mask) s = gives []
-startRuleOf (command.Test test) s = gives []
 
 -- a command that is whole: accepted, or refused with 5 to 9
 unfoldable pub judged : Told → Command → Session → Stepped

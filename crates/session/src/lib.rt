@@ -2,4 +2,3 @@
 // meet. A session lies in cells that the caller lends: a party's own numbers, its tallies, and the shared settings.
 // A word is refused with 1 to 9 or 17; all but 1 stop the session for good and drop the open command.
 pub mod stream;
-pub mod whole;

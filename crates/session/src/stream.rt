@@ -1,17 +1,16 @@
 // The words of a stream, one by one and in pieces.
-use crate::whole;
-use cells::accept;
 use cells::own;
 use cells::own::WordPosition;
 use cells::settings;
-use cells::start;
 use command::commands;
 use command::commands::Command;
 use command::kinds;
 use command::kinds::Checked;
-use command::rules;
 use command::table;
 use command::table::Line;
+use effects::accept;
+use effects::start;
+use judging::rules;
 use refusal::Refusal;
 ghost use mathlib.Core.Path.{_≡_};
 ghost use mathlib.Core.List.{[]};

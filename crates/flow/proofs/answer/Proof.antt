@@ -2,8 +2,8 @@
 use mathlib.Core.Path.{sym, ap, _∙_}
 use borrow.Author.Tests.{lt-ltb, le-ltb, eq-eqb, ne-eqb}
 use Rattle.laws.proofs.Choice.{pick-yes, pick-no}
-use Rattle.flow.specs.declared.Stepped.the-variants as stepped
-use Rattle.flow.specs.Answers.{answerOf}
+use Rattle.stepper.specs.declared.Stepped.the-variants as stepped
+use Rattle.stepper.specs.Answers.{answerOf}
 use borrow.Author.Needs.{needs}
 use Rattle.flow.proofs.answer.Statement.{statement}
 use Rattle.flow.proofs.answer.Tie as tie

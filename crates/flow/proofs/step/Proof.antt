@@ -1,5 +1,5 @@
 -- `flow::step` meets its contract: the answer that its number stands for. Assumes nothing.
-use Rattle.flow.proofs.Stepping.{answered}
+use Rattle.stepper.proofs.Stepping.{answered}
 use borrow.Author.Needs.{needs}
 use Rattle.flow.proofs.step.Statement.{statement}
 use Rattle.flow.proofs.step.Tie as tie

@@ -4,9 +4,9 @@ use mathlib.Core.Path.{_≡_, refl}
 use Prim.Native.Nat.{_*_, _/_, _-_, _≤_}
 use native.Mathlib.Omega.{arith}
 use lib.ListN.{length, drop}
-use Rattle.flow.specs.Group.{stepsOf}
-use Rattle.flow.specs.Cells.{groupOf, Made}
-use Rattle.flow.specs.Answers.{programOf}
+use Rattle.group.specs.Group.{stepsOf}
+use Rattle.group.specs.Cells.{groupOf, Made}
+use Rattle.stepper.specs.Answers.{programOf}
 use Rattle.flow.proofs.Running.{plus, plus-zero, walk-ended, walk-out, walk-refused, walk-again}
 use borrow.Author.Needs.{needs}
 use Rattle.flow.proofs.walk.Statement.{statement}

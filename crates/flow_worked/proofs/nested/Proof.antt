@@ -1,7 +1,7 @@
 -- `flow_worked::nested` meets its contract. Loop: the cells are made, and at most 100 turns. Assumes nothing.
 use native.Mathlib.Omega.{arith}
 use Prim.Native.Nat.{_-_, _≤_}
-use Rattle.flow.specs.Cells.{Made}
+use Rattle.group.specs.Cells.{Made}
 use borrow.Author.Needs.{needs}
 use Rattle.flow_worked.proofs.nested.Statement.{statement}
 use Rattle.flow_worked.proofs.nested.Tie as tie

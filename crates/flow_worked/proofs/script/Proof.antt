@@ -2,7 +2,7 @@
 use native.Mathlib.Omega.{arith}
 use Prim.Native.Nat.{_-_, _/_, _≤_}
 use lib.ListN.{length}
-use Rattle.flow.specs.Cells.{Made}
+use Rattle.group.specs.Cells.{Made}
 use borrow.Author.Needs.{needs}
 use Rattle.flow_worked.proofs.script.Statement.{statement}
 use Rattle.flow_worked.proofs.script.Tie as tie

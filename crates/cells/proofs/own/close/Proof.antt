@@ -1,4 +1,4 @@
--- `session::own::close` meets its contract. Assumes nothing.
+-- `cells::own::close` meets its contract. Assumes nothing.
 use Rattle.cells.proofs.Puts.{close-cells}
 use borrow.Author.Needs.{needs}
 use Rattle.cells.proofs.own.close.Statement.{statement}

@@ -1,4 +1,4 @@
--- `session::own::count_words` meets its contract. Assumes nothing.
+-- `cells::own::count_words` meets its contract. Assumes nothing.
 use native.Mathlib.Omega.{arith}
 use Rattle.cells.specs.Cells.{partyOf}
 use Rattle.cells.proofs.Puts.{words-cells}

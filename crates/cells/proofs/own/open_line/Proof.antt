@@ -1,4 +1,4 @@
--- `session::own::open_line` meets its contract. Assumes nothing.
+-- `cells::own::open_line` meets its contract. Assumes nothing.
 use mathlib.Core.Path.{_∙_}
 use lib.ListN.{length-set}
 use Rattle.cells.proofs.Puts.{line-taken, line-cells}

@@ -1,4 +1,4 @@
--- `session::own::place` meets its contract. Assumes nothing.
+-- `cells::own::place` meets its contract. Assumes nothing.
 use Rattle.cells.proofs.Puts.{place-cells}
 use borrow.Author.Needs.{needs}
 use Rattle.cells.proofs.own.place.Statement.{statement}

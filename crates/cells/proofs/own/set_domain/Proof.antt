@@ -1,4 +1,4 @@
--- `session::own::set_domain` meets its contract. Assumes nothing.
+-- `cells::own::set_domain` meets its contract. Assumes nothing.
 use Rattle.cells.proofs.Puts.{domain-cells}
 use borrow.Author.Needs.{needs}
 use Rattle.cells.proofs.own.set_domain.Statement.{statement}

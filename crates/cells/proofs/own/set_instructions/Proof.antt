@@ -1,4 +1,4 @@
--- `session::own::set_instructions` meets its contract. Assumes nothing.
+-- `cells::own::set_instructions` meets its contract. Assumes nothing.
 use Rattle.cells.proofs.Puts.{instructions-cells}
 use borrow.Author.Needs.{needs}
 use Rattle.cells.proofs.own.set_instructions.Statement.{statement}

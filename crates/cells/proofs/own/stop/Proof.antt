@@ -1,4 +1,4 @@
--- `session::own::stop` meets its contract. Assumes nothing.
+-- `cells::own::stop` meets its contract. Assumes nothing.
 use mathlib.Core.Path.{_∙_}
 use Rattle.cells.proofs.Puts.{stop-cells}
 use borrow.Author.Needs.{needs}

@@ -1,4 +1,4 @@
--- `session::settings::apply` meets its contract. Assumes nothing.
+-- `cells::settings::apply` meets its contract. Assumes nothing.
 use mathlib.Core.Path.{_∙_, refl}
 use Rattle.cells.proofs.SharedPuts.{at-command, domain-shared, start-shared, quiet-shared, input-number, output-number, place-of-input, place-of-output, input-shared, output-shared, conditional-shared, mask-shared, conditional-mask-shared, test-shared}
 use borrow.Author.Needs.{needs}

@@ -1,4 +1,4 @@
--- `session::settings::store` meets its contract. Assumes nothing.
+-- `cells::settings::store` meets its contract. Assumes nothing.
 use mathlib.Core.Path.{_∙_}
 use Rattle.cells.proofs.SharedPuts.{at-told, instructions-shared, floats-shared, integers-shared, booleans-shared}
 use borrow.Author.Needs.{needs}

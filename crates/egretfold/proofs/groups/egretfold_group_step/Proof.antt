@@ -1,6 +1,6 @@
 -- `egretfold::groups::egretfold_group_step` meets its contract: each answer crosses as it is told. Assumes nothing.
 use mathlib.Core.Path.{sym, ap, _∙_}
-use Rattle.flow.specs.Answers.{toldStepped}
+use Rattle.stepper.specs.Answers.{toldStepped}
 use Rattle.egretfold.proofs.Crossings.{crosses-gives, crosses-refuses}
 use borrow.Author.Needs.{needs}
 use Rattle.egretfold.proofs.groups.egretfold_group_step.Statement.{statement}

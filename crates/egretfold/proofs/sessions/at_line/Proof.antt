@@ -3,7 +3,7 @@ use mathlib.Core.Path.{sym, ap, _∙_}
 use borrow.Author.Tests.{lt-ltb, le-ltb}
 use Rattle.laws.proofs.Choice.{pick-yes, pick-no}
 use Rattle.refusal.specs.Told.{gives}
-use Rattle.cells.specs.declared.queries.Setting.{Setting}
+use Rattle.queries.specs.declared.Setting.{Setting}
 use Rattle.egretfold.specs.Sessions.{valuesOf}
 use Rattle.egretfold.proofs.Formats.{booleans-line, conditional-line, floats-line, inputs-line, instructions-line, integers-line, other-line, outputs-line}
 use borrow.Author.Needs.{needs}

@@ -1,0 +1,52 @@
+-- An output as a start sees it, and what a start asks of one output and of two, said of what it sees. Assumes nothing.
+use mathlib.Core.Bool.{Bool, true, false}
+use mathlib.Core.List.{[]}
+use Prim.Native.Nat.{ℕ, _+_}
+use lib.Dec.{eqb, leb, ltb}
+use Rattle.laws.specs.Choice.{_and_, pick}
+use Rattle.refusal.specs.Told.{Told, gives, refuses}
+use Rattle.effects.specs.declared.start.Output.{Output}
+use Rattle.cells.specs.State.{Buffer}
+use Rattle.cells.specs.Start.{stepOfBuffer, spanOfBuffer}
+
+-- four cells as the buffer that they hold
+abbrev pub cellsBuffer : ℕ → ℕ → ℕ → ℕ → Buffer
+cellsBuffer isSet base format height = record { isSet = isSet; base = base; format = format; height = height }
+
+-- one that isn't set doesn't count, and nothing of it is looked at
+unfoldable pub outputOf : Buffer → Output
+outputOf b =
+    pick (eqb (b .isSet) 1)
+    (record { counts = true; base = b .base; step = stepOfBuffer b; height = b .height; span = spanOfBuffer b })
+    (record { counts = false; base = 0; step = 0; height = 0; span = 0 })
+
+-- the output doesn't count, or its window has the pair (i, j)
+unfoldable pub holdsPair : ℕ → ℕ → Output → Bool
+holdsPair i j a = pick (a .counts) (ltb i (a .step) and ltb j (a .height)) true
+
+-- two spans share no byte
+unfoldable pub spansApart : ℕ → ℕ → ℕ → ℕ → Bool
+spansApart base span other otherSpan = pick (leb (base + span) other) true (leb (other + otherSpan) base)
+
+-- one of two outputs doesn't count, or their spans share no byte
+unfoldable pub keepsApart : Output → Output → Bool
+keepsApart a b = pick (a .counts and b .counts) (spansApart (a .base) (a .span) (b .base) (b .span)) true
+
+module _ (a b c d : Output) where
+  -- some of four outputs counts
+  unfoldable pub someCounts : Bool
+  someCounts = pick (pick (pick (a .counts) true (b .counts)) true (c .counts)) true (d .counts)
+
+  -- each of four outputs that counts has the pair
+  unfoldable pub eachHolds : ℕ → ℕ → Bool
+  eachHolds i j = ((holdsPair i j a and holdsPair i j b) and holdsPair i j c) and holdsPair i j d
+
+  -- no two of four outputs that count share a byte
+  unfoldable pub eachApart : Bool
+  eachApart =
+      (keepsApart b a and (keepsApart c a and keepsApart c b)) and ((keepsApart d a and keepsApart d b) and keepsApart d c)
+
+-- 7, 8 and 9 by what holds of a start
+unfoldable pub verdictOf : Bool → Bool → Bool → Told
+verdictOf complete covered disjoint =
+    pick complete (pick covered (pick disjoint (gives []) (refuses 9)) (refuses 8)) (refuses 7)

@@ -1,0 +1,319 @@
+-- A group and its cells: a sound group is read back from its cells, cells handed in show their processors and their returns,
+-- and a step leads from a sound group to a sound one. Assumes nothing.
+use mathlib.Core.Path.{_≡_, refl, sym, ap, _∙_, subst, fun-ext}
+use mathlib.Core.Bool.{Bool, true, false}
+use mathlib.Core.List.{List, [], _∷_}
+use Prim.Native.Nat.{ℕ, zero, suc, _+_, _-_, _<_, _≤_, zero-le}
+use native.Mathlib.Omega.{arith}
+use lib.Dec.{eqb, leb, ltb}
+use lib.ListN.{length, getD}
+use borrow.Author.Tests.{leb-true, leb-false, ltb-true, ltb-false, le-leb, le-ltb, eq-eqb, ne-eqb, eqb-true}
+use Rattle.laws.specs.Choice.{_and_, pick}
+use Rattle.laws.specs.Masks.{differ, digit, on, pack, some, every}
+use Rattle.laws.proofs.Choice.{Tested, holds, fails, tested, pick-no, and-left, and-right, and-intro, and-yes}
+use Rattle.laws.proofs.Split.{by-test, pick-same}
+use Rattle.laws.proofs.Masks.{on-pack, on-above, none-at, every-at}
+use Rattle.group.specs.Proc.{Proc, Active, Idle, Absent, isLive, isActive, counterBit, within, turned, lowered, raised, atLimit, worked}
+use Rattle.group.specs.Group.{Group, Outcome, Steps, Fails, Program, Way, Goes, Stuck, field, turnedIf, overLimit, popped, wayOf, arrived, settled, slotStep, ended, stepOf, allowed, fresh}
+use Rattle.group.specs.Cells.{liveMask, activeMask, plane, counterOf, procOf, procAt, stored, groupOf, cellsOf, aReturn, areReturns, Sound, Made, stepLeaves}
+use Rattle.group.specs.Masks.{MasksOf}
+
+-- two equal numbers, as a computed test at each counter
+counted : (n : ℕ) → n ≤ 31 → counterOf (on 0 n) (on 1 n) (on 2 n) (on 3 n) (on 4 n) ≡ n
+unfolding on every digit _and_
+counted n h =
+    eqb-true _ _
+    (every-at 32 (λ m. eqb (counterOf (on 0 m) (on 1 m) (on 2 m) (on 3 m) (on 4 m)) m) refl n (omega arith))
+
+-- a processor is read back from its bits
+read-back :
+    (p : Proc) → within 31 p ≡ true →
+    procOf (isLive p) (isActive p)
+    (counterOf (counterBit 0 p) (counterBit 1 p) (counterBit 2 p) (counterBit 3 p) (counterBit 4 p)) ≡ p
+read-back Active w = refl
+read-back (Idle n) w = ap Idle (counted n (leb-true n 31 w))
+read-back Absent w = refl
+
+-- seven words that are the masks of processors show just these
+pub shows :
+    {procs : ℕ → Proc} {live active p0 p1 p2 p3 p4 : ℕ} → MasksOf procs live active p0 p1 p2 p3 p4 →
+    ((i : ℕ) → 32 ≤ i → procs i ≡ Absent) → procAt live active p0 p1 p2 p3 p4 ≡ procs
+unfolding procAt
+shows {procs} {live} {active} {p0} {p1} {p2} {p3} {p4} m out =
+    fun-ext (λ i. at i (tested (ltb i 32)))
+  where
+    bit : {w : ℕ} (f : Proc → Bool) (i : ℕ) → i < 32 → w ≡ pack 32 (λ j. f (procs j)) → on i w ≡ f (procs i)
+    bit f i h e = ap (on i) e ∙ on-pack 32 i (λ j. f (procs j)) h
+
+    at :
+        (i : ℕ) → Tested (ltb i 32) →
+        procOf (on i live) (on i active) (counterOf (on i p0) (on i p1) (on i p2) (on i p3) (on i p4)) ≡ procs i
+    at i (holds e) =
+        let h : i < 32 = ltb-true i 32 e in
+        rw (
+          bit isLive i h (m .live-word),
+          bit isActive i h (m .active-word),
+          bit (counterBit 0) i h (m .word0),
+          bit (counterBit 1) i h (m .word1),
+          bit (counterBit 2) i h (m .word2),
+          bit (counterBit 3) i h (m .word3),
+          bit (counterBit 4) i h (m .word4),
+        )
+        (read-back (procs i) (m .counters i))
+    at i (fails e) =
+        let h : 32 ≤ i = ltb-false i 32 e in
+        ap (λ (b : Bool). procOf b (on i active) (counterOf (on i p0) (on i p1) (on i p2) (on i p3) (on i p4)))
+        (ap (on i) (m .live-word) ∙ on-above 32 i (λ j. isLive (procs j)) h) ∙
+        sym (out i h)
+
+-- returns are read back from four cells
+stored-one : (r : ℕ) (l : List ℕ) → aReturn r ≡ true → stored (r ∷ l) ≡ r ∷ stored l
+unfolding stored
+stored-one r l e =
+    let h : 1 ≤ r = leb-true 1 r (and-left _ _ e) in
+    pick-no _ _ (ne-eqb r 0 (λ z. omega arith))
+
+-- a stored return in front of what is read back
+stored-next : (r : ℕ) (l : List ℕ) {rs : List ℕ} → aReturn r ≡ true → stored l ≡ rs → stored (r ∷ l) ≡ r ∷ rs
+stored-next r l e q = stored-one r l e ∙ ap (λ (x : List ℕ). r ∷ x) q
+
+stored-back :
+    (rs : List ℕ) → length rs ≤ 4 → areReturns rs ≡ true →
+    stored (getD rs 0 0 ∷ getD rs 1 0 ∷ getD rs 2 0 ∷ getD rs 3 0 ∷ []) ≡ rs
+unfolding areReturns stored pick
+stored-back [] h e = refl
+stored-back (a ∷ []) h e = stored-next a (0 ∷ 0 ∷ 0 ∷ []) (and-left (aReturn a) true e) refl
+stored-back (a ∷ (b ∷ [])) h e =
+    let f = and-right (aReturn a) (aReturn b and true) e in
+    stored-next a (b ∷ 0 ∷ 0 ∷ []) (and-left (aReturn a) (aReturn b and true) e)
+    (stored-next b (0 ∷ 0 ∷ []) (and-left (aReturn b) true f) refl)
+stored-back (a ∷ (b ∷ (c ∷ []))) h e =
+    let f = and-right (aReturn a) (aReturn b and aReturn c and true) e in
+    let g = and-right (aReturn b) (aReturn c and true) f in
+    stored-next a (b ∷ c ∷ 0 ∷ []) (and-left (aReturn a) (aReturn b and aReturn c and true) e)
+    (stored-next b (c ∷ 0 ∷ []) (and-left (aReturn b) (aReturn c and true) f)
+    (stored-next c (0 ∷ []) (and-left (aReturn c) true g) refl))
+stored-back (a ∷ (b ∷ (c ∷ (d ∷ [])))) h e =
+    let f = and-right (aReturn a) (aReturn b and aReturn c and aReturn d and true) e in
+    let g = and-right (aReturn b) (aReturn c and aReturn d and true) f in
+    let k = and-right (aReturn c) (aReturn d and true) g in
+    stored-next a (b ∷ c ∷ d ∷ []) (and-left (aReturn a) (aReturn b and aReturn c and aReturn d and true) e)
+    (stored-next b (c ∷ d ∷ []) (and-left (aReturn b) (aReturn c and aReturn d and true) f)
+    (stored-next c (d ∷ []) (and-left (aReturn c) (aReturn d and true) g)
+    (stored-next d ([]) (and-left (aReturn d) true k) refl)))
+stored-back (a ∷ (b ∷ (c ∷ (d ∷ (x ∷ l))))) h e = absurd (five (length l) h)
+  where
+    five : (n : ℕ) → suc (suc (suc (suc (suc n)))) ≤ 4 → ⊥
+    five n h = omega arith
+
+-- the processors of a sound group as masks
+masks-of : (g : Group) → Sound 31 g → MasksOf (g .procs) (liveMask (g .procs)) (activeMask (g .procs)) (plane 0 (g .procs)) (plane 1 (g .procs)) (plane 2 (g .procs)) (plane 3 (g .procs)) (plane 4 (g .procs))
+masks-of g s =
+    record {
+      live-word = refl;
+      active-word = refl;
+      word0 = refl;
+      word1 = refl;
+      word2 = refl;
+      word3 = refl;
+      word4 = refl;
+      counters = s .counters;
+    }
+
+-- a sound group is read back from its cells
+pub group-back : (g : Group) → Sound 31 g → groupOf (cellsOf g) ≡ g
+group-back g s =
+    λ j. record {
+      procs = shows (masks-of g s) (s .outside) j;
+      position = g .position;
+      returns = stored-back (g .returns) (s .depth) (s .slots) j;
+    }
+
+-- so its cells are such as came from these entries
+pub made-of : (g : Group) → Sound 31 g → Made (cellsOf g)
+made-of g s =
+    record {
+      size = refl;
+      sound = subst (Sound 31) (sym (group-back g s)) s;
+      whole = sym (ap cellsOf (group-back g s));
+    }
+
+-- cells handed in are the masks of their processors
+pub made-masks :
+    (l : List ℕ) → Made l →
+    MasksOf (groupOf l .procs) (getD l 0 0) (getD l 1 0) (getD l 2 0) (getD l 3 0) (getD l 4 0) (getD l 5 0) (getD l 6 0)
+made-masks l m =
+    record {
+      live-word = ap (λ (x : List ℕ). getD x 0 0) (m .whole);
+      active-word = ap (λ (x : List ℕ). getD x 1 0) (m .whole);
+      word0 = ap (λ (x : List ℕ). getD x 2 0) (m .whole);
+      word1 = ap (λ (x : List ℕ). getD x 3 0) (m .whole);
+      word2 = ap (λ (x : List ℕ). getD x 4 0) (m .whole);
+      word3 = ap (λ (x : List ℕ). getD x 5 0) (m .whole);
+      word4 = ap (λ (x : List ℕ). getD x 6 0) (m .whole);
+      counters = m .sound .counters;
+    }
+
+-- what each part of a step keeps, whatever the limit
+pub turned-absent : (else : Bool) {p : Proc} → p ≡ Absent → pick else (turned p) p ≡ Absent
+turned-absent else {p} e = rw e (pick-same else Absent)
+
+pub worked-absent : (op k : ℕ) (jump wish : Bool) {p : Proc} → p ≡ Absent → worked op k jump wish p ≡ Absent
+unfolding worked
+worked-absent op k jump wish {p} e = rw e (ap (pick (eqb op 1) Absent) (pick-same (eqb op 2) Absent) ∙ pick-same (eqb op 1) Absent)
+
+pub turned-within : (limit : ℕ) (p : Proc) → within limit p ≡ true → within limit (turned p) ≡ true
+turned-within limit Active w = le-leb 0 limit zero-le
+turned-within limit (Idle zero) w = refl
+turned-within limit (Idle (suc n)) w = w
+turned-within limit Absent w = refl
+
+lowered-within : (limit k : ℕ) (p : Proc) → within limit p ≡ true → within limit (lowered k p) ≡ true
+lowered-within limit k Active w = refl
+lowered-within limit k (Idle n) w =
+    let h : n ≤ limit = leb-true n limit w in
+    by-test (λ (p : Proc). within limit p ≡ true) (ltb n k) (λ e. refl) (λ e. le-leb (n - k) limit (omega arith))
+lowered-within limit k Absent w = refl
+
+raised-within :
+    (limit : ℕ) (jump wish : Bool) (p : Proc) → within limit p ≡ true → atLimit limit p ≡ false →
+    within limit (raised jump wish p) ≡ true
+raised-within limit jump wish Active w f =
+    by-test (λ (p : Proc). within limit p ≡ true) (differ wish jump) (λ e. le-leb 0 limit zero-le) (λ e. refl)
+raised-within limit jump wish (Idle n) w f =
+    let h : n < limit = leb-false limit n f in
+    le-leb (n + 1) limit (omega arith)
+raised-within limit jump wish Absent w f = refl
+
+worked-within :
+    (limit op k : ℕ) (jump wish : Bool) (p : Proc) → within limit p ≡ true → (op ≡ 2 → atLimit limit p ≡ false) →
+    within limit (worked op k jump wish p) ≡ true
+unfolding worked
+worked-within limit op k jump wish p w f =
+    by-test (λ (q : Proc). within limit q ≡ true) (eqb op 1)
+    (λ e. lowered-within limit k p w)
+    (λ e.
+    by-test (λ (q : Proc). within limit q ≡ true) (eqb op 2)
+    (λ t. raised-within limit jump wish p w (f (eqb-true op 2 t)))
+    (λ t. w))
+
+-- where a step may go on to
+abbrev pub SoundWay : Way → Type 0
+SoundWay Stuck = Unit {0}
+SoundWay (Goes next rs) = (length rs ≤ 4) × (areReturns rs ≡ true)
+
+popped-sound : (rs : List ℕ) → length rs ≤ 4 → areReturns rs ≡ true → SoundWay (popped rs)
+unfolding areReturns
+popped-sound [] h e = tt
+popped-sound (r ∷ rs) h e = (shorter (length rs) h, and-right (aReturn r) (areReturns rs) e)
+  where
+    shorter : (n : ℕ) → suc n ≤ 4 → n ≤ 4
+    shorter n h = omega arith
+
+way-sound :
+    (aop : ℕ) (jump : Bool) (position address : ℕ) (rs : List ℕ) → position < 512 → length rs ≤ 4 → areReturns rs ≡ true →
+    SoundWay (wayOf aop jump position address rs)
+unfolding wayOf areReturns
+way-sound aop jump position address rs p h e =
+    by-test SoundWay jump
+    (λ j.
+    by-test SoundWay (eqb aop 1) (λ a. popped-sound rs h e)
+    (λ a.
+    by-test SoundWay (eqb aop 2)
+    (λ b.
+    by-test SoundWay (ltb (length rs) 4)
+    (λ t.
+    let low : length rs < 4 = ltb-true (length rs) 4 t in
+    let fits : aReturn (position + 1) ≡ true = and-intro (le-leb 1 (position + 1) (omega arith)) (le-leb (position + 1) 512 (omega arith)) in
+    (low, and-intro fits e))
+    (λ t. tt))
+    (λ b. (h, e))))
+    (λ j. (h, e))
+
+abbrev pub SoundAfter : ℕ → Outcome → Type 0
+SoundAfter limit (Steps jump g) = Sound limit g
+SoundAfter limit (Fails why) = Unit {0}
+
+arrived-sound :
+    (limit slots : ℕ) (jump : Bool) (procs : ℕ → Proc) (way : Way) → slots ≤ 512 →
+    ((i : ℕ) → 32 ≤ i → procs i ≡ Absent) → ((i : ℕ) → within limit (procs i) ≡ true) → SoundWay way →
+    SoundAfter limit (arrived slots jump procs way)
+arrived-sound limit slots jump procs Stuck h out low w = tt
+arrived-sound limit slots jump procs (Goes next rs) h out low w =
+    by-test (SoundAfter limit) (leb next slots)
+    (λ e.
+    let n : next ≤ slots = leb-true next slots e in
+    record { outside = out; counters = low; place = omega arith; depth = w .0; slots = w .1 })
+    (λ e. tt)
+
+-- nobody at the limit, where an increment is made
+none-over :
+    (limit op : ℕ) (procs : ℕ → Proc) → ((i : ℕ) → 32 ≤ i → procs i ≡ Absent) → overLimit limit op procs ≡ false →
+    (i : ℕ) → op ≡ 2 → atLimit limit (procs i) ≡ false
+unfolding overLimit
+none-over limit op procs out e i two = at (tested (ltb i 32))
+  where
+    nobody : some 32 (λ j. atLimit limit (procs j)) ≡ false
+    nobody = sym (and-yes _ (eq-eqb op 2 two)) ∙ e
+
+    at : Tested (ltb i 32) → atLimit limit (procs i) ≡ false
+    at (holds t) = none-at 32 (λ j. atLimit limit (procs j)) nobody i (ltb-true i 32 t)
+    at (fails t) = ap (atLimit limit) (out i (ltb-false i 32 t))
+
+settled-sound :
+    (limit slots first second : ℕ) (jump : Bool) (wish : ℕ → Bool) (procs : ℕ → Proc) (g : Group) →
+    slots ≤ 512 → g .position < 512 → length (g .returns) ≤ 4 → areReturns (g .returns) ≡ true →
+    ((i : ℕ) → 32 ≤ i → procs i ≡ Absent) → ((i : ℕ) → within limit (procs i) ≡ true) →
+    SoundAfter limit (settled limit slots first second jump wish procs g)
+unfolding settled
+settled-sound limit slots first second jump wish procs g hs hp hr he out low =
+    let op = pick jump (field 27 26 first) (field 25 24 first) in
+    by-test (SoundAfter limit) (overLimit limit op procs) (λ e. tt)
+    (λ e.
+    arrived-sound limit slots jump (λ i. worked op (field 20 16 first) jump (wish i) (procs i))
+    (wayOf (field 7 6 first) jump (g .position) (field 24 16 second) (g .returns)) hs
+    (λ i h. worked-absent op (field 20 16 first) jump (wish i) (out i h))
+    (λ i. worked-within limit op (field 20 16 first) jump (wish i) (procs i) (low i) (none-over limit op procs out e i))
+    (way-sound (field 7 6 first) jump (g .position) (field 24 16 second) (g .returns) hp hr he))
+
+-- a step leads from a sound group to a sound one
+pub step-sound :
+    (limit : ℕ) (program : Program) (alu predicate booleans : ℕ) (g : Group) → Sound limit g →
+    SoundAfter limit (stepOf limit program alu predicate booleans g)
+unfolding stepOf slotStep turnedIf ended
+step-sound limit program alu predicate booleans g s =
+    by-test (SoundAfter limit) (leb (program .slots) (g .position)) (λ e. tt)
+    (λ e.
+    let before : g .position < program .slots = leb-false (program .slots) (g .position) e in
+    by-test (SoundAfter limit) (leb (program .slots) 512)
+    (λ t.
+    let most : program .slots ≤ 512 = leb-true (program .slots) 512 t in
+    by-test (SoundAfter limit)
+    (allowed (getD (program .firsts) (g .position) 0) (getD (program .seconds) (g .position) 0))
+    (λ a.
+    settled-sound limit (program .slots) (getD (program .firsts) (g .position) 0) (getD (program .seconds) (g .position) 0) _ _ _ g most
+    (omega arith) (s .depth) (s .slots)
+    (λ i h. turned-absent (on 4 (getD (program .firsts) (g .position) 0)) (s .outside i h))
+    (λ i.
+    by-test (λ (p : Proc). within limit p ≡ true) (on 4 (getD (program .firsts) (g .position) 0))
+    (λ u. turned-within limit (g .procs i) (s .counters i)) (λ u. s .counters i)))
+    (λ a. tt))
+    (λ t. tt))
+
+-- so do the cells that a step leaves
+pub left-made :
+    (l : List ℕ) (o : Outcome) → Made l → SoundAfter 31 o → Made (stepLeaves l o)
+left-made l (Steps jump g) m s = made-of g s
+left-made l (Fails why) m s = m
+
+-- and a fresh group is sound
+pub fresh-sound : (limit size : ℕ) → size ≤ 32 → Sound limit (fresh size)
+unfolding fresh areReturns
+fresh-sound limit size h =
+    record {
+      outside = λ i k. pick-no _ _ (le-ltb i size (omega arith));
+      counters = λ i. by-test (λ (p : Proc). within limit p ≡ true) (ltb i size) (λ e. refl) (λ e. refl);
+      place = zero-le;
+      depth = zero-le;
+      slots = refl;
+    }

@@ -1,0 +1,121 @@
+-- The state of a group in 20 lent cells of 32 bits: how a group is read from its cells and how it is written.
+--
+--     0        the processors in the group, bit i for processor i
+--     1        the active ones
+--     2 to 6   the branch counters as five planes: bit i of cell 2 + k is bit k of processor i's counter
+--     7        the position
+--     8 to 11  the stored returns, the last one first, 0 where there is none
+--     12 to 19 room for the mode, the killed processors, the open loops and aL: 0 so far
+--
+-- The encoding is canonical: a plane has no bit of a processor that is active or absent, and a return of 0 has none after it,
+-- so a group has one list of cells, and the cells at a routine's end are stated whole. Assumes nothing.
+use mathlib.Core.Path.{_≡_}
+use mathlib.Core.Bool.{Bool, true, false}
+use mathlib.Core.List.{List, [], _∷_}
+use Prim.Native.Nat.{ℕ, _+_, _*_, _≤_}
+use lib.Dec.{eqb, leb}
+use lib.ListN.{length, getD}
+use Rattle.laws.specs.Choice.{_and_, pick}
+use Rattle.laws.specs.Masks.{digit, on, pack}
+use Rattle.group.specs.Proc.{Proc, Active, Idle, Absent, isLive, isActive, counterBit, within}
+use Rattle.group.specs.Group.{Group, Outcome, Steps, Fails, Run, Makes, Breaks, fresh, isGroupSize}
+
+-- a group of processors as masks
+abbrev pub liveMask : (ℕ → Proc) → ℕ
+liveMask procs = pack 32 (λ i. isLive (procs i))
+
+abbrev pub activeMask : (ℕ → Proc) → ℕ
+activeMask procs = pack 32 (λ i. isActive (procs i))
+
+abbrev pub plane : ℕ → (ℕ → Proc) → ℕ
+plane k procs = pack 32 (λ i. counterBit k (procs i))
+
+-- the counter whose bits are given, bit 0 first
+abbrev pub counterOf : Bool → Bool → Bool → Bool → Bool → ℕ
+counterOf b0 b1 b2 b3 b4 = digit b0 + 2 * digit b1 + 4 * digit b2 + 8 * digit b3 + 16 * digit b4
+
+-- a processor from its bits: in the group, active, and its counter
+abbrev pub procOf : Bool → Bool → ℕ → Proc
+procOf false active n = Absent
+procOf true true n = Active
+procOf true false n = Idle n
+
+unfoldable pub procAt : ℕ → ℕ → ℕ → ℕ → ℕ → ℕ → ℕ → ℕ → Proc
+procAt live active p0 p1 p2 p3 p4 i =
+    procOf (on i live) (on i active) (counterOf (on i p0) (on i p1) (on i p2) (on i p3) (on i p4))
+
+-- the returns stored in four cells: those before the first 0
+unfoldable pub stored : List ℕ → List ℕ
+stored [] = []
+stored (r ∷ rs) = pick (eqb r 0) [] (r ∷ stored rs)
+
+-- the processors that the cells show with another word for the active ones
+abbrev pub withActive : List ℕ → ℕ → ℕ → Proc
+withActive l active = procAt (getD l 0 0) active (getD l 2 0) (getD l 3 0) (getD l 4 0) (getD l 5 0) (getD l 6 0)
+
+abbrev pub groupOf : List ℕ → Group
+groupOf l =
+    record {
+      procs = withActive l (getD l 1 0);
+      position = getD l 7 0;
+      returns = stored (getD l 8 0 ∷ getD l 9 0 ∷ getD l 10 0 ∷ getD l 11 0 ∷ []);
+    }
+
+abbrev pub cellsWith : ℕ → ℕ → ℕ → ℕ → ℕ → ℕ → ℕ → ℕ → ℕ → ℕ → ℕ → ℕ → List ℕ
+cellsWith live active p0 p1 p2 p3 p4 position r0 r1 r2 r3 =
+    live ∷ active ∷ p0 ∷ p1 ∷ p2 ∷ p3 ∷ p4 ∷ position ∷ r0 ∷ r1 ∷ r2 ∷ r3 ∷ 0 ∷ 0 ∷ 0 ∷ 0 ∷ 0 ∷ 0 ∷ 0 ∷ 0 ∷ []
+
+abbrev pub cellsOf : Group → List ℕ
+cellsOf g =
+    cellsWith (liveMask (g .procs)) (activeMask (g .procs))
+    (plane 0 (g .procs)) (plane 1 (g .procs)) (plane 2 (g .procs)) (plane 3 (g .procs)) (plane 4 (g .procs))
+    (g .position)
+    (getD (g .returns) 0 0) (getD (g .returns) 1 0) (getD (g .returns) 2 0) (getD (g .returns) 3 0)
+
+-- a stored return is a slot number from 1 to 512
+abbrev pub aReturn : ℕ → Bool
+aReturn r = leb 1 r and leb r 512
+
+unfoldable pub areReturns : List ℕ → Bool
+areReturns [] = true
+areReturns (r ∷ rs) = aReturn r and areReturns rs
+
+-- what holds of every state given out: nobody is beyond the 32 places, counters are within the limit, the position is at
+-- most 512, and there are at most 4 returns, each from 1 to 512
+pub record Sound (limit : ℕ) (g : Group) : Type 0 where
+  pub outside : (i : ℕ) → 32 ≤ i → g .procs i ≡ Absent
+  pub counters : (i : ℕ) → within limit (g .procs i) ≡ true
+  pub place : g .position ≤ 512
+  pub depth : length (g .returns) ≤ 4
+  pub slots : areReturns (g .returns) ≡ true
+
+-- cells that came from these entries: they are just those of a sound group
+pub record Made (l : List ℕ) : Type 0 where
+  pub size : length l ≡ 20
+  pub sound : Sound 31 (groupOf l)
+  pub whole : l ≡ cellsOf (groupOf l)
+
+-- the same processors at another place, with other returns
+abbrev pub placedAt : List ℕ → ℕ → ℕ → ℕ → ℕ → ℕ → List ℕ
+placedAt l at r0 r1 r2 r3 =
+    cellsWith (getD l 0 0) (getD l 1 0) (getD l 2 0) (getD l 3 0) (getD l 4 0) (getD l 5 0) (getD l 6 0) at r0 r1 r2 r3
+
+abbrev pub withPlace : List ℕ → ℕ → List ℕ → List ℕ
+withPlace l at rs = placedAt l at (getD rs 0 0) (getD rs 1 0) (getD rs 2 0) (getD rs 3 0)
+
+-- cells 0 to 11 as they are, the rest 0, and 20 of them
+pub record Spelled (l : List ℕ) : Type 0 where
+  pub size : length l ≡ 20
+  pub cells : l ≡ placedAt l (getD l 7 0) (getD l 8 0) (getD l 9 0) (getD l 10 0) (getD l 11 0)
+
+-- the cells after a step: those of the state that it leads to; a refusal leaves them as they were
+abbrev pub stepLeaves : List ℕ → Outcome → List ℕ
+stepLeaves l (Steps jump g) = cellsOf g
+stepLeaves l (Fails why) = l
+
+abbrev pub runLeaves : List ℕ → Run → List ℕ
+runLeaves l (Makes n g) = cellsOf g
+runLeaves l (Breaks why) = l
+
+unfoldable pub beginLeaves : List ℕ → ℕ → List ℕ
+beginLeaves l size = pick (isGroupSize size) (cellsOf (fresh size)) l

@@ -1,0 +1,184 @@
+-- Document 01, "Stepping a group": the words of a slot, the state of a group, a step and a run. Assumes nothing.
+use mathlib.Core.Bool.{Bool}
+use mathlib.Core.List.{List, [], _∷_}
+use Prim.Native.Nat.{ℕ, suc, _+_, _-_, _/_, _%_, _^_}
+use lib.Dec.{eqb, leb, ltb}
+use lib.ListN.{length, getD}
+use Rattle.laws.specs.Choice.{_and_, pick}
+use Rattle.laws.specs.Masks.{digit, on, some, count, least}
+use Rattle.refusal.specs.Told.{Told, gives, refuses}
+use Rattle.group.specs.Proc.{Proc, Active, Absent, isActive, turned, wants, decided, atLimit, worked}
+
+-- bits `high` to `low` of a word, as document 01 writes them: 25:24
+abbrev pub field : ℕ → ℕ → ℕ → ℕ
+field high low w = w / 2 ^ low % 2 ^ (high - low + 1)
+
+-- "First word: op 3:0 (only 0, JUMP, here), B_ELSE 4, JUMP_ANY 5, A_OP 7:6 (0 none, 1 pop, 2 push), JUMP_FUNC 15:8, B_POP_CNT
+-- 20:16, B_OP0 25:24, B_OP1 27:26 (0 none, 1 decrement, 2 increment). Second: boolean number 4:0, jump address 24:16. Other
+-- bits and codes: 13."
+unfoldable pub allowed : ℕ → ℕ → Bool
+allowed first second =
+    eqb (field 3 0 first) 0 and leb (field 7 6 first) 2 and eqb (field 23 21 first) 0 and leb (field 25 24 first) 2 and
+    leb (field 27 26 first) 2 and eqb (field 31 28 first) 0 and eqb (field 15 5 second) 0 and eqb (field 31 25 second) 0
+
+-- the fields by name: A_OP, JUMP_FUNC, B_POP_CNT, B_OP1 on a jump and B_OP0 on a stay, boolean number, jump address
+abbrev pub aOp : ℕ → ℕ
+aOp first = field 7 6 first
+
+abbrev pub jumpFunc : ℕ → ℕ
+jumpFunc first = field 15 8 first
+
+abbrev pub popCount : ℕ → ℕ
+popCount first = field 20 16 first
+
+abbrev pub branchOp : Bool → ℕ → ℕ
+branchOp jump first = pick jump (field 27 26 first) (field 25 24 first)
+
+abbrev pub booleanNumber : ℕ → ℕ
+booleanNumber second = field 4 0 second
+
+abbrev pub jumpAddress : ℕ → ℕ
+jumpAddress second = field 24 16 second
+
+-- the state of a group: processor `i`, absent from 32 on; the position; the stored returns, the last one first
+pub record Group : Type 0 where
+  pub procs : ℕ → Proc
+  pub position : ℕ
+  pub returns : List ℕ
+
+-- "A group has 1 to 32 processors (else 13), all active at the start, position 0, empty stack"
+unfoldable pub fresh : ℕ → Group
+fresh size = record { procs = λ i. pick (ltb i size) Active Absent; position = 0; returns = [] }
+
+-- the size is one that a group may have
+unfoldable pub isGroupSize : ℕ → Bool
+isGroupSize size = leb 1 size and leb size 32
+
+-- the answer of a step: the decision and the state after it, or the refusal
+pub data Outcome : Type 0 where
+  Steps : Bool → Group → Outcome
+  Fails : ℕ → Outcome
+
+-- 1. the group once B_ELSE has done its work
+unfoldable pub turnedIf : Bool → (ℕ → Proc) → ℕ → Proc
+turnedIf else procs i = pick else (turned (procs i)) (procs i)
+
+-- 2. each processor's wish, by its bits of the two masks and the step's boolean
+unfoldable pub wishOf : ℕ → Bool → ℕ → ℕ → ℕ → Bool
+wishOf func boolean alu predicate i = wants func (on i alu) (on i predicate) boolean
+
+-- 4. "Increment: each inactive counter gains 1 (from 31: 14)": one at the limit is enough
+unfoldable pub overLimit : ℕ → ℕ → (ℕ → Proc) → Bool
+overLimit limit op procs = eqb op 2 and some 32 (λ i. atLimit limit (procs i))
+
+-- where a step goes on, with the returns stored then; or the return stack is at its limit
+pub data Way : Type 0 where
+  Goes : ℕ → List ℕ → Way
+  Stuck : Way
+
+-- "pop goes to the stored place (empty: 14)"
+abbrev pub popped : List ℕ → Way
+popped [] = Stuck
+popped (r ∷ rs) = Goes r rs
+
+-- "push stores position + 1 (full: 14)"; the stack has "at most 4 returns"
+abbrev pub pushed : ℕ → ℕ → List ℕ → Way
+pushed position address returns =
+    pick (ltb (length returns) 4) (Goes address ((position + 1) ∷ returns)) Stuck
+
+-- 5. "On a jump: push stores position + 1 (full: 14); pop goes to the stored place (empty: 14). On a stay neither happens."
+unfoldable pub wayOf : ℕ → Bool → ℕ → ℕ → List ℕ → Way
+wayOf aop jump position address returns =
+    pick jump
+    (pick (eqb aop 1) (popped returns)
+    (pick (eqb aop 2) (pushed position address returns) (Goes address returns)))
+    (Goes (position + 1) returns)
+
+-- 6. "The next position may equal N, which ends the program; above N is 15."
+abbrev pub arrived : ℕ → Bool → (ℕ → Proc) → Way → Outcome
+arrived slots jump procs Stuck = Fails 14
+arrived slots jump procs (Goes next returns) =
+    pick (leb next slots) (Steps jump (record { procs = procs; position = next; returns = returns })) (Fails 15)
+
+-- 4. to 6., once the decision is made; `procs` are those after B_ELSE
+unfoldable pub settled : ℕ → ℕ → ℕ → ℕ → Bool → (ℕ → Bool) → (ℕ → Proc) → Group → Outcome
+settled limit slots first second jump wish procs g =
+    let op = branchOp jump first in
+    pick (overLimit limit op procs) (Fails 14)
+    (arrived slots jump (λ i. worked op (popCount first) jump (wish i) (procs i))
+    (wayOf (aOp first) jump (g .position) (jumpAddress second) (g .returns)))
+
+-- 1. to 3., on the slot's two words
+unfoldable pub slotStep : ℕ → ℕ → ℕ → ℕ → ℕ → ℕ → ℕ → Group → Outcome
+slotStep limit slots first second alu predicate booleans g =
+    let procs = turnedIf (on 4 first) (g .procs) in
+    let wish = wishOf (jumpFunc first) (on (booleanNumber second) booleans) alu predicate in
+    pick (allowed first second)
+    (settled limit slots first second (decided (on 5 first) (λ i. isActive (procs i)) wish) wish procs g)
+    (Fails 13)
+
+-- a program: the first and the second words of its slots, and how many slots run (document 01's N)
+pub record Program : Type 0 where
+  pub firsts : List ℕ
+  pub seconds : List ℕ
+  pub slots : ℕ
+
+-- "A program has ended when the position is N or above"
+unfoldable pub ended : Program → Group → Bool
+ended program g = leb (program .slots) (g .position)
+
+-- "Order: 16, 13, 14, 15." A store has 512 slots: where more are to run, that is no program and gets 15 (house; `load`
+-- gives no such number).
+unfoldable pub stepOf : ℕ → Program → ℕ → ℕ → ℕ → Group → Outcome
+stepOf limit program alu predicate booleans g =
+    pick (ended program g) (Fails 16)
+    (pick (leb (program .slots) 512)
+    (slotStep limit (program .slots) (getD (program .firsts) (g .position) 0) (getD (program .seconds) (g .position) 0) alu predicate booleans g)
+    (Fails 15))
+
+-- what a run comes to: the steps made and the state after them, or the refusal
+pub data Run : Type 0 where
+  Makes : ℕ → Group → Run
+  Breaks : ℕ → Run
+
+abbrev pub onceMore : Run → Run
+onceMore (Makes n g) = Makes (suc n) g
+onceMore (Breaks why) = Breaks why
+
+abbrev pub goOn : Outcome → (Group → Run) → Run
+goOn (Steps jump g) rest = onceMore (rest g)
+goOn (Fails why) rest = Breaks why
+
+-- "a list of masks, alu then predicate for each step (a last alu without its predicate counts as the list's end)"; "It ends
+-- with the list or with the program; masks left over aren't read. If any step is refused, the whole run gets that number"
+unfoldable pub stepsOf : ℕ → Program → ℕ → List ℕ → Group → Run
+stepsOf limit program booleans [] g = Makes 0 g
+stepsOf limit program booleans (alu ∷ []) g = Makes 0 g
+stepsOf limit program booleans (alu ∷ (predicate ∷ masks)) g =
+    pick (ended program g) (Makes 0 g)
+    (goOn (stepOf limit program alu predicate booleans g) (λ g'. stepsOf limit program booleans masks g'))
+
+-- "it then gets 16, whatever the list"
+unfoldable pub runOf : ℕ → Program → ℕ → List ℕ → Group → Run
+runOf limit program booleans masks g =
+    pick (ended program g) (Breaks 16) (stepsOf limit program booleans masks g)
+
+-- "the first active processor (32 if none) and the number of processors active"
+unfoldable pub firstActive : Group → ℕ
+firstActive g = least 32 (λ i. isActive (g .procs i))
+
+unfoldable pub numberActive : Group → ℕ
+numberActive g = count 32 (λ i. isActive (g .procs i))
+
+-- what a step and a run tell: 1 for a jump, 0 for a stay, and the next position; steps made, first active, number active
+abbrev pub stepTold : Outcome → Told
+stepTold (Steps jump g) = gives (digit jump ∷ g .position ∷ [])
+stepTold (Fails why) = refuses why
+
+abbrev pub runTold : Run → Told
+runTold (Makes n g) = gives (n ∷ firstActive g ∷ numberActive g ∷ [])
+runTold (Breaks why) = refuses why
+
+-- a fresh group tells nothing, and another size 13
+unfoldable pub beginTold : ℕ → Told
+beginTold size = pick (isGroupSize size) (gives []) (refuses 13)

@@ -1,0 +1,4 @@
+pub mod Cells
+pub mod Group
+pub mod Masks
+pub mod Proc

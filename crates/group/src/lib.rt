@@ -1,0 +1,7 @@
+// A group of up to 32 processors: what document 01 says of a step and a run (specs/), how a group lies in lent cells, and
+// what a step does to its masks.
+//
+// The state of a group is 20 cells: 0 the processors in the group and 1 the active ones, bit i for processor i; 2 to 6 the
+// branch counters, bit i of cell 2 + k being bit k of processor i's counter; 7 the position; 8 to 11 the stored returns, the
+// last one first, 0 for none. 12 to 19 are 0: room for the mode, the killed processors, the open loops and aL.
+pub mod planes;

@@ -1,0 +1,15 @@
+-- `queries::floats` meets its contract: it reads the cells that the view reads. Assumes nothing.
+use Rattle.cells.specs.Cells.{sharedOf}
+use borrow.Author.Needs.{needs}
+use Rattle.queries.proofs.floats.Statement.{statement}
+use Rattle.queries.proofs.floats.Tie as tie
+
+setting-at-requires : tie.Need-setting-at-requires
+setting-at-requires c κs = search needs
+
+returns : tie.Need-returns
+unfolding sharedOf
+returns c = c .setting-at .ensures
+
+pub floats-spec : {M : Type 1} → statement M
+floats-spec = tie.close (tie.spec setting-at-requires returns)

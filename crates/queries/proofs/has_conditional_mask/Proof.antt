@@ -1,0 +1,16 @@
+-- `queries::has_conditional_mask` meets its contract: it reads the cell that the view reads. Assumes nothing.
+use mathlib.Core.Path.{refl}
+use Rattle.cells.specs.Cells.{partyOf, sharedOf}
+use borrow.Author.Needs.{needs}
+use Rattle.queries.proofs.has_conditional_mask.Statement.{statement}
+use Rattle.queries.proofs.has_conditional_mask.Tie as tie
+
+element-copy-out-result : tie.Need-element-copy-out-result
+element-copy-out-result c = search needs
+
+returns : tie.Need-returns
+unfolding partyOf sharedOf
+returns c = refl
+
+pub has-conditional-mask-spec : {M : Type 1} → statement M
+has-conditional-mask-spec = tie.close (tie.spec element-copy-out-result returns)

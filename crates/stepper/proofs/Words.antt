@@ -1,0 +1,185 @@
+-- The words of a slot and the return stack, as the code finds them test by test. Assumes nothing.
+use mathlib.Core.Path.{_≡_, refl, sym, ap, _∙_}
+use mathlib.Core.Bool.{Bool, true, false}
+use mathlib.Core.List.{List, [], _∷_}
+use Prim.Native.Nat.{ℕ, suc, _+_, _/_, _%_, _<_, _≤_}
+use native.Mathlib.Omega.{arith}
+use lib.Dec.{eqb, leb}
+use lib.ListN.{length, getD}
+use borrow.Author.Tests.{leb-true, lt-ltb, le-ltb, le-leb, lt-leb, eq-eqb, ne-eqb}
+use Rattle.laws.specs.Choice.{_and_}
+use Rattle.laws.proofs.Choice.{pick-yes, pick-no, and-left, and-right, and-yes, and-no-left}
+use Rattle.group.specs.Group.{Way, Goes, Stuck, field, allowed, popped, pushed, wayOf}
+use Rattle.group.specs.Cells.{aReturn, areReturns}
+use Rattle.stepper.specs.Answers.{Stack}
+
+-- the lowest field needs no division
+low-field : (n : ℕ) → field 3 0 n ≡ n % 16
+low-field n = omega arith
+
+-- the judgement of the words, as far as the tests on the way decide it
+module _ (first second : ℕ) where
+  pub bad-op : (first % 16 ≡ 0 → ⊥) → false ≡ allowed first second
+  unfolding allowed
+  bad-op n = sym (and-no-left _ (ne-eqb _ 0 (λ z. n (sym (low-field first) ∙ z))))
+
+  module _ (op : first % 16 ≡ 0) where
+    a1 : eqb (field 3 0 first) 0 ≡ true
+    a1 = eq-eqb _ 0 (low-field first ∙ op)
+
+    pub bad-return-op : 2 < first / 64 % 4 → false ≡ allowed first second
+    unfolding allowed
+    bad-return-op n = sym (and-yes _ a1 ∙ and-no-left _ (lt-leb _ 2 n))
+
+    module _ (h2 : first / 64 % 4 ≤ 2) where
+      pub bad-low-gap : (first / 2097152 % 8 ≡ 0 → ⊥) → false ≡ allowed first second
+      unfolding allowed
+      bad-low-gap n = sym (and-yes _ a1 ∙ and-yes _ (le-leb _ 2 h2) ∙ and-no-left _ (ne-eqb _ 0 n))
+
+      module _ (h3 : first / 2097152 % 8 ≡ 0) where
+        pub bad-stay-op : 2 < first / 16777216 % 4 → false ≡ allowed first second
+        unfolding allowed
+        bad-stay-op n =
+            sym (and-yes _ a1 ∙ and-yes _ (le-leb _ 2 h2) ∙ and-yes _ (eq-eqb _ 0 h3) ∙ and-no-left _ (lt-leb _ 2 n))
+
+        module _ (h4 : first / 16777216 % 4 ≤ 2) where
+          pub bad-jump-op : 2 < first / 67108864 % 4 → false ≡ allowed first second
+          unfolding allowed
+          bad-jump-op n =
+              sym
+              (and-yes _ a1 ∙ and-yes _ (le-leb _ 2 h2) ∙ and-yes _ (eq-eqb _ 0 h3) ∙ and-yes _ (le-leb _ 2 h4) ∙
+              and-no-left _ (lt-leb _ 2 n))
+
+          module _ (h5 : first / 67108864 % 4 ≤ 2) where
+            so-far : (b : Bool) →
+                (eqb (field 3 0 first) 0 and leb (field 7 6 first) 2 and eqb (field 23 21 first) 0 and
+                leb (field 25 24 first) 2 and leb (field 27 26 first) 2 and b) ≡ b
+            so-far b =
+                and-yes _ a1 ∙ and-yes _ (le-leb _ 2 h2) ∙ and-yes _ (eq-eqb _ 0 h3) ∙ and-yes _ (le-leb _ 2 h4) ∙
+                and-yes _ (le-leb _ 2 h5)
+
+            pub bad-high-gap : (first / 268435456 % 16 ≡ 0 → ⊥) → false ≡ allowed first second
+            unfolding allowed
+            bad-high-gap n = sym (so-far _ ∙ and-no-left _ (ne-eqb _ 0 n))
+
+            module _ (h6 : first / 268435456 % 16 ≡ 0) where
+              pub bad-second : (second / 32 % 2048 ≡ 0 → ⊥) → false ≡ allowed first second
+              unfolding allowed
+              bad-second n = sym (so-far _ ∙ and-yes _ (eq-eqb _ 0 h6) ∙ and-no-left _ (ne-eqb _ 0 n))
+
+              pub last-test :
+                  second / 32 % 2048 ≡ 0 → eqb (second / 33554432 % 128) 0 ≡ allowed first second
+              unfolding allowed
+              last-test h7 = sym (so-far _ ∙ and-yes _ (eq-eqb _ 0 h6) ∙ and-yes _ (eq-eqb _ 0 h7))
+
+-- a stored return isn't 0
+return-positive : (r : ℕ) (rs : List ℕ) → areReturns (r ∷ rs) ≡ true → 1 ≤ r
+unfolding areReturns
+return-positive r rs e = leb-true 1 r (and-left (leb 1 r) (leb r 512) (and-left (aReturn r) (areReturns rs) e))
+
+-- past its end a list gives 0
+past : (l : List ℕ) → length l ≤ 3 → getD l 3 0 ≡ 0
+past [] h = refl
+past (a ∷ []) h = refl
+past (a ∷ (b ∷ [])) h = refl
+past (a ∷ (b ∷ (c ∷ []))) h = refl
+past (a ∷ (b ∷ (c ∷ (d ∷ l)))) h = absurd (four (length l) h)
+  where
+    four : (n : ℕ) → suc (suc (suc (suc n))) ≤ 3 → ⊥
+    four n h = omega arith
+
+-- a way that goes on, with its returns in four cells
+pub record Went (w : Way) (at r0 r1 r2 r3 : ℕ) : Type 0 where
+  pub rest : List ℕ
+  pub goes : w ≡ Goes at rest
+  pub cell0 : r0 ≡ getD rest 0 0
+  pub cell1 : r1 ≡ getD rest 1 0
+  pub cell2 : r2 ≡ getD rest 2 0
+  pub cell3 : r3 ≡ getD rest 3 0
+
+-- pop: the first cell tells an empty stack
+pub pop-empty : (rs : List ℕ) {r0 r1 r2 r3 : ℕ} → Stack rs r0 r1 r2 r3 → r0 ≡ 0 → popped rs ≡ Stuck
+pop-empty [] s z = refl
+pop-empty (r ∷ rs) {r0} s z =
+    let p : 1 ≤ r = return-positive r rs (s .slots) in
+    let q : r0 ≡ r = s .cell0 in
+    absurd (omega arith)
+
+pub pop-last :
+    (rs : List ℕ) {r0 r1 r2 r3 : ℕ} → Stack rs r0 r1 r2 r3 → (r0 ≡ 0 → ⊥) → Went (popped rs) r0 r1 r2 r3 0
+pop-last [] s n = absurd (n (s .cell0))
+pop-last (r ∷ rs) s n =
+    record {
+      rest = rs;
+      goes = ap (λ (at : ℕ). Goes at rs) (sym (s .cell0));
+      cell0 = s .cell1;
+      cell1 = s .cell2;
+      cell2 = s .cell3;
+      cell3 = sym (past rs (shorter (length rs) (s .depth)));
+    }
+  where
+    shorter : (n : ℕ) → suc n ≤ 4 → n ≤ 3
+    shorter n h = omega arith
+
+-- push: the fourth cell tells a full one
+fourth-taken : (rs : List ℕ) → (getD rs 3 0 ≡ 0 → ⊥) → 4 ≤ length rs
+fourth-taken [] n = absurd (n refl)
+fourth-taken (a ∷ []) n = absurd (n refl)
+fourth-taken (a ∷ (b ∷ [])) n = absurd (n refl)
+fourth-taken (a ∷ (b ∷ (c ∷ []))) n = absurd (n refl)
+fourth-taken (a ∷ (b ∷ (c ∷ (d ∷ l)))) n = more (length l)
+  where
+    more : (n : ℕ) → 4 ≤ suc (suc (suc (suc n)))
+    more n = omega arith
+
+fourth-free : (rs : List ℕ) → areReturns rs ≡ true → getD rs 3 0 ≡ 0 → length rs < 4
+unfolding areReturns
+fourth-free [] e z = omega arith
+fourth-free (a ∷ []) e z = omega arith
+fourth-free (a ∷ (b ∷ [])) e z = omega arith
+fourth-free (a ∷ (b ∷ (c ∷ []))) e z = omega arith
+fourth-free (a ∷ (b ∷ (c ∷ (d ∷ l)))) e z =
+    let f = and-right (aReturn a) (areReturns (b ∷ (c ∷ (d ∷ l)))) e in
+    let g = and-right (aReturn b) (areReturns (c ∷ (d ∷ l))) f in
+    let k = and-right (aReturn c) (areReturns (d ∷ l)) g in
+    let p : 1 ≤ d = return-positive d l k in
+    let q : d ≡ 0 = z in
+    absurd (omega arith)
+
+module _ (position address : ℕ) (rs : List ℕ) {r0 r1 r2 r3 : ℕ} (s : Stack rs r0 r1 r2 r3) where
+  pub push-full : (r3 ≡ 0 → ⊥) → pushed position address rs ≡ Stuck
+  push-full n = pick-no _ _ (le-ltb (length rs) 4 (fourth-taken rs (λ z. n (s .cell3 ∙ z))))
+
+  pub push-last : r3 ≡ 0 → Went (pushed position address rs) address (position + 1) r0 r1 r2
+  push-last z =
+      record {
+        rest = (position + 1) ∷ rs;
+        goes = pick-yes _ _ (lt-ltb (length rs) 4 (fourth-free rs (s .slots) (sym (s .cell3) ∙ z)));
+        cell0 = refl;
+        cell1 = s .cell0;
+        cell2 = s .cell1;
+        cell3 = s .cell2;
+      }
+
+-- the cells as they stand
+pub standing : (at : ℕ) (rs : List ℕ) {r0 r1 r2 r3 : ℕ} → Stack rs r0 r1 r2 r3 → Went (Goes at rs) at r0 r1 r2 r3
+standing at rs s =
+    record { rest = rs; goes = refl; cell0 = s .cell0; cell1 = s .cell1; cell2 = s .cell2; cell3 = s .cell3 }
+
+-- the way, by the decision and the operation
+module _ (op position address : ℕ) {jump : Bool} (rs : List ℕ) where
+  pub way-pop : jump ≡ true → op ≡ 1 → popped rs ≡ wayOf op jump position address rs
+  unfolding wayOf
+  way-pop j e = sym (pick-yes _ _ j ∙ pick-yes _ _ (eq-eqb op 1 e))
+
+  pub way-push : jump ≡ true → op ≡ 2 → pushed position address rs ≡ wayOf op jump position address rs
+  unfolding wayOf
+  way-push j e = sym (pick-yes _ _ j ∙ pick-no _ _ (ne-eqb op 1 (λ z. omega arith)) ∙ pick-yes _ _ (eq-eqb op 2 e))
+
+  pub way-address : jump ≡ true → (op ≡ 1 → ⊥) → (op ≡ 2 → ⊥) → Goes address rs ≡ wayOf op jump position address rs
+  unfolding wayOf
+  way-address j n1 n2 = sym (pick-yes _ _ j ∙ pick-no _ _ (ne-eqb op 1 n1) ∙ pick-no _ _ (ne-eqb op 2 n2))
+
+  pub way-on : jump ≡ false → Goes (position + 1) rs ≡ wayOf op jump position address rs
+  unfolding wayOf
+  way-on j = sym (pick-no _ _ j)

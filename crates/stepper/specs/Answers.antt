@@ -1,0 +1,63 @@
+-- What the answer of a step tells, in document 01's numbers and values, and what a step leaves in the cells. Assumes nothing.
+use mathlib.Core.Path.{_≡_}
+use mathlib.Core.Bool.{Bool, true}
+use mathlib.Core.List.{List, [], _∷_}
+use Prim.Native.Nat.{ℕ, _≤_}
+use lib.Dec.{eqb, leb, ltb}
+use lib.ListN.{length, getD}
+use Rattle.laws.specs.Choice.{pick}
+use Rattle.laws.specs.Masks.{digit}
+use Rattle.refusal.specs.declared.Refusal.{Refusal}
+use Rattle.refusal.specs.declared.Refusal.the-variants.{AtLimit, PastEnd, FlowField, Ended}
+use Rattle.refusal.specs.Number.{numberOf}
+use Rattle.refusal.specs.Told.{Told, gives, refuses}
+use Rattle.group.specs.Group.{Outcome, Program, Way, Goes, Stuck, stepTold}
+use Rattle.group.specs.Cells.{areReturns, withPlace, stepLeaves}
+use Rattle.stepper.specs.declared.Stepped.{Stepped}
+use Rattle.stepper.specs.declared.Stepped.the-variants as stepped
+
+-- a jump tells 1, a stay 0, and both the next position
+abbrev pub toldStepped : Stepped → Told
+toldStepped (stepped.Jumped p) = gives (1 ∷ p .0 ∷ [])
+toldStepped (stepped.Stayed p) = gives (0 ∷ p .0 ∷ [])
+toldStepped (stepped.Refused why) = refuses (numberOf why)
+
+-- a step's answer in one number: the refusal's, or 1 for a jump and 0 for a stay to the place that the cells then show
+unfoldable pub refusalOf : ℕ → Refusal
+refusalOf n = pick (eqb n 13) FlowField (pick (eqb n 14) AtLimit (pick (eqb n 15) PastEnd Ended))
+
+unfoldable pub answerOf : ℕ → ℕ → Stepped
+answerOf n at =
+    pick (ltb 1 n) (stepped.Refused (refusalOf n))
+    (pick (eqb n 1) (stepped.Jumped (record { 0 = at })) (stepped.Stayed (record { 0 = at })))
+
+-- a step is told as its outcome says, and leaves the cells that its outcome leads to
+pub record StepDone (entry leaves : List ℕ) (r : Stepped) (o : Outcome) : Type 0 where
+  pub told : toldStepped r ≡ stepTold o
+  pub left : leaves ≡ stepLeaves entry o
+
+-- the returns in four cells
+pub record Stack (rs : List ℕ) (r0 r1 r2 r3 : ℕ) : Type 0 where
+  pub cell0 : r0 ≡ getD rs 0 0
+  pub cell1 : r1 ≡ getD rs 1 0
+  pub cell2 : r2 ≡ getD rs 2 0
+  pub cell3 : r3 ≡ getD rs 3 0
+  pub depth : length rs ≤ 4
+  pub slots : areReturns rs ≡ true
+
+-- going on by a way: 14 where the stack is at its limit, 15 past the end, else 1 for a jump and 0 for a stay, at the new place
+abbrev pub goneNumber : ℕ → Bool → Way → ℕ
+goneNumber slots jump (Goes at rs) = pick (leb at slots) (digit jump) 15
+goneNumber slots jump Stuck = 14
+
+abbrev pub goneCells : ℕ → List ℕ → Way → List ℕ
+goneCells slots l (Goes at rs) = pick (leb at slots) (withPlace l at rs) l
+goneCells slots l Stuck = l
+
+pub record GoDone (entry leaves : List ℕ) (r slots : ℕ) (jump : Bool) (w : Way) : Type 0 where
+  pub number : r ≡ goneNumber slots jump w
+  pub left : leaves ≡ goneCells slots entry w
+
+-- a program in its two lent arrays
+abbrev pub programOf : List ℕ → List ℕ → ℕ → Program
+programOf firsts seconds slots = record { firsts = firsts; seconds = seconds; slots = slots }

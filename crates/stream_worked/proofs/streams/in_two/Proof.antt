@@ -1,0 +1,93 @@
+-- `stream_worked::streams::in_two` is safe and ends; what it hands on came from the entries. Assumes nothing.
+use mathlib.Core.Path.{sym}
+use lib.Seq.{length-take-le}
+use native.Mathlib.Omega.{arith}
+use Rattle.session.proofs.Handed.{begun-given, piece-given}
+use borrow.Author.Needs.{needs}
+use Rattle.stream_worked.proofs.streams.in_two.Statement.{statement}
+use Rattle.stream_worked.proofs.streams.in_two.Tie as tie
+
+by-word-requires : tie.Need-by-word-requires
+by-word-requires c κs = search needs
+
+returns : tie.Need-returns
+returns c = search needs
+
+begin-requires : tie.Need-begin-requires
+begin-requires c κs = search needs
+
+slice-aggregate-feed : tie.Need-slice-aggregate-feed
+slice-aggregate-feed c = sym (length-take-le (c .before .before .before .before .before .before .before .before .before .before .args .cut) (c .before .before .before .before .before .before .before .before .before .before .args .words .now) (c .before .before .before .before .before .before .before .before .if1 .left))
+
+feed-requires : tie.Need-feed-requires
+feed-requires c κs = begun-given (c .before .before .before .before .begin .ensures)
+
+mul-feed : tie.Need-mul-feed
+mul-feed c = search needs
+
+sub-feed : tie.Need-sub-feed
+sub-feed c = search needs
+
+part-feed-start : tie.Need-part-feed-start
+part-feed-start c = search needs
+
+part-feed-end : tie.Need-part-feed-end
+part-feed-end c = search needs
+
+feed-requires-2 : tie.Need-feed-requires-2
+feed-requires-2 c κs = piece-given _ (begun-given (c .before .before .before .before .before .before .before .before .before .begin .ensures)) (c .before .before .before .before .feed .ensures .held)
+
+array-read-taken : tie.Need-array-read-taken
+array-read-taken c = search needs
+
+word-requires : tie.Need-word-requires
+word-requires c κs = piece-given _ (piece-given _ (begun-given (c .before .before .before .before .before .before .before .before .before .before .before .before .before .begin .ensures)) (c .before .before .before .before .before .before .before .before .feed .ensures .held)) (c .before .before .before .feed2 .ensures .held)
+
+number-of-requires : tie.Need-number-of-requires
+number-of-requires c κs = search needs
+
+wrapping-add-u64-requires : tie.Need-wrapping-add-u64-requires
+wrapping-add-u64-requires c κs = search needs
+
+first-number-requires : tie.Need-first-number-requires
+first-number-requires c κs = search needs
+
+first-number-requires-2 : tie.Need-first-number-requires-2
+first-number-requires-2 c κs = search needs
+
+earlier-requires : tie.Need-earlier-requires
+earlier-requires c κs = search needs
+
+array-read-t42 : tie.Need-array-read-t42
+array-read-t42 c = search needs
+
+array-read-t45 : tie.Need-array-read-t45
+array-read-t45 c = search needs
+
+returns-2 : tie.Need-returns-2
+returns-2 c = search needs
+
+pub in-two-spec : {M : Type 1} → statement M
+in-two-spec =
+    tie.close
+    (tie.spec
+    by-word-requires
+    returns
+    begin-requires
+    slice-aggregate-feed
+    feed-requires
+    mul-feed
+    sub-feed
+    part-feed-start
+    part-feed-end
+    feed-requires-2
+    array-read-taken
+    word-requires
+    number-of-requires
+    wrapping-add-u64-requires
+    first-number-requires
+    first-number-requires-2
+    earlier-requires
+    array-read-t42
+    array-read-t45
+    returns-2)

@@ -1,0 +1,4 @@
+pub mod Around
+pub mod Channels
+pub mod FourReads
+pub mod Words

@@ -1,0 +1,20 @@
+-- `superfine::line::four` meets its contract. Assumes nothing.
+use mathlib.Core.Path.{refl}
+use Rattle.memory.specs.Elements.{inLine}
+use Rattle.memory.proofs.Copies.{reading-of-four}
+use borrow.Author.Needs.{needs}
+use Rattle.superfine.proofs.line.four.Statement.{statement}
+use Rattle.superfine.proofs.line.four.Tie as tie
+
+first-four-requires : tie.Need-first-four-requires
+first-four-requires c κs = search needs
+
+mul-t7 : tie.Need-mul-t7
+mul-t7 c = search needs
+
+returns : tie.Need-returns
+unfolding inLine
+returns c = reading-of-four _ _ _ _ _ _ _ _ (c .before .before .before .before .before .pre) refl refl refl (c .first-four .ensures)
+
+pub four-spec : {M : Type 1} → statement M
+four-spec = tie.close (tie.spec first-four-requires mul-t7 returns)

@@ -1,0 +1,53 @@
+// The four addresses of a superfine read.
+use address::Translated;
+use layout::Layout;
+use refusal::Refusal;
+ghost use mathlib.Core.Path.{_≡_};
+ghost use mathlib.Core.List.{[], _∷_};
+ghost use Rattle.refusal.specs.Told.{gives};
+ghost use Rattle.address.specs.Address.{translateOf};
+ghost use Rattle.superfine.specs.Superfine.{cornersOf, toldCorners};
+
+// The addresses of (x + 1, y), (x, y + 1), (x + 1, y + 1) and (x, y).
+pub enum Corners {
+    At {
+        right: u32,
+        below: u32,
+        across: u32,
+        own: u32,
+    },
+    Refused(Refusal),
+}
+
+// The four addresses, given that of (x, y). The pair is inside, so x and y are below 4,096 and can grow by 1.
+fn around(layout: Layout, x: u32, y: u32, own: u32) -> Corners
+    requires { ⌜ translateOf layout x y ≡ gives (own ∷ []) ⌝ }
+    ensures { λ r. ⌜ toldCorners r ≡ cornersOf layout x y ⌝ }
+{
+    let Translated::At { address: right } = address::translate(layout, x + 1, y) else {
+        return Corners::Refused(Refusal::PairOutside);
+    };
+    let Translated::At { address: below } = address::translate(layout, x, y + 1) else {
+        return Corners::Refused(Refusal::PairOutside);
+    };
+    let Translated::At { address: across } = address::translate(layout, x + 1, y + 1) else {
+        return Corners::Refused(Refusal::PairOutside);
+    };
+    Corners::At {
+        right: right.0,
+        below: below.0,
+        across: across.0,
+        own,
+    }
+}
+
+// The four addresses; or 3 and 6 for a layout that isn't accepted, 10 where one of the four pairs is outside. (x, y) is asked
+// first, so that no sum wraps.
+pub fn addresses(layout: Layout, x: u32, y: u32) -> Corners
+    ensures { λ r. ⌜ toldCorners r ≡ cornersOf layout x y ⌝ }
+{
+    match address::translate(layout, x, y) {
+        Translated::Refused(why) => Corners::Refused(why),
+        Translated::At { address } => around(layout, x, y, address.0),
+    }
+}

@@ -1,0 +1,47 @@
+// A reading of four elements, one after the other.
+use memory::Answer;
+use memory::Reading;
+use memory::copy;
+ghost use mathlib.Core.Path.{_≡_};
+ghost use mathlib.Core.List.{_++_};
+ghost use lib.ListN.{length};
+ghost use Rattle.refusal.specs.Told.{gives};
+ghost use Rattle.memory.specs.Answers.{Answered, FourAsked};
+ghost use Rattle.memory.specs.Elements.{inLine};
+
+// Four parts of `n` bytes each, one after the other.
+fn in_line(a: &[u8], b: &[u8], c: &[u8], d: &[u8], n: usize) -> [u8; 16]
+    requires { ⌜ FourAsked (now a) (now b) (now c) (now d) × (n ≡ length (now a)) ⌝ }
+    ensures { λ r. ⌜ r ≡ inLine n (now (a .entry)) (now (b .entry)) (now (c .entry)) (now (d .entry)) ⌝ }
+{
+    let bytes = copy::put([0; 16], 0, a, n);
+    let bytes = copy::put(bytes, n, b, n);
+    let bytes = copy::put(bytes, n * 2, c, n);
+    copy::put(bytes, n * 3, d, n)
+}
+
+// The bytes of a reading of four elements: the sizes of a superfine read are constants in their arms.
+fn first_four(a: &[u8], b: &[u8], c: &[u8], d: &[u8]) -> [u8; 16]
+    requires { ⌜ FourAsked (now a) (now b) (now c) (now d) ⌝ }
+    ensures { λ r. ⌜ r ≡ inLine (length (now (a .entry))) (now (a .entry)) (now (b .entry)) (now (c .entry)) (now (d .entry)) ⌝ }
+{
+    let n = a.len();
+    match n {
+        2 => in_line(a, b, c, d, 2),
+        4 => in_line(a, b, c, d, 4),
+        _ => in_line(a, b, c, d, n),
+    }
+}
+
+// A reading of four elements of one size, one after the other.
+pub fn four(a: &[u8], b: &[u8], c: &[u8], d: &[u8]) -> Reading
+    requires { ⌜ FourAsked (now a) (now b) (now c) (now d) ⌝ }
+    ensures { λ r. ⌜ Answered (gives (now (a .entry) ++ (now (b .entry) ++ (now (c .entry) ++ now (d .entry))))) r ⌝ }
+{
+    let n = a.len();
+    let bytes = first_four(a, b, c, d);
+    Reading {
+        answer: Answer::Bytes(n * 4),
+        bytes,
+    }
+}
