@@ -30,6 +30,17 @@ use Rattle.session.proofs.WriteBack.{fed-back}
 use Rattle.session.proofs.ReadAgain.{read-again}
 use Rattle.session.proofs.Refusals.{refused-word}
 use Rattle.session.proofs.Tallies.{Tallied, tallied}
+use Rattle.cells.specs.Start.{sumBelow}
+use Rattle.log.specs.State.{Replay}
+use Rattle.log.specs.Step.{refused as byteRefused, byteStep}
+use Rattle.log.specs.Feed.{replayOf, replayPieces}
+use Rattle.log.specs.Words.{wordsIn}
+use Rattle.log.specs.Report.{partAt}
+use Rattle.log.specs.Refusals.{RefusedTo as LogRefusedTo}
+use Rattle.log.specs.Cells.{LogValid}
+use Rattle.log.proofs.Cut.{refused-byte, cut-anywhere as bytes-cut-anywhere}
+use Rattle.log.proofs.Words.{one-session}
+use Rattle.log.proofs.Days.{all-runs, all-claims}
 use Rattle.group.specs.Proc.{wants, decided, worked}
 use Rattle.group.specs.Group.{allowed, fresh, turnedIf, wishOf, overLimit, wayOf, settled, slotStep, ended, stepOf as flowStep}
 use Rattle.flow.specs.Cases.{oneWord, c9, c10, c11, c12}
@@ -61,6 +72,25 @@ demand2-read-again = read-again
 -- Demand 2: runs and claims are those of the accepted words.
 pub demand2-tallies : (s : Session) (ws : List ℕ) → Tallied s (feedOf s ws .commands) (feedOf s ws .session)
 demand2-tallies = tallied
+
+-- Request 1: demand 2's cut rule for the bytes of a log: pieces cut anywhere, even inside a record, give what the uncut log gives.
+pub log-cut : (r : Replay) (ps : List (List ℕ)) → replayPieces r ps ≡ replayOf r (uncut ps)
+log-cut = bytes-cut-anywhere
+
+-- Request 1: a refused byte changes nothing but the stop and the dropped record, and on a stopped replay nothing at all.
+pub log-refusals : (r : Replay) (b n : ℕ) → byteStep r b .reply ≡ byteRefused n → LogRefusedTo r n (byteStep r b .replay)
+log-refusals = refused-byte
+
+-- Request 1: the replay's session is the one session fed with all the log's words, whatever the midnights.
+pub log-session : (r : Replay) (bs : List ℕ) → replayOf r bs .replay .session ≡ feedOf (r .session) (wordsIn r bs) .session
+log-session = one-session
+
+-- Request 1: what ended before the first midnight and on each day adds up to the session's runs and claims.
+pub log-runs : (r : Replay) → LogValid r → sumBelow (r .midnights + 1) (λ k. partAt r k .runs) ≡ r .session .party .tally .runs
+log-runs = all-runs
+
+pub log-claims : (r : Replay) → LogValid r → sumBelow (r .midnights + 1) (λ k. partAt r k .claims) ≡ r .session .party .tally .claims
+log-claims = all-claims
 
 -- Elements in lent memory: after a write, a read of that pair gives what was written, and a read of any other pair of the
 -- window answers as before.
