@@ -31,13 +31,14 @@ use Rattle.session.proofs.ReadAgain.{read-again}
 use Rattle.session.proofs.Refusals.{refused-word}
 use Rattle.session.proofs.Tallies.{Tallied, tallied}
 use Rattle.cells.specs.Start.{sumBelow}
-use Rattle.log.specs.State.{Replay}
-use Rattle.log.specs.Step.{refused as byteRefused, byteStep}
+use Rattle.records.specs.State.{Replay}
+use Rattle.records.specs.Step.{refused as byteRefused}
+use Rattle.log.specs.Bytes.{byteStep}
 use Rattle.log.specs.Feed.{replayOf, replayPieces}
 use Rattle.log.specs.Words.{wordsIn}
-use Rattle.log.specs.Report.{partAt}
+use Rattle.records.specs.Report.{partAt}
 use Rattle.log.specs.Refusals.{RefusedTo as LogRefusedTo}
-use Rattle.log.specs.Cells.{LogValid}
+use Rattle.records.specs.Cells.{LogValid}
 use Rattle.log.proofs.Cut.{refused-byte, cut-anywhere as bytes-cut-anywhere}
 use Rattle.log.proofs.Words.{one-session}
 use Rattle.log.proofs.Days.{all-runs, all-claims}

@@ -3,10 +3,10 @@ use mathlib.Core.Path.{_≡_}
 use mathlib.Core.List.{List, [], _∷_}
 use Prim.Native.Nat.{ℕ}
 use Rattle.cells.specs.State.{Tally}
-use Rattle.log.specs.State.{newReplay}
+use Rattle.records.specs.State.{newReplay}
 use Rattle.log.specs.Feed.{Fed}
-use Rattle.log.specs.Cells.{LogHeld}
-use Rattle.log.specs.declared.report.Standing.{Standing}
+use Rattle.records.specs.Cells.{LogHeld}
+use Rattle.days.specs.declared.report.Standing.{Standing}
 use Rattle.egretfold.specs.Sessions.{firstStatus}
 
 pub record LogBegins (r : ℕ) (log marks own tallies shared : List ℕ) : Type 0 where

@@ -11,8 +11,9 @@ use borrow.Author.Tests.{ne-eqb, eqb-true, eqb-false}
 use Rattle.laws.specs.Choice.{pick}
 use Rattle.laws.proofs.Choice.{by-pick, pick-no}
 use Rattle.session.specs.Feed.{First, nothing, first, uncut}
-use Rattle.log.specs.State.{Replay, noRecord}
-use Rattle.log.specs.Step.{Reply, taken, refused, Stepped, stopped, stopping, taking, kindStep, midnightStep, recordStep, openStep, byteStep}
+use Rattle.records.specs.State.{Replay, noRecord}
+use Rattle.records.specs.Step.{Reply, taken, refused, Stepped, stopped, stopping, taking, kindStep, midnightStep}
+use Rattle.log.specs.Bytes.{recordStep, openStep, byteStep}
 use Rattle.log.specs.Feed.{Fed, ahead, ended, proceed, replayOf, joined, replayPieces}
 use Rattle.log.specs.Refusals.{NewStop, byKind, byDay, RefusedTo, again, newly}
 use Rattle.log.proofs.Records.{stepped}

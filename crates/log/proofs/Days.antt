@@ -15,13 +15,14 @@ use Rattle.laws.proofs.Choice.{pick-yes, pick-no, and-right}
 use Rattle.cells.specs.State.{Tally}
 use Rattle.cells.specs.Start.{sumBelow}
 use Rattle.session.specs.Feed.{nothing}
-use Rattle.log.specs.State.{OpenRecord, Replay, noRecord}
-use Rattle.log.specs.Step.{Stepped, opening, taking, isKind, ofKind, withByte, mayBegin, marked, afterMidnight, byteStep}
-use Rattle.log.specs.Report.{noTally, markAt, beganWith, endedWith, less, partOf, partAt, dayAt}
+use Rattle.records.specs.State.{OpenRecord, Replay, noRecord}
+use Rattle.records.specs.Step.{Stepped, opening, taking, isKind, ofKind, withByte, mayBegin, marked, afterMidnight}
+use Rattle.log.specs.Bytes.{byteStep}
+use Rattle.records.specs.Report.{noTally, markAt, beganWith, endedWith, less, partOf, partAt, dayAt}
 use Rattle.log.specs.Feed.{Fed, ahead, ended, replayOf}
-use Rattle.log.specs.Cells.{Grows, LogValid}
+use Rattle.records.specs.Cells.{Grows, LogValid}
 use Rattle.log.specs.Unfinished.{OpenOnly, openOnly}
-use Rattle.log.proofs.Marks.{ended-past, ended-now}
+use Rattle.records.proofs.Marks.{ended-past, ended-now}
 use Rattle.log.proofs.Records.{Ready, took, kind-byte, next-byte, ahead-ahead}
 
 -- a midnight that is read: its day is the last part's, and no earlier part's day has changed

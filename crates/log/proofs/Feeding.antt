@@ -17,16 +17,18 @@ use Rattle.session.specs.Feed.{First, nothing, first}
 use Rattle.session.specs.declared.stream.First as firsts
 use Rattle.session.specs.declared.stream.First.the-variants as firstly
 use Rattle.session.proofs.Taking.{same}
-use Rattle.log.specs.State.{OpenRecord, Replay, noRecord}
-use Rattle.log.specs.Step.{Reply, taken, refused, Stepped, byteStep}
+use Rattle.records.specs.State.{OpenRecord, Replay, noRecord}
+use Rattle.records.specs.Step.{Reply, taken, refused, Stepped}
+use Rattle.log.specs.Bytes.{byteStep}
 use Rattle.log.specs.Feed.{ahead, ended, proceed, replayOf, wordRecords, afterWords}
 use Rattle.log.specs.Feed as piece
-use Rattle.log.specs.Cells.{viewed, replayIn, LogHeld, LogValid, LogGiven}
-use Rattle.log.specs.Asked.{replyOf, PieceLeft, LogSized, Became, WordsAsked, WordsLeft, Words32, Gathered, Idle, RecordsLeft, unread, read}
-use Rattle.log.specs.declared.replay.Answer.{Answer}
-use Rattle.log.specs.declared.replay.Answer.the-variants.{Taken, Refused}
+use Rattle.records.specs.Cells.{viewed, replayIn, LogHeld, LogValid, LogGiven}
+use Rattle.log.specs.Asked.{PieceLeft, LogSized, Became, WordsAsked, WordsLeft, Words32, Gathered, Idle, RecordsLeft, unread, read}
+use Rattle.records.specs.Own.{replyOf}
+use Rattle.records.specs.declared.bytes.Answer.{Answer}
+use Rattle.records.specs.declared.bytes.Answer.the-variants.{Taken, Refused}
 use Rattle.log.specs.declared.replay.Fed.{Fed}
-use Rattle.log.proofs.Changes.{log-canon}
+use Rattle.records.proofs.Changes.{log-canon}
 use Rattle.log.proofs.Kept.{byte-valid, words-valid}
 use Rattle.log.proofs.Records.{Ready, stepped, took, ahead-ahead, words-read}
 

@@ -14,13 +14,15 @@ use Rattle.session.specs.Feed.{feedOf}
 use Rattle.session.proofs.Kept.{new-valid}
 use Rattle.session.proofs.Refusals.{fed-valid}
 use Rattle.session.proofs.Tallies.{tallied}
-use Rattle.log.specs.State.{OpenRecord, Replay, noRecord, newReplay}
-use Rattle.log.specs.Step.{Stepped, opening, stopped, stopping, taking, isKind, ofKind, kindStep, withByte, afterWord, mayBegin, marked, afterMidnight, midnightStep, recordStep, openStep, byteStep}
-use Rattle.log.specs.Report.{beganWith, endedWith}
+use Rattle.records.specs.State.{OpenRecord, Replay, noRecord, newReplay}
+use Rattle.records.specs.Step.{Stepped, opening, stopped, stopping, taking, isKind, ofKind, kindStep, withByte, afterWord, mayBegin, marked, afterMidnight, midnightStep}
+use Rattle.log.specs.Bytes.{recordStep, openStep, byteStep}
+use Rattle.records.specs.Report.{beganWith, endedWith}
 use Rattle.log.specs.Feed.{afterWords}
-use Rattle.log.specs.Cells.{StopNumber, running, byKind, byDay, Grows, LogValid}
-use Rattle.log.proofs.Marks.{grows-on, grows-marked}
-use Rattle.log.proofs.Steps.{one-word, few}
+use Rattle.records.specs.Cells.{StopNumber, running, byKind, byDay, Grows, LogValid}
+use Rattle.records.proofs.Marks.{grows-on, grows-marked}
+use Rattle.records.proofs.Midnights.{few}
+use Rattle.log.proofs.Steps.{one-word}
 
 -- a new replay
 pub new-replay-valid : LogValid newReplay

@@ -1,10 +1,7 @@
-pub mod Changes
 pub mod Cut
 pub mod Days
 pub mod Feeding
 pub mod Kept
-pub mod Marks
 pub mod Records
-pub mod Reports
 pub mod Steps
 pub mod Words

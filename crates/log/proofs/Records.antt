@@ -20,8 +20,9 @@ use Rattle.session.specs.Refusals.{StopNumber, low, full, RefusedTo, unchanged,
 use Rattle.session.specs.Feed.{First, nothing, first, feedOf, proceed as feeding}
 use Rattle.session.specs.Feed as pieces
 use Rattle.session.proofs.Refusals.{refused-word, stopped-for-good, stopped-piece}
-use Rattle.log.specs.State.{OpenRecord, WordRefused, Replay, noRecord}
-use Rattle.log.specs.Step.{Reply, taken, refused, Stepped, opening, taking, isKind, ofKind, kindStep, withByte, numberFrom, noted, notedReply, withWords, afterWord, afterMidnight, midnightStep, recordStep, openStep, byteStep}
+use Rattle.records.specs.State.{OpenRecord, WordRefused, Replay, noRecord}
+use Rattle.records.specs.Step.{Reply, taken, refused, Stepped, opening, taking, isKind, ofKind, kindStep, withByte, numberFrom, noted, notedReply, withWords, afterWord, afterMidnight, midnightStep}
+use Rattle.log.specs.Bytes.{recordStep, openStep, byteStep}
 use Rattle.log.specs.Feed.{Fed, ahead, ended, proceed, replayOf, recordBytes, wordRecords, notedFirst, afterWords}
 use Rattle.log.specs.Asked.{Gathered, Words32}
 

@@ -16,8 +16,9 @@ use Rattle.session.specs.Feed.{First, nothing, first, feedOf, joined, proceed a
 use Rattle.session.specs.Feed as pieces
 use Rattle.session.proofs.Cut.{cut}
 use Rattle.session.proofs.Refusals.{refused-word}
-use Rattle.log.specs.State.{WordRefused, Replay, newReplay}
-use Rattle.log.specs.Step.{Reply, taken, refused, Stepped, opening, stopped, taking, isKind, kindStep, withByte, numberFrom, noted, notedReply, afterWord, mayBegin, afterMidnight, midnightStep, recordStep, openStep, byteStep}
+use Rattle.records.specs.State.{WordRefused, Replay, newReplay}
+use Rattle.records.specs.Step.{Reply, taken, refused, Stepped, opening, stopped, taking, isKind, kindStep, withByte, numberFrom, noted, notedReply, afterWord, mayBegin, afterMidnight, midnightStep}
+use Rattle.log.specs.Bytes.{recordStep, openStep, byteStep}
 use Rattle.log.specs.Feed.{Fed, proceed, replayOf, afterWords}
 use Rattle.log.specs.Words.{wordBy, reported, onTaken, wordsIn}
 use Rattle.log.proofs.Steps.{one-word}

@@ -3,22 +3,15 @@ use mathlib.Core.Path.{_≡_}
 use mathlib.Core.List.{List, _++_}
 use Prim.Native.Nat.{ℕ, _*_, _≤_, _<_}
 use lib.ListN.{length, take, drop, getD}
-use Rattle.refusal.specs.Number.{numberOf}
 use Rattle.cells.specs.Asked.{Given}
 use Rattle.cells.specs.Cells.{Sized}
 use Rattle.session.specs.Answers.{firstOf}
-use Rattle.log.specs.State.{Replay, mostMidnights}
-use Rattle.log.specs.Step.{Reply, taken, refused, Stepped}
+use Rattle.records.specs.State.{Replay}
+use Rattle.records.specs.Step.{Reply, Stepped}
 use Rattle.log.specs.Feed as piece
 use Rattle.log.specs.Feed.{afterWords, wordRecords}
-use Rattle.log.specs.Cells.{replayIn, LogHeld, LogGiven}
-use Rattle.log.specs.declared.replay.Answer.{Answer}
-use Rattle.log.specs.declared.replay.Answer.the-variants as answer
+use Rattle.records.specs.Cells.{replayIn, LogHeld, LogGiven}
 use Rattle.log.specs.declared.replay.Fed.{Fed}
-
-abbrev pub replyOf : Answer → Reply
-replyOf answer.Taken = taken
-replyOf (answer.Refused why) = refused (numberOf why)
 
 -- a piece's answer, and arrays that hold the replay after it
 pub record PieceLeft (f : piece.Fed) (r : Fed) (log marks own tallies shared : List ℕ) : Type 0 where
@@ -37,31 +30,11 @@ pub record Became (t : Stepped) (r : Reply) (log marks own tallies shared : List
   pub sized : LogSized log marks own tallies shared
   pub view : t ≡ record { reply = r; replay = replayIn log marks own tallies shared }
 
--- four bytes
-pub record NumberAsked (low second third high : ℕ) : Type 0 where
-  pub low-byte : low < 256
-  pub second-byte : second < 256
-  pub third-byte : third < 256
-  pub high-byte : high < 256
-
 -- a byte of an open record
 pub record OpenAsked (log marks own tallies shared : List ℕ) (byte : ℕ) : Type 0 where
   pub given : LogGiven log marks own tallies shared
   pub begun : 0 < getD log 5 0
   pub bounded : byte < 256
-
-pub record MidnightAsked (log marks tallies : List ℕ) : Type 0 where
-  pub log-length : length log ≡ 10
-  pub marks-length : length marks ≡ 800
-  pub tallies-length : length tallies ≡ 2
-
--- a midnight was read
-pub record MidnightLeft (f : Replay → Stepped) (r : Reply) (log marks tallies log1 marks1 : List ℕ) : Type 0 where
-  pub log-length : length log1 ≡ 10
-  pub marks-length : length marks1 ≡ 800
-  pub view :
-      (own shared : List ℕ) →
-      f (replayIn log marks own tallies shared) ≡ record { reply = r; replay = replayIn log1 marks1 own tallies shared }
 
 pub record WordsAsked (log own tallies shared : List ℕ) : Type 0 where
   pub log-length : length log ≡ 10

@@ -3,8 +3,9 @@
 use mathlib.Core.List.{List, [], _∷_, _++_}
 use Prim.Native.Nat.{ℕ, suc, _+_, _*_, _/_, _%_}
 use Rattle.session.specs.Feed.{First, nothing, first, earlier, feedOf}
-use Rattle.log.specs.State.{WordRefused, Replay}
-use Rattle.log.specs.Step.{Reply, taken, refused, Stepped, byteStep, noted, withWords}
+use Rattle.records.specs.State.{WordRefused, Replay}
+use Rattle.records.specs.Step.{Reply, taken, refused, Stepped, noted, withWords}
+use Rattle.log.specs.Bytes.{byteStep}
 
 -- the bytes taken, the first refusal, and the replay after them
 pub record Fed : Type 0 where

@@ -1,11 +1,6 @@
 pub mod Asked
-pub mod Cells
+pub mod Bytes
 pub mod Feed
-pub mod Own
-pub mod Report
 pub mod Refusals
-pub mod Reported
-pub mod State
-pub mod Step
 pub mod Unfinished
 pub mod Words

@@ -2,8 +2,8 @@
 -- bytes get that number again." Assumes nothing.
 use mathlib.Core.Path.{_≡_}
 use Prim.Native.Nat.{ℕ}
-use Rattle.log.specs.State.{Replay}
-use Rattle.log.specs.Step.{stopped}
+use Rattle.records.specs.State.{Replay}
+use Rattle.records.specs.Step.{stopped}
 
 -- the numbers that stop a replay
 pub data NewStop : ℕ → Type 0 where

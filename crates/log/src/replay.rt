@@ -1,5 +1,7 @@
 // The bytes of a log, one by one and in pieces.
-use crate::own;
+use records::bytes;
+use records::bytes::Answer;
+use records::own;
 use refusal::Refusal;
 use session::stream;
 use session::stream::First;
@@ -7,27 +9,20 @@ ghost use mathlib.Core.Path.{_≡_};
 ghost use Prim.Native.Nat.{_<_, _≤_};
 ghost use lib.ListN.{length, drop};
 ghost use Rattle.refusal.specs.Number.{numberOf};
-ghost use Rattle.log.specs.State.{newReplay};
-ghost use Rattle.log.specs.Step.{byteStep, isKind, kindStep, mayBegin, midnightStep, numberFrom, openStep};
+ghost use Rattle.records.specs.State.{newReplay};
+ghost use Rattle.records.specs.Step.{isKind, kindStep, mayBegin, midnightStep, numberFrom};
+ghost use Rattle.log.specs.Bytes.{byteStep, openStep};
 ghost use Rattle.log.specs.Feed.{replayOf};
-ghost use Rattle.log.specs.Cells.{LogGiven, LogHeld, replayIn};
-ghost use Rattle.log.specs.Own.{Answered};
-ghost use Rattle.log.specs.Asked.{Became, Gathered, MidnightAsked, MidnightLeft, NumberAsked, OpenAsked, PieceLeft, RecordsLeft, StopCause, WordsAsked, WordsLeft, replyOf};
-
-// "at most 400 come in all".
-const MOST_MIDNIGHTS: u32 = 400;
+ghost use Rattle.records.specs.Cells.{LogGiven, LogHeld, replayIn};
+ghost use Rattle.records.specs.Own.{Answered};
+ghost use Rattle.log.specs.Asked.{Became, Gathered, OpenAsked, PieceLeft, RecordsLeft, StopCause, WordsAsked, WordsLeft};
+ghost use Rattle.records.specs.Own.{MidnightAsked, MidnightLeft, NumberAsked, replyOf};
 
 // Words of records that are fed to the session in one piece.
 const BATCH: usize = 128;
 
 // A place in a log, in bytes.
 pub struct BytePosition(pub u64);
-
-// What a byte is answered: it is taken, or the refusal, 18 or 19.
-pub enum Answer {
-    Taken,
-    Refused(Refusal),
-}
 
 // A replay that has read nothing, over a new session.
 pub fn begin(
@@ -42,65 +37,6 @@ pub fn begin(
     stream::begin(own, tallies, shared);
     *log = [0; 10];
     *marks = [0; 800];
-}
-
-// The number of four bytes, low byte first.
-fn number(low: u32, second: u32, third: u32, high: u32) -> u32
-    requires { ⌜ NumberAsked low second third high ⌝ }
-    ensures { λ r. ⌜ r ≡ numberFrom low second third high ⌝ }
-{
-    low + 256 * second + 65536 * third + 16777216 * high
-}
-
-fn is_kind(byte: u32) -> bool
-    ensures { λ r. ⌜ r ≡ isKind byte ⌝ }
-{
-    if byte == 1 { true } else { byte == 2 }
-}
-
-// A record's first byte: 18 where it is no kind.
-fn kind_byte(log: &mut [u32; 10], byte: u32) -> Answer
-    requires { ⌜ length (now log) ≡ 10 ⌝ }
-    ensures { λ r. ⌜ Answered (λ s. kindStep s byte) (replyOf r) (now (log .entry)) (now (log .exit)) ⌝ }
-{
-    if is_kind(byte) {
-        own::open(log, byte);
-        return Answer::Taken;
-    }
-    own::stop(log, 18);
-    Answer::Refused(Refusal::RecordKind)
-}
-
-// Whether a day may begin: the first midnight may name any, each later one is one more than the last; at most 400 come.
-fn may_begin(midnights: u32, last: u32, day: u32) -> bool
-    ensures { λ r. ⌜ r ≡ mayBegin midnights last day ⌝ }
-{
-    if midnights < MOST_MIDNIGHTS {
-        if midnights == 0 {
-            true
-        } else {
-            day as u64 == last as u64 + 1
-        }
-    } else {
-        false
-    }
-}
-
-// A midnight: the session's tallies are marked, and a day begins; 19 where it may not.
-fn midnight(log: &mut [u32; 10], marks: &mut [u64; 800], tallies: &[u64; 2], day: u32) -> Answer
-    requires { ⌜ MidnightAsked (now log) (now marks) (now tallies) ⌝ }
-    ensures { λ r. ⌜ MidnightLeft (λ s. midnightStep s day) (replyOf r) (now (log .entry)) (now (marks .entry)) (now (tallies .entry)) (now (log .exit)) (now (marks .exit)) ⌝ }
-{
-    let midnights = log[own::MIDNIGHTS];
-    if may_begin(midnights, log[own::LAST_DAY], day) {
-        let at = 2 * midnights as usize;
-        marks[at] = tallies[0];
-        marks[at + 1] = tallies[1];
-        own::begin_day(log, midnights + 1, day);
-        return Answer::Taken;
-    }
-    own::stop(log, 19);
-    Answer::Refused(Refusal::MidnightDay)
 }
 
 // Words of records, fed to the session in one piece. A refused one stops the session, so that later ones add nothing.
@@ -139,13 +75,13 @@ fn open_byte(
         own::add(log, count, byte);
         return Answer::Taken;
     }
-    let value = number(log[own::LOW], log[own::SECOND], log[own::THIRD], byte);
+    let value = bytes::number(log[own::LOW], log[own::SECOND], log[own::THIRD], byte);
     if log[own::KIND] == 1 {
         let words: [u32; 1] = [value];
         take_words(log, own, tallies, shared, &words);
         return Answer::Taken;
     }
-    midnight(log, marks, tallies, value)
+    bytes::midnight(log, marks, tallies, value)
 }
 
 // A byte as a wider number.
@@ -184,7 +120,7 @@ fn byte(
         return Answer::Refused(stop_cause(by));
     }
     if log[own::COUNT] == 0 {
-        return kind_byte(log, byte);
+        return bytes::kind_byte(log, byte);
     }
     open_byte(log, marks, own, tallies, shared, byte)
 }
@@ -204,7 +140,7 @@ fn gather(bytes: &[u8], at: usize, words: &mut [u32; 128]) -> usize
         if bytes[i] != 1 {
             return n;
         }
-        words[n] = number(
+        words[n] = bytes::number(
             wide(bytes[i + 1]),
             wide(bytes[i + 2]),
             wide(bytes[i + 3]),

@@ -1,5 +1,5 @@
 -- `log::replay::begin` meets its contract. Assumes nothing.
-use Rattle.log.specs.Cells.{logCells}
+use Rattle.records.specs.Cells.{logCells}
 use mathlib.Core.Path.{refl}
 use borrow.Author.Needs.{needs}
 use Rattle.log.proofs.replay.begin.Statement.{statement}

@@ -1,6 +1,6 @@
 -- `log::replay::feed` meets its contract. Assumes nothing.
 use Prim.Native.Nat.{_-_}
-use Rattle.log.specs.Cells.{replayIn}
+use Rattle.records.specs.Cells.{replayIn}
 use borrow.Author.Needs.{needs}
 use lib.ListN.{length}
 use native.Mathlib.Omega.{arith}

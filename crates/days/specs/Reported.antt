@@ -1,0 +1,36 @@
+-- What the reports of a replay tell, over the numbers of its arrays. Assumes nothing.
+use mathlib.Core.List.{List, []}
+use Prim.Native.Nat.{ℕ, _+_, _-_}
+use lib.Dec.{eqb}
+use lib.ListN.{getD}
+use Rattle.laws.specs.Choice.{pick}
+use Rattle.cells.specs.State.{Tally, newSession}
+use Rattle.cells.specs.Cells.{partyOf}
+use Rattle.records.specs.State.{Replay}
+use Rattle.records.specs.Report.{firstDay}
+use Rattle.records.specs.Cells.{viewed}
+use Rattle.days.specs.declared.report.Counts.{Counts}
+use Rattle.days.specs.declared.report.Standing.{Standing}
+
+abbrev pub tallyOf : Counts → Tally
+tallyOf c = record { runs = c .runs; claims = c .claims }
+
+-- the tallies of now
+abbrev pub nowIn : List ℕ → Tally
+nowIn tallies = partyOf [] tallies .tally
+
+-- the midnights among a replay's own numbers
+abbrev pub midnightsIn : List ℕ → ℕ
+midnightsIn log = viewed log [] newSession .midnights
+
+abbrev pub statusOf : Replay → Standing
+statusOf r =
+    record {
+      «stopped_by» = r .stoppedBy;
+      refused = r .refused .number;
+      «refused_after» = r .refused .midnights;
+      midnights = r .midnights;
+      «first_day» = firstDay (r .midnights) (r .lastDay);
+      «last_day» = r .lastDay;
+      unfinished = r .opened .count;
+    }
