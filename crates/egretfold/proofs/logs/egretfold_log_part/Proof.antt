@@ -1,17 +1,13 @@
+-- `egretfold::logs::egretfold_log_part` meets its contract: each answer crosses as it is told. Assumes nothing.
 use Rattle.egretfold.specs.Logs.{tallyNumbers}
 use mathlib.Core.Path.{refl, ap}
 use borrow.Author.Needs.{needs}
 use Rattle.egretfold.proofs.logs.egretfold_log_part.Statement.{statement}
 use Rattle.egretfold.proofs.logs.egretfold_log_part.Tie as tie
-use Rattle.egretfold.proofs.logs.egretfold_log_part.Reads as reads
-use Rattle.egretfold.proofs.logs.egretfold_log_part.Lts as lts
-use Rattle.log.proofs.report.part.Reads as part-reads
 
--- src/logs.rt:84:9
 part-requires : tie.Need-part-requires
 part-requires c κs = search needs
 
--- src/logs.rt:74:1
 returns : tie.Need-returns
 returns c = record { status = refl; room = ap tallyNumbers (c .before .part .ensures) }
 

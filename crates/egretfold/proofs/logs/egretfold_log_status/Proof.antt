@@ -1,17 +1,13 @@
+-- `egretfold::logs::egretfold_log_status` meets its contract: each answer crosses as it is told. Assumes nothing.
 use Rattle.egretfold.specs.Logs.{standingOf}
 use mathlib.Core.Path.{refl, ap}
 use borrow.Author.Needs.{needs}
 use Rattle.egretfold.proofs.logs.egretfold_log_status.Statement.{statement}
 use Rattle.egretfold.proofs.logs.egretfold_log_status.Tie as tie
-use Rattle.egretfold.proofs.logs.egretfold_log_status.Reads as reads
-use Rattle.egretfold.proofs.logs.egretfold_log_status.Lts as lts
-use Rattle.log.proofs.report.status.Reads as status-reads
 
--- src/logs.rt:60:9
 status-requires : tie.Need-status-requires
 status-requires c κs = search needs
 
--- src/logs.rt:56:1
 returns : tie.Need-returns
 returns c = record { status = refl; room = ap standingOf (c .before .status .ensures) }
 
