@@ -1,8 +1,8 @@
 // The rules on a whole command, judged at its last parameter: 5 for a domain, 6 for a window.
 use command::commands::Command;
-use command::format::window;
+use command::format;
 use command::kinds::Checked;
-use layout::Judged;
+use layout;
 use refusal::Refusal;
 ghost use mathlib.Core.Path.{_≡_};
 ghost use Rattle.command.specs.Format.{windowOf};
@@ -20,13 +20,21 @@ fn domain_kept(command: Command) -> bool
     }
 }
 
-// Whether the window of the three words is accepted.
+// Whether the window of the three words is accepted. It is asked by numbers, so that nothing goes through memory.
 pub fn is_window(base: u32, format: u32, height: u32) -> bool
     ensures { λ r. ⌜ r ≡ isGiven (windowOf base format height) ⌝ }
 {
-    match window(base, format, height) {
-        Judged::Accepted { .. } => true,
-        Judged::Refused(_) => false,
+    let pitch = format::pitch(format);
+    let size = format::size(format::code(format));
+    let tiled = format::tiled(format);
+    if layout::well_formed(base, pitch, size) {
+        if 0 < layout::window_row(base, pitch, height, size, tiled) {
+            true
+        } else {
+            false
+        }
+    } else {
+        false
     }
 }
 

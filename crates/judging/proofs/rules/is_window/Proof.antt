@@ -1,27 +1,49 @@
--- `judging::rules::is_window` meets its contract: accepted or refused, as the window's judgement is told. Assumes nothing.
-use mathlib.Core.Path.{sym, ap, _∙_}
+-- `judging::rules::is_window` meets its contract: the two tests of the layout's numbers decide. Assumes nothing.
+use native.Mathlib.Omega.{arith}
+use Rattle.judging.proofs.Windows.{accepted, broken, malformed}
+use Rattle.layout.proofs.Rows.{ruled, unruled}
+use mathlib.Core.Path.{sym, _∙_}
 use borrow.Author.Needs.{needs}
-use Rattle.layout.specs.Layout.{toldJudged}
-use Rattle.command.specs.Rules.{isGiven}
 use Rattle.judging.proofs.rules.is_window.Statement.{statement}
 use Rattle.judging.proofs.rules.is_window.Tie as tie
 
-window-requires : tie.Need-window-requires
-window-requires c κs = search needs
+pitch-requires : tie.Need-pitch-requires
+pitch-requires c κs = search needs
 
-enum-told : tie.Need-enum-told
-enum-told c = search needs
+code-requires : tie.Need-code-requires
+code-requires c κs = search needs
 
-enum-told-2 : tie.Need-enum-told-2
-enum-told-2 c = search needs
+size-requires : tie.Need-size-requires
+size-requires c κs = search needs
+
+tiled-requires : tie.Need-tiled-requires
+tiled-requires c κs = search needs
+
+well-formed-requires : tie.Need-well-formed-requires
+well-formed-requires c κs = search needs
+
+window-row-requires : tie.Need-window-row-requires
+window-row-requires c κs = sym (c .before .well-formed .ensures) ∙ c .if1 .taken
 
 returns : tie.Need-returns
-unfolding isGiven
-returns c = ap isGiven (sym (ap toldJudged (c .enum-told .given .1)) ∙ c .before .before .window .ensures)
+returns c = accepted _ _ _ _ _ _ _ (c .before .before .before .before .before .before .before .pitch .ensures) (c .before .before .before .before .before .before .code .ensures) (c .before .before .before .before .before .size .ensures) (c .before .before .before .before .tiled .ensures) (sym (c .before .before .before .well-formed .ensures) ∙ c .before .before .if1 .taken) (ruled _ _ _ _ _ (sym (c .before .before .before .well-formed .ensures) ∙ c .before .before .if1 .taken) _ (c .before .window-row .ensures) (c .if2 .taken) .rule)
 
 returns-2 : tie.Need-returns-2
-unfolding isGiven
-returns-2 c = ap isGiven (sym (ap toldJudged (c .enum-told2 .given .1)) ∙ c .before .before .window .ensures)
+returns-2 c = broken _ _ _ _ _ _ _ (c .before .before .before .before .before .before .before .pitch .ensures) (c .before .before .before .before .before .before .code .ensures) (c .before .before .before .before .before .size .ensures) (c .before .before .before .before .tiled .ensures) (sym (c .before .before .before .well-formed .ensures) ∙ c .before .before .if1 .taken) (unruled _ _ _ _ _ (sym (c .before .before .before .well-formed .ensures) ∙ c .before .before .if1 .taken) _ (c .before .window-row .ensures) (omega (arith, c .if2 .left)))
+
+returns-3 : tie.Need-returns-3
+returns-3 c = malformed _ _ _ _ _ _ _ (c .before .before .before .before .before .pitch .ensures) (c .before .before .before .before .code .ensures) (c .before .before .before .size .ensures) (c .before .before .tiled .ensures) (sym (c .before .well-formed .ensures) ∙ c .if1 .left)
 
 pub is-window-spec : {M : Type 1} → statement M
-is-window-spec = tie.close (tie.spec window-requires enum-told enum-told-2 returns returns-2)
+is-window-spec =
+    tie.close
+    (tie.spec
+    pitch-requires
+    code-requires
+    size-requires
+    tiled-requires
+    well-formed-requires
+    window-row-requires
+    returns
+    returns-2
+    returns-3)
