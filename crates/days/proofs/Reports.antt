@@ -1,11 +1,10 @@
 -- What the reports of a replay tell, return by return. Assumes nothing.
-use mathlib.Core.Path.{_≡_, refl, sym, ap, ap₂, _∙_, subst}
+use mathlib.Core.Path.{_≡_, refl, sym, ap, ap₂, _∙_}
 use mathlib.Core.List.{List, []}
 use Prim.Native.Nat.{ℕ, zero, suc, _+_, _-_, _*_, _<_, _≤_}
 use native.Mathlib.Omega.{arith}
 use lib.ListN.{length, getD, List·getD-eq-default}
 use borrow.Author.Tests.{eq-eqb, ne-eqb, le-leb, lt-leb}
-use Rattle.laws.specs.Choice.{pick}
 use Rattle.laws.proofs.Choice.{pick-yes, pick-no}
 use Rattle.cells.specs.State.{Tally, newSession}
 use Rattle.records.specs.Report.{noTally, markAt, beganWith, endedWith, less, partOf, firstDay}

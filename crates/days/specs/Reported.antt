@@ -1,9 +1,6 @@
 -- What the reports of a replay tell, over the numbers of its arrays. Assumes nothing.
 use mathlib.Core.List.{List, []}
-use Prim.Native.Nat.{ℕ, _+_, _-_}
-use lib.Dec.{eqb}
-use lib.ListN.{getD}
-use Rattle.laws.specs.Choice.{pick}
+use Prim.Native.Nat.{ℕ, _-_}
 use Rattle.cells.specs.State.{Tally, newSession}
 use Rattle.cells.specs.Cells.{partyOf}
 use Rattle.records.specs.State.{Replay}

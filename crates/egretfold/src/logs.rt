@@ -3,7 +3,6 @@
 use days::report;
 use log::replay;
 use session::stream::First;
-ghost use mathlib.Core.Path.{_≡_};
 ghost use mathlib.Core.List.{[]};
 ghost use Rattle.cells.specs.State.{newSession};
 ghost use Rattle.log.specs.Feed.{replayOf};

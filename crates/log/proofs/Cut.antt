@@ -1,21 +1,18 @@
 -- "Demand 2's cut rule then also holds for bytes": a log that is cut in pieces anywhere, also inside a record, answers and leaves
 -- what the uncut log does; and a replay that was stopped answers the same number again and changes nothing. Assumes nothing.
 use mathlib.Core.Path.{_≡_, refl, sym, ap, _∙_, subst}
-use mathlib.Core.Bool.{true, false}
 use mathlib.Core.List.{List, [], _∷_, _++_}
 use Prim.Native.Nat.{ℕ, _+_}
 use native.Mathlib.Nat.{zero-add}
 use native.Mathlib.Omega.{arith}
-use lib.Dec.{eqb}
 use borrow.Author.Tests.{ne-eqb, eqb-true, eqb-false}
-use Rattle.laws.specs.Choice.{pick}
 use Rattle.laws.proofs.Choice.{by-pick, pick-no}
 use Rattle.session.specs.Feed.{First, nothing, first, uncut}
-use Rattle.records.specs.State.{Replay, noRecord}
-use Rattle.records.specs.Step.{Reply, taken, refused, Stepped, stopped, stopping, taking, kindStep, midnightStep}
+use Rattle.records.specs.State.{Replay}
+use Rattle.records.specs.Step.{taken, refused, Stepped, stopped, taking, kindStep, midnightStep}
 use Rattle.log.specs.Bytes.{recordStep, openStep, byteStep}
 use Rattle.log.specs.Feed.{Fed, ahead, ended, proceed, replayOf, joined, replayPieces}
-use Rattle.log.specs.Refusals.{NewStop, byKind, byDay, RefusedTo, again, newly}
+use Rattle.log.specs.Refusals.{byKind, byDay, RefusedTo, again, newly}
 use Rattle.log.proofs.Records.{stepped}
 
 -- what a byte does: it is taken, or it is refused and leaves a stopped replay

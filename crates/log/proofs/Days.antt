@@ -1,29 +1,25 @@
 -- The days of a replay: they are consecutive and at most 400, each midnight that is read adds its own day and changes no other, and
 -- the runs and claims of all parts add up to the session's. An unfinished record is counted nowhere. Assumes nothing.
-use mathlib.Core.Path.{_≡_, refl, sym, ap, ap₂, _∙_, subst}
+use mathlib.Core.Path.{_≡_, refl, sym, ap, _∙_, subst}
 use mathlib.Core.Bool.{true}
 use mathlib.Core.List.{List, [], _∷_}
-use Prim.Native.Nat.{ℕ, zero, suc, _+_, _-_, _*_, _<_, _≤_}
+use Prim.Native.Nat.{ℕ, zero, suc, _+_, _-_, _<_, _≤_}
 use native.Mathlib.Numerals.{add-one}
 use native.Mathlib.Omega.{arith}
-use lib.Dec.{eqb, leb, ltb}
 use lib.ListN.{length}
 use borrow.Author.Tests.{eqb-true, ne-eqb, le-leb}
-use Rattle.laws.specs.Choice.{pick}
-use Rattle.laws.specs.Masks.{_or_}
 use Rattle.laws.proofs.Choice.{pick-yes, pick-no, and-right}
 use Rattle.cells.specs.State.{Tally}
 use Rattle.cells.specs.Start.{sumBelow}
 use Rattle.session.specs.Feed.{nothing}
-use Rattle.records.specs.State.{OpenRecord, Replay, noRecord}
-use Rattle.records.specs.Step.{Stepped, opening, taking, isKind, ofKind, withByte, mayBegin, marked, afterMidnight}
-use Rattle.log.specs.Bytes.{byteStep}
-use Rattle.records.specs.Report.{noTally, markAt, beganWith, endedWith, less, partOf, partAt, dayAt}
-use Rattle.log.specs.Feed.{Fed, ahead, ended, replayOf}
-use Rattle.records.specs.Cells.{Grows, LogValid}
+use Rattle.records.specs.State.{OpenRecord, Replay}
+use Rattle.records.specs.Step.{opening, isKind, ofKind, withByte, mayBegin, afterMidnight}
+use Rattle.records.specs.Report.{noTally, beganWith, endedWith, less, partOf, partAt, dayAt}
+use Rattle.log.specs.Feed.{Fed, ahead, replayOf}
+use Rattle.records.specs.Cells.{LogValid}
 use Rattle.log.specs.Unfinished.{OpenOnly, openOnly}
 use Rattle.records.proofs.Marks.{ended-past, ended-now}
-use Rattle.log.proofs.Records.{Ready, took, kind-byte, next-byte, ahead-ahead}
+use Rattle.log.proofs.Records.{Ready, took, kind-byte, next-byte}
 
 -- a midnight that is read: its day is the last part's, and no earlier part's day has changed
 module _ (r : Replay) (day : ℕ) (e : mayBegin (r .midnights) (r .lastDay) day ≡ true) where

@@ -1,26 +1,23 @@
 -- A piece of bytes, as the code feeds it, is the definition's fold. Assumes nothing.
 use mathlib.Core.Path.{_≡_, refl, sym, ap, ap₂, _∙_, subst}
-use mathlib.Core.List.{List, [], _∷_, _++_}
+use mathlib.Core.List.{List, _++_}
 use Prim.Native.Nat.{ℕ, suc, _+_, _-_, _*_, _<_, _≤_}
 use native.Mathlib.Nat.{zero-add, add-zero}
 use native.Mathlib.Numerals.{add-one}
 use native.Mathlib.Omega.{arith}
 use lib.ListN.{length, getD, take, drop, length-drop, drop-of-length-le}
 use lib.Seq.{drop-cons, drop-drop, getD-take, length-take-le}
-use denote.Enum.Declared.{tagOf}
-use types.Run.{OneOf, miss}
 use Rattle.refusal.specs.Number.{numberOf}
 use Rattle.refusal.specs.declared.Refusal.{Refusal}
-use Rattle.cells.specs.Cells.{Sized, sessionOf}
-use Rattle.cells.specs.Asked.{Given, Held}
-use Rattle.session.specs.Feed.{First, nothing, first}
+use Rattle.cells.specs.Cells.{sessionOf}
+use Rattle.session.specs.Feed.{nothing}
 use Rattle.session.specs.declared.stream.First as firsts
 use Rattle.session.specs.declared.stream.First.the-variants as firstly
 use Rattle.session.proofs.Taking.{same}
-use Rattle.records.specs.State.{OpenRecord, Replay, noRecord}
+use Rattle.records.specs.State.{Replay}
 use Rattle.records.specs.Step.{Reply, taken, refused, Stepped}
 use Rattle.log.specs.Bytes.{byteStep}
-use Rattle.log.specs.Feed.{ahead, ended, proceed, replayOf, wordRecords, afterWords}
+use Rattle.log.specs.Feed.{ahead, proceed, replayOf, wordRecords, afterWords}
 use Rattle.log.specs.Feed as piece
 use Rattle.records.specs.Cells.{viewed, replayIn, LogHeld, LogValid, LogGiven}
 use Rattle.log.specs.Asked.{PieceLeft, LogSized, Became, WordsAsked, WordsLeft, Words32, Gathered, Idle, RecordsLeft, unread, read}
@@ -30,7 +27,7 @@ use Rattle.records.specs.declared.bytes.Answer.the-variants.{Taken, Refused}
 use Rattle.log.specs.declared.replay.Fed.{Fed}
 use Rattle.records.proofs.Changes.{log-canon}
 use Rattle.log.proofs.Kept.{byte-valid, words-valid}
-use Rattle.log.proofs.Records.{Ready, stepped, took, ahead-ahead, words-read}
+use Rattle.log.proofs.Records.{Ready, stepped, ahead-ahead, words-read}
 
 -- arrays of the right lengths hold the replay that they are
 pub held-view : (l m o t s : List ℕ) → LogGiven l m o t s → LogHeld (replayIn l m o t s) l m o t s

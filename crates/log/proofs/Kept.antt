@@ -1,21 +1,18 @@
 -- Validity holds of a new replay and is kept by every byte. Assumes nothing.
-use mathlib.Core.Path.{_≡_, refl, sym, ap, _∙_, subst}
-use mathlib.Core.Bool.{Bool, true, false}
+use mathlib.Core.Path.{_≡_, refl, sym, subst}
+use mathlib.Core.Bool.{Bool, true}
 use mathlib.Core.List.{List, [], _∷_}
-use Prim.Native.Nat.{ℕ, zero, suc, _+_, _*_, _<_, _≤_}
+use Prim.Native.Nat.{ℕ, _<_, _≤_}
 use native.Mathlib.Omega.{arith}
-use lib.Dec.{eqb, ltb}
-use lib.ListN.{length, replicate, length-set, length-replicate}
-use borrow.Author.Tests.{ltb-true, ltb-false, eqb-true, eqb-false}
+use lib.ListN.{replicate, length-set, length-replicate}
+use borrow.Author.Tests.{ltb-true, eqb-true}
 use Rattle.laws.specs.Choice.{pick}
 use Rattle.laws.proofs.Choice.{by-pick}
-use Rattle.cells.specs.State.{Session, newSession}
-use Rattle.session.specs.Feed.{feedOf}
 use Rattle.session.proofs.Kept.{new-valid}
 use Rattle.session.proofs.Refusals.{fed-valid}
 use Rattle.session.proofs.Tallies.{tallied}
-use Rattle.records.specs.State.{OpenRecord, Replay, noRecord, newReplay}
-use Rattle.records.specs.Step.{Stepped, opening, stopped, stopping, taking, isKind, ofKind, kindStep, withByte, afterWord, mayBegin, marked, afterMidnight, midnightStep}
+use Rattle.records.specs.State.{OpenRecord, Replay, newReplay}
+use Rattle.records.specs.Step.{Stepped, opening, stopped, ofKind, kindStep, withByte, afterWord, mayBegin, afterMidnight, midnightStep}
 use Rattle.log.specs.Bytes.{recordStep, openStep, byteStep}
 use Rattle.records.specs.Report.{beganWith, endedWith}
 use Rattle.log.specs.Feed.{afterWords}

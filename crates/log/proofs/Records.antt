@@ -1,13 +1,13 @@
 -- Records of words: their bytes are read as the words that they are, one after another, whatever their number. Assumes nothing.
 use mathlib.Core.Path.{_≡_, refl, sym, ap, ap₂, _∙_, subst}
-use mathlib.Core.Bool.{Bool, true, false}
+use mathlib.Core.Bool.{true}
 use mathlib.Core.List.{List, [], _∷_, _++_, append-assoc}
-use Prim.Native.Nat.{ℕ, zero, suc, _+_, _-_, _*_, _/_, _%_, _<_, _≤_}
+use Prim.Native.Nat.{ℕ, suc, _+_, _-_, _*_, _/_, _%_, _<_, _≤_}
 use native.Mathlib.Nat.{zero-add, div-div-eq-div-mul, div-add-mod'}
 use native.Mathlib.Numerals.{add-one}
 use native.Mathlib.Omega.{arith}
 use lib.Dec.{eqb}
-use lib.ListN.{length, getD, set, take, drop, length-append, length-drop, length-set}
+use lib.ListN.{length, getD, set, take, drop, length-drop, length-set}
 use lib.Seq.{drop-cons, drop-drop, take-suc-set, getD-set-same, getD-set-other}
 use borrow.Author.Tests.{eq-eqb, ne-eqb, eqb-true, eqb-false, lt-ltb, le-ltb}
 use Rattle.laws.specs.Choice.{pick}
@@ -16,14 +16,14 @@ use Rattle.laws.proofs.Choice.{pick-yes, pick-no, Tested, tested, holds, fails}
 use Rattle.cells.specs.State.{Session}
 use Rattle.session.specs.Step.{stillOpen, completed, refused as denied, stepOf}
 use Rattle.session.specs.Step as stream
-use Rattle.session.specs.Refusals.{StopNumber, low, full, RefusedTo, unchanged, stopping}
+use Rattle.session.specs.Refusals.{low, full, RefusedTo, unchanged, stopping}
 use Rattle.session.specs.Feed.{First, nothing, first, feedOf, proceed as feeding}
 use Rattle.session.specs.Feed as pieces
 use Rattle.session.proofs.Refusals.{refused-word, stopped-for-good, stopped-piece}
 use Rattle.records.specs.State.{OpenRecord, WordRefused, Replay, noRecord}
-use Rattle.records.specs.Step.{Reply, taken, refused, Stepped, opening, taking, isKind, ofKind, kindStep, withByte, numberFrom, noted, notedReply, withWords, afterWord, afterMidnight, midnightStep}
+use Rattle.records.specs.Step.{taken, refused, Stepped, opening, taking, isKind, ofKind, kindStep, withByte, numberFrom, noted, notedReply, withWords, afterWord, afterMidnight, midnightStep}
 use Rattle.log.specs.Bytes.{recordStep, openStep, byteStep}
-use Rattle.log.specs.Feed.{Fed, ahead, ended, proceed, replayOf, recordBytes, wordRecords, notedFirst, afterWords}
+use Rattle.log.specs.Feed.{Fed, ahead, proceed, replayOf, recordBytes, wordRecords, notedFirst, afterWords}
 use Rattle.log.specs.Asked.{Gathered, Words32}
 
 -- a running replay without an open record

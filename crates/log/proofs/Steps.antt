@@ -1,37 +1,30 @@
 -- What the routines of a replay leave, return by return: each is the step that the definitions say. Assumes nothing.
-use mathlib.Core.Path.{_≡_, refl, sym, ap, ap₂, _∙_, subst}
-use mathlib.Core.Bool.{Bool, true, false}
+use mathlib.Core.Path.{_≡_, refl, sym, ap, ap₂, _∙_}
 use mathlib.Core.List.{List, [], _∷_}
-use Prim.Native.Nat.{ℕ, _+_, _*_, _<_, _≤_}
-use native.Mathlib.Omega.{arith}
-use lib.Dec.{eqb, ltb}
-use lib.ListN.{length, getD, set, length-set}
-use borrow.Author.Tests.{eq-eqb, ne-eqb, lt-ltb, le-ltb, ltb-true}
+use Prim.Native.Nat.{ℕ, _<_, _≤_}
+use lib.Dec.{eqb}
+use lib.ListN.{length, getD}
+use borrow.Author.Tests.{eq-eqb, ne-eqb, lt-ltb, le-ltb}
 use Rattle.laws.specs.Choice.{_and_, pick}
-use Rattle.laws.specs.Masks.{_or_}
-use Rattle.laws.proofs.Choice.{pick-yes, pick-no, and-left, and-yes, and-no-left}
-use Rattle.refusal.specs.Number.{numberOf}
-use Rattle.refusal.specs.declared.Refusal.{Refusal}
-use Rattle.cells.specs.State.{Session, Tally}
-use Rattle.cells.specs.Cells.{Sized, partyOf, sessionOf}
-use Rattle.cells.specs.Asked.{Given, Held}
+use Rattle.laws.proofs.Choice.{pick-yes, pick-no}
+use Rattle.cells.specs.State.{Session}
+use Rattle.cells.specs.Cells.{sessionOf}
+use Rattle.cells.specs.Asked.{Given}
 use Rattle.cells.proofs.Cells.{held-view}
 use Rattle.session.specs.Step.{stillOpen, completed, refused as denied, stepOf}
 use Rattle.session.specs.Step as stream
 use Rattle.session.specs.Feed.{First, nothing, first, feedOf, proceed as feeding}
 use Rattle.session.specs.Feed as pieces
-use Rattle.session.specs.Answers.{PieceLeft as WordsFed, firstOf}
+use Rattle.session.specs.Answers.{PieceLeft as WordsFed}
 use Rattle.session.specs.declared.stream.Fed as declared
-use Rattle.session.specs.declared.stream.First as firsts
-use Rattle.session.specs.declared.stream.First.the-variants as firstly
 use Rattle.session.proofs.Handed.{piece-given}
 use Rattle.session.proofs.Refusals.{fed-valid}
 use Rattle.records.specs.State.{WordRefused, Replay, noRecord}
-use Rattle.records.specs.Step.{Reply, taken, refused, Stepped, opening, stopped, stopping, taking, isKind, ofKind, kindStep, withByte, numberFrom, noted, notedReply, withWords, afterWord, mayBegin, marked, afterMidnight, midnightStep}
+use Rattle.records.specs.Step.{Reply, taken, refused, Stepped, opening, taking, kindStep, withByte, numberFrom, notedReply, withWords, afterWord, midnightStep}
 use Rattle.log.specs.Bytes.{recordStep, openStep, byteStep}
 use Rattle.log.specs.Feed.{notedFirst, afterWords}
 use Rattle.records.specs.Cells.{viewed, replayIn, LogGiven, StopNumber, running, byKind, byDay}
-use Rattle.records.specs.Own.{Changed, Answered, noting, dayBegun}
+use Rattle.records.specs.Own.{Changed, Answered, noting}
 use Rattle.log.specs.Asked.{Became, LogSized, OpenAsked, WordsAsked, WordsLeft, StopCause, kindCause, dayCause}
 use Rattle.records.specs.Own.{MidnightLeft, NumberAsked}
 

@@ -6,7 +6,6 @@ use lib.ListN.{length, take, drop, getD}
 use Rattle.cells.specs.Asked.{Given}
 use Rattle.cells.specs.Cells.{Sized}
 use Rattle.session.specs.Answers.{firstOf}
-use Rattle.records.specs.State.{Replay}
 use Rattle.records.specs.Step.{Reply, Stepped}
 use Rattle.log.specs.Feed as piece
 use Rattle.log.specs.Feed.{afterWords, wordRecords}

@@ -3,7 +3,7 @@ use Prim.Native.Nat.{ℕ}
 use lib.Dec.{eqb, ltb}
 use Rattle.laws.specs.Choice.{pick}
 use Rattle.records.specs.State.{Replay}
-use Rattle.records.specs.Step.{refused, Stepped, opening, taking, kindStep, withByte, numberFrom, withWords, afterWord, midnightStep}
+use Rattle.records.specs.Step.{refused, Stepped, opening, taking, kindStep, withByte, numberFrom, afterWord, midnightStep}
 
 -- a record's last byte
 unfoldable pub recordStep : ℕ → Replay → ℕ → Stepped

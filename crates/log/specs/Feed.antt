@@ -1,10 +1,10 @@
 -- Document 02, request 1: a piece of bytes is its bytes, one after another, up to the first refused one. "Demand 2's cut rule
 -- then also holds for bytes." Assumes nothing.
 use mathlib.Core.List.{List, [], _∷_, _++_}
-use Prim.Native.Nat.{ℕ, suc, _+_, _*_, _/_, _%_}
+use Prim.Native.Nat.{ℕ, _+_, _/_, _%_}
 use Rattle.session.specs.Feed.{First, nothing, first, earlier, feedOf}
 use Rattle.records.specs.State.{WordRefused, Replay}
-use Rattle.records.specs.Step.{Reply, taken, refused, Stepped, noted, withWords}
+use Rattle.records.specs.Step.{Reply, taken, refused, noted, withWords}
 use Rattle.log.specs.Bytes.{byteStep}
 
 -- the bytes taken, the first refusal, and the replay after them

@@ -10,13 +10,11 @@ ghost use Prim.Native.Nat.{_<_, _≤_};
 ghost use lib.ListN.{length, drop};
 ghost use Rattle.refusal.specs.Number.{numberOf};
 ghost use Rattle.records.specs.State.{newReplay};
-ghost use Rattle.records.specs.Step.{isKind, kindStep, mayBegin, midnightStep, numberFrom};
 ghost use Rattle.log.specs.Bytes.{byteStep, openStep};
 ghost use Rattle.log.specs.Feed.{replayOf};
 ghost use Rattle.records.specs.Cells.{LogGiven, LogHeld, replayIn};
-ghost use Rattle.records.specs.Own.{Answered};
 ghost use Rattle.log.specs.Asked.{Became, Gathered, OpenAsked, PieceLeft, RecordsLeft, StopCause, WordsAsked, WordsLeft};
-ghost use Rattle.records.specs.Own.{MidnightAsked, MidnightLeft, NumberAsked, replyOf};
+ghost use Rattle.records.specs.Own.{replyOf};
 
 // Words of records that are fed to the session in one piece.
 const BATCH: usize = 128;

@@ -1,7 +1,6 @@
 -- The marks of the midnights: a new mark stands at its place and changes no other, and from one mark to the next the tallies only
 -- grow. Assumes nothing.
 use mathlib.Core.Path.{_≡_, refl, sym, ap, ap₂, _∙_, subst}
-use mathlib.Core.Bool.{Bool, true, false}
 use mathlib.Core.List.{List}
 use Prim.Native.Nat.{ℕ, zero, suc, _+_, _-_, _*_, _<_, _≤_}
 use native.Mathlib.Omega.{arith}
@@ -9,11 +8,10 @@ use lib.Dec.{ltb}
 use lib.ListN.{length, getD, set, length-set}
 use lib.Seq.{getD-set-same, getD-set-other}
 use borrow.Author.Tests.{lt-ltb, le-ltb, ltb-true, ltb-false}
-use Rattle.laws.specs.Choice.{pick}
 use Rattle.laws.proofs.Choice.{pick-yes, pick-no, Tested, tested, holds, fails}
 use Rattle.cells.specs.State.{Tally}
 use Rattle.records.specs.Step.{marked}
-use Rattle.records.specs.Report.{noTally, markAt, beganWith, endedWith}
+use Rattle.records.specs.Report.{markAt, beganWith, endedWith}
 use Rattle.records.specs.Cells.{Grows}
 
 abbrev tally : ℕ → ℕ → Tally

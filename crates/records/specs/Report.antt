@@ -1,6 +1,6 @@
 -- Document 02, request 1: what a replay "gives": "runs and claimed elements for each day; what ends before the first midnight is
 -- given apart". A part is what lies between two midnights: part 0 is before the first, part k the k-th day. Assumes nothing.
-use mathlib.Core.List.{List, [], _∷_}
+use mathlib.Core.List.{List}
 use Prim.Native.Nat.{ℕ, zero, suc, _+_, _-_, _*_}
 use lib.Dec.{eqb, leb, ltb}
 use lib.ListN.{getD}

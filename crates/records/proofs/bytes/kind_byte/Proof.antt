@@ -1,5 +1,5 @@
 -- `records::bytes::kind_byte` meets its contract. Assumes nothing.
-use mathlib.Core.Path.{sym, ap, _∙_}
+use mathlib.Core.Path.{sym, _∙_}
 use Rattle.records.proofs.Midnights.{kind-taken, kind-refused}
 use borrow.Author.Needs.{needs}
 use Rattle.records.proofs.bytes.kind_byte.Statement.{statement}

@@ -1,7 +1,6 @@
 -- `records::bytes::midnight` meets its contract. Assumes nothing.
-use lib.ListN.{length-set}
 use native.Mathlib.Omega.{arith}
-use mathlib.Core.Path.{sym, ap, _∙_}
+use mathlib.Core.Path.{sym, _∙_}
 use Rattle.records.proofs.Midnights.{few, midnight-taken, midnight-refused}
 use borrow.Author.Needs.{needs}
 use Rattle.records.proofs.bytes.midnight.Statement.{statement}
