@@ -9,10 +9,10 @@ use borrow.Author.Tests.{ne-eqb, eqb-true, eqb-false}
 use Rattle.laws.proofs.Choice.{by-pick, pick-no}
 use Rattle.session.specs.Feed.{First, nothing, first, uncut}
 use Rattle.records.specs.State.{Replay}
-use Rattle.records.specs.Step.{taken, refused, Stepped, stopped, taking, kindStep, midnightStep}
+use Rattle.records.specs.Step.{byKind, byDay, taken, refused, Stepped, stopped, taking, kindStep, midnightStep}
 use Rattle.log.specs.Bytes.{recordStep, openStep, byteStep}
 use Rattle.log.specs.Feed.{Fed, ahead, ended, proceed, replayOf, joined, replayPieces}
-use Rattle.log.specs.Refusals.{byKind, byDay, RefusedTo, again, newly}
+use Rattle.log.specs.Refusals.{RefusedTo, again, newly}
 use Rattle.log.proofs.Records.{stepped}
 
 -- what a byte does: it is taken, or it is refused and leaves a stopped replay

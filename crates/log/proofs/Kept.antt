@@ -12,11 +12,11 @@ use Rattle.session.proofs.Kept.{new-valid}
 use Rattle.session.proofs.Refusals.{fed-valid}
 use Rattle.session.proofs.Tallies.{tallied}
 use Rattle.records.specs.State.{OpenRecord, Replay, newReplay}
-use Rattle.records.specs.Step.{Stepped, opening, stopped, ofKind, kindStep, withByte, afterWord, mayBegin, afterMidnight, midnightStep}
+use Rattle.records.specs.Step.{StopNumber, byKind, byDay, Stepped, opening, stopped, ofKind, kindStep, withByte, afterWord, mayBegin, afterMidnight, midnightStep}
 use Rattle.log.specs.Bytes.{recordStep, openStep, byteStep}
 use Rattle.records.specs.Report.{beganWith, endedWith}
 use Rattle.log.specs.Feed.{afterWords}
-use Rattle.records.specs.Cells.{StopNumber, running, byKind, byDay, Grows, LogValid}
+use Rattle.records.specs.Cells.{Grows, LogValid}
 use Rattle.records.proofs.Marks.{grows-on, grows-marked}
 use Rattle.records.proofs.Midnights.{few}
 use Rattle.log.proofs.Steps.{one-word}
@@ -26,7 +26,7 @@ pub new-replay-valid : LogValid newReplay
 new-replay-valid =
     record {
       session = new-valid;
-      stops = running;
+      stops = λ h. absurd (h refl);
       dropped = λ h. refl;
       count-most = omega arith;
       closed = λ e. refl;
@@ -47,7 +47,7 @@ module _ (r : Replay) (v : LogValid r) where
   stopped-valid n k =
       record {
         session = v .session;
-        stops = k;
+        stops = λ h. k;
         dropped = λ h. refl;
         count-most = omega arith;
         closed = λ e. refl;

@@ -20,12 +20,12 @@ use Rattle.session.specs.declared.stream.Fed as declared
 use Rattle.session.proofs.Handed.{piece-given}
 use Rattle.session.proofs.Refusals.{fed-valid}
 use Rattle.records.specs.State.{WordRefused, Replay, noRecord}
-use Rattle.records.specs.Step.{Reply, taken, refused, Stepped, opening, taking, kindStep, withByte, numberFrom, notedReply, withWords, afterWord, midnightStep}
+use Rattle.records.specs.Step.{StopNumber, byKind, byDay, Reply, taken, refused, Stepped, opening, taking, kindStep, withByte, numberFrom, notedReply, withWords, afterWord, midnightStep}
 use Rattle.log.specs.Bytes.{recordStep, openStep, byteStep}
 use Rattle.log.specs.Feed.{notedFirst, afterWords}
-use Rattle.records.specs.Cells.{viewed, replayIn, LogGiven, StopNumber, running, byKind, byDay}
+use Rattle.records.specs.Cells.{viewed, replayIn, LogGiven}
 use Rattle.records.specs.Own.{Changed, Answered, noting}
-use Rattle.log.specs.Asked.{Became, LogSized, OpenAsked, WordsAsked, WordsLeft, StopCause, kindCause, dayCause}
+use Rattle.log.specs.Asked.{Became, LogSized, OpenAsked, WordsAsked, WordsLeft}
 use Rattle.records.specs.Own.{MidnightLeft, NumberAsked}
 
 -- a replay and what a step tells of it
@@ -196,14 +196,10 @@ module _ (l marks own tallies shared : List ℕ) (b : ℕ) (g : LogGiven l marks
   goes-on r l1 marks1 own1 tallies1 shared1 e h c =
       record { sized = c .sized; view = going e ∙ pick-no _ _ (ne-eqb (getD l 5 0) 0 h) ∙ c .view }
 
-  pub cause : (getD l 0 0 ≡ 0 → ⊥) → StopCause (getD l 0 0)
-  cause h = go (getD l 0 0) (unfold viewed in g .valid .stops) h
-    where
-      go : (n : ℕ) → StopNumber n → (n ≡ 0 → ⊥) → StopCause n
-      go n running k = absurd (k refl)
-      go n byKind k = kindCause
-      go n byDay k = dayCause
+  pub cause : (getD l 0 0 ≡ 0 → ⊥) → StopNumber (getD l 0 0)
+  unfolding viewed
+  cause h = g .valid .stops h
 
-pub other-cause : (n : ℕ) → StopCause n → (n ≡ 18 → ⊥) → 19 ≡ n
-other-cause n kindCause h = absurd (h refl)
-other-cause n dayCause h = refl
+pub other-cause : (n : ℕ) → StopNumber n → (n ≡ 18 → ⊥) → 19 ≡ n
+other-cause n byKind h = absurd (h refl)
+other-cause n byDay h = refl

@@ -69,8 +69,3 @@ pub data RecordsLeft (bs log own tallies shared : List ℕ) : ℕ → List ℕ �
       (ws log1 own1 tallies1 shared1 : List ℕ) → Idle log → Words32 ws → 5 * length ws ≤ length bs →
       bs ≡ wordRecords ws ++ drop (5 * length ws) bs → WordsLeft ws log own tallies shared log1 own1 tallies1 shared1 →
       RecordsLeft bs log own tallies shared (length ws) log1 own1 tallies1 shared1
-
--- a replay was stopped by one of two numbers
-pub data StopCause : ℕ → Type 0 where
-  kindCause : StopCause 18
-  dayCause : StopCause 19

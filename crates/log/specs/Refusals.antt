@@ -3,16 +3,11 @@
 use mathlib.Core.Path.{_≡_}
 use Prim.Native.Nat.{ℕ}
 use Rattle.records.specs.State.{Replay}
-use Rattle.records.specs.Step.{stopped}
-
--- the numbers that stop a replay
-pub data NewStop : ℕ → Type 0 where
-  byKind : NewStop 18
-  byDay : NewStop 19
+use Rattle.records.specs.Step.{StopNumber, stopped}
 
 -- the replay after a byte that was refused with a number
 pub data RefusedTo (r : Replay) : ℕ → Replay → Type 0 where
   -- it was stopped by that number before: nothing at all has changed
   again : (r .stoppedBy ≡ 0 → ⊥) → RefusedTo r (r .stoppedBy) r
   -- it is stopped and the open record is dropped; all else stands
-  newly : {n : ℕ} → r .stoppedBy ≡ 0 → NewStop n → RefusedTo r n (stopped n r)
+  newly : {n : ℕ} → r .stoppedBy ≡ 0 → StopNumber n → RefusedTo r n (stopped n r)

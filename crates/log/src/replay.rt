@@ -13,7 +13,8 @@ ghost use Rattle.records.specs.State.{newReplay};
 ghost use Rattle.log.specs.Bytes.{byteStep, openStep};
 ghost use Rattle.log.specs.Feed.{replayOf};
 ghost use Rattle.records.specs.Cells.{LogGiven, LogHeld, replayIn};
-ghost use Rattle.log.specs.Asked.{Became, Gathered, OpenAsked, PieceLeft, RecordsLeft, StopCause, WordsAsked, WordsLeft};
+ghost use Rattle.records.specs.Step.{StopNumber};
+ghost use Rattle.log.specs.Asked.{Became, Gathered, OpenAsked, PieceLeft, RecordsLeft, WordsAsked, WordsLeft};
 ghost use Rattle.records.specs.Own.{replyOf};
 
 // Words of records that are fed to the session in one piece.
@@ -91,7 +92,7 @@ fn wide(byte: u8) -> u32
 
 // The refusal that stopped a replay.
 fn stop_cause(number: u32) -> Refusal
-    requires { ⌜ StopCause number ⌝ }
+    requires { ⌜ StopNumber number ⌝ }
     ensures { λ r. ⌜ numberOf r ≡ number ⌝ }
 {
     if number == 18 {

@@ -9,6 +9,7 @@ use Rattle.cells.specs.Cells.{sessionOf, Sized}
 use Rattle.cells.specs.Asked.{Held}
 use Rattle.cells.specs.Valid as sessions
 use Rattle.records.specs.State.{OpenRecord, Replay, noRecord, mostMidnights}
+use Rattle.records.specs.Step.{StopNumber}
 use Rattle.records.specs.Report.{beganWith, endedWith}
 
 abbrev pub openOf : List ℕ → OpenRecord
@@ -42,12 +43,6 @@ pub record LogHeld (r : Replay) (log marks own tallies shared : List ℕ) : Type
   pub mark-cells : marks ≡ r .marks
   pub session-cells : Held (r .session) own tallies shared
 
--- 0 while the replay goes on, else 18 or 19
-pub data StopNumber : ℕ → Type 0 where
-  running : StopNumber 0
-  byKind : StopNumber 18
-  byDay : StopNumber 19
-
 -- the tallies only grow from one end of a part to the other
 pub record Grows (marks : List ℕ) (midnights runs claims k : ℕ) : Type 0 where
   pub runs-grow : beganWith marks k .runs ≤ endedWith marks midnights (record { runs = runs; claims = claims }) k .runs
@@ -56,7 +51,7 @@ pub record Grows (marks : List ℕ) (midnights runs claims k : ℕ) : Type 0 whe
 -- what holds of every replay that the entries give out
 pub record LogValid (r : Replay) : Type 0 where
   pub session : sessions.Valid (r .session)
-  pub stops : StopNumber (r .stoppedBy)
+  pub stops : (r .stoppedBy ≡ 0 → ⊥) → StopNumber (r .stoppedBy)
   pub dropped : (r .stoppedBy ≡ 0 → ⊥) → r .opened ≡ noRecord
   pub count-most : r .opened .count ≤ 4
   pub closed : r .opened .count ≡ 0 → r .opened ≡ noRecord

@@ -34,6 +34,11 @@ opening o r =
       marks = r .marks;
     }
 
+-- the numbers that stop a replay
+pub data StopNumber : ℕ → Type 0 where
+  byKind : StopNumber 18
+  byDay : StopNumber 19
+
 -- "Both stop the replay and drop the open record. What came before stands"
 abbrev pub stopped : ℕ → Replay → Replay
 stopped n r =
