@@ -95,7 +95,7 @@ fn stop_cause(number: u32) -> Refusal
     requires { ⌜ StopNumber number ⌝ }
     ensures { λ r. ⌜ numberOf r ≡ number ⌝ }
 {
-    if number == 18 {
+    if number == own::BY_KIND {
         Refusal::RecordKind
     } else {
         Refusal::MidnightDay

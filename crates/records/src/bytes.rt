@@ -38,7 +38,7 @@ pub fn kind_byte(log: &mut [u32; 10], byte: u32) -> Answer
         own::open(log, byte);
         return Answer::Taken;
     }
-    own::stop(log, 18);
+    own::stop(log, own::BY_KIND);
     Answer::Refused(Refusal::RecordKind)
 }
 
@@ -70,6 +70,6 @@ pub fn midnight(log: &mut [u32; 10], marks: &mut [u64; 800], tallies: &[u64; 2],
         own::begin_day(log, midnights + 1, day);
         return Answer::Taken;
     }
-    own::stop(log, 19);
+    own::stop(log, own::BY_DAY);
     Answer::Refused(Refusal::MidnightDay)
 }

@@ -27,6 +27,11 @@ pub const SECOND: usize = 8;
 
 pub const THIRD: usize = 9;
 
+// The numbers that stop a replay, as its first number keeps them: `refusal::number` of the kind's and of the day's refusal.
+pub const BY_KIND: u32 = 18;
+
+pub const BY_DAY: u32 = 19;
+
 // Stores the open record: how many bytes stand, its kind and its number's first bytes, 0 for those that haven't come.
 fn put_record(log: &mut [u32; 10], count: u32, kind: u32)
     requires { ⌜ length (now log) ≡ 10 ⌝ }

@@ -1,5 +1,5 @@
 // Document 01's refusals, and those that document 02's requests add: each cause by name, and its number. Every answer that
-// can refuse holds a `Refusal`, so the numbers stand here and nowhere else in the code.
+// can refuse holds a `Refusal`, so the numbers stand here; a state that keeps one, as a stopped replay's, names it by a constant.
 ghost use mathlib.Core.Path.{_≡_};
 ghost use Rattle.refusal.specs.Number.{numberOf};
 
