@@ -36,6 +36,18 @@ const CASES: &[(&str, &str, &str)] = &[
         "decode --summary --json samples/several.ctm",
         "",
     ),
+    ("decode-masked", "decode samples/masked.ctm", ""),
+    (
+        "decode-masked-terse",
+        "decode --terse samples/masked.ctm",
+        "",
+    ),
+    (
+        "decode-masked-summary",
+        "decode --summary samples/masked.ctm",
+        "",
+    ),
+    ("decode-masked-json", "decode --json samples/masked.ctm", ""),
     ("decode-open", "decode --hex", "C0030700 0 0\n"),
     ("decode-nothing", "decode", ""),
     (
