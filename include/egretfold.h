@@ -12,8 +12,8 @@
  *      5  i0 > i1 or j0 > j1
  *      6  window rule broken
  *      7  start without a domain, an instruction format or any output set
- *      8  the domain is not inside every set output's window
- *      9  spans of two set outputs share a byte
+ *      8  the domain is not inside every set output's window; silent outputs are passed over
+ *      9  spans of two set outputs share a byte; silent outputs are passed over
  *     10  a pair is outside its window
  *     11  room, element data or memory of a wrong length or place
  *     12  no pair of the window owns the address
@@ -75,7 +75,9 @@ uint32_t egretfold_session_feed(uint32_t own[17], uint64_t tallies[2], uint32_t 
  * and how many of its parameters were taken. Returns 0. */
 uint32_t egretfold_session_status(const uint32_t own[17], uint32_t status[4]);
 
-/* counts: runs (starts that passed) and the elements that they claimed. Returns 0. */
+/* counts: runs (starts that passed) and the elements that they claimed: the pairs of the domain, times the set outputs that
+ * are not silent at the start. An output is silent when no mask bit is set for a channel that its format has: bit 4n + c is
+ * for output n, channel c, and codes 0 to 4 have one, four, one, two and four channels. Returns 0. */
 uint32_t egretfold_session_tallies(const uint64_t tallies[2], uint64_t counts[2]);
 
 /* domain: 1 if it is set, else 0; then i0, j0, i1, j1, both ends included. Returns 0. */

@@ -151,6 +151,21 @@ static void check_refused_piece(void)
     agree("session_feed, commands before the refused one", fed[1], 1);
 }
 
+/* The output of the whole stream has channel 0 alone: with all other channels' bits a start is a run of no elements. */
+static void check_silent(void)
+{
+    const uint32_t words[4] = {0xC0001900, 0xFFFE, 0xC0000800, 0};
+    uint64_t fed[2] = {9, 9};
+    uint64_t counts[2] = {9, 9};
+    struct session s;
+    begin(&s);
+    agree("session_feed, the whole stream", feed(&s, stream, 15, fed), 0);
+    agree("session_feed, a silent output", feed(&s, words, 4, fed), 0);
+    agree("session_tallies, silent", egretfold_session_tallies(s.tallies, counts), 0);
+    agree("session_tallies, runs of a silent output", counts[0], 2);
+    agree("session_tallies, elements of a silent output", counts[1], 1728);
+}
+
 struct replay {
     uint32_t log[EGRETFOLD_LOG];
     uint64_t marks[EGRETFOLD_MARKS];
@@ -406,6 +421,7 @@ int main(void)
     check_formats(&s);
     check_words(&s);
     check_refused_piece();
+    check_silent();
     check_log();
     check_log_days();
     check_commands();

@@ -3,6 +3,7 @@
 //! that a header that one of them lost is still asked for.
 
 use crate::random::Random;
+use second::layout::Layout;
 
 pub const WAIT: u32 = 0xC000_0900;
 pub const SET_DOMAIN: u32 = 0xC003_0700;
@@ -121,6 +122,54 @@ pub fn input_format_word(random: &mut Random) -> u32 {
     }
 }
 
+/// The layout that an accepted base, format word and height describe.
+pub fn layout(base: u32, format: u32, height: u32) -> Layout {
+    Layout {
+        base,
+        pitch: format & 0x1FFC,
+        height,
+        size: [2, 4, 4, 8, 16][code(format)],
+        tiled: format >> 16 & 1 == 1,
+    }
+}
+
+/// The channels that a format has, as the bits of an output's nibble: one, four,
+/// one, two and four for codes 0 to 4.
+pub fn channels(format: u32) -> u32 {
+    [0x1, 0xF, 0x1, 0x3, 0xF][code(format)]
+}
+
+/// The channels of the format that the mask leaves to the output with this
+/// number; the output is silent if there are none.
+pub fn unmasked(mask: u32, number: u32, format: u32) -> u32 {
+    mask >> (4 * number) & channels(format)
+}
+
+fn code(format: u32) -> usize {
+    (format >> 24) as usize % 5
+}
+
+/// An output mask, often one under which some outputs are silent and others are
+/// not, or all of them are.
+pub fn output_mask(random: &mut Random) -> u32 {
+    match random.below(8) {
+        0 => 0,
+        1 => 0xFFFF,
+        2 => random.below(1 << 16),
+        _ => (0..4).fold(0, |mask, number| mask | nibble(random) << (4 * number)),
+    }
+}
+
+/// One output's bits of a mask: all, some, none, or those of channels that only
+/// some formats have.
+fn nibble(random: &mut Random) -> u32 {
+    match random.below(4) {
+        0 => random.below(16),
+        1 => 0xF,
+        _ => random.one_of(&[0x0, 0x0, 0x1, 0x2, 0x4, 0xC, 0xE]),
+    }
+}
+
 pub fn small_height(random: &mut Random) -> u32 {
     match random.below(8) {
         0 => random.between(1, 4_096),
@@ -151,7 +200,7 @@ pub fn good_fields(random: &mut Random, header: u32) -> [u32; 4] {
             [low_base(random), format, small_height(random), 0]
         }
         SET_DOMAIN => good_domain(random, 4_095, 4_095),
-        SET_OUT_MASK => [random.below(1 << 16), 0, 0, 0],
+        SET_OUT_MASK => [output_mask(random), 0, 0, 0],
         SET_COND_MASK => [random.below(2), 0, 0, 0],
         SET_COND_TEST => [random.below(8), 0, 0, 0],
         _ => [0; 4],

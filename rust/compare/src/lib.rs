@@ -30,6 +30,7 @@ pub mod programs;
 pub mod random;
 pub mod records;
 pub mod settings;
+pub mod starts;
 pub mod streams;
 pub mod tally;
 pub mod words;

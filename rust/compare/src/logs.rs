@@ -5,6 +5,7 @@
 use crate::case::{Agreed, Agreement, Case};
 use crate::records;
 use crate::settings;
+use crate::starts;
 use boundary::Replay as Product;
 use second::log::{Fed, Part, RefusedWord, Replay as Second};
 
@@ -34,6 +35,7 @@ pub fn run(case: &mut Case) -> Agreement {
     let cut = fed_in_pieces(case, &log, expected)?;
     agree(case, &cut, &second, || format!("log {log:X?} in pieces"))?;
     count(case, &log, &second);
+    starts::of_words(case.tally, words(&log[..expected.taken as usize]));
     later_bytes(case, cut, second, &log)
 }
 
@@ -156,6 +158,14 @@ fn later_bytes(case: &mut Case, mut product: Product, mut second: Second, log: &
         }
     }
     Ok(())
+}
+
+/// The words of the whole records among these bytes, which were all taken.
+fn words(taken: &[u8]) -> impl Iterator<Item = u32> + '_ {
+    taken.chunks_exact(5).filter_map(|record| match *record {
+        [records::WORD, a, b, c, d] => Some(u32::from_le_bytes([a, b, c, d])),
+        _ => None,
+    })
 }
 
 /// What the log was, for the tests to look at.

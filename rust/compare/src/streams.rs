@@ -5,6 +5,7 @@
 use crate::case::{Agreed, Agreement, Case};
 use crate::commands;
 use crate::settings::{of_product, of_second, Both};
+use crate::starts;
 use crate::words;
 use crate::writer::for_product;
 use boundary::lent;
@@ -47,6 +48,9 @@ pub fn word_by_word(case: &mut Case, mut both: Both, words: &[u32]) -> Agreed<Bo
             Ok(Reply::Done(command)) => {
                 case.tally.mark("commands completed");
                 case.tally.mark(commands::name(command.header));
+                if command.header == commands::START {
+                    starts::count(case.tally, &both.second);
+                }
                 written_back(case, &command, &words[header_at..=place])?;
                 header_at = place + 1;
             }

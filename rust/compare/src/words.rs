@@ -5,17 +5,26 @@
 use crate::commands::{self, SET_COND_MASK, SET_COND_OUT, SET_COND_TEST, SET_DOMAIN};
 use crate::commands::{SET_INP, SET_INST, SET_OUT, SET_OUT_MASK, START};
 use crate::random::Random;
-use second::layout::{judge, Layout, Window};
+use second::layout::{judge, Window};
 
 /// Every output's formats begin in a part of memory of its own, this many bytes
 /// from the next output's: more than most windows' spans.
 const PART: u32 = 1 << 23;
 
+/// An output that was set, with its window.
+#[derive(Clone, Copy)]
+struct Output {
+    base: u32,
+    format: u32,
+    height: u32,
+    window: Window,
+}
+
 /// What the stream so far has set, as far as good commands need to know it.
 struct Plan {
     words: Vec<u32>,
-    /// The outputs' windows: base, row step, span and height.
-    outputs: [Option<(u32, Window, u32)>; 4],
+    outputs: [Option<Output>; 4],
+    mask: u32,
     instructions: bool,
     domain: bool,
     /// One command in so many has a field at an edge.
@@ -42,6 +51,7 @@ fn good(random: &mut Random) -> Vec<u32> {
     let mut plan = Plan {
         words: Vec::new(),
         outputs: [None; 4],
+        mask: 0xFFFF,
         instructions: false,
         domain: false,
         careful: random.one_of(&[50, 200, 2_000]),
@@ -56,10 +66,14 @@ fn good(random: &mut Random) -> Vec<u32> {
     plan.words
 }
 
-/// An instruction format and an output or more in any order, then a domain.
+/// An instruction format and an output or more in any order, some under a mask
+/// that came before them, then a domain.
 fn preamble(random: &mut Random, plan: &mut Plan) {
     if random.coin() {
         set_low_format(random, plan, SET_INST);
+    }
+    if random.once_in(3) {
+        set_mask(random, plan);
     }
     for _ in 0..random.between(1, 3) {
         set_output(random, plan);
@@ -82,15 +96,15 @@ fn command(random: &mut Random, plan: &mut Plan) {
         }
         4 | 5 => plain(random, plan, SET_INP),
         6 => plain(random, plan, SET_COND_OUT),
-        7 => plain(random, plan, SET_OUT_MASK),
+        7 => {
+            set_mask(random, plan);
+            domain_again(random, plan);
+        }
         8 => plain(random, plan, SET_COND_MASK),
         9 => plain(random, plan, SET_COND_TEST),
         10 | 11 => {
             set_output(random, plan);
-            // It may be smaller than the domain, which mostly comes again then.
-            if !random.once_in(8) {
-                set_domain(random, plan);
-            }
+            domain_again(random, plan);
         }
         12..=14 => set_domain(random, plan),
         _ => start(random, plan),
@@ -108,60 +122,70 @@ fn set_low_format(random: &mut Random, plan: &mut Plan, header: u32) {
     plan.instructions |= header == SET_INST;
 }
 
+fn set_mask(random: &mut Random, plan: &mut Plan) {
+    let fields = commands::good_fields(random, SET_OUT_MASK);
+    put(random, plan, SET_OUT_MASK, fields);
+    plan.mask = fields[0];
+}
+
+/// Mostly a new domain, where an output that counts now may be smaller than the
+/// one before.
+fn domain_again(random: &mut Random, plan: &mut Plan) {
+    if !random.once_in(8) {
+        set_domain(random, plan);
+    }
+}
+
 /// An output in its own part of memory; sometimes exactly behind another one or
 /// over its last bytes, where refusal 9 begins, or at the very top of memory,
-/// where its span ends at 2^32.
+/// where its span ends at 2^32. A silent one may lie over another as it likes.
 fn set_output(random: &mut Random, plan: &mut Plan) {
     let mut fields = commands::good_fields(random, SET_OUT);
-    let number = fields[0] as usize;
+    let number = fields[0];
+    let silent = commands::unmasked(plan.mask, number, fields[2]) == 0;
     let other = plan.outputs[random.below(4) as usize];
     fields[1] = match (random.below(16), other) {
-        (0, Some((base, window, _))) => behind(base, window),
-        (1, Some((base, window, _))) => behind(base, window).wrapping_sub(2048),
+        (0, Some(other)) => behind(&other),
+        (1, Some(other)) => behind(&other).wrapping_sub(2048),
         (2, _) => top_base(&fields),
-        _ => fields[0] * PART + (random.below(64) << 11),
+        (3..=5, Some(other)) if silent => other.base,
+        _ => number * PART + (random.below(64) << 11),
     };
     put(random, plan, SET_OUT, fields);
-    let layout = output_layout(&fields);
-    if let Ok(window) = judge(&layout) {
-        plan.outputs[number] = Some((layout.base, window, layout.height));
+    let [_, base, format, height] = fields;
+    if let Ok(window) = judge(&commands::layout(base, format, height)) {
+        plan.outputs[number as usize] = Some(Output {
+            base,
+            format,
+            height,
+            window,
+        });
     }
 }
 
 /// The first multiple of 2,048 behind a window; behind 2^32 is 0 again.
-fn behind(base: u32, window: Window) -> u32 {
-    let end = u64::from(base) + window.span;
+fn behind(output: &Output) -> u32 {
+    let end = u64::from(output.base) + output.window.span;
     (end + 2047) as u32 & !2047
 }
 
 /// The last base from which the output's window still ends at 2^32 or below.
 fn top_base(fields: &[u32; 4]) -> u32 {
-    let low = Layout {
-        base: 0,
-        ..output_layout(fields)
-    };
-    let span = judge(&low).map_or(2048, |window| window.span);
+    let [_, _, format, height] = *fields;
+    let span = judge(&commands::layout(0, format, height)).map_or(2048, |window| window.span);
     ((1u64 << 32) - span) as u32 & !2047
 }
 
-fn output_layout(fields: &[u32; 4]) -> Layout {
-    let [_, base, format, height] = *fields;
-    Layout {
-        base,
-        pitch: format & 0x1FFC,
-        height,
-        size: [2, 4, 4, 8, 16][(format >> 24) as usize % 5],
-        tiled: format >> 16 & 1 == 1,
-    }
-}
-
-/// A domain inside every output's window; sometimes one pair too large, or of
-/// any size.
+/// A domain inside the window of every output that isn't silent; sometimes one
+/// pair too large, or of any size.
 fn set_domain(random: &mut Random, plan: &mut Plan) {
     let (mut i, mut j) = (4_095, 4_095);
-    for (_, window, height) in plan.outputs.iter().flatten() {
-        i = i.min(window.step - 1);
-        j = j.min(height - 1);
+    for (number, output) in (0..).zip(plan.outputs) {
+        let counted = output.filter(|o| commands::unmasked(plan.mask, number, o.format) != 0);
+        if let Some(Output { window, height, .. }) = counted {
+            i = i.min(window.step - 1);
+            j = j.min(height - 1);
+        }
     }
     let mut fields = commands::good_domain(random, i, j);
     match random.below(64) {

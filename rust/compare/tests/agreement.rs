@@ -44,6 +44,21 @@ fn marks(tally: &Tally, expected: &[(&str, u64)]) {
     }
 }
 
+/// Demands that starts passed under telling masks, each kind at least so often.
+fn masked_starts(tally: &Tally, least: u64) {
+    marks(tally, &[("starts with some outputs silent", 4 * least)]);
+    marks(tally, &[("starts with all outputs silent", 2 * least)]);
+    marks(tally, &[("starts with an output partly masked", 4 * least)]);
+    // What would count or be refused if the output weren't silent.
+    let lacking = "starts with bits for channels that a silent output lacks";
+    let outside = "starts with the domain outside a silent output";
+    let over = "starts with a silent output over another output";
+    marks(
+        tally,
+        &[(lacking, 4 * least), (outside, 4 * least), (over, least)],
+    );
+}
+
 fn addresses(numbers: Range<u64>) {
     let tally = agree(Kind::Addresses, numbers);
     let third = tally.cases / 3;
@@ -92,6 +107,7 @@ fn streams(numbers: Range<u64>) {
     marks(&tally, &[("streams accepted", 30_000)]);
     marks(&tally, &[("streams refused", 30_000)]);
     marks(&tally, &[("questions refused", 50_000)]);
+    masked_starts(&tally, 6_000);
     for (_, command) in TABLE {
         marks(&tally, &[(command, 5_000)]);
     }
@@ -169,6 +185,7 @@ fn logs(numbers: Range<u64>) {
         &[("logs with runs before the first midnight", 4_000)],
     );
     marks(&tally, &[("logs with runs on several days", 4_000)]);
+    masked_starts(&tally, 2_000);
     // Of words the first refusal counts, which is never 1.
     let words_at_fault = [(2, 4_000), (3, 6_000), (4, 1_000)];
     let last_parameters = [(5, 300), (6, 200), (7, 300), (8, 1_500), (9, 800)];

@@ -52,8 +52,12 @@ fn one(refusal: &Refusal, out: &mut dyn Write) -> Outcome {
     writeln!(out)?;
     text::paragraph(out, "given by     ", refusal.given)?;
     text::paragraph(out, "effect       ", effect(refusal.number))?;
-    let document = refusals::document(refusal.number);
-    for (place, sentence) in refusal.says.iter().enumerate() {
+    quote(out, "document 01", refusal.says)?;
+    quote(out, "document 02", refusal.requests)
+}
+
+fn quote(out: &mut dyn Write, document: &str, sentences: &[&str]) -> Outcome {
+    for (place, sentence) in sentences.iter().enumerate() {
         let head = if place == 0 { document } else { "" };
         text::paragraph(out, &format!("{head:13}"), &format!("\"{sentence}\""))?;
     }
@@ -73,13 +77,20 @@ fn effect(number: u32) -> &'static str {
 
 fn as_json(refusal: &Refusal) -> Value {
     let number = refusal.number;
-    let document = refusals::document(number).replace(' ', "_");
-    json!({
+    let mut value = json!({
         "number": number,
         "cause": refusal.cause,
         "given_by": refusal.given,
         "stops_a_session": refusals::stops(number),
         "stops_a_replay": refusals::stops_replay(number),
-        document: refusal.says,
-    })
+    });
+    for (document, sentences) in [
+        ("document_01", refusal.says),
+        ("document_02", refusal.requests),
+    ] {
+        if !sentences.is_empty() {
+            value[document] = json!(sentences);
+        }
+    }
+    value
 }

@@ -60,6 +60,8 @@ impl Form for Json<'_> {
             "position": start.position.0,
             "claimed": start.claimed,
             "claims": start.claims,
+            "outputs": start.outputs.set,
+            "silent": start.outputs.silent,
             "settings": settings,
         });
         writeln!(self.out, "{value}")?;
@@ -134,11 +136,10 @@ fn format_word(word: u32) -> Value {
 fn as_json(setting: &Setting) -> Value {
     let mut value = json!({"setting": setting.name});
     match &setting.value {
-        SettingValue::Array(format) | SettingValue::Store(format) => {
-            value["base"] = json!(Address(format.base).to_string());
-            value["format"] = format_word(format.format);
-            value["height"] = json!(format.height);
-            value["window"] = window(&settings::layout(format));
+        SettingValue::Array(format) | SettingValue::Store(format) => put(&mut value, format),
+        SettingValue::Output { format, silent } => {
+            put(&mut value, format);
+            value["silent"] = json!(silent);
         }
         SettingValue::Domain([i0, j0, i1, j1]) => {
             value["domain"] = json!({"i0": i0, "j0": j0, "i1": i1, "j1": j1});
@@ -148,6 +149,13 @@ fn as_json(setting: &Setting) -> Value {
         SettingValue::Test(test) => value["test"] = json!(test),
     }
     value
+}
+
+fn put(value: &mut Value, format: &Format) {
+    value["base"] = json!(Address(format.base).to_string());
+    value["format"] = format_word(format.format);
+    value["height"] = json!(format.height);
+    value["window"] = window(&settings::layout(format));
 }
 
 /// The window as the product tells it.

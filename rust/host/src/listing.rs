@@ -35,17 +35,13 @@ impl Form for Listing<'_> {
     }
 
     fn start(&mut self, start: &Start) -> Outcome {
-        let (runs, claimed, claims) = (start.runs, start.claimed, start.claims);
         writeln!(self.out, "#")?;
-        let since = if runs == 1 {
+        let since = if start.runs == 1 {
             "stream's begin"
         } else {
             "last start"
         };
-        writeln!(
-            self.out,
-            "# start {runs}: claims {claimed}, {claims} so far; * is new since the {since}"
-        )?;
+        writeln!(self.out, "# {}; * is new since the {since}", claim(start))?;
         for (setting, changed) in start.settings {
             show_setting(self.out, setting, if *changed { '*' } else { ' ' })?;
         }
@@ -59,6 +55,23 @@ impl Form for Listing<'_> {
         }
         Ok(())
     }
+}
+
+/// "start 2: claims 1728 in 1 of 2 outputs (1 silent), 5184 so far".
+fn claim(start: &Start) -> String {
+    let set = start.outputs.set.len() as u64;
+    let silent = start.outputs.silent.len() as u64;
+    let mut outputs = text::count(set, "output");
+    if silent > 0 {
+        outputs = format!("{} of {outputs} ({silent} silent)", set - silent);
+    }
+    let Start {
+        runs,
+        claimed,
+        claims,
+        ..
+    } = start;
+    format!("start {runs}: claims {claimed} in {outputs}, {claims} so far")
 }
 
 fn show_setting(out: &mut dyn Write, setting: &Setting, mark: char) -> Outcome {
@@ -161,11 +174,7 @@ impl Form for Terse<'_> {
     }
 
     fn start(&mut self, start: &Start) -> Outcome {
-        writeln!(
-            self.out,
-            "# start {}: claims {}, {} so far",
-            start.runs, start.claimed, start.claims
-        )?;
+        writeln!(self.out, "# {}", claim(start))?;
         Ok(())
     }
 

@@ -140,7 +140,9 @@ fn windows(read: &Read) -> impl Iterator<Item = (&str, Layout, bool)> {
     read.settings.iter().filter_map(|setting| {
         let name = setting.name.as_str();
         match &setting.value {
-            Value::Array(format) => Some((name, settings::layout(format), false)),
+            Value::Array(format) | Value::Output { format, .. } => {
+                Some((name, settings::layout(format), false))
+            }
             Value::Store(format) => Some((name, settings::layout(format), true)),
             _ => None,
         }

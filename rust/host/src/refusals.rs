@@ -5,8 +5,10 @@ pub struct Refusal {
     pub number: u32,
     /// The table's words.
     pub cause: &'static str,
-    /// Sentences of the document that has it, word for word.
+    /// Sentences of document 01, word for word.
     pub says: &'static [&'static str],
+    /// Sentences of document 02's requests that added or changed it.
+    pub requests: &'static [&'static str],
     /// The words and calls that can get this number.
     pub given: &'static str,
 }
@@ -21,15 +23,6 @@ pub fn stops(number: u32) -> bool {
 /// Whether a replay that gives this number to a byte is stopped by it.
 pub fn stops_replay(number: u32) -> bool {
     number == 18 || number == 19
-}
-
-/// The document that has the number: requests added those from 18 on.
-pub fn document(number: u32) -> &'static str {
-    if number < 18 {
-        "document 01"
-    } else {
-        "document 02"
-    }
 }
 
 pub fn refusal(number: u32) -> Option<&'static Refusal> {
@@ -51,9 +44,35 @@ const fn entry(
         number,
         cause,
         says,
+        requests: &[],
         given,
     }
 }
+
+/// A refusal that a request added.
+const fn added(
+    number: u32,
+    cause: &'static str,
+    given: &'static str,
+    requests: &'static [&'static str],
+) -> Refusal {
+    entry(number, cause, given, &[]).changed_by(requests)
+}
+
+impl Refusal {
+    const fn changed_by(self, requests: &'static [&'static str]) -> Refusal {
+        Refusal { requests, ..self }
+    }
+}
+
+const MASK: &str = "set_out_mask (bits 15:0, bit 4n+c for output n, channel c, house)";
+
+/// Request 2.
+const SILENCE: &[&str] = &[
+    "An output is silent when no mask bit is set for a channel its format has.",
+    "At a start, silent outputs are passed over in refusals 8 and 9 and claim nothing; 7 is as before, so a start with every output silent is a run of no elements.",
+    "The channels are one, four, one, two and four for codes 0 to 4.",
+];
 
 pub const ALL: [Refusal; 19] = [
     entry(
@@ -113,19 +132,25 @@ pub const ALL: [Refusal; 19] = [
         "start without a domain, an instruction format or any output set",
         "the parameter of start_program",
         &["A new session has nothing set and mask 65535."],
-    ),
+    )
+    .changed_by(SILENCE),
     entry(
         8,
         "the domain is not inside every set output's window",
         "the parameter of start_program",
-        &["A pair is inside when x < E and y < H."],
-    ),
+        &["A pair is inside when x < E and y < H.", MASK],
+    )
+    .changed_by(SILENCE),
     entry(
         9,
         "spans of two set outputs share a byte",
         "the parameter of start_program",
-        &["Span is H·E·s (linear) or tile rows needed · E/width · 2,048 (tiled)."],
-    ),
+        &[
+            "Span is H·E·s (linear) or tile rows needed · E/width · 2,048 (tiled).",
+            MASK,
+        ],
+    )
+    .changed_by(SILENCE),
     entry(
         10,
         "a pair is outside its window",
@@ -188,7 +213,7 @@ pub const ALL: [Refusal; 19] = [
         "any word after the 1,000,000,000th",
         &["Order: 1, then 17, then the rest in table order among those that the present word can cause."],
     ),
-    entry(
+    added(
         18,
         "the kind byte of a log's record is neither 1 nor 2",
         "the first byte of a log's record, and every byte after it",
@@ -197,7 +222,7 @@ pub const ALL: [Refusal; 19] = [
             "another kind byte is 18. Both stop the replay and drop the open record. What came before stands; later bytes get that number again.",
         ],
     ),
-    entry(
+    added(
         19,
         "a midnight's day isn't one more than the last, or it is the 401st midnight",
         "the last byte of a midnight's record, and every byte after it",

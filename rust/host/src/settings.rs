@@ -8,8 +8,14 @@ use boundary::{Format, Layout, Session};
 
 #[derive(Clone, Debug, PartialEq, Eq)]
 pub enum Value {
-    /// Of an input or output, over which a domain is laid.
+    /// Of an input or the conditional output, over which a domain is laid.
     Array(Format),
+    /// Of an output, over which a domain is laid, and whether it is silent under
+    /// the session's mask.
+    Output {
+        format: Format,
+        silent: bool,
+    },
     /// Of instructions or constants.
     Store(Format),
     Domain([u32; 4]),
@@ -40,6 +46,12 @@ pub fn all(session: &Session) -> Vec<Setting> {
     };
     let store = |header| set_format(session, header, 0).map(Value::Store);
     let array = |header, number| set_format(session, header, number).map(Value::Array);
+    let mask = session.output_mask();
+    let output = |number| {
+        let format = set_format(session, names::SET_OUT, number)?;
+        let silent = is_silent(mask, number, &format);
+        Some(Value::Output { format, silent })
+    };
     for (header, name) in SINGLE {
         put(name.into(), store(header));
     }
@@ -47,14 +59,11 @@ pub fn all(session: &Session) -> Vec<Setting> {
         put(format!("input {number}"), array(names::SET_INP, number));
     }
     for number in 0..names::OUTPUTS {
-        put(format!("output {number}"), array(names::SET_OUT, number));
+        put(format!("output {number}"), output(number));
     }
     put("conditional output".into(), array(names::SET_COND_OUT, 0));
     put("domain".into(), session.domain().map(Value::Domain));
-    put(
-        "output mask".into(),
-        Some(Value::OutputMask(session.output_mask())),
-    );
+    put("output mask".into(), Some(Value::OutputMask(mask)));
     put(
         "conditional mask".into(),
         session.conditional_mask().map(Value::ConditionalMask),
@@ -67,10 +76,31 @@ fn set_format(session: &Session, header: u32, number: u32) -> Option<Format> {
     session.format(header, number).ok().flatten()
 }
 
-/// The outputs that are set, with their numbers.
+/// The outputs that are set, silent ones too, with their numbers.
 pub fn outputs(session: &Session) -> Vec<(u32, Format)> {
     let output = |n| set_format(session, names::SET_OUT, n).map(|format| (n, format));
     (0..names::OUTPUTS).filter_map(output).collect()
+}
+
+/// The set outputs that aren't silent: those that refusals 8 and 9 ask about and
+/// that claim.
+pub fn counted(session: &Session) -> Vec<(u32, Format)> {
+    let mask = session.output_mask();
+    let mut list = outputs(session);
+    list.retain(|(number, format)| !is_silent(mask, *number, format));
+    list
+}
+
+/// Document 02's "silent": the mask has no bit for a channel that the output's
+/// format has.
+pub fn is_silent(mask: u32, number: u32, format: &Format) -> bool {
+    let channels = channels(format);
+    (0..channels).all(|channel| mask >> (4 * number + channel) & 1 == 0)
+}
+
+fn channels(format: &Format) -> u32 {
+    let element = FormatWord(format.format).element();
+    element.map_or(0, |element| element.channels)
 }
 
 pub fn layout(format: &Format) -> Layout {
@@ -99,17 +129,32 @@ impl Setting {
     /// The setting's value in words.
     pub fn words(&self) -> String {
         match &self.value {
-            Value::Array(format) | Value::Store(format) => {
-                let (base, word) = (Address(format.base), FormatWord(format.format));
-                let name = text::format_name(word);
-                let window = window(&layout(format));
-                format!("base {base}, {name}, pitch {}{window}", word.pitch())
-            }
+            Value::Array(format) | Value::Store(format) => format_words(format),
+            Value::Output { format, silent } => match silent {
+                true => format!("{}, silent: {}", format_words(format), masked_off(format)),
+                false => format_words(format),
+            },
             Value::Domain(domain) => domain_words(domain),
             Value::OutputMask(mask) => format!("{mask:04X}: {}", text::output_mask(*mask)),
             Value::ConditionalMask(mask) => mask.to_string(),
             Value::Test(test) => test.to_string(),
         }
+    }
+}
+
+fn format_words(format: &Format) -> String {
+    let (base, word) = (Address(format.base), FormatWord(format.format));
+    let name = text::format_name(word);
+    let window = window(&layout(format));
+    format!("base {base}, {name}, pitch {}{window}", word.pitch())
+}
+
+/// Why a silent output is silent: all channels that its format has.
+fn masked_off(format: &Format) -> &'static str {
+    match channels(format) {
+        1 => "its channel 0 is masked off",
+        2 => "its channels 0 and 1 are masked off",
+        _ => "its channels 0 to 3 are masked off",
     }
 }
 
@@ -129,8 +174,7 @@ pub fn window(layout: &Layout) -> String {
 pub fn domain_words(domain: &[u32; 4]) -> String {
     let [i0, j0, i1, j1] = *domain;
     let (wide, high) = sides(domain);
-    let pairs = u64::from(wide) * u64::from(high);
-    let pairs = text::count(pairs, "pair");
+    let pairs = text::count(pairs(domain), "pair");
     format!("({i0}, {j0}) to ({i1}, {j1}), {wide} x {high} = {pairs}")
 }
 
@@ -140,10 +184,17 @@ pub fn sides(domain: &[u32; 4]) -> (u32, u32) {
     (i1 - i0 + 1, j1 - j0 + 1)
 }
 
-/// Where the domain leaves an output's window: refusal 8's two quantities.
+/// How many pairs an accepted domain has.
+pub fn pairs(domain: &[u32; 4]) -> u64 {
+    let (wide, high) = sides(domain);
+    u64::from(wide) * u64::from(high)
+}
+
+/// Where the domain leaves the window of an output that counts: refusal 8's two
+/// quantities.
 pub fn outside(session: &Session) -> Option<String> {
     let [_, _, i1, j1] = session.domain()?;
-    outputs(session).iter().find_map(|(number, format)| {
+    counted(session).iter().find_map(|(number, format)| {
         let step = boundary::layout(&layout(format)).ok()?.step;
         let height = format.height;
         if i1 >= step {
@@ -160,14 +211,15 @@ pub fn outside(session: &Session) -> Option<String> {
     })
 }
 
-/// The first two outputs whose spans meet: refusal 9's two quantities.
+/// The first two outputs that count and whose spans meet: refusal 9's two
+/// quantities.
 pub fn shared_bytes(session: &Session) -> Option<String> {
     let bytes = |(number, format): (u32, Format)| {
         let window = boundary::layout(&layout(&format)).ok()?;
         let first = u64::from(format.base);
         Some((number, first, first + u64::from(window.span) - 1))
     };
-    let spans: Vec<(u32, u64, u64)> = outputs(session).into_iter().filter_map(bytes).collect();
+    let spans: Vec<(u32, u64, u64)> = counted(session).into_iter().filter_map(bytes).collect();
     for (place, (a, a_first, a_last)) in spans.iter().enumerate() {
         for (b, b_first, b_last) in &spans[place + 1..] {
             if a_first.max(b_first) <= a_last.min(b_last) {

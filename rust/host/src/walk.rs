@@ -2,7 +2,7 @@
 //! came to. The forms in which `decode` prints are told of every word.
 
 use crate::cause::{self, Refused};
-use crate::failure::Outcome;
+use crate::failure::{Failure, Outcome};
 use crate::kinds::Position;
 use crate::names::{self, Kind, Line};
 use crate::settings::{self, Setting};
@@ -29,6 +29,13 @@ pub struct Seen<'a> {
     pub came: Came,
 }
 
+/// The outputs that are set at a start, by their numbers, and those among them that
+/// are silent.
+pub struct Outputs {
+    pub set: Vec<u32>,
+    pub silent: Vec<u32>,
+}
+
 /// A start that passed.
 pub struct Start<'a> {
     pub position: Position,
@@ -36,6 +43,7 @@ pub struct Start<'a> {
     pub claims: u64,
     /// What this start claimed.
     pub claimed: u64,
+    pub outputs: Outputs,
     /// The settings in force, each with whether it changed since the last start;
     /// none for a form that doesn't want them.
     pub settings: &'a [(Setting, bool)],
@@ -213,15 +221,38 @@ impl Walk {
         };
         let mark = |setting: &Setting| (setting.clone(), !self.last.contains(setting));
         let marked: Vec<(Setting, bool)> = now.iter().map(mark).collect();
+        let claimed = self.session.claims() - claims;
         form.start(&Start {
             position,
             runs: self.session.runs(),
             claims: self.session.claims(),
-            claimed: self.session.claims() - claims,
+            claimed,
+            outputs: self.outputs(position, claimed)?,
             settings: &marked,
         })?;
         self.last = now;
         Ok(())
+    }
+
+    /// The outputs that this start met. Those that aren't silent must come to what
+    /// the product claims.
+    fn outputs(&self, position: Position, claimed: u64) -> Outcome<Outputs> {
+        let mask = self.session.output_mask();
+        let outputs = settings::outputs(&self.session);
+        let silent = outputs
+            .iter()
+            .filter(|(number, format)| settings::is_silent(mask, *number, format));
+        let silent: Vec<u32> = silent.map(|(number, _)| *number).collect();
+        let set: Vec<u32> = outputs.iter().map(|(number, _)| *number).collect();
+        let pairs = self.session.domain().map_or(0, |d| settings::pairs(&d));
+        let worked = pairs * (set.len() - silent.len()) as u64;
+        if worked != claimed {
+            return Err(Failure::wrong(format!(
+                "a fault of the program: the outputs that the start at word {position} counts \
+                 come to {worked} elements, where the product claims {claimed}"
+            )));
+        }
+        Ok(Outputs { set, silent })
     }
 
     fn totals(&self, name: &str) -> Totals {

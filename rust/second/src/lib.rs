@@ -10,7 +10,8 @@
 //! * [`address`]: a pair's address, and the way back by search;
 //! * [`memory`]: elements read and written in lent memory, the superfine read;
 //! * [`flow`]: programs of flow words, and a group stepped through them;
-//! * [`log`]: a station's log over midnight, from document 02's request 1.
+//! * [`log`]: a station's log over midnight, from document 02's request 1;
+//! * `silent`: outputs that a start passes over, from document 02's request 2.
 //!
 //! Every refusal is document 01's number, as the `Err` of an [`Answer`].
 
@@ -23,6 +24,7 @@ pub mod layout;
 pub mod log;
 pub mod memory;
 pub mod session;
+mod silent;
 
 /// What an entry answers: its result, or document 01's refusal number.
 pub type Answer<T> = Result<T, u32>;

@@ -1,6 +1,7 @@
 //! Document 01, "Refusal numbers" (what a refused word does to a session) and
 //! "The command words" (settings, starts, runs and claimed elements): the reader
-//! of command words.
+//! of command words. Starts are document 02's, whose request 2 passes over silent
+//! outputs.
 
 use crate::command::{format_of, judge_together, judge_word, layout_of, line_of, Command, Line};
 use crate::command::{
@@ -9,6 +10,7 @@ use crate::command::{
     START_PROGRAM,
 };
 use crate::layout::judge;
+use crate::silent::is_silent;
 use crate::Answer;
 
 /// A session takes this many words and no more.
@@ -105,9 +107,23 @@ impl Settings {
         }
     }
 
-    /// The outputs that are set.
+    /// The outputs that are set, silent ones too.
     fn set_outputs(&self) -> Vec<Format> {
         self.outputs.iter().copied().flatten().collect()
+    }
+
+    /// The set outputs that aren't silent under the mask as it is now. Only these
+    /// are asked for 8 and 9, and only these claim.
+    fn counted_outputs(&self) -> Vec<Format> {
+        let mut counted = Vec::new();
+        for (number, output) in self.outputs.iter().enumerate() {
+            if let Some(format) = output {
+                if !is_silent(self.output_mask, number as u32, format) {
+                    counted.push(*format);
+                }
+            }
+        }
+        counted
     }
 
     /// What an accepted command does. The nine commands of waiting, invalidating
@@ -131,16 +147,17 @@ impl Settings {
         }
     }
 
-    /// The refusal (7, then 8, then 9) that a start causes.
+    /// The refusal (7, then 8, then 9) that a start causes. A silent output is
+    /// enough for 7.
     fn judge_start(&self) -> Answer<()> {
-        let outputs = self.set_outputs();
         let domain = match self.domain {
             Some(domain) => domain,
             None => return Err(7),
         };
-        if self.instructions.is_none() || outputs.is_empty() {
+        if self.instructions.is_none() || self.set_outputs().is_empty() {
             return Err(7);
         }
+        let outputs = self.counted_outputs();
         for output in &outputs {
             if !domain_is_inside(&domain, output)? {
                 return Err(8);
@@ -150,13 +167,13 @@ impl Settings {
     }
 
     /// One run more, and a claimed element for each pair of the domain in each
-    /// set output, whatever the mask.
+    /// set output that isn't silent.
     fn count_start(&mut self) {
         if let Some([i0, j0, i1, j1]) = self.domain {
             let columns = u64::from(i1) - u64::from(i0) + 1;
             let rows = u64::from(j1) - u64::from(j0) + 1;
             self.runs += 1;
-            self.claims += columns * rows * self.set_outputs().len() as u64;
+            self.claims += columns * rows * self.counted_outputs().len() as u64;
         }
     }
 }
@@ -832,10 +849,15 @@ mod tests {
         for count in 1..=4 {
             let mut session = after(&start_with_outputs(&four[..count], [3, 1, 7, 3]));
             assert_eq!(session.claims(), 15 * count as u64);
-            // The mask is kept but changes nothing.
-            let piece = [SET_OUT_MASK, 0, START_PROGRAM, 0];
+            // A mask that leaves each output a channel changes nothing.
+            let piece = [SET_OUT_MASK, 0x1111, START_PROGRAM, 0];
             assert_eq!(session.feed(&piece), fed(4, 2, None));
             assert_eq!(session.runs(), 2);
+            assert_eq!(session.claims(), 30 * count as u64);
+            // Without any, the outputs are silent and claim nothing.
+            let piece = [SET_OUT_MASK, 0, START_PROGRAM, 0];
+            assert_eq!(session.feed(&piece), fed(4, 2, None));
+            assert_eq!(session.runs(), 3);
             assert_eq!(session.claims(), 30 * count as u64);
         }
     }

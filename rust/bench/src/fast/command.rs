@@ -30,6 +30,9 @@ static SHAPES: [Shape; 16] = [
     shape(4, true),
 ];
 
+/// The channels of each format code, a bit each. Codes 5 to 7 are refused before this is read.
+static CHANNELS: [u32; 8] = [0b0001, 0b1111, 0b0001, 0b0011, 0b1111, 0, 0, 0];
+
 const HEIGHT_BITS: u32 = 0x1FFF;
 const PLACE_BITS: u32 = 0xFFF;
 const OUTPUT_MASK_BITS: u32 = 0xFFFF;
@@ -50,6 +53,12 @@ impl Format {
     #[inline(always)]
     pub(super) fn code(&self) -> u32 {
         self.word >> 24 & 7
+    }
+
+    /// The format's channels, a bit each from bit 0 on.
+    #[inline(always)]
+    pub(super) fn channels(&self) -> u32 {
+        CHANNELS[self.code() as usize]
     }
 
     #[inline(always)]

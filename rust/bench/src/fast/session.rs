@@ -20,6 +20,8 @@ struct Output {
     format: Format,
     step: u32,
     last: u32,
+    /// The mask's bits for the channels that the format has; the output is silent where none is set.
+    channels: u32,
 }
 
 /// What an accepted word answers.
@@ -265,7 +267,13 @@ impl Session {
         let Window { step, span } = format.window()?;
         // a window ends at 2^32 at the latest, so its last byte's address fits
         let last = format.base + (span - 1);
-        self.outputs[(number & 3) as usize] = Some(Output { format, step, last });
+        let place = number & 3;
+        self.outputs[place as usize] = Some(Output {
+            format,
+            step,
+            last,
+            channels: format.channels() << (4 * place),
+        });
         Ok(Command::SetOutput(number, format))
     }
 
@@ -277,35 +285,30 @@ impl Session {
         Ok(Command::SetDomain(domain))
     }
 
-    /// 7, 8, 9, or one more run and its claim.
+    /// 7, 8, 9, or one more run and its claim. Silent outputs count for 7 alone.
     #[inline(always)]
     fn start(&mut self) -> Answer<Command> {
         let domain = match (self.domain, self.instructions) {
             (Some(domain), Some(_)) => domain,
             _ => return Err(NOT_READY),
         };
-        let mut set = self.outputs.iter().flatten();
-        let outputs = set.clone().count() as u64;
-        if outputs == 0 {
+        if self.outputs.iter().all(Option::is_none) {
             return Err(NOT_READY);
         }
-        if !set.all(|output| output.holds(&domain)) {
+        // gathered once, so that the loops below have no mask in them
+        let mask = self.output_mask;
+        let counted = [0, 1, 2, 3].map(|n| self.outputs[n].as_ref().filter(|o| !o.is_silent(mask)));
+        let mut outputs = counted.iter().flatten();
+        let count = outputs.clone().count() as u64;
+        if !outputs.all(|output| output.holds(&domain)) {
             return Err(DOMAIN_OUTSIDE);
         }
-        if self.outputs_share_a_byte() {
+        if share_a_byte(&counted) {
             return Err(SPANS_SHARED);
         }
         self.runs += 1;
-        self.claims += domain.pairs() * outputs;
+        self.claims += domain.pairs() * count;
         Ok(Command::Start)
-    }
-
-    #[inline(always)]
-    fn outputs_share_a_byte(&self) -> bool {
-        self.outputs.iter().enumerate().any(|(place, output)| {
-            let mut later = self.outputs[place + 1..].iter().flatten();
-            output.map_or(false, |output| later.any(|other| output.shares_with(other)))
-        })
     }
 
     pub fn taken(&self) -> usize {
@@ -362,6 +365,11 @@ impl Session {
 
 impl Output {
     #[inline(always)]
+    fn is_silent(&self, mask: u32) -> bool {
+        self.channels & mask == 0
+    }
+
+    #[inline(always)]
     fn holds(&self, domain: &Domain) -> bool {
         domain.i1 < self.step && domain.j1 < self.format.height
     }
@@ -370,6 +378,14 @@ impl Output {
     fn shares_with(&self, other: &Output) -> bool {
         self.format.base <= other.last && other.format.base <= self.last
     }
+}
+
+#[inline(always)]
+fn share_a_byte(outputs: &[Option<&Output>; 4]) -> bool {
+    outputs.iter().enumerate().any(|(place, output)| {
+        let mut later = outputs[place + 1..].iter().flatten();
+        output.map_or(false, |output| later.any(|other| output.shares_with(other)))
+    })
 }
 
 #[inline(always)]

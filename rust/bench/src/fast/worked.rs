@@ -199,6 +199,72 @@ fn each_refusal_of_a_word() {
     assert_eq!(last(&shared), Some(9));
 }
 
+/// The whole stream with this mask before it and these further outputs before its start.
+fn masked(mask: u32, outputs: &[[u32; 4]]) -> Vec<u32> {
+    let mut words = vec![0xC000_1900, mask];
+    words.extend(&WHOLE_STREAM[..13]);
+    for output in outputs {
+        words.push(0xC003_0C00);
+        words.extend(output);
+    }
+    words.extend([0xC000_0800, 0]);
+    words
+}
+
+/// What the start comes to, taken in one piece and word by word: its run and claim, or its refusal.
+fn started(words: &[u32]) -> Result<(u64, u64), u32> {
+    let mut whole = Session::new();
+    let refusal = whole.feed(words).refusal;
+    let mut by_words = Session::new();
+    let last = words.iter().map(|word| by_words.word(*word)).last();
+    assert_eq!(last.and_then(Result::err), refusal);
+    assert_eq!(by_words.runs(), whole.runs());
+    assert_eq!(by_words.claims(), whole.claims());
+    match refusal {
+        Some(number) => Err(number),
+        None => Ok((whole.runs(), whole.claims())),
+    }
+}
+
+/// For each format code the nibbles under which its output is silent.
+const SILENT: [&[u32]; 5] = [
+    &[0x0, 0x2, 0x4, 0x6, 0x8, 0xA, 0xC, 0xE],
+    &[0x0],
+    &[0x0, 0x2, 0x4, 0x6, 0x8, 0xA, 0xC, 0xE],
+    &[0x0, 0x4, 0x8, 0xC],
+    &[0x0],
+];
+
+#[test]
+fn silent_outputs_claim_nothing() {
+    for (code, silent) in (0..).zip(SILENT) {
+        for (nibble, number) in (0..16).flat_map(|nibble| (1..4).map(move |n| (nibble, n))) {
+            // output 0, of FLOAT32_1, always counts
+            let mask = nibble << (4 * number) | 1;
+            let output = [number, 0x10_0000, code << 24 | 0x64, 0x12];
+            let counted = if silent.contains(&nibble) { 1 } else { 2 };
+            let answer = started(&masked(mask, &[output]));
+            assert_eq!(answer, Ok((1, 1_728 * counted)), "code {code}, {mask:04X}");
+        }
+    }
+    assert_eq!(started(&masked(0xFFFE, &[])), Ok((1, 0)));
+    assert_eq!(started(&masked(0x0001, &[])), Ok((1, 1_728)));
+}
+
+#[test]
+fn silent_outputs_are_passed_over_in_8_and_9_and_enough_for_7() {
+    let over = [1, 0x800, 0x0201_0064, 0x12];
+    assert_eq!(started(&masked(0x0011, &[over])), Err(9));
+    assert_eq!(started(&masked(0x00E1, &[over])), Ok((1, 1_728)));
+    let small = [2, 0x10_0000, 0x0200_0008, 1];
+    assert_eq!(started(&masked(0x0101, &[small])), Err(8));
+    assert_eq!(started(&masked(0x0E01, &[small])), Ok((1, 1_728)));
+    assert_eq!(started(&masked(0, &[over, small])), Ok((1, 0)));
+    // without its output, the stream's start gets 7 under any mask
+    let none = [&[0xC000_1900, 0], &WHOLE_STREAM[..3], &WHOLE_STREAM[8..]].concat();
+    assert_eq!(started(&none), Err(7));
+}
+
 #[test]
 fn the_last_word_of_a_session_is_judged_and_the_next_gets_17() {
     for left in 0..=WHOLE_STREAM.len() {

@@ -1,5 +1,5 @@
-//! Makes the logs in samples/, so that what stands in them can be read here. From
-//! rust/:
+//! Makes the logs in samples/ and the stream with a masked camera, so that what
+//! stands in them can be read here. From rust/:
 //!
 //!     cargo run -p host --bin make-samples
 //!
@@ -14,6 +14,7 @@ const SET_DOMAIN: u32 = 0xC003_0700;
 const START: u32 = 0xC000_0800;
 const WAIT: u32 = 0xC000_0900;
 const SET_OUT: u32 = 0xC003_0C00;
+const SET_OUT_MASK: u32 = 0xC000_1900;
 
 /// What every start needs: document 01's whole stream up to its start. A start
 /// then claims 96 x 18 elements.
@@ -81,16 +82,41 @@ fn refused() -> Log {
         .words(&[START, 0])
 }
 
-/// Every log by its file's name.
-fn logs() -> [(&'static str, Log); 2] {
-    [("three-days.log", three_days()), ("refused.log", refused())]
+/// Two cameras: output 0 of FLOAT32_1 and output 1 of FLOAT32_2. The second is
+/// masked off and then set anew over the first one's bytes and too low for the
+/// domain, which a silent output may; last the first is masked off too.
+#[rustfmt::skip]
+const MASKED: [u32; 20] = [
+    SET_OUT, 1, 0x4000, 0x0300_0060, 18,
+    START, 0,
+    // bits for channels 2 and 3 alone, which FLOAT32_2 doesn't have
+    SET_OUT_MASK, 0xFFCF,
+    SET_OUT, 1, 0x800, 0x0300_0060, 4,
+    START, 0,
+    // and of output 0 for channels 1 to 3, which FLOAT32_1 doesn't have
+    SET_OUT_MASK, 0xFFCE,
+    START, 0,
+];
+
+/// A stream's words, low byte first.
+fn stream(words: &[u32]) -> Vec<u8> {
+    words.iter().flat_map(|word| word.to_le_bytes()).collect()
+}
+
+/// The bytes of every file, by its name.
+fn files() -> [(&'static str, Vec<u8>); 3] {
+    [
+        ("three-days.log", three_days().bytes),
+        ("refused.log", refused().bytes),
+        ("masked.ctm", stream(&[&SETTINGS[..], &MASKED].concat())),
+    ]
 }
 
 fn main() -> io::Result<()> {
     let samples = Path::new(env!("CARGO_MANIFEST_DIR")).join("../../samples");
     let folder = env::args_os().nth(1).map_or(samples, PathBuf::from);
-    for (name, log) in logs() {
-        fs::write(folder.join(name), log.bytes)?;
+    for (name, bytes) in files() {
+        fs::write(folder.join(name), bytes)?;
     }
     Ok(())
 }

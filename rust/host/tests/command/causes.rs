@@ -79,6 +79,21 @@ const TOLD: &[(&str, &str)] = &[
         "C0010A00 0 4000010 C0030C00 0 0 2010020 1 C0030C00 3 0 2000010 1 C0030700 0 0 0 0 C0000800 0",
         "word 19: refused 9, spans share bytes: output 0 00000000 to 000007FF, output 3 00000000 to 0000003F",
     ),
+    // Silent outputs are passed over: output 0 here, of FLOAT32_1, is left channels
+    // 1 to 3 alone, which it doesn't have.
+    (
+        "C0010A00 0 4000010 C0001900 FFFE C0030700 0 0 0 0 C0000800 0",
+        "word 11: refused 7, start without any output (0 outputs set)",
+    ),
+    (
+        "C0010A00 0 4000010 C0001900 FFFE C0030C00 0 0 2000010 1 C0030C00 2 800 2000010 1 C0030700 0 0 10 0 C0000800 0",
+        "word 21: refused 8, the domain's i1 16 is not below output 2's row step 16",
+    ),
+    (
+        "C0010A00 0 4000010 C0001900 FFFE C0030C00 0 0 2010020 1 C0030C00 1 0 2010020 1 C0030C00 3 0 2000010 1 \
+         C0030700 0 0 0 0 C0000800 0",
+        "word 26: refused 9, spans share bytes: output 1 00000000 to 000007FF, output 3 00000000 to 0000003F",
+    ),
 ];
 
 #[test]

@@ -36,6 +36,18 @@ const CASES: &[(&str, &str, &str)] = &[
         "decode --summary --json samples/several.ctm",
         "",
     ),
+    ("decode-masked", "decode samples/masked.ctm", ""),
+    (
+        "decode-masked-terse",
+        "decode --terse samples/masked.ctm",
+        "",
+    ),
+    (
+        "decode-masked-summary",
+        "decode --summary samples/masked.ctm",
+        "",
+    ),
+    ("decode-masked-json", "decode --json samples/masked.ctm", ""),
     ("decode-open", "decode --hex", "C0030700 0 0\n"),
     ("decode-nothing", "decode", ""),
     (
@@ -190,6 +202,9 @@ const CASES: &[(&str, &str, &str)] = &[
     ("flow-group", "flow --hex --processors 33 - 0,0", "20 0"),
     ("explain", "explain", ""),
     ("explain-6", "explain 6", ""),
+    ("explain-7", "explain 7", ""),
+    ("explain-8", "explain 8", ""),
+    ("explain-9", "explain 9", ""),
     ("explain-json", "explain --json 9", ""),
     ("explain-18", "explain 18", ""),
     ("explain-19", "explain 19", ""),

@@ -68,7 +68,7 @@ fn last_line(text: &str) -> Value {
 }
 
 #[test]
-fn the_sample_logs_are_what_their_program_makes() {
+fn the_samples_are_what_their_program_makes() {
     let folder = Folder::new("samples");
     let program = env!("CARGO_BIN_EXE_make-samples");
     let ended = Command::new(program).arg(&folder.0).status();
@@ -77,10 +77,10 @@ fn the_sample_logs_are_what_their_program_makes() {
     for entry in fs::read_dir(&folder.0).expect("the folder is there") {
         let file = entry.expect("an entry").path();
         let name = file.file_name().expect("a name").to_string_lossy();
-        assert_eq!(fs::read(&file).expect("a log"), sample(&name), "{name}");
+        assert_eq!(fs::read(&file).expect("a file"), sample(&name), "{name}");
         count += 1;
     }
-    assert_eq!(count, 2);
+    assert_eq!(count, 3);
 }
 
 #[test]
