@@ -35,6 +35,7 @@ use Rattle.session.specs.Again.{Idle, fed, standing}
 use Rattle.session.specs.Silent.{
   AllSilent,
   SilentSettings,
+  startWords,
   EmptyRun,
   Coded,
   countsInFull,
@@ -135,12 +136,12 @@ module _ (s : Session) (i : Idle s) (room : s .party .taken + 2 ≤ limit) (q : 
   unfolding judgeCommandOf fieldsSpare allSpare spares faultOf lineOf fieldsOf lastRuleOf domainKept windowKept pick _and_ allowed
   start-writes = refl
 
-  start-read : feedOf s (wordsOf command.Start) ≡
+  start-read : feedOf s startWords ≡
       fed 2 (command.Start ∷ []) nothing (standing (after command.Start s) (s .party .taken + 2) none)
   unfolding wordsOf fieldsOf
   start-read = reads-back s command.Start i start-writes room [] start-passes
 
-  pub silent-start : EmptyRun s (feedOf s (wordsOf command.Start))
+  pub silent-start : EmptyRun s (feedOf s startWords)
   unfolding after ownAfter
   silent-start =
       rw start-read

@@ -7,6 +7,7 @@ use Prim.Native.Nat.{ℕ, _+_, _*_, _<_, _≤_}
 use Rattle.laws.specs.Choice.{_and_, pick}
 use Rattle.refusal.specs.Told.{Told, gives, refuses}
 use Rattle.command.specs.Format.{codeOf}
+use Rattle.command.specs.Commands.{wordsOf}
 use Rattle.command.specs.declared.commands.Command.the-variants as command
 use Rattle.cells.specs.State.{Buffer, Domain, Session}
 use Rattle.cells.specs.Start.{allBelow, sumBelow, output, isSet, silent, containsDomain, apart, complete, readyOf, pairsOf, claimOf}
@@ -24,6 +25,10 @@ pub record SilentSettings (s : Session) : Type 0 where
   pub number-most : number < 4
   pub output-set : isSet (s .shared .outputs) number ≡ true
   pub all-silent : AllSilent (s .shared .mask) (s .shared .outputs)
+
+-- the words of a start
+abbrev pub startWords : List ℕ
+startWords = wordsOf command.Start
 
 -- "a run of no elements": a start that is accepted, adds one to the runs and nothing to the claims
 pub record EmptyRun (s : Session) (f : Fed) : Type 0 where
