@@ -1,7 +1,7 @@
 -- Document 01: what a start asks of the settings alone (7, 8, 9), and what it claims; document 02's request 2: which outputs it
 -- looks at. No word and no session is in it. Assumes nothing.
 use mathlib.Core.Bool.{Bool, true, false, not}
-use mathlib.Core.List.{List, [], _∷_}
+use mathlib.Core.List.{List, []}
 use Prim.Native.Nat.{ℕ, zero, suc, _+_, _-_, _*_}
 use lib.Dec.{eqb, leb, ltb}
 use lib.ListN.{getD}

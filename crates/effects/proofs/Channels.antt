@@ -1,5 +1,5 @@
--- The mask's bits of an output: the code's test of them, a remainder that isn't 0, is document 02's "some mask bit is set for a
--- channel its format has", at every output. Assumes nothing.
+-- The mask's bits of an output: the code finds a remainder of them that isn't 0 exactly where the output isn't silent, at every
+-- output and every format code. Assumes nothing.
 use mathlib.Core.Path.{_≡_, refl, sym, ap, _∙_}
 use mathlib.Core.Bool.{Bool, true, false, not}
 use mathlib.Core.List.{[], _∷_}
@@ -8,7 +8,7 @@ use native.Mathlib.Nat.{zero-add, mod-lt, mod-one}
 use native.Mathlib.Omega.{arith}
 use lib.Dec.{eqb}
 use lib.Pow.{pow-pos, shr-shr, field, mod-mod-pow}
-use Rattle.laws.specs.Masks.{on, pack, some}
+use Rattle.laws.specs.Masks.{on, some}
 use Rattle.laws.proofs.Masks.{pack-on, none-zero, some-same}
 use Rattle.laws.proofs.Table.{NoneOf}
 use Rattle.command.specs.Format.{channelsOf, codeOf}
@@ -25,7 +25,7 @@ low-on k m i h =
     (ap (λ (x : ℕ). m % 2 ^ x / 2 ^ i % 2) e ∙ ap (λ (x : ℕ). x % 2) (field m (j + 1) i) ∙ mod-mod-pow (m / 2 ^ i) j 1)
 
 -- the remainder is 0 exactly when none of them is set
-pub none-low : (k m : ℕ) → eqb (m % 2 ^ k) 0 ≡ not (some k (λ i. on i m))
+none-low : (k m : ℕ) → eqb (m % 2 ^ k) 0 ≡ not (some k (λ i. on i m))
 none-low k m =
     ap (λ (x : ℕ). eqb x 0) (pack-on k (m % 2 ^ k) (mod-lt m (pow-pos k))) ∙ none-zero k (λ i. on i (m % 2 ^ k)) ∙
     ap not (some-same k (λ i. on i (m % 2 ^ k)) (λ i. on i m) (λ i h. low-on k m i h))
@@ -42,7 +42,7 @@ not-not true = refl
 not-not false = refl
 
 -- the code's test
-pub unmasked-low : (bits format : ℕ) → eqb (bits % 2 ^ channelsOf (codeOf format)) 0 ≡ not (unmasked bits 0 format)
+unmasked-low : (bits format : ℕ) → eqb (bits % 2 ^ channelsOf (codeOf format)) 0 ≡ not (unmasked bits 0 format)
 unfolding unmasked
 unmasked-low bits format =
     let k = channelsOf (codeOf format) in
