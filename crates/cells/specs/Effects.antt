@@ -99,11 +99,12 @@ withShared m cs cm ts t f i b c o n =
     }
 
 -- what a command without its session's open part does to the party's own settings; "A start that passes adds one to the runs,
--- and to the claimed elements the number of pairs in the domain times the number of set outputs."
+-- and to the claimed elements the number of pairs in the domain times the number of set outputs." The silent ones claim nothing,
+-- by the mask that stands at the start's last word.
 unfoldable pub ownAfter : Command → Shared → Party → Party
 ownAfter (command.Domain i0 j0 i1 j1) h p = withDomain (domainFrom i0 j0 i1 j1) p
 ownAfter command.Start h p =
-    withTally (record { runs = p .tally .runs + 1; claims = p .tally .claims + claimOf (p .domain) (h .outputs) }) p
+    withTally (record { runs = p .tally .runs + 1; claims = p .tally .claims + claimOf (p .domain) (h .mask) (h .outputs) }) p
 ownAfter (command.Quiet what) h p = p
 ownAfter (command.Store stored.Instructions base format) h p = withInstructions (buffer base format 1) p
 ownAfter (command.Store stored.Floats base format) h p = p

@@ -1,13 +1,14 @@
--- Document 01: what a start asks of the settings alone (7, 8, 9), and what it claims. No word and no session is in it.
--- Assumes nothing.
-use mathlib.Core.Bool.{Bool, true, false}
-use mathlib.Core.List.{List, [], _∷_}
+-- Document 01: what a start asks of the settings alone (7, 8, 9), and what it claims; document 02's request 2: which outputs it
+-- looks at. No word and no session is in it. Assumes nothing.
+use mathlib.Core.Bool.{Bool, true, false, not}
+use mathlib.Core.List.{List, []}
 use Prim.Native.Nat.{ℕ, zero, suc, _+_, _-_, _*_}
 use lib.Dec.{eqb, leb, ltb}
 use lib.ListN.{getD}
 use Rattle.laws.specs.Choice.{_and_, pick}
+use Rattle.laws.specs.Masks.{on, some}
 use Rattle.refusal.specs.Told.{Told, gives, refuses}
-use Rattle.command.specs.Format.{windowOf}
+use Rattle.command.specs.Format.{channelsOf, codeOf, windowOf}
 use Rattle.cells.specs.State.{Buffer, Domain, unset}
 
 -- what holds of some number below n, of every number below n, and the sum over the numbers below n
@@ -39,9 +40,18 @@ module _ (outputs : List Buffer) where
   unfoldable pub output : ℕ → Buffer
   output n = getD outputs n unset
 
-  -- output `n` counts at a start: it is set
-  unfoldable pub counts : ℕ → Bool
-  counts n = eqb (output n .isSet) 1
+  -- output `n` is set
+  unfoldable pub isSet : ℕ → Bool
+  isSet n = eqb (output n .isSet) 1
+
+-- some mask bit is set for a channel that output `n`'s format has: "bit 4n+c for output n, channel c". "The channels are one, four,
+-- one, two and four for codes 0 to 4"; the table gives the codes 5 to 7 none, and no output is set with them
+unfoldable pub unmasked : ℕ → ℕ → ℕ → Bool
+unmasked mask n format = some (channelsOf (codeOf format)) (λ c. on (4 * n + c) mask)
+
+-- "An output is silent when no mask bit is set for a channel its format has."
+unfoldable pub silent : ℕ → ℕ → ℕ → Bool
+silent mask n format = not (unmasked mask n format)
 
 -- "the domain is .. inside .. [an] output's window": both its last column and its last row are
 unfoldable pub containsDomain : Domain → Buffer → Bool
@@ -51,28 +61,36 @@ containsDomain d b = ltb (d .i1) (stepOfBuffer b) and ltb (d .j1) (b .height)
 unfoldable pub apart : Buffer → Buffer → Bool
 apart b c = pick (leb (b .base + spanOfBuffer b) (c .base)) true (leb (c .base + spanOfBuffer c) (b .base))
 
-module _ (d : Domain) (instructions : Buffer) (outputs : List Buffer) where
-  -- 7: "start without a domain, an instruction format or any output set"
-  unfoldable pub complete : Bool
-  complete = eqb (d .isSet) 1 and eqb (instructions .isSet) 1 and anyBelow 4 (counts outputs)
+module _ (mask : ℕ) (outputs : List Buffer) where
+  -- output `n` counts at a start: it is set and isn't silent. "At a start, silent outputs are passed over in refusals 8 and 9 and
+  -- claim nothing"
+  unfoldable pub counts : ℕ → Bool
+  counts n = isSet outputs n and unmasked mask n (output outputs n .format)
 
   -- 8: "the domain is not inside every set output's window"
-  unfoldable pub covered : Bool
-  covered = allBelow 4 (λ n. pick (counts outputs n) (containsDomain d (output outputs n)) true)
+  unfoldable pub covered : Domain → Bool
+  covered d = allBelow 4 (λ n. pick (counts n) (containsDomain d (output outputs n)) true)
 
   -- 9: "spans of two set outputs share a byte"
   unfoldable pub disjoint : Bool
-  disjoint =
-      allBelow 4 (λ n. allBelow n (λ m. pick (counts outputs n and counts outputs m) (apart (output outputs n) (output outputs m)) true))
+  disjoint = allBelow 4 (λ n. allBelow n (λ m. pick (counts n and counts m) (apart (output outputs n) (output outputs m)) true))
 
-  -- which of 7, 8 and 9, if any, the settings alone give a start
-  unfoldable pub readyOf : Told
-  readyOf = pick complete (pick covered (pick disjoint (gives []) (refuses 9)) (refuses 8)) (refuses 7)
+-- 7: "start without a domain, an instruction format or any output set"; "7 is as before", so an output that is set will do though it
+-- is silent
+unfoldable pub complete : Domain → Buffer → List Buffer → Bool
+complete d instructions outputs = eqb (d .isSet) 1 and eqb (instructions .isSet) 1 and anyBelow 4 (isSet outputs)
+
+-- which of 7, 8 and 9, if any, the settings alone give a start
+unfoldable pub readyOf : Domain → Buffer → ℕ → List Buffer → Told
+readyOf d instructions mask outputs =
+    pick (complete d instructions outputs)
+    (pick (covered mask outputs d) (pick (disjoint mask outputs) (gives []) (refuses 9)) (refuses 8))
+    (refuses 7)
 
 -- "the number of pairs in the domain"
 unfoldable pub pairsOf : Domain → ℕ
 pairsOf d = (d .i1 - d .i0 + 1) * (d .j1 - d .j0 + 1)
 
--- "the number of pairs in the domain times the number of set outputs"
-unfoldable pub claimOf : Domain → List Buffer → ℕ
-claimOf d outputs = pairsOf d * sumBelow 4 (λ n. pick (counts outputs n) 1 0)
+-- "the number of pairs in the domain times the number of set outputs", of which the silent ones claim nothing
+unfoldable pub claimOf : Domain → ℕ → List Buffer → ℕ
+claimOf d mask outputs = pairsOf d * sumBelow 4 (λ n. pick (counts mask outputs n) 1 0)

@@ -18,13 +18,15 @@ use Rattle.refusal.specs.Told.{gives}
 use Rattle.memory.specs.Elements.{Wrote}
 use Rattle.memory.specs.Reads.{ReadBack}
 use Rattle.memory.proofs.ReadBack.{read-back}
-use Rattle.cells.specs.State.{Session}
+use Rattle.cells.specs.State.{Session, newSession}
 use Rattle.cells.specs.Effects.{limit}
 use Rattle.session.specs.Step.{refused, stepOf}
 use Rattle.session.specs.Feed.{nothing, feedOf, written, fedPieces, uncut}
 use Rattle.cells.specs.Valid.{Valid, heldOf}
 use Rattle.session.specs.Refusals.{RefusedTo}
 use Rattle.session.specs.Again.{Idle, SameSettings, ReadAgain}
+use Rattle.session.specs.Silent.{SilentSettings, startWords, EmptyRun, AsBefore}
+use Rattle.session.proofs.Silent.{silent-start, as-before}
 use Rattle.session.proofs.Cut.{cut-anywhere}
 use Rattle.session.proofs.WriteBack.{fed-back}
 use Rattle.session.proofs.ReadAgain.{read-again}
@@ -103,6 +105,16 @@ written-elements = read-back
 -- Demand 3: address translation has an exact inverse, for every accepted layout.
 pub demand3 : (l : Layout) → Accepted l → Inverse l
 demand3 = inverse
+
+-- Request 2: a start with a domain, an instruction format and an output set, and with every set output silent, is accepted: it is
+-- one run, and claims nothing.
+pub silent-run :
+    (s : Session) → Idle s → s .party .taken + 2 ≤ limit → SilentSettings s → EmptyRun s (feedOf s startWords)
+silent-run = silent-start
+
+-- Request 2: whatever words a new session was fed, where its mask is 65535 it judges a start, and counts its claim, as document 01 does.
+pub full-mask : (ws : List ℕ) → feedOf newSession ws .session .shared .mask ≡ 65535 → AsBefore (feedOf newSession ws .session)
+full-mask = as-before
 
 -- The worked cases C1 to C12 of document 01, all together.
 pub worked-cases : Agree cases

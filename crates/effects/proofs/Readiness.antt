@@ -3,14 +3,14 @@
 use mathlib.Core.Path.{_≡_, refl, sym, ap, _∙_}
 use mathlib.Core.Bool.{Bool, true, false}
 use mathlib.Core.List.{List, [], _∷_}
-use Prim.Native.Nat.{ℕ, _+_, _-_, _*_, _<_, _≤_}
+use Prim.Native.Nat.{ℕ, _+_, _-_, _*_, _/_, _<_, _≤_}
 use native.Mathlib.Nat.{mul-le-mul}
 use native.Mathlib.Omega.{arith}
 use lib.Dec.{eqb, ltb}
 use lib.ListN.{getD}
 use borrow.Author.Tests.{eq-eqb, ne-eqb}
 use Rattle.laws.specs.Choice.{_and_, pick}
-use Rattle.laws.proofs.Choice.{pick-yes, pick-no}
+use Rattle.laws.proofs.Choice.{pick-yes, pick-no, and-left, and-yes, and-no-left}
 use Rattle.refusal.specs.Told.{Told, gives, refuses}
 use Rattle.command.specs.Format.{windowOf}
 use Rattle.effects.specs.declared.start.Output.{Output}
@@ -24,6 +24,8 @@ use Rattle.cells.specs.Start.{
   stepOfBuffer,
   spanOfBuffer,
   output,
+  isSet,
+  unmasked,
   counts,
   containsDomain,
   apart,
@@ -37,65 +39,92 @@ use Rattle.cells.specs.Start.{
 use Rattle.cells.specs.Valid.{DomainValid}
 use Rattle.effects.specs.Windows.{
   cellsBuffer,
+  countsBy,
   outputOf,
   holdsPair,
   spansApart,
   keepsApart,
-  someCounts,
+  someSet,
   eachHolds,
   eachApart,
   verdictOf,
 }
+use Rattle.effects.proofs.Channels.{from-own}
 
 -- an output by the judgement of its window
-abbrev judged : ℕ → ℕ → Told → Output
-judged base height t = record { counts = true; base = base; step = valueOf t 0; height = height; span = valueOf t 1 }
+abbrev judged : Bool → ℕ → ℕ → Told → Output
+judged set base height t = record { set = set; counts = true; base = base; step = valueOf t 0; height = height; span = valueOf t 1 }
 
-abbrev uncounted : Output
-uncounted = record { counts = false; base = 0; step = 0; height = 0; span = 0 }
+abbrev uncounted : Bool → Output
+uncounted set = record { set = set; counts = false; base = 0; step = 0; height = 0; span = 0 }
 
-module _ (flag base format height : ℕ) where
-  pub output-unset : (flag ≡ 1 → ⊥) → uncounted ≡ outputOf (cellsBuffer flag base format height)
-  unfolding outputOf
-  output-unset n = sym (pick-no _ _ (ne-eqb flag 1 n))
+module _ (bits flag format : ℕ) where
+  pub counts-set : {r : Bool} → flag ≡ 1 → r ≡ unmasked bits 0 format → r ≡ countsBy bits flag format
+  unfolding countsBy
+  counts-set e h = h ∙ sym (and-yes _ (eq-eqb flag 1 e))
 
-  module _ (one : flag ≡ 1) where
-    pub output-given : {step span : ℕ} → gives (step ∷ span ∷ []) ≡ windowOf base format height →
-        record { counts = true; base = base; step = step; height = height; span = span } ≡ outputOf (cellsBuffer flag base format height)
-    unfolding outputOf stepOfBuffer spanOfBuffer valueOf
-    output-given e = ap (judged base height) e ∙ sym (pick-yes _ _ (eq-eqb flag 1 one))
+  pub counts-unset : (flag ≡ 1 → ⊥) → false ≡ countsBy bits flag format
+  unfolding countsBy
+  counts-unset n = sym (and-no-left _ (ne-eqb flag 1 n))
 
-    pub output-refused : {n : ℕ} → refuses n ≡ windowOf base format height →
-        record { counts = true; base = base; step = 0; height = height; span = 0 } ≡ outputOf (cellsBuffer flag base format height)
-    unfolding outputOf stepOfBuffer spanOfBuffer valueOf
-    output-refused e = ap (judged base height) e ∙ sym (pick-yes _ _ (eq-eqb flag 1 one))
+  module _ (base height : ℕ) {t : Bool} (c : t ≡ countsBy bits flag format) where
+    pub output-uncounted : t ≡ false → uncounted (eqb flag 1) ≡ outputOf bits (cellsBuffer flag base format height)
+    unfolding outputOf
+    output-uncounted e = sym (pick-no _ _ (sym c ∙ e))
+
+    module _ (e : t ≡ true) where
+      is-set : true ≡ eqb flag 1
+      unfolding countsBy
+      is-set = sym (and-left (eqb flag 1) (unmasked bits 0 format) (sym c ∙ e))
+
+      pub output-given : {step span : ℕ} → gives (step ∷ span ∷ []) ≡ windowOf base format height →
+          record { set = true; counts = true; base = base; step = step; height = height; span = span } ≡
+          outputOf bits (cellsBuffer flag base format height)
+      unfolding outputOf stepOfBuffer spanOfBuffer valueOf
+      output-given w =
+          ap (judged true base height) w ∙ ap (λ (x : Bool). judged x base height (windowOf base format height)) is-set ∙
+          sym (pick-yes _ _ (sym c ∙ e))
+
+      pub output-refused : {n : ℕ} → refuses n ≡ windowOf base format height →
+          record { set = true; counts = true; base = base; step = 0; height = height; span = 0 } ≡
+          outputOf bits (cellsBuffer flag base format height)
+      unfolding outputOf stepOfBuffer spanOfBuffer valueOf
+      output-refused w =
+          ap (judged true base height) w ∙ ap (λ (x : Bool). judged x base height (windowOf base format height)) is-set ∙
+          sym (pick-yes _ _ (sym c ∙ e))
 
 -- what a start asks of an output that it sees, said of the buffer
-module _ (b : Buffer) where
+module _ (bits : ℕ) (b : Buffer) where
   abbrev counted : Output
-  counted = record { counts = true; base = b .base; step = stepOfBuffer b; height = b .height; span = spanOfBuffer b }
+  counted = judged (eqb (b .isSet) 1) (b .base) (b .height) (windowOf (b .base) (b .format) (b .height))
 
-  counts-of : outputOf b .counts ≡ eqb (b .isSet) 1
-  unfolding outputOf pick
-  counts-of = go (eqb (b .isSet) 1)
+  abbrev left : Output
+  left = uncounted (eqb (b .isSet) 1)
+
+  abbrev test : Bool
+  test = countsBy bits (b .isSet) (b .format)
+
+  set-of : outputOf bits b .set ≡ eqb (b .isSet) 1
+  unfolding outputOf pick stepOfBuffer spanOfBuffer
+  set-of = go test
     where
-      go : (t : Bool) → pick t counted uncounted .counts ≡ t
+      go : (t : Bool) → pick t counted left .set ≡ eqb (b .isSet) 1
       go true = refl
       go false = refl
 
-  holds-of : (i j : ℕ) → holdsPair i j (outputOf b) ≡ pick (eqb (b .isSet) 1) (ltb i (stepOfBuffer b) and ltb j (b .height)) true
-  unfolding outputOf holdsPair pick
-  holds-of i j = go (eqb (b .isSet) 1)
+  holds-of : (i j : ℕ) → holdsPair i j (outputOf bits b) ≡ pick test (ltb i (stepOfBuffer b) and ltb j (b .height)) true
+  unfolding outputOf holdsPair pick stepOfBuffer spanOfBuffer
+  holds-of i j = go test
     where
-      go : (t : Bool) → holdsPair i j (pick t counted uncounted) ≡ pick t (ltb i (stepOfBuffer b) and ltb j (b .height)) true
+      go : (t : Bool) → holdsPair i j (pick t counted left) ≡ pick t (ltb i (stepOfBuffer b) and ltb j (b .height)) true
       go true = refl
       go false = refl
 
-apart-of : (b c : Buffer) → keepsApart (outputOf b) (outputOf c) ≡ pick (eqb (b .isSet) 1 and eqb (c .isSet) 1) (apart b c) true
-unfolding outputOf keepsApart spansApart apart pick _and_
-apart-of b c = go (eqb (b .isSet) 1) (eqb (c .isSet) 1)
+apart-of : (m n : ℕ) (b c : Buffer) → keepsApart (outputOf m b) (outputOf n c) ≡ pick (test m b and test n c) (apart b c) true
+unfolding outputOf keepsApart spansApart apart pick _and_ stepOfBuffer spanOfBuffer
+apart-of m n b c = go (test m b) (test n c)
   where
-    go : (t u : Bool) → keepsApart (pick t (counted b) uncounted) (pick u (counted c) uncounted) ≡ pick (t and u) (apart b c) true
+    go : (t u : Bool) → keepsApart (pick t (counted m b) (left m b)) (pick u (counted n c) (left n c)) ≡ pick (t and u) (apart b c) true
     go true true = refl
     go true false = refl
     go false u = refl
@@ -121,10 +150,10 @@ apart-uncounted a b p e = sym (pick-no _ true (sym p ∙ e))
 
 -- four outputs
 module _ (a b c d : Output) where
-  pub some-counts : {p q r : Bool} → p ≡ pick (a .counts) true (b .counts) → q ≡ pick p true (c .counts) →
-      r ≡ pick q true (d .counts) → r ≡ someCounts a b c d
-  unfolding someCounts
-  some-counts e f g = g ∙ ap (λ (t : Bool). pick t true (d .counts)) (f ∙ ap (λ (t : Bool). pick t true (c .counts)) e)
+  pub some-set : {p q r : Bool} → p ≡ pick (a .set) true (b .set) → q ≡ pick p true (c .set) →
+      r ≡ pick q true (d .set) → r ≡ someSet a b c d
+  unfolding someSet
+  some-set e f g = g ∙ ap (λ (t : Bool). pick t true (d .set)) (f ∙ ap (λ (t : Bool). pick t true (c .set)) e)
 
   pub each-holds : (i j : ℕ) {ha hb hc hd p q r : Bool} → ha ≡ holdsPair i j a → hb ≡ holdsPair i j b →
       p ≡ (ha and hb) → hc ≡ holdsPair i j c → q ≡ (p and hc) → hd ≡ holdsPair i j d → r ≡ (q and hd) →
@@ -156,62 +185,108 @@ module _ (x y z : Bool) where
   unfolding verdictOf
   verdict-fine e f g = sym (pick-yes _ _ e ∙ (pick-yes _ _ f ∙ pick-yes _ _ g))
 
--- the four outputs that the shared cells hold, and the tests on them as a start has them
-module _ (own shared : List ℕ) where
-  abbrev seen : ℕ → Output
-  seen k = outputOf (bufferAt shared k)
-
-  abbrev domain : Domain
-  domain = partyOf own [] .domain
+-- the four outputs that the shared cells hold, each with the mask's bits from its own on, and the tests on them as a start has them
+module _ (shared : List ℕ) where
+  abbrev mask : ℕ
+  mask = sharedOf shared .mask
 
   abbrev outputs : List Buffer
   outputs = sharedOf shared .outputs
 
-  abbrev instructions : Buffer
-  instructions = partyOf own [] .instructions
-
   abbrev at : ℕ → Buffer
   at k = bufferAt shared k
 
-  complete-seen : (eqb (getD own 8 0) 1 and (eqb (getD own 13 0) 1 and someCounts (seen 21) (seen 25) (seen 29) (seen 33))) ≡
-      complete domain instructions outputs
-  unfolding someCounts complete anyBelow counts output partyOf sharedOf pick
-  complete-seen = rw (counts-of (at 21), counts-of (at 25), counts-of (at 29), counts-of (at 33)) refl
+  abbrev m0 : ℕ
+  m0 = getD shared 0 0
 
-  covered-seen : eachHolds (seen 21) (seen 25) (seen 29) (seen 33) (getD own 11 0) (getD own 12 0) ≡ covered domain instructions outputs
-  unfolding eachHolds covered allBelow counts output containsDomain partyOf sharedOf _and_
-  covered-seen =
-      let i = getD own 11 0 in
-      let j = getD own 12 0 in
-      rw (holds-of (at 21) i j, holds-of (at 25) i j, holds-of (at 29) i j, holds-of (at 33) i j) refl
+  abbrev m1 : ℕ
+  m1 = getD shared 0 0 / 16
 
-  disjoint-seen : eachApart (seen 21) (seen 25) (seen 29) (seen 33) ≡ disjoint domain instructions outputs
-  unfolding eachApart disjoint allBelow counts output partyOf sharedOf _and_
+  abbrev m2 : ℕ
+  m2 = getD shared 0 0 / 256
+
+  abbrev m3 : ℕ
+  m3 = getD shared 0 0 / 4096
+
+  abbrev a : Output
+  a = outputOf m0 (at 21)
+
+  abbrev b : Output
+  b = outputOf m1 (at 25)
+
+  abbrev c : Output
+  c = outputOf m2 (at 29)
+
+  abbrev d : Output
+  d = outputOf m3 (at 33)
+
+  counts-0 : test m0 (at 21) ≡ counts mask outputs 0
+  unfolding countsBy counts isSet output sharedOf
+  counts-0 = refl
+
+  counts-1 : test m1 (at 25) ≡ counts mask outputs 1
+  unfolding countsBy counts isSet output sharedOf
+  counts-1 = ap (λ (t : Bool). eqb (getD shared 25 0) 1 and t) (from-own m0 1 (getD shared 27 0))
+
+  counts-2 : test m2 (at 29) ≡ counts mask outputs 2
+  unfolding countsBy counts isSet output sharedOf
+  counts-2 = ap (λ (t : Bool). eqb (getD shared 29 0) 1 and t) (from-own m0 2 (getD shared 31 0))
+
+  counts-3 : test m3 (at 33) ≡ counts mask outputs 3
+  unfolding countsBy counts isSet output sharedOf
+  counts-3 = ap (λ (t : Bool). eqb (getD shared 33 0) 1 and t) (from-own m0 3 (getD shared 35 0))
+
+  disjoint-seen : eachApart a b c d ≡ disjoint mask outputs
+  unfolding eachApart disjoint allBelow output sharedOf _and_
   disjoint-seen =
       rw
-      (apart-of (at 25) (at 21), apart-of (at 29) (at 21), apart-of (at 29) (at 25), apart-of (at 33) (at 21), apart-of (at 33) (at 25), apart-of (at 33) (at 29))
+      (apart-of m1 m0 (at 25) (at 21), apart-of m2 m0 (at 29) (at 21), apart-of m2 m1 (at 29) (at 25), apart-of m3 m0 (at 33) (at 21), apart-of m3 m1 (at 33) (at 25), apart-of m3 m2 (at 33) (at 29), counts-0, counts-1, counts-2, counts-3)
       refl
 
-  pub ready-told : {a b c d : Output} {t : Told} {some p x y z : Bool} → a ≡ seen 21 → b ≡ seen 25 → c ≡ seen 29 → d ≡ seen 33 →
-      some ≡ someCounts a b c d → p ≡ (eqb (getD own 13 0) 1 and some) → x ≡ (eqb (getD own 8 0) 1 and p) →
-      y ≡ eachHolds a b c d (getD own 11 0) (getD own 12 0) → z ≡ eachApart a b c d → t ≡ verdictOf x y z →
-      t ≡ readyOf domain instructions outputs
-  unfolding readyOf verdictOf
-  ready-told ea eb ec ed es ep ex ey ez et = cc (complete-seen, covered-seen, disjoint-seen)
+  pub counted-outputs : {w x y z : ℕ} →
+      (w ≡ pick (test m0 (at 21)) 1 0) × (w ≤ 1) → (x ≡ pick (test m1 (at 25)) 1 0) × (x ≤ 1) →
+      (y ≡ pick (test m2 (at 29)) 1 0) × (y ≤ 1) → (z ≡ pick (test m3 (at 33)) 1 0) × (z ≤ 1) →
+      (w + x + y + z ≡ sumBelow 4 (λ n. pick (counts mask outputs n) 1 0)) × (w + x + y + z ≤ 4)
+  unfolding sumBelow
+  counted-outputs e f g h = (rw (← counts-0, ← counts-1, ← counts-2, ← counts-3) (omega arith), omega arith)
+
+  module _ (own : List ℕ) where
+    abbrev domain : Domain
+    domain = partyOf own [] .domain
+
+    abbrev instructions : Buffer
+    instructions = partyOf own [] .instructions
+
+    complete-seen : (eqb (getD own 8 0) 1 and (eqb (getD own 13 0) 1 and someSet a b c d)) ≡ complete domain instructions outputs
+    unfolding someSet complete anyBelow isSet output partyOf sharedOf pick
+    complete-seen = rw (set-of m0 (at 21), set-of m1 (at 25), set-of m2 (at 29), set-of m3 (at 33)) refl
+
+    covered-seen : eachHolds a b c d (getD own 11 0) (getD own 12 0) ≡ covered mask outputs domain
+    unfolding eachHolds covered allBelow output containsDomain partyOf sharedOf _and_
+    covered-seen =
+        let i = getD own 11 0 in
+        let j = getD own 12 0 in
+        rw
+        (holds-of m0 (at 21) i j, holds-of m1 (at 25) i j, holds-of m2 (at 29) i j, holds-of m3 (at 33) i j, counts-0, counts-1, counts-2, counts-3)
+        refl
+
+    pub ready-told : {e f g h : Output} {t : Told} {some p x y z : Bool} → e ≡ a → f ≡ b → g ≡ c → h ≡ d →
+        some ≡ someSet e f g h → p ≡ (eqb (getD own 13 0) 1 and some) → x ≡ (eqb (getD own 8 0) 1 and p) →
+        y ≡ eachHolds e f g h (getD own 11 0) (getD own 12 0) → z ≡ eachApart e f g h → t ≡ verdictOf x y z →
+        t ≡ readyOf domain instructions mask outputs
+    unfolding readyOf verdictOf
+    ready-told ea eb ec ed es ep ex ey ez et = cc (complete-seen, covered-seen, disjoint-seen)
 
 -- what a start claims
-pub one-set : (flag : ℕ) → flag ≡ 1 → (_≡_ {A = ℕ} 1 (pick (eqb flag 1) 1 0)) × (1 ≤ 1)
-one-set flag e = (sym (pick-yes 1 0 (eq-eqb flag 1 e)), omega arith)
+module _ (bits flag format : ℕ) {t : Bool} (c : t ≡ countsBy bits flag format) where
+  abbrev One : ℕ → Type 0
+  One r = (r ≡ pick (countsBy bits flag format) 1 0) × (r ≤ 1)
 
-pub one-unset : (flag : ℕ) → (flag ≡ 1 → ⊥) → (_≡_ {A = ℕ} 0 (pick (eqb flag 1) 1 0)) × (0 ≤ 1)
-one-unset flag e = (sym (pick-no 1 0 (ne-eqb flag 1 e)), omega arith)
+  pub one-counted : t ≡ true → One 1
+  one-counted e = (sym (pick-yes 1 0 (sym c ∙ e)), omega arith)
 
-pub set-outputs : (shared : List ℕ) {a b c d : ℕ} →
-    (a ≡ pick (eqb (getD shared 21 0) 1) 1 0) × (a ≤ 1) → (b ≡ pick (eqb (getD shared 25 0) 1) 1 0) × (b ≤ 1) →
-    (c ≡ pick (eqb (getD shared 29 0) 1) 1 0) × (c ≤ 1) → (d ≡ pick (eqb (getD shared 33 0) 1) 1 0) × (d ≤ 1) →
-    (a + b + c + d ≡ sumBelow 4 (λ n. pick (counts (sharedOf shared .outputs) n) 1 0)) × (a + b + c + d ≤ 4)
-unfolding sumBelow counts output sharedOf
-set-outputs shared e f g h = (omega arith, omega arith)
+  pub one-uncounted : t ≡ false → One 0
+  one-uncounted e = (sym (pick-no 1 0 (sym c ∙ e)), omega arith)
 
 pub pairs-most : (i0 j0 i1 j1 : ℕ) → ((i0 ≤ i1) × (i1 < 4096)) × ((j0 ≤ j1) × (j1 < 4096)) →
     (i1 - i0 + 1) * (j1 - j0 + 1) ≤ 16777216
@@ -222,8 +297,8 @@ claim-fits h k = mul-le-mul {n₂ = 16777216} {m₂ = 4} h k
 
 pub claim-told : (own shared : List ℕ) {p n : ℕ} →
     (p ≡ (getD own 11 0 - getD own 9 0 + 1) * (getD own 12 0 - getD own 10 0 + 1)) × (p ≤ 16777216) →
-    (n ≡ sumBelow 4 (λ n. pick (counts (sharedOf shared .outputs) n) 1 0)) × (n ≤ 4) →
-    (p * n ≡ claimOf (partyOf own [] .domain) (sharedOf shared .outputs)) × (p * n ≤ 67108864)
+    (n ≡ sumBelow 4 (λ n. pick (counts (sharedOf shared .mask) (sharedOf shared .outputs) n) 1 0)) × (n ≤ 4) →
+    (p * n ≡ claimOf (partyOf own [] .domain) (sharedOf shared .mask) (sharedOf shared .outputs)) × (p * n ≤ 67108864)
 unfolding claimOf pairsOf partyOf
 claim-told own shared e f = (cc, claim-fits (e .1) (f .1))
 

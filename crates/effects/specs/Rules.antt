@@ -9,7 +9,7 @@ use Rattle.cells.specs.Start.{readyOf}
 -- a start asks 7, 8 and 9 of the settings; no other command does
 unfoldable pub startRuleOf : Command → Session → Told
 startRuleOf (command.Domain i0 j0 i1 j1) s = gives []
-startRuleOf command.Start s = readyOf (s .party .domain) (s .party .instructions) (s .shared .outputs)
+startRuleOf command.Start s = readyOf (s .party .domain) (s .party .instructions) (s .shared .mask) (s .shared .outputs)
 startRuleOf (command.Quiet what) s = gives []
 startRuleOf (command.Store what base format) s = gives []
 startRuleOf (command.Input number base format height) s = gives []

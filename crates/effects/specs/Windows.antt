@@ -7,18 +7,22 @@ use Rattle.laws.specs.Choice.{_and_, pick}
 use Rattle.refusal.specs.Told.{Told, gives, refuses}
 use Rattle.effects.specs.declared.start.Output.{Output}
 use Rattle.cells.specs.State.{Buffer}
-use Rattle.cells.specs.Start.{stepOfBuffer, spanOfBuffer}
+use Rattle.cells.specs.Start.{stepOfBuffer, spanOfBuffer, unmasked}
 
 -- four cells as the buffer that they hold
 abbrev pub cellsBuffer : ℕ → ℕ → ℕ → ℕ → Buffer
 cellsBuffer isSet base format height = record { isSet = isSet; base = base; format = format; height = height }
 
--- one that isn't set doesn't count, and nothing of it is looked at
-unfoldable pub outputOf : Buffer → Output
-outputOf b =
-    pick (eqb (b .isSet) 1)
-    (record { counts = true; base = b .base; step = stepOfBuffer b; height = b .height; span = spanOfBuffer b })
-    (record { counts = false; base = 0; step = 0; height = 0; span = 0 })
+-- an output counts, by its flag and format and the mask's bits from the output's own on: these are a mask in which it is output 0
+unfoldable pub countsBy : ℕ → ℕ → ℕ → Bool
+countsBy bits flag format = eqb flag 1 and unmasked bits 0 format
+
+-- of one that isn't set or is silent, nothing but that is looked at
+unfoldable pub outputOf : ℕ → Buffer → Output
+outputOf bits b =
+    pick (countsBy bits (b .isSet) (b .format))
+    (record { set = eqb (b .isSet) 1; counts = true; base = b .base; step = stepOfBuffer b; height = b .height; span = spanOfBuffer b })
+    (record { set = eqb (b .isSet) 1; counts = false; base = 0; step = 0; height = 0; span = 0 })
 
 -- the output doesn't count, or its window has the pair (i, j)
 unfoldable pub holdsPair : ℕ → ℕ → Output → Bool
@@ -33,9 +37,9 @@ unfoldable pub keepsApart : Output → Output → Bool
 keepsApart a b = pick (a .counts and b .counts) (spansApart (a .base) (a .span) (b .base) (b .span)) true
 
 module _ (a b c d : Output) where
-  -- some of four outputs counts
-  unfoldable pub someCounts : Bool
-  someCounts = pick (pick (pick (a .counts) true (b .counts)) true (c .counts)) true (d .counts)
+  -- some of four outputs is set
+  unfoldable pub someSet : Bool
+  someSet = pick (pick (pick (a .set) true (b .set)) true (c .set)) true (d .set)
 
   -- each of four outputs that counts has the pair
   unfoldable pub eachHolds : ℕ → ℕ → Bool

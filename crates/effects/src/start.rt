@@ -1,25 +1,27 @@
 // What a start asks of the settings alone, 7, 8 and 9, and how many elements it claims. Nothing here changes a cell.
 use cells::own;
 use cells::settings;
-use command::format::window;
+use command::format;
 use command::kinds::Checked;
 use layout::Judged;
 use refusal::Refusal;
 ghost use mathlib.Core.Path.{_≡_};
 ghost use mathlib.Core.Bool.{true};
 ghost use mathlib.Core.List.{[]};
-ghost use Prim.Native.Nat.{_+_, _-_, _*_, _<_, _≤_};
-ghost use lib.Dec.{eqb};
+ghost use Prim.Native.Nat.{_+_, _-_, _*_, _%_, _^_, _<_, _≤_};
 ghost use lib.ListN.{length};
 ghost use Rattle.laws.specs.Choice.{_and_, pick};
+ghost use Rattle.command.specs.Format.{channelsOf};
 ghost use Rattle.command.specs.Kinds.{toldChecked};
 ghost use Rattle.cells.specs.Cells.{bufferAt, partyOf, sharedOf};
-ghost use Rattle.cells.specs.Start.{claimOf, counts, readyOf, sumBelow};
+ghost use Rattle.cells.specs.Start.{claimOf, counts, readyOf, sumBelow, unmasked};
 ghost use Rattle.cells.specs.Valid.{DomainValid};
-ghost use Rattle.effects.specs.Windows.{cellsBuffer, eachApart, eachHolds, holdsPair, keepsApart, outputOf, someCounts, spansApart, verdictOf};
+ghost use Rattle.effects.specs.Windows.{cellsBuffer, countsBy, eachApart, eachHolds, holdsPair, keepsApart, outputOf, someSet, spansApart, verdictOf};
 
-// An output as a start sees it: whether it counts, and its window. A window that is refused has row step and span 0.
+// An output as a start sees it: whether it is set, whether it counts, and its window. A window that is refused has row step
+// and span 0.
 pub struct Output {
+    pub set: bool,
     pub counts: bool,
     pub base: u32,
     pub step: u32,
@@ -27,12 +29,47 @@ pub struct Output {
     pub span: u32,
 }
 
-// The output that four cells describe. The window of one that isn't set is asked for nothing, so it isn't judged.
-fn output_of(flag: u32, base: u32, format: u32, height: u32) -> Output
-    ensures { λ r. ⌜ r ≡ outputOf (cellsBuffer flag base format height) ⌝ }
+// The mask's bits for the channels that a format code has. `bits` are the mask's from the output's own on, so those of later
+// outputs stand above. The codes 5 to 7 have no channel.
+fn channel_bits(bits: u32, code: u32) -> u32
+    ensures { λ r. ⌜ r ≡ bits % 2 ^ channelsOf code ⌝ }
 {
-    if flag != 1 {
+    match code {
+        0 => bits % 2,
+        1 => bits % 16,
+        2 => bits % 2,
+        3 => bits % 4,
+        4 => bits % 16,
+        _ => 0,
+    }
+}
+
+// Whether the mask has a bit set for a channel of the format: the output isn't silent.
+fn is_unmasked(bits: u32, format: u32) -> bool
+    ensures { λ r. ⌜ r ≡ unmasked bits 0 format ⌝ }
+{
+    channel_bits(bits, format::code(format)) != 0
+}
+
+// Whether the output counts: it is set and isn't silent.
+fn is_counted(bits: u32, flag: u32, format: u32) -> bool
+    ensures { λ r. ⌜ r ≡ countsBy bits flag format ⌝ }
+{
+    if flag == 1 {
+        is_unmasked(bits, format)
+    } else {
+        false
+    }
+}
+
+// The output that four cells describe. The window of one that isn't set or is silent is asked for nothing, so it isn't judged.
+fn output_of(bits: u32, flag: u32, base: u32, format: u32, height: u32) -> Output
+    ensures { λ r. ⌜ r ≡ outputOf bits (cellsBuffer flag base format height) ⌝ }
+{
+    let counts = is_counted(bits, flag, format);
+    if !counts {
         return Output {
+            set: flag == 1,
             counts: false,
             base: 0,
             step: 0,
@@ -40,8 +77,9 @@ fn output_of(flag: u32, base: u32, format: u32, height: u32) -> Output
             span: 0,
         };
     }
-    match window(base, format, height) {
+    match format::window(base, format, height) {
         Judged::Accepted { step, span } => Output {
+            set: true,
             counts: true,
             base,
             step,
@@ -49,6 +87,7 @@ fn output_of(flag: u32, base: u32, format: u32, height: u32) -> Output
             span,
         },
         Judged::Refused(_) => Output {
+            set: true,
             counts: true,
             base,
             step: 0,
@@ -59,11 +98,17 @@ fn output_of(flag: u32, base: u32, format: u32, height: u32) -> Output
 }
 
 // The output whose cells begin at a place.
-pub fn output_at(shared: &[u32; 101], at: usize) -> Output
+pub fn output_at(bits: u32, shared: &[u32; 101], at: usize) -> Output
     requires { ⌜ (length (now shared) ≡ 101) × (at < 98) ⌝ }
-    ensures { λ r. ⌜ r ≡ outputOf (bufferAt (now (shared .entry)) at) ⌝ }
+    ensures { λ r. ⌜ r ≡ outputOf bits (bufferAt (now (shared .entry)) at) ⌝ }
 {
-    output_of(shared[at], shared[at + 1], shared[at + 2], shared[at + 3])
+    output_of(
+        bits,
+        shared[at],
+        shared[at + 1],
+        shared[at + 2],
+        shared[at + 3],
+    )
 }
 
 // Two tests, by a call each: a chain of them is one equation, where a chain of `&&` is a join for each of its ways.
@@ -110,10 +155,11 @@ fn keeps_apart(a: Output, b: Output) -> bool
     }
 }
 
-fn some_counts(a: Output, b: Output, c: Output, d: Output) -> bool
-    ensures { λ r. ⌜ r ≡ someCounts a b c d ⌝ }
+// Whether some output is set: silent ones too.
+fn some_set(a: Output, b: Output, c: Output, d: Output) -> bool
+    ensures { λ r. ⌜ r ≡ someSet a b c d ⌝ }
 {
-    either(either(either(a.counts, b.counts), c.counts), d.counts)
+    either(either(either(a.set, b.set), c.set), d.set)
 }
 
 // Whether each output that counts has the pair: the domain's last, so that its others are inside too.
@@ -157,15 +203,16 @@ fn verdict(complete: bool, covered: bool, disjoint: bool) -> Checked
 // Whether the settings alone let a start pass: fine, 7, 8 or 9.
 pub fn ready(own: &[u32; 17], shared: &[u32; 101]) -> Checked
     requires { ⌜ (length (now own) ≡ 17) × (length (now shared) ≡ 101) ⌝ }
-    ensures { λ r. ⌜ toldChecked r ≡ readyOf (partyOf (now (own .entry)) [] .domain) (partyOf (now (own .entry)) [] .instructions) (sharedOf (now (shared .entry)) .outputs) ⌝ }
+    ensures { λ r. ⌜ toldChecked r ≡ readyOf (partyOf (now (own .entry)) [] .domain) (partyOf (now (own .entry)) [] .instructions) (sharedOf (now (shared .entry)) .mask) (sharedOf (now (shared .entry)) .outputs) ⌝ }
 {
-    let a = output_at(shared, settings::OUTPUT_0);
-    let b = output_at(shared, settings::OUTPUT_1);
-    let c = output_at(shared, settings::OUTPUT_2);
-    let d = output_at(shared, settings::OUTPUT_3);
+    let mask = shared[settings::MASK];
+    let a = output_at(mask, shared, settings::OUTPUT_0);
+    let b = output_at(mask / 16, shared, settings::OUTPUT_1);
+    let c = output_at(mask / 256, shared, settings::OUTPUT_2);
+    let d = output_at(mask / 4096, shared, settings::OUTPUT_3);
     let complete = both(
         own[own::DOMAIN] == 1,
-        both(own[own::INSTRUCTIONS] == 1, some_counts(a, b, c, d)),
+        both(own[own::INSTRUCTIONS] == 1, some_set(a, b, c, d)),
     );
     let covered = each_holds(a, b, c, d, own[own::DOMAIN_I1], own[own::DOMAIN_J1]);
     verdict(complete, covered, each_apart(a, b, c, d))
@@ -181,28 +228,34 @@ fn pairs(i0: u32, j0: u32, i1: u32, j1: u32) -> u64
     columns * rows
 }
 
-// 1 for an output that is set.
-fn one(flag: u32) -> u64
-    ensures { λ r. ⌜ (r ≡ pick (eqb flag 1) 1 0) × (r ≤ 1) ⌝ }
+// 1 for an output that counts, its cells from a place on.
+fn one_at(bits: u32, shared: &[u32; 101], at: usize) -> u64
+    requires { ⌜ (length (now shared) ≡ 101) × (at < 98) ⌝ }
+    ensures { λ r. ⌜ (r ≡ pick (countsBy bits (bufferAt (now (shared .entry)) at .isSet) (bufferAt (now (shared .entry)) at .format)) 1 0) × (r ≤ 1) ⌝ }
 {
-    if flag == 1 { 1 } else { 0 }
+    if is_counted(bits, shared[at], shared[at + 2]) {
+        1
+    } else {
+        0
+    }
 }
 
-// The number of outputs that are set.
-fn set_outputs(shared: &[u32; 101]) -> u64
+// The number of outputs that count.
+fn counted_outputs(shared: &[u32; 101]) -> u64
     requires { ⌜ length (now shared) ≡ 101 ⌝ }
-    ensures { λ r. ⌜ (r ≡ sumBelow 4 (λ n. pick (counts (sharedOf (now (shared .entry)) .outputs) n) 1 0)) × (r ≤ 4) ⌝ }
+    ensures { λ r. ⌜ (r ≡ sumBelow 4 (λ n. pick (counts (sharedOf (now (shared .entry)) .mask) (sharedOf (now (shared .entry)) .outputs) n) 1 0)) × (r ≤ 4) ⌝ }
 {
-    one(shared[settings::OUTPUT_0])
-        + one(shared[settings::OUTPUT_1])
-        + one(shared[settings::OUTPUT_2])
-        + one(shared[settings::OUTPUT_3])
+    let mask = shared[settings::MASK];
+    one_at(mask, shared, settings::OUTPUT_0)
+        + one_at(mask / 16, shared, settings::OUTPUT_1)
+        + one_at(mask / 256, shared, settings::OUTPUT_2)
+        + one_at(mask / 4096, shared, settings::OUTPUT_3)
 }
 
-// The elements that a start claims: the domain's pairs, for each output that is set.
+// The elements that a start claims: the domain's pairs, for each output that counts.
 pub fn claim(own: &[u32; 17], shared: &[u32; 101]) -> u64
     requires { ⌜ ((length (now own) ≡ 17) × (length (now shared) ≡ 101)) × DomainValid (partyOf (now own) [] .domain) ⌝ }
-    ensures { λ r. ⌜ (r ≡ claimOf (partyOf (now (own .entry)) [] .domain) (sharedOf (now (shared .entry)) .outputs)) × (r ≤ 67108864) ⌝ }
+    ensures { λ r. ⌜ (r ≡ claimOf (partyOf (now (own .entry)) [] .domain) (sharedOf (now (shared .entry)) .mask) (sharedOf (now (shared .entry)) .outputs)) × (r ≤ 67108864) ⌝ }
 {
     pairs(
         own[own::DOMAIN_I0],
@@ -210,5 +263,5 @@ pub fn claim(own: &[u32; 17], shared: &[u32; 101]) -> u64
         own[own::DOMAIN_I1],
         own[own::DOMAIN_J1],
     )
-        * set_outputs(shared)
+        * counted_outputs(shared)
 }

@@ -96,11 +96,11 @@ set-domain i0 j0 i1 j1 a k =
     }
 
 -- no start claims more than 4,096 · 4,096 pairs of four outputs
-claim-most : (d : Domain) (outputs : List Buffer) → DomainValid d → claimOf d outputs ≤ 67108864
+claim-most : (d : Domain) (mask : ℕ) (outputs : List Buffer) → DomainValid d → claimOf d mask outputs ≤ 67108864
 unfolding claimOf pairsOf sumBelow
-claim-most d outputs v =
+claim-most d mask outputs v =
     mul-le-mul {n₂ = 16777216} {m₂ = 4} (mul-le-mul {n₂ = 4096} {m₂ = 4096} (omega (arith, v)) (omega (arith, v)))
-    (sum-most (λ n. pick (counts outputs n) 1 0) (λ n. by-pick (λ (m : ℕ). m ≤ 1) (counts outputs n) 1 0 (λ e. omega arith) (λ e. omega arith)))
+    (sum-most (λ n. pick (counts mask outputs n) 1 0) (λ n. by-pick (λ (m : ℕ). m ≤ 1) (counts mask outputs n) 1 0 (λ e. omega arith) (λ e. omega arith)))
   where
     sum-most : (f : ℕ → ℕ) → ((n : ℕ) → f n ≤ 1) → sumBelow 4 f ≤ 4
     sum-most f h = omega (arith, h 0, h 1, h 2, h 3)
@@ -153,7 +153,7 @@ module _ (h : Shared) (p : Party) (n : ℕ) (d : DomainValid (p .domain)) (t : T
         same-count = refl;
         same-open = refl;
         domain = d;
-        tally = omega (arith, t, claim-most (p .domain) (h .outputs) d);
+        tally = omega (arith, t, claim-most (p .domain) (h .mask) (h .outputs) d);
         outputs = refl;
         inputs = refl;
       }

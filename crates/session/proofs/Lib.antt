@@ -7,6 +7,7 @@ pub mod Parameters
 pub mod ReadAgain
 pub mod ReadBack
 pub mod Refusals
+pub mod Silent
 pub mod Stepping
 pub mod Taking
 pub mod Tallies

@@ -123,7 +123,7 @@ module _ (s u : Session) (e : SameSettings s u) where
   same-start : (c : Command) → startRuleOf c s ≡ startRuleOf c u
   unfolding startRuleOf
   same-start (command.Domain i0 j0 i1 j1) = refl
-  same-start command.Start = λ j. readyOf (e .domain j) (e .instructions j) (e .shared j .outputs)
+  same-start command.Start = λ j. readyOf (e .domain j) (e .instructions j) (e .shared j .mask) (e .shared j .outputs)
   same-start (command.Quiet what) = refl
   same-start (command.Store what base format) = refl
   same-start (command.Input number base format height) = refl

@@ -48,12 +48,12 @@ no-start-rule (command.OutputMask mask) s e = refl
 no-start-rule (command.ConditionalMask mask) s e = refl
 no-start-rule (command.Test test) s e = refl
 
--- the start's rule reads the domain, the instructions and the outputs alone
+-- the start's rule reads the domain, the instructions, the mask and the outputs alone
 start-rule-same : (c : Command) (p q : Party) (h : Shared) → p .domain ≡ q .domain → p .instructions ≡ q .instructions →
     startRuleOf c (record { party = p; shared = h }) ≡ startRuleOf c (record { party = q; shared = h })
 unfolding startRuleOf
 start-rule-same (command.Domain i0 j0 i1 j1) p q h d i = refl
-start-rule-same command.Start p q h d i = ap (λ x. readyOf x (p .instructions) (h .outputs)) d ∙ ap (λ x. readyOf (q .domain) x (h .outputs)) i
+start-rule-same command.Start p q h d i = ap (λ x. readyOf x (p .instructions) (h .mask) (h .outputs)) d ∙ ap (λ x. readyOf (q .domain) x (h .mask) (h .outputs)) i
 start-rule-same (command.Quiet what) p q h d i = refl
 start-rule-same (command.Store what base format) p q h d i = refl
 start-rule-same (command.Input number base format height) p q h d i = refl
@@ -72,7 +72,7 @@ module _ (c : Command) (s : Session) (told : Told) where
   rule-passed v e q = q ∙ sym (then-given (startRuleOf c s) e)
 
 pub start-rule : {c : Command} (s : Session) → c ≡ command.Start →
-    readyOf (s .party .domain) (s .party .instructions) (s .shared .outputs) ≡ startRuleOf c s
+    readyOf (s .party .domain) (s .party .instructions) (s .shared .mask) (s .shared .outputs) ≡ startRuleOf c s
 unfolding startRuleOf
 start-rule s e = ap (λ (c : Command). startRuleOf c s) {x = command.Start} (sym e)
 

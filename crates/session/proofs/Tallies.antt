@@ -1,6 +1,6 @@
 -- A session's runs and claims are those before, with the starts among the commands that a piece completed and what these
 -- claimed; its count is the one before with the words taken. Assumes nothing.
-use mathlib.Core.Path.{_≡_, refl, sym, ap₂, _∙_}
+use mathlib.Core.Path.{_≡_, refl, sym, _∙_}
 use mathlib.Core.List.{List, [], _∷_}
 use Prim.Native.Nat.{ℕ, _+_}
 use native.Mathlib.Nat.{add-zero, zero-add}
@@ -12,19 +12,20 @@ use Rattle.cells.specs.State.{Domain, Session, newSession}
 use Rattle.cells.specs.Effects.{ownAfter, sharedAfter, after}
 use Rattle.session.specs.Step.{stillOpen, completed, refused, Stepped, stepOf}
 use Rattle.session.specs.Feed.{Fed, proceed, feedOf}
-use Rattle.session.specs.Tallies.{runOf, claimBy, domainAfter, outputsAfter, runsOf, claimsOf}
+use Rattle.session.specs.Tallies.{runOf, claimBy, domainAfter, maskAfter, outputsAfter, runsOf, claimsOf}
 use Rattle.session.proofs.Ways.{Way, wasStopped, stops, opens, fills, ends, way}
 
 -- the tallies of a later session, from those of an earlier one and the commands between them
 pub record Tallied (s : Session) (cs : List Command) (u : Session) : Type 0 where
   pub runs : u .party .tally .runs ≡ s .party .tally .runs + runsOf cs
-  pub claims : u .party .tally .claims ≡ s .party .tally .claims + claimsOf cs (s .party .domain) (s .shared .outputs)
+  pub claims : u .party .tally .claims ≡ s .party .tally .claims + claimsOf cs (s .party .domain) (s .shared .mask) (s .shared .outputs)
 
 -- one command between them
 record One (s : Session) (c : Command) (u : Session) : Type 0 where
   runs : u .party .tally .runs ≡ s .party .tally .runs + runOf c
-  claims : u .party .tally .claims ≡ s .party .tally .claims + claimBy c (s .party .domain) (s .shared .outputs)
+  claims : u .party .tally .claims ≡ s .party .tally .claims + claimBy c (s .party .domain) (s .shared .mask) (s .shared .outputs)
   domain : u .party .domain ≡ domainAfter c (s .party .domain)
+  mask : u .shared .mask ≡ maskAfter c (s .shared .mask)
   outputs : u .shared .outputs ≡ outputsAfter c (s .shared .outputs)
   count : u .party .taken ≡ s .party .taken + 1
 
@@ -33,31 +34,32 @@ record None (s : Session) (n : ℕ) (u : Session) : Type 0 where
   runs : u .party .tally .runs ≡ s .party .tally .runs
   claims : u .party .tally .claims ≡ s .party .tally .claims
   domain : u .party .domain ≡ s .party .domain
+  mask : u .shared .mask ≡ s .shared .mask
   outputs : u .shared .outputs ≡ s .shared .outputs
   count : u .party .taken ≡ s .party .taken + n
 
 one : (s : Session) (c : Command) → One s c (after c s)
-unfolding after ownAfter sharedAfter runOf claimBy domainAfter outputsAfter
-one s (command.Domain i0 j0 i1 j1) = record { runs = sym (add-zero _); claims = sym (add-zero _); domain = refl; outputs = refl; count = refl }
-one s command.Start = record { runs = refl; claims = refl; domain = refl; outputs = refl; count = refl }
-one s (command.Quiet what) = record { runs = sym (add-zero _); claims = sym (add-zero _); domain = refl; outputs = refl; count = refl }
+unfolding after ownAfter sharedAfter runOf claimBy domainAfter maskAfter outputsAfter
+one s (command.Domain i0 j0 i1 j1) = record { runs = sym (add-zero _); claims = sym (add-zero _); domain = refl; mask = refl; outputs = refl; count = refl }
+one s command.Start = record { runs = refl; claims = refl; domain = refl; mask = refl; outputs = refl; count = refl }
+one s (command.Quiet what) = record { runs = sym (add-zero _); claims = sym (add-zero _); domain = refl; mask = refl; outputs = refl; count = refl }
 one s (command.Store stored.Instructions base format) =
-    record { runs = sym (add-zero _); claims = sym (add-zero _); domain = refl; outputs = refl; count = refl }
+    record { runs = sym (add-zero _); claims = sym (add-zero _); domain = refl; mask = refl; outputs = refl; count = refl }
 one s (command.Store stored.Floats base format) =
-    record { runs = sym (add-zero _); claims = sym (add-zero _); domain = refl; outputs = refl; count = refl }
+    record { runs = sym (add-zero _); claims = sym (add-zero _); domain = refl; mask = refl; outputs = refl; count = refl }
 one s (command.Store stored.Integers base format) =
-    record { runs = sym (add-zero _); claims = sym (add-zero _); domain = refl; outputs = refl; count = refl }
+    record { runs = sym (add-zero _); claims = sym (add-zero _); domain = refl; mask = refl; outputs = refl; count = refl }
 one s (command.Store stored.Booleans base format) =
-    record { runs = sym (add-zero _); claims = sym (add-zero _); domain = refl; outputs = refl; count = refl }
+    record { runs = sym (add-zero _); claims = sym (add-zero _); domain = refl; mask = refl; outputs = refl; count = refl }
 one s (command.Input number base format height) =
-    record { runs = sym (add-zero _); claims = sym (add-zero _); domain = refl; outputs = refl; count = refl }
+    record { runs = sym (add-zero _); claims = sym (add-zero _); domain = refl; mask = refl; outputs = refl; count = refl }
 one s (command.Output number base format height) =
-    record { runs = sym (add-zero _); claims = sym (add-zero _); domain = refl; outputs = refl; count = refl }
+    record { runs = sym (add-zero _); claims = sym (add-zero _); domain = refl; mask = refl; outputs = refl; count = refl }
 one s (command.Conditional base format height) =
-    record { runs = sym (add-zero _); claims = sym (add-zero _); domain = refl; outputs = refl; count = refl }
-one s (command.OutputMask mask) = record { runs = sym (add-zero _); claims = sym (add-zero _); domain = refl; outputs = refl; count = refl }
-one s (command.ConditionalMask mask) = record { runs = sym (add-zero _); claims = sym (add-zero _); domain = refl; outputs = refl; count = refl }
-one s (command.Test test) = record { runs = sym (add-zero _); claims = sym (add-zero _); domain = refl; outputs = refl; count = refl }
+    record { runs = sym (add-zero _); claims = sym (add-zero _); domain = refl; mask = refl; outputs = refl; count = refl }
+one s (command.OutputMask mask) = record { runs = sym (add-zero _); claims = sym (add-zero _); domain = refl; mask = refl; outputs = refl; count = refl }
+one s (command.ConditionalMask mask) = record { runs = sym (add-zero _); claims = sym (add-zero _); domain = refl; mask = refl; outputs = refl; count = refl }
+one s (command.Test test) = record { runs = sym (add-zero _); claims = sym (add-zero _); domain = refl; mask = refl; outputs = refl; count = refl }
 
 -- what a word does to the tallies, by its reply
 data Moved (s : Session) : Stepped → Type 0 where
@@ -66,25 +68,25 @@ data Moved (s : Session) : Stepped → Type 0 where
   off : (n : ℕ) (u : Session) → None s 0 u → Moved s (record { reply = refused n; session = u })
 
 moved : (s : Session) (w : ℕ) {t : Stepped} → Way s w t → Moved s t
-moved s w (wasStopped e) = off 1 s (record { runs = refl; claims = refl; domain = refl; outputs = refl; count = sym (add-zero _) })
-moved s w (stops n e) = off n _ (record { runs = refl; claims = refl; domain = refl; outputs = refl; count = sym (add-zero _) })
-moved s w (opens r i k) = on _ (record { runs = refl; claims = refl; domain = refl; outputs = refl; count = refl })
-moved s w (fills p m) = on _ (record { runs = refl; claims = refl; domain = refl; outputs = refl; count = refl })
+moved s w (wasStopped e) = off 1 s (record { runs = refl; claims = refl; domain = refl; mask = refl; outputs = refl; count = sym (add-zero _) })
+moved s w (stops n e) = off n _ (record { runs = refl; claims = refl; domain = refl; mask = refl; outputs = refl; count = sym (add-zero _) })
+moved s w (opens r i k) = on _ (record { runs = refl; claims = refl; domain = refl; mask = refl; outputs = refl; count = refl })
+moved s w (fills p m) = on _ (record { runs = refl; claims = refl; domain = refl; mask = refl; outputs = refl; count = refl })
 moved s w (ends p l c e u v r q) = whole c _ (one s c)
 
 module _ (s u : Session) (cs : List Command) (f : Session) (r : Tallied u cs f) where
   after-none : (n : ℕ) → None s n u → Tallied s cs f
   after-none n e =
-      let k : claimsOf cs (u .party .domain) (u .shared .outputs) ≡ claimsOf cs (s .party .domain) (s .shared .outputs) = ap₂ (claimsOf cs) (e .domain) (e .outputs) in
+      let k : claimsOf cs (u .party .domain) (u .shared .mask) (u .shared .outputs) ≡ claimsOf cs (s .party .domain) (s .shared .mask) (s .shared .outputs) = λ j. claimsOf cs (e .domain j) (e .mask j) (e .outputs j) in
       record { runs = omega (arith, r .runs, e .runs); claims = omega (arith, r .claims, e .claims) }
 
   after-one : (c : Command) → One s c u → Tallied s (c ∷ cs) f
   unfolding runsOf claimsOf
   after-one c e =
       let k :
-      claimsOf cs (u .party .domain) (u .shared .outputs) ≡
-      claimsOf cs (domainAfter c (s .party .domain)) (outputsAfter c (s .shared .outputs))
-      = ap₂ (claimsOf cs) (e .domain) (e .outputs)
+      claimsOf cs (u .party .domain) (u .shared .mask) (u .shared .outputs) ≡
+      claimsOf cs (domainAfter c (s .party .domain)) (maskAfter c (s .shared .mask)) (outputsAfter c (s .shared .outputs))
+      = λ j. claimsOf cs (e .domain j) (e .mask j) (e .outputs j)
       in
       record { runs = omega (arith, r .runs, e .runs); claims = omega (arith, r .claims, e .claims) }
 
@@ -112,7 +114,7 @@ module _ (ws : List ℕ) where
 
   pub all-claims :
       feedOf newSession ws .session .party .tally .claims ≡
-      claimsOf (feedOf newSession ws .commands) (newSession .party .domain) (newSession .shared .outputs)
+      claimsOf (feedOf newSession ws .commands) (newSession .party .domain) (newSession .shared .mask) (newSession .shared .outputs)
   all-claims = tallied newSession ws .claims ∙ zero-add _
 
 -- "A refused word isn't counted as taken."

@@ -1,5 +1,6 @@
 -- Document 01: runs and claimed elements, from the list of accepted commands alone. "A start that passes adds one to the runs, and
--- to the claimed elements the number of pairs in the domain times the number of set outputs." Assumes nothing.
+-- to the claimed elements the number of pairs in the domain times the number of set outputs", of which the silent ones claim
+-- nothing. Assumes nothing.
 use mathlib.Core.List.{List, [], _∷_}
 use Prim.Native.Nat.{ℕ, _+_}
 use lib.ListN.{set}
@@ -22,20 +23,20 @@ runOf (command.OutputMask mask) = 0
 runOf (command.ConditionalMask mask) = 0
 runOf (command.Test test) = 0
 
--- what a command claims where this domain and these outputs are set
-unfoldable pub claimBy : Command → Domain → List Buffer → ℕ
-claimBy (command.Domain i0 j0 i1 j1) d outputs = 0
-claimBy command.Start d outputs = claimOf d outputs
-claimBy (command.Quiet what) d outputs = 0
-claimBy (command.Store what base format) d outputs = 0
-claimBy (command.Input number base format height) d outputs = 0
-claimBy (command.Output number base format height) d outputs = 0
-claimBy (command.Conditional base format height) d outputs = 0
-claimBy (command.OutputMask mask) d outputs = 0
-claimBy (command.ConditionalMask mask) d outputs = 0
-claimBy (command.Test test) d outputs = 0
+-- what a command claims where this domain, this mask and these outputs are set
+unfoldable pub claimBy : Command → Domain → ℕ → List Buffer → ℕ
+claimBy (command.Domain i0 j0 i1 j1) d mask outputs = 0
+claimBy command.Start d mask outputs = claimOf d mask outputs
+claimBy (command.Quiet what) d mask outputs = 0
+claimBy (command.Store what base format) d mask outputs = 0
+claimBy (command.Input number base format height) d mask outputs = 0
+claimBy (command.Output number base format height) d mask outputs = 0
+claimBy (command.Conditional base format height) d mask outputs = 0
+claimBy (command.OutputMask new) d mask outputs = 0
+claimBy (command.ConditionalMask new) d mask outputs = 0
+claimBy (command.Test test) d mask outputs = 0
 
--- the domain and the outputs after a command
+-- the domain, the mask and the outputs after a command
 unfoldable pub domainAfter : Command → Domain → Domain
 domainAfter (command.Domain i0 j0 i1 j1) d = record { isSet = 1; i0 = i0; j0 = j0; i1 = i1; j1 = j1 }
 domainAfter command.Start d = d
@@ -47,6 +48,18 @@ domainAfter (command.Conditional base format height) d = d
 domainAfter (command.OutputMask mask) d = d
 domainAfter (command.ConditionalMask mask) d = d
 domainAfter (command.Test test) d = d
+
+unfoldable pub maskAfter : Command → ℕ → ℕ
+maskAfter (command.Domain i0 j0 i1 j1) mask = mask
+maskAfter command.Start mask = mask
+maskAfter (command.Quiet what) mask = mask
+maskAfter (command.Store what base format) mask = mask
+maskAfter (command.Input number base format height) mask = mask
+maskAfter (command.Output number base format height) mask = mask
+maskAfter (command.Conditional base format height) mask = mask
+maskAfter (command.OutputMask new) mask = new
+maskAfter (command.ConditionalMask new) mask = mask
+maskAfter (command.Test test) mask = mask
 
 unfoldable pub outputsAfter : Command → List Buffer → List Buffer
 outputsAfter (command.Domain i0 j0 i1 j1) outputs = outputs
@@ -65,7 +78,8 @@ unfoldable pub runsOf : List Command → ℕ
 runsOf [] = 0
 runsOf (c ∷ cs) = runOf c + runsOf cs
 
--- what commands claim, each start by the domain and the outputs that those before it left
-unfoldable pub claimsOf : List Command → Domain → List Buffer → ℕ
-claimsOf [] d outputs = 0
-claimsOf (c ∷ cs) d outputs = claimBy c d outputs + claimsOf cs (domainAfter c d) (outputsAfter c outputs)
+-- what commands claim, each start by the domain, the mask and the outputs that those before it left
+unfoldable pub claimsOf : List Command → Domain → ℕ → List Buffer → ℕ
+claimsOf [] d mask outputs = 0
+claimsOf (c ∷ cs) d mask outputs =
+    claimBy c d mask outputs + claimsOf cs (domainAfter c d) (maskAfter c mask) (outputsAfter c outputs)

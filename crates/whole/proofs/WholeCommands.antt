@@ -247,7 +247,7 @@ module _ (l l1 : List ℕ) (m : ℕ) (e : l1 ≡ partyCells (tookWords m (partyO
           claims = a .claims;
         })
 
-    pub start-tried : (n : ℕ) → n ≡ 0 → (r : Told) → r ≡ readyOf (partyOf l [] .domain) (partyOf l [] .instructions) (sharedOf h .outputs) →
+    pub start-tried : (n : ℕ) → n ≡ 0 → (r : Told) → r ≡ readyOf (partyOf l [] .domain) (partyOf l [] .instructions) (sharedOf h .mask) (sharedOf h .outputs) →
         r ≡ gives [] → (t1 : List ℕ) → t1 ≡ tallyCells (ownAfter command.Start (sharedOf h) (partyOf l1 t)) →
         (rest : List ℕ) → Tried command.Start (headerOf 1 ∷ n ∷ rest) m l t h m l1 t1 h
     unfolding wordsOf lineOf fieldsOf startRuleOf partyOf

@@ -23,11 +23,11 @@ pairs-requires c κs =
     (c .before .before .before .before .args .own .now)
     (c .before .before .before .before .pre .1)
 
-set-outputs-requires : tie.Need-set-outputs-requires
-set-outputs-requires c κs = search needs
+counted-outputs-requires : tie.Need-counted-outputs-requires
+counted-outputs-requires c κs = search needs
 
 mul-result : tie.Need-mul-result
-mul-result c = omega (arith, claim-fits (c .before .pairs .ensures .1) (c .set-outputs .ensures .1))
+mul-result c = omega (arith, claim-fits (c .before .pairs .ensures .1) (c .counted-outputs .ensures .1))
 
 returns : tie.Need-returns
 returns c =
@@ -35,7 +35,7 @@ returns c =
     (c .before .before .before .before .before .before .args .own .now)
     (c .before .before .before .before .before .before .args .shared .now)
     (c .before .pairs .ensures)
-    (c .set-outputs .ensures)
+    (c .counted-outputs .ensures)
 
 pub claim-spec : {M : Type 1} → statement M
 claim-spec =
@@ -46,6 +46,6 @@ claim-spec =
     element-copy-out-pairs-3
     element-copy-out-pairs-4
     pairs-requires
-    set-outputs-requires
+    counted-outputs-requires
     mul-result
     returns)

@@ -4,6 +4,9 @@ use borrow.Author.Needs.{needs}
 use Rattle.effects.proofs.start.ready.Statement.{statement}
 use Rattle.effects.proofs.start.ready.Tie as tie
 
+element-copy-out-mask : tie.Need-element-copy-out-mask
+element-copy-out-mask c = search needs
+
 output-at-requires : tie.Need-output-at-requires
 output-at-requires c κs = search needs
 
@@ -22,8 +25,8 @@ element-copy-out-both c = search needs
 element-copy-out-both-2 : tie.Need-element-copy-out-both-2
 element-copy-out-both-2 c = search needs
 
-some-counts-requires : tie.Need-some-counts-requires
-some-counts-requires c κs = search needs
+some-set-requires : tie.Need-some-set-requires
+some-set-requires c κs = search needs
 
 both-requires : tie.Need-both-requires
 both-requires c κs = search needs
@@ -49,13 +52,13 @@ verdict-requires c κs = search needs
 returns : tie.Need-returns
 returns c =
     ready-told
-    (c .before .before .before .before .before .before .before .before .before .before .before .before .before .before .args .own .now)
-    (c .before .before .before .before .before .before .before .before .before .before .before .before .before .before .args .shared .now)
+    (c .before .before .before .before .before .before .before .before .before .before .before .before .before .before .before .args .shared .now)
+    (c .before .before .before .before .before .before .before .before .before .before .before .before .before .before .before .args .own .now)
     (c .before .before .before .before .before .before .before .before .before .before .before .before .before .output-at .ensures)
     (c .before .before .before .before .before .before .before .before .before .before .before .before .output-at2 .ensures)
     (c .before .before .before .before .before .before .before .before .before .before .before .output-at3 .ensures)
     (c .before .before .before .before .before .before .before .before .before .before .output-at4 .ensures)
-    (c .before .before .before .before .before .before .before .some-counts .ensures)
+    (c .before .before .before .before .before .before .before .some-set .ensures)
     (c .before .before .before .before .before .before .both .ensures)
     (c .before .before .before .before .before .both2 .ensures)
     (c .before .before .each-holds .ensures)
@@ -66,13 +69,14 @@ pub ready-spec : {M : Type 1} → statement M
 ready-spec =
     tie.close
     (tie.spec
+    element-copy-out-mask
     output-at-requires
     output-at-requires-2
     output-at-requires-3
     output-at-requires-4
     element-copy-out-both
     element-copy-out-both-2
-    some-counts-requires
+    some-set-requires
     both-requires
     both-requires-2
     element-copy-out-each-holds

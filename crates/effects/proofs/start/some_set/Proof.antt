@@ -1,8 +1,8 @@
--- `effects::start::some_counts` meets its contract: the chain of tests is the definition's. Assumes nothing.
-use Rattle.effects.proofs.Readiness.{some-counts}
+-- `effects::start::some_set` meets its contract: the chain of tests is the definition's. Assumes nothing.
+use Rattle.effects.proofs.Readiness.{some-set}
 use borrow.Author.Needs.{needs}
-use Rattle.effects.proofs.start.some_counts.Statement.{statement}
-use Rattle.effects.proofs.start.some_counts.Tie as tie
+use Rattle.effects.proofs.start.some_set.Statement.{statement}
+use Rattle.effects.proofs.start.some_set.Tie as tie
 
 either-requires : tie.Need-either-requires
 either-requires c κs = search needs
@@ -15,7 +15,7 @@ either-requires-3 c κs = search needs
 
 returns : tie.Need-returns
 returns c =
-    some-counts
+    some-set
     (c .before .before .before .args .a)
     (c .before .before .before .args .b)
     (c .before .before .before .args .c)
@@ -24,5 +24,5 @@ returns c =
     (c .before .either2 .ensures)
     (c .either3 .ensures)
 
-pub some-counts-spec : {M : Type 1} → statement M
-some-counts-spec = tie.close (tie.spec either-requires either-requires-2 either-requires-3 returns)
+pub some-set-spec : {M : Type 1} → statement M
+some-set-spec = tie.close (tie.spec either-requires either-requires-2 either-requires-3 returns)

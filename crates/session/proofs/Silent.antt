@@ -1,0 +1,277 @@
+-- Request 2: a start with every set output silent is a run of no elements; and under the mask 65535, which a new session has, every
+-- start is document 01's, since the entries set no output with another code than 0 to 4. Assumes nothing.
+use mathlib.Core.Path.{_≡_, refl, sym, ap, ap₂, _∙_, subst}
+use mathlib.Core.Bool.{Bool, true, false, not}
+use mathlib.Core.List.{List, [], _∷_}
+use Prim.Native.Nat.{ℕ, zero, suc, _+_, _*_, _<_, _≤_}
+use native.Mathlib.Nat.{add-zero, mul-zero, not-suc-le-zero}
+use native.Mathlib.Omega.{arith}
+use lib.Dec.{eqb}
+use lib.ListN.{length, getD, set}
+use lib.Seq.{getD-set-same, getD-set-other}
+use borrow.Author.Tests.{eq-eqb, eqb-true, eqb-false, leb-true}
+use Rattle.laws.specs.Choice.{_and_, pick}
+use Rattle.laws.specs.Masks.{_or_, on, some}
+use Rattle.laws.proofs.Choice.{Tested, holds, fails, tested, pick-yes, pick-no, and-intro, and-yes, and-right, and-no-left}
+use Rattle.laws.proofs.Split.{pick-same}
+use Rattle.laws.proofs.Table.{everyBelow, every, each, _&_}
+use Rattle.refusal.specs.Told.{gives}
+use Rattle.command.specs.Table.{countOf}
+use Rattle.command.specs.Format.{channelsOf, codeOf}
+use Rattle.command.specs.Kinds.{formatAllowed, allowed, faultOf, kindOf}
+use Rattle.command.specs.Commands.{lineOf, fieldsOf, wordsOf, EachAllowed}
+use Rattle.command.specs.Rules.{domainKept, windowKept, lastRuleOf}
+use Rattle.command.specs.Writer.{spares, allSpare, fieldsSpare, judgeCommandOf}
+use Rattle.command.specs.declared.commands.Stored.the-variants as stored
+use Rattle.command.specs.declared.commands.Command.{Command}
+use Rattle.command.specs.declared.commands.Command.the-variants as command
+use Rattle.cells.specs.State.{Buffer, Domain, Shared, Session, unset, none, newSession}
+use Rattle.cells.specs.Start.{anyBelow, allBelow, sumBelow, output, isSet, unmasked, silent, counts, containsDomain, apart, complete, covered, disjoint, readyOf, pairsOf, claimOf}
+use Rattle.cells.specs.Effects.{limit, buffer, ownAfter, sharedAfter, after}
+use Rattle.cells.specs.Valid.{Valid}
+use Rattle.session.specs.Step.{Reply, stillOpen, completed, refused, Stepped, startRuleOf, stepOf}
+use Rattle.session.specs.Feed.{nothing, Fed, proceed, feedOf}
+use Rattle.session.specs.Again.{Idle, fed, standing}
+use Rattle.session.specs.Silent.{
+  AllSilent,
+  SilentSettings,
+  startWords,
+  EmptyRun,
+  Coded,
+  countsInFull,
+  coveredInFull,
+  disjointInFull,
+  readyInFull,
+  claimInFull,
+  AsBefore,
+}
+use Rattle.session.proofs.Ways.{Way, wasStopped, stops, opens, fills, ends, way}
+use Rattle.session.proofs.Kept.{new-valid, each-allowed, kept}
+use Rattle.session.proofs.ReadBack.{reads-back}
+
+-- tests and sums over the numbers below `k`
+module _ (k : ℕ) where
+  below-suc : {n : ℕ} → n < k → n < suc k
+  below-suc h = omega arith
+
+  here : k < suc k
+  here = omega arith
+
+all-same : (k : ℕ) (f g : ℕ → Bool) → ((n : ℕ) → n < k → f n ≡ g n) → allBelow k f ≡ allBelow k g
+unfolding allBelow
+all-same zero f g h = refl
+all-same (suc k) f g h = ap₂ _and_ (all-same k f g (λ n l. h n (below-suc k l))) (h k (here k))
+
+all-true : (k : ℕ) (f : ℕ → Bool) → ((n : ℕ) → n < k → f n ≡ true) → allBelow k f ≡ true
+unfolding allBelow
+all-true zero f h = refl
+all-true (suc k) f h = and-intro (all-true k f (λ n l. h n (below-suc k l))) (h k (here k))
+
+sum-same : (k : ℕ) (f g : ℕ → ℕ) → ((n : ℕ) → n < k → f n ≡ g n) → sumBelow k f ≡ sumBelow k g
+unfolding sumBelow
+sum-same zero f g h = refl
+sum-same (suc k) f g h = ap₂ _+_ (sum-same k f g (λ n l. h n (below-suc k l))) (h k (here k))
+
+sum-none : (k : ℕ) (f : ℕ → ℕ) → ((n : ℕ) → n < k → f n ≡ 0) → sumBelow k f ≡ 0
+unfolding sumBelow
+sum-none zero f h = refl
+sum-none (suc k) f h = omega (arith, sum-none k f (λ n l. h n (below-suc k l)), h k (here k))
+
+any-found : (k : ℕ) (f : ℕ → Bool) (n : ℕ) → n < k → f n ≡ true → anyBelow k f ≡ true
+unfolding anyBelow
+any-found zero f n h e = absurd (not-suc-le-zero h)
+any-found (suc k) f n h e = go (λ l. any-found k f n l e) (tested (eqb n k))
+  where
+    go : (n < k → anyBelow k f ≡ true) → Tested (eqb n k) → pick (anyBelow k f) true (f k) ≡ true
+    go r (holds w) =
+        ap (λ (t : Bool). pick (anyBelow k f) true t) (ap f (sym (eqb-true n k w)) ∙ e) ∙ pick-same (anyBelow k f) true
+    go r (fails w) = pick-yes true (f k) (r (let ne : n ≡ k → ⊥ = eqb-false n k w in omega arith))
+
+-- settings with every set output silent: none counts, so 8 and 9 have nothing to refuse and nothing is claimed
+module _ (mask : ℕ) (outputs : List Buffer) (a : AllSilent mask outputs) where
+  none-counts : (n : ℕ) → n < 4 → counts mask outputs n ≡ false
+  unfolding counts silent
+  none-counts n h = go (tested (isSet outputs n))
+    where
+      masked : (t : Bool) → not t ≡ true → t ≡ false
+      masked true e = sym e
+      masked false e = refl
+
+      go : Tested (isSet outputs n) → (isSet outputs n and unmasked mask n (output outputs n .format)) ≡ false
+      go (holds e) = and-yes _ e ∙ masked _ (a .each-silent n h e)
+      go (fails e) = and-no-left _ e
+
+  covered-silent : (d : Domain) → covered mask outputs d ≡ true
+  unfolding covered
+  covered-silent d = all-true 4 _ (λ n h. pick-no _ true (none-counts n h))
+
+  disjoint-silent : disjoint mask outputs ≡ true
+  unfolding disjoint
+  disjoint-silent =
+      all-true 4 _ (λ n h. all-true n _ (λ m k. pick-no _ true (and-no-left _ (none-counts n h))))
+
+  pub claim-silent : (d : Domain) → claimOf d mask outputs ≡ 0
+  unfolding claimOf
+  claim-silent d = ap (λ (n : ℕ). pairsOf d * n) (sum-none 4 _ (λ n h. pick-no 1 0 (none-counts n h))) ∙ mul-zero (pairsOf d)
+
+  pub ready-silent : (d : Domain) (instructions : Buffer) → complete d instructions outputs ≡ true →
+      readyOf d instructions mask outputs ≡ gives []
+  unfolding readyOf
+  ready-silent d instructions e = pick-yes _ _ e ∙ pick-yes _ _ (covered-silent d) ∙ pick-yes _ _ disjoint-silent
+
+-- "7 is as before, so a start with every output silent is a run of no elements": fed to a running session without an open command,
+-- where there is room for its two words
+module _ (s : Session) (i : Idle s) (room : s .party .taken + 2 ≤ limit) (q : SilentSettings s) where
+  complete-silent : complete (s .party .domain) (s .party .instructions) (s .shared .outputs) ≡ true
+  unfolding complete
+  complete-silent =
+      and-intro (eq-eqb _ 1 (q .domain-set))
+      (and-intro (eq-eqb _ 1 (q .instructions-set)) (any-found 4 _ (q .number) (q .number-most) (q .output-set)))
+
+  start-passes : startRuleOf command.Start s ≡ gives []
+  unfolding startRuleOf
+  start-passes = ready-silent (s .shared .mask) (s .shared .outputs) (q .all-silent) (s .party .domain) (s .party .instructions) complete-silent
+
+  start-writes : judgeCommandOf command.Start ≡ gives []
+  unfolding judgeCommandOf fieldsSpare allSpare spares faultOf lineOf fieldsOf lastRuleOf domainKept windowKept pick _and_ allowed
+  start-writes = refl
+
+  start-read : feedOf s startWords ≡
+      fed 2 (command.Start ∷ []) nothing (standing (after command.Start s) (s .party .taken + 2) none)
+  unfolding wordsOf fieldsOf
+  start-read = reads-back s command.Start i start-writes room [] start-passes
+
+  pub silent-start : EmptyRun s (feedOf s startWords)
+  unfolding after ownAfter
+  silent-start =
+      rw start-read
+      (record {
+        commands = refl;
+        unrefused = refl;
+        runs = refl;
+        claims =
+            ap (λ (n : ℕ). s .party .tally .claims + n) (claim-silent (s .shared .mask) (s .shared .outputs) (q .all-silent) (s .party .domain)) ∙
+            add-zero _;
+      })
+
+-- the mask 65535 has a bit for each channel of each code
+heard : ℕ → ℕ → Bool
+heard n code = some (channelsOf code) (λ c. on (4 * n + c) 65535)
+
+all-heard : (n code : ℕ) → n < 4 → code < 5 → heard n code ≡ true
+unfolding heard channelsOf some on everyBelow _and_ _or_
+all-heard n code h k = every (heard n) 5 (every (λ m. everyBelow (heard m) 5) 4 refl n h) code k
+
+-- so under it every set output counts, and a start is document 01's
+module _ (outputs : List Buffer) (a : Coded outputs) where
+  pub counts-in-full : (n : ℕ) → n < 4 → counts 65535 outputs n ≡ countsInFull outputs n
+  unfolding counts countsInFull unmasked heard
+  counts-in-full n h = go (tested (isSet outputs n))
+    where
+      go : Tested (isSet outputs n) → (isSet outputs n and unmasked 65535 n (output outputs n .format)) ≡ isSet outputs n
+      go (holds e) = and-yes _ e ∙ all-heard n (codeOf (output outputs n .format)) h (omega (arith, a .code-most n h e)) ∙ sym e
+      go (fails e) = and-no-left _ e ∙ sym e
+
+  covered-in-full : (d : Domain) → covered 65535 outputs d ≡ coveredInFull outputs d
+  unfolding covered coveredInFull
+  covered-in-full d = all-same 4 _ _ (λ n h. ap (λ (t : Bool). pick t (containsDomain d (output outputs n)) true) (counts-in-full n h))
+
+  disjoint-in-full : disjoint 65535 outputs ≡ disjointInFull outputs
+  unfolding disjoint disjointInFull
+  disjoint-in-full =
+      all-same 4 _ _
+      (λ n h. all-same n _ _
+      (λ m k. ap₂ (λ (t u : Bool). pick (t and u) (apart (output outputs n) (output outputs m)) true) (counts-in-full n h) (counts-in-full m (omega arith))))
+
+  pub ready-in-full : (d : Domain) (instructions : Buffer) → readyOf d instructions 65535 outputs ≡ readyInFull d instructions outputs
+  unfolding readyOf readyInFull
+  ready-in-full d instructions = cc (covered-in-full d, disjoint-in-full)
+
+  pub claim-in-full : (d : Domain) → claimOf d 65535 outputs ≡ claimInFull d outputs
+  unfolding claimOf claimInFull
+  claim-in-full d = ap (λ (n : ℕ). pairsOf d * n) (sum-same 4 _ _ (λ n h. ap (λ (t : Bool). pick t 1 0) (counts-in-full n h)))
+
+-- a command that was accepted keeps every set output's code among 0 to 4
+allowed-code : (w : ℕ) → formatAllowed w ≡ true → codeOf w ≤ 4
+unfolding formatAllowed
+allowed-code w e = leb-true _ _ (and-right _ _ (and-right _ _ (and-right _ _ (and-right _ _ e))))
+
+module _ (outputs : List Buffer) (size : length outputs ≡ 4) (a : Coded outputs) (number base format height : ℕ) where
+  abbrev put : List Buffer
+  put = set outputs number (buffer base format height)
+
+  coded-set : number ≤ 3 → codeOf format ≤ 4 → Coded put
+  unfolding isSet output
+  coded-set l k = record { code-most = λ n h e. go n h e (tested (eqb n number)) }
+    where
+      go : (n : ℕ) → n < 4 → isSet put n ≡ true → Tested (eqb n number) → codeOf (output put n .format) ≤ 4
+      go n h e (holds w) =
+          rw (eqb-true n number w, getD-set-same outputs number (buffer base format height) unset (omega (arith, size))) k
+      go n h e (fails w) =
+          let other : getD put n unset ≡ getD outputs n unset = getD-set-other outputs number n (buffer base format height) unset (eqb-false n number w) in
+          subst (λ (b : Buffer). codeOf (b .format) ≤ 4) (sym other) (a .code-most n h (ap (λ (b : Buffer). eqb (b .isSet) 1) (sym other) ∙ e))
+
+coded-after : (c : Command) (h : Shared) → EachAllowed (lineOf c) (fieldsOf c) → length (h .outputs) ≡ 4 → Coded (h .outputs) →
+    Coded (sharedAfter c h .outputs)
+unfolding sharedAfter lineOf fieldsOf countOf kindOf allowed
+coded-after (command.Domain i0 j0 i1 j1) h f l a = a
+coded-after command.Start h f l a = a
+coded-after (command.Quiet what) h f l a = a
+coded-after (command.Store stored.Instructions base format) h f l a = a
+coded-after (command.Store stored.Floats base format) h f l a = a
+coded-after (command.Store stored.Integers base format) h f l a = a
+coded-after (command.Store stored.Booleans base format) h f l a = a
+coded-after (command.Input number base format height) h f l a = a
+coded-after (command.Output number base format height) h f l a =
+    coded-set (h .outputs) l a number base format height (leb-true _ _ (f 0 (omega arith))) (allowed-code format (f 2 (omega arith)))
+coded-after (command.Conditional base format height) h f l a = a
+coded-after (command.OutputMask mask) h f l a = a
+coded-after (command.ConditionalMask mask) h f l a = a
+coded-after (command.Test test) h f l a = a
+
+-- so does a word, and a piece
+module _ (s : Session) (w : ℕ) (v : Valid s) (a : Coded (s .shared .outputs)) where
+  coded-way : (t : Stepped) → Way s w t → Coded (t .session .shared .outputs)
+  unfolding after
+  coded-way t (wasStopped e) = a
+  coded-way t (stops n e) = a
+  coded-way t (opens r i k) = a
+  coded-way t (fills p m) = a
+  coded-way t (ends p l c e u u' r q) = coded-after c (s .shared) (each-allowed s w v p l c e) (v .outputs) a
+
+coded-proceed : (t : Stepped) (f : Fed) → Coded (t .session .shared .outputs) → Coded (f .session .shared .outputs) →
+    Coded (proceed (t .reply) (t .session) f .session .shared .outputs)
+unfolding proceed
+coded-proceed t f a b = go (t .reply)
+  where
+    go : (r : Reply) → Coded (proceed r (t .session) f .session .shared .outputs)
+    go stillOpen = b
+    go (completed c) = b
+    go (refused n) = a
+
+pub coded-fed : (s : Session) (ws : List ℕ) → Valid s → Coded (s .shared .outputs) → Coded (feedOf s ws .session .shared .outputs)
+unfolding feedOf
+coded-fed s [] v a = a
+coded-fed s (w ∷ ws) v a =
+    let b : Coded (stepOf s w .session .shared .outputs) = coded-way s w v a (stepOf s w) (way s w) in
+    coded-proceed (stepOf s w) (feedOf (stepOf s w .session) ws) b (coded-fed (stepOf s w .session) ws (kept s w v) b)
+
+none-set : Coded (newSession .shared .outputs)
+unfolding isSet output codeOf
+none-set = record { code-most = λ n h e. each (λ n. codeOf (getD (newSession .shared .outputs) n unset .format) ≤ 4) 4 (tt & unset-code & unset-code & unset-code & unset-code) n h }
+  where
+    unset-code : codeOf 0 ≤ 4
+    unset-code = omega arith
+
+-- whatever words a new session was fed, where its mask is 65535 a start is document 01's
+pub as-before : (ws : List ℕ) → feedOf newSession ws .session .shared .mask ≡ 65535 → AsBefore (feedOf newSession ws .session)
+as-before ws e =
+    let s : Session = feedOf newSession ws .session in
+    let a : Coded (s .shared .outputs) = coded-fed newSession ws new-valid none-set in
+    record {
+      judged-so =
+          ap (λ (m : ℕ). readyOf (s .party .domain) (s .party .instructions) m (s .shared .outputs)) e ∙
+          ready-in-full (s .shared .outputs) a (s .party .domain) (s .party .instructions);
+      claims-so =
+          ap (λ (m : ℕ). claimOf (s .party .domain) m (s .shared .outputs)) e ∙ claim-in-full (s .shared .outputs) a (s .party .domain);
+    }

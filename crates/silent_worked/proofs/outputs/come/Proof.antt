@@ -1,0 +1,34 @@
+-- `silent_worked::outputs::come` is safe and ends; what it hands on came from the entries. Assumes nothing.
+use Rattle.session.proofs.Handed.{begun-given}
+use borrow.Author.Needs.{needs}
+use Rattle.silent_worked.proofs.outputs.come.Statement.{statement}
+use Rattle.silent_worked.proofs.outputs.come.Tie as tie
+
+begin-requires : tie.Need-begin-requires
+begin-requires c κs = search needs
+
+feed-requires : tie.Need-feed-requires
+feed-requires c κs = begun-given (c .before .before .before .begin .ensures)
+
+first-number-requires : tie.Need-first-number-requires
+first-number-requires c κs = search needs
+
+array-read-t17 : tie.Need-array-read-t17
+array-read-t17 c = search needs
+
+array-read-t20 : tie.Need-array-read-t20
+array-read-t20 c = search needs
+
+returns : tie.Need-returns
+returns c = search needs
+
+pub come-spec : {M : Type 1} → statement M
+come-spec =
+    tie.close
+    (tie.spec
+    begin-requires
+    feed-requires
+    first-number-requires
+    array-read-t17
+    array-read-t20
+    returns)
