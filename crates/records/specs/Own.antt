@@ -1,4 +1,5 @@
--- A change of a replay's own ten numbers, and of nothing else. Assumes nothing.
+-- What the routines of a record ask of the arrays that they are lent, and what they leave: a change of a replay's own ten numbers, the
+-- same by a byte that is answered, and a midnight. Assumes nothing.
 use mathlib.Core.Path.{_≡_}
 use mathlib.Core.List.{List}
 use Prim.Native.Nat.{ℕ, _<_}
@@ -11,6 +12,7 @@ use Rattle.refusal.specs.Number.{numberOf}
 use Rattle.records.specs.declared.bytes.Answer.{Answer}
 use Rattle.records.specs.declared.bytes.Answer.the-variants as answer
 
+-- the ten numbers were changed, and nothing else
 pub record Changed (f : Replay → Replay) (log log1 : List ℕ) : Type 0 where
   pub log-length : length log1 ≡ 10
   pub view : (marks : List ℕ) (s : Session) → viewed log1 marks s ≡ f (viewed log marks s)
