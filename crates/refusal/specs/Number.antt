@@ -21,6 +21,7 @@ use Rattle.refusal.specs.declared.Refusal.the-variants.{
   WordLimit,
   RecordKind,
   MidnightDay,
+  LeaseLine,
 }
 
 abbrev pub numberOf : Refusal → ℕ
@@ -43,3 +44,4 @@ numberOf Ended = 16
 numberOf WordLimit = 17
 numberOf RecordKind = 18
 numberOf MidnightDay = 19
+numberOf LeaseLine = 21

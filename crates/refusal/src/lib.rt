@@ -42,9 +42,11 @@ pub enum Refusal {
     RecordKind,
     // 19: a midnight's day isn't one more than the last, or it is the 401st midnight.
     MidnightDay,
+    // 21: a lease line out of its bounds.
+    LeaseLine,
 }
 
-// The number of a refusal, 1 to 19.
+// The number of a refusal, 1 to 19 and 21.
 pub fn number(r: Refusal) -> u32
     ensures { λ n. ⌜ n ≡ numberOf r ⌝ }
 {
@@ -68,5 +70,6 @@ pub fn number(r: Refusal) -> u32
         Refusal::WordLimit => 17,
         Refusal::RecordKind => 18,
         Refusal::MidnightDay => 19,
+        Refusal::LeaseLine => 21,
     }
 }
