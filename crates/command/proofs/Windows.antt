@@ -3,8 +3,9 @@
 use mathlib.Core.Path.{_≡_, refl, sym, ap, _∙_}
 use mathlib.Core.Bool.{Bool, true, false}
 use mathlib.Core.List.{List, [], _∷_}
-use Prim.Native.Nat.{ℕ, _%_, _^_, _<_, _≤_}
+use Prim.Native.Nat.{ℕ, _*_, _/_, _%_, _^_, _<_, _≤_}
 use native.Mathlib.Omega.{arith}
+use lib.Dec.{eqb}
 use lib.ListN.{List·getD-eq-default}
 use borrow.Author.Tests.{eqb-true, leb-true, eq-eqb, le-leb}
 use Rattle.laws.specs.Choice.{_and_, pick, placeOf}
@@ -18,7 +19,7 @@ use Rattle.command.specs.Kinds.{formatAllowed, allowed}
 use Rattle.command.specs.Rules.{isGiven}
 use Rattle.command.specs.declared.kinds.Kind.the-variants.{Base, Format, InputFormat}
 
--- codes above 4 have no size and no channels
+-- codes above 4 have no channels, and those above 7 no size
 pub code-past : (code : ℕ) → NoneOf Unit (0 ∷ 1 ∷ 2 ∷ 3 ∷ 4 ∷ []) code → 5 ≤ code
 code-past code r =
     let n0 : code ≡ 0 → ⊥ = r .0 .0 .0 .0 .1 in
@@ -28,9 +29,21 @@ code-past code r =
     let n4 : code ≡ 4 → ⊥ = r .1 in
     omega arith
 
-pub size-past : (code : ℕ) → NoneOf Unit (0 ∷ 1 ∷ 2 ∷ 3 ∷ 4 ∷ []) code → sizeOf code ≡ 0
+pub size-past : (code : ℕ) → 7 < code → 0 ≡ sizeOf code
 unfolding sizeOf
-size-past code r = List·getD-eq-default (2 ∷ 4 ∷ 4 ∷ 8 ∷ 16 ∷ []) 0 {n = code} (code-past code r)
+size-past code h = sym (List·getD-eq-default (2 ∷ 4 ∷ 4 ∷ 8 ∷ 16 ∷ []) 0 {n = code} (omega arith))
+
+-- the sizes as the digits of one number, five bits each
+digitRight : ℕ → Bool
+digitRight code = eqb (17043586 / 2 ^ (5 * code) % 32) (sizeOf code)
+
+digits-right : (code : ℕ) → code < 8 → digitRight code ≡ true
+unfolding digitRight sizeOf everyBelow _and_
+digits-right = every digitRight 8 refl
+
+pub size-read : (code : ℕ) → code ≤ 7 → 17043586 / 2 ^ (5 * code) % 32 ≡ sizeOf code
+unfolding digitRight
+size-read code h = eqb-true _ _ (digits-right code (omega arith))
 
 pub channels-past : (code : ℕ) → NoneOf Unit (0 ∷ 1 ∷ 2 ∷ 3 ∷ 4 ∷ []) code → channelsOf code ≡ 0
 unfolding channelsOf

@@ -34,18 +34,15 @@ pub fn code(format: u32) -> u32
     format / 16777216 % 8
 }
 
-// Bytes of an element of a format code; 0 for a code that is refused.
+// Bytes of an element of a format code; 0 for a code that is refused. The codes of a stream can't be foretold, so no branch is
+// taken on them: the sizes stand in one number, five bits for each code.
 pub fn size(code: u32) -> u32
     ensures { λ r. ⌜ r ≡ sizeOf code ⌝ }
 {
-    match code {
-        0 => 2,
-        1 => 4,
-        2 => 4,
-        3 => 8,
-        4 => 16,
-        _ => 0,
+    if 7 < code {
+        return 0;
     }
+    ((17043586u64 >> (5 * code)) % 32) as u32
 }
 
 // Channels of an element of a format code; 0 for a code that is refused.

@@ -12,8 +12,12 @@ use borrow.Author.Tests.{eq-eqb, ne-eqb}
 use Rattle.laws.specs.Choice.{_and_, pick}
 use Rattle.laws.proofs.Choice.{pick-yes, pick-no, and-left, and-yes, and-no-left}
 use Rattle.refusal.specs.Told.{Told, gives, refuses}
-use Rattle.command.specs.Format.{windowOf}
+use Rattle.layout.specs.Layout.{wellFormed, rowStep, spanOf, windowRule, judgeOf}
+use Rattle.layout.proofs.Window.{judged-malformed, judged-broken, judged-accepted}
+use Rattle.command.specs.Format.{pitchOf, tiledOf, codeOf, sizeOf, windowOf}
+use Rattle.command.proofs.Windows.{window-read}
 use Rattle.effects.specs.declared.start.Output.{Output}
+use Rattle.effects.specs.declared.start.Window.{Window}
 use Rattle.cells.specs.State.{Buffer, Domain}
 use Rattle.cells.specs.Cells.{bufferAt, partyOf, sharedOf}
 use Rattle.cells.specs.Start.{
@@ -40,6 +44,7 @@ use Rattle.cells.specs.Valid.{DomainValid}
 use Rattle.effects.specs.Windows.{
   cellsBuffer,
   countsBy,
+  windowSeen,
   outputOf,
   holdsPair,
   spansApart,
@@ -50,6 +55,32 @@ use Rattle.effects.specs.Windows.{
   verdictOf,
 }
 use Rattle.effects.proofs.Channels.{from-own}
+
+-- what a start sees of a window, by the tests of its layout's numbers
+module _
+    (base format h p k s : ℕ)
+    (t : Bool)
+    (ep : p ≡ pitchOf format)
+    (ek : k ≡ codeOf format)
+    (es : s ≡ sizeOf k)
+    (et : t ≡ tiledOf format)
+  where
+    abbrev read : judgeOf base p h s t ≡ windowOf base format h
+    read = window-read base format h p k s t ep ek es et
+
+    pub seen-malformed : wellFormed base p s ≡ false → record { step = 0; span = 0 } ≡ windowSeen (windowOf base format h)
+    unfolding valueOf
+    seen-malformed w = ap windowSeen (sym (judged-malformed base p h s t w) ∙ read)
+
+    module _ (w : wellFormed base p s ≡ true) where
+      pub seen-broken : windowRule base t s (rowStep t s p) h ≡ false → record { step = 0; span = 0 } ≡ windowSeen (windowOf base format h)
+      unfolding valueOf
+      seen-broken r = ap windowSeen (sym (judged-broken base p h s t w r) ∙ read)
+
+      pub seen-accepted : (e n : ℕ) → e ≡ rowStep t s p → n ≡ spanOf t s (rowStep t s p) h → windowRule base t s (rowStep t s p) h ≡ true →
+          record { step = e; span = n } ≡ windowSeen (windowOf base format h)
+      unfolding valueOf
+      seen-accepted e n step span r = ap windowSeen (sym (judged-accepted base p h s t w e n step span r) ∙ read)
 
 -- an output by the judgement of its window
 abbrev judged : Bool → ℕ → ℕ → Told → Output
@@ -77,21 +108,13 @@ module _ (bits flag format : ℕ) where
       unfolding countsBy
       is-set = sym (and-left (eqb flag 1) (unmasked bits 0 format) (sym c ∙ e))
 
-      pub output-given : {step span : ℕ} → gives (step ∷ span ∷ []) ≡ windowOf base format height →
-          record { set = true; counts = true; base = base; step = step; height = height; span = span } ≡
+      pub output-counted : {w : Window} → w ≡ windowSeen (windowOf base format height) →
+          record { set = true; counts = true; base = base; step = w .step; height = height; span = w .span } ≡
           outputOf bits (cellsBuffer flag base format height)
-      unfolding outputOf stepOfBuffer spanOfBuffer valueOf
-      output-given w =
-          ap (judged true base height) w ∙ ap (λ (x : Bool). judged x base height (windowOf base format height)) is-set ∙
-          sym (pick-yes _ _ (sym c ∙ e))
-
-      pub output-refused : {n : ℕ} → refuses n ≡ windowOf base format height →
-          record { set = true; counts = true; base = base; step = 0; height = height; span = 0 } ≡
-          outputOf bits (cellsBuffer flag base format height)
-      unfolding outputOf stepOfBuffer spanOfBuffer valueOf
-      output-refused w =
-          ap (judged true base height) w ∙ ap (λ (x : Bool). judged x base height (windowOf base format height)) is-set ∙
-          sym (pick-yes _ _ (sym c ∙ e))
+      unfolding outputOf stepOfBuffer spanOfBuffer
+      output-counted w =
+          ap (λ (x : Window). record { set = true; counts = true; base = base; step = x .step; height = height; span = x .span }) w ∙
+          ap (λ (x : Bool). judged x base height (windowOf base format height)) is-set ∙ sym (pick-yes _ _ (sym c ∙ e))
 
 -- what a start asks of an output that it sees, said of the buffer
 module _ (bits : ℕ) (b : Buffer) where

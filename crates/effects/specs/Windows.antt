@@ -6,8 +6,9 @@ use lib.Dec.{eqb, leb, ltb}
 use Rattle.laws.specs.Choice.{_and_, pick}
 use Rattle.refusal.specs.Told.{Told, gives, refuses}
 use Rattle.effects.specs.declared.start.Output.{Output}
+use Rattle.effects.specs.declared.start.Window.{Window}
 use Rattle.cells.specs.State.{Buffer}
-use Rattle.cells.specs.Start.{stepOfBuffer, spanOfBuffer, unmasked}
+use Rattle.cells.specs.Start.{valueOf, stepOfBuffer, spanOfBuffer, unmasked}
 
 -- four cells as the buffer that they hold
 abbrev pub cellsBuffer : ℕ → ℕ → ℕ → ℕ → Buffer
@@ -16,6 +17,10 @@ cellsBuffer isSet base format height = record { isSet = isSet; base = base; form
 -- an output counts, by its flag and format and the mask's bits from the output's own on: these are a mask in which it is output 0
 unfoldable pub countsBy : ℕ → ℕ → ℕ → Bool
 countsBy bits flag format = eqb flag 1 and unmasked bits 0 format
+
+-- what a start sees of a window's judgement: row step and span, 0 and 0 of a refused one
+abbrev pub windowSeen : Told → Window
+windowSeen t = record { step = valueOf t 0; span = valueOf t 1 }
 
 -- of one that isn't set or is silent, nothing but that is looked at
 unfoldable pub outputOf : ℕ → Buffer → Output

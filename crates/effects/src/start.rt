@@ -3,7 +3,7 @@ use cells::own;
 use cells::settings;
 use command::format;
 use command::kinds::Checked;
-use layout::Judged;
+use layout;
 use refusal::Refusal;
 ghost use mathlib.Core.Path.{_≡_};
 ghost use mathlib.Core.Bool.{true};
@@ -11,12 +11,12 @@ ghost use mathlib.Core.List.{[]};
 ghost use Prim.Native.Nat.{_+_, _-_, _*_, _%_, _^_, _<_, _≤_};
 ghost use lib.ListN.{length};
 ghost use Rattle.laws.specs.Choice.{_and_, pick};
-ghost use Rattle.command.specs.Format.{channelsOf};
+ghost use Rattle.command.specs.Format.{channelsOf, windowOf};
 ghost use Rattle.command.specs.Kinds.{toldChecked};
 ghost use Rattle.cells.specs.Cells.{bufferAt, partyOf, sharedOf};
 ghost use Rattle.cells.specs.Start.{claimOf, counts, readyOf, sumBelow, unmasked};
 ghost use Rattle.cells.specs.Valid.{DomainValid};
-ghost use Rattle.effects.specs.Windows.{cellsBuffer, countsBy, eachApart, eachHolds, holdsPair, keepsApart, outputOf, someSet, spansApart, verdictOf};
+ghost use Rattle.effects.specs.Windows.{cellsBuffer, countsBy, eachApart, eachHolds, holdsPair, keepsApart, outputOf, someSet, spansApart, verdictOf, windowSeen};
 
 // An output as a start sees it: whether it is set, whether it counts, and its window. A window that is refused has row step
 // and span 0.
@@ -62,6 +62,32 @@ fn is_counted(bits: u32, flag: u32, format: u32) -> bool
     }
 }
 
+// A window's row step and span; 0 and 0 where it is refused.
+pub struct Window {
+    pub step: u32,
+    pub span: u32,
+}
+
+// The window that base, format and height describe. It is asked by numbers, so that nothing goes through memory.
+fn window_of(base: u32, format: u32, height: u32) -> Window
+    ensures { λ r. ⌜ r ≡ windowSeen (windowOf base format height) ⌝ }
+{
+    let pitch = format::pitch(format);
+    let size = format::size(format::code(format));
+    let tiled = format::tiled(format);
+    if !layout::well_formed(base, pitch, size) {
+        return Window { step: 0, span: 0 };
+    }
+    let row = layout::window_row(base, pitch, height, size, tiled);
+    if row < 1 {
+        return Window { step: 0, span: 0 };
+    }
+    Window {
+        step: layout::row_step(pitch, size, tiled),
+        span: layout::rows_taken(height, size, tiled) * row,
+    }
+}
+
 // The output that four cells describe. The window of one that isn't set or is silent is asked for nothing, so it isn't judged.
 fn output_of(bits: u32, flag: u32, base: u32, format: u32, height: u32) -> Output
     ensures { λ r. ⌜ r ≡ outputOf bits (cellsBuffer flag base format height) ⌝ }
@@ -77,23 +103,14 @@ fn output_of(bits: u32, flag: u32, base: u32, format: u32, height: u32) -> Outpu
             span: 0,
         };
     }
-    match format::window(base, format, height) {
-        Judged::Accepted { step, span } => Output {
-            set: true,
-            counts: true,
-            base,
-            step,
-            height,
-            span,
-        },
-        Judged::Refused(_) => Output {
-            set: true,
-            counts: true,
-            base,
-            step: 0,
-            height,
-            span: 0,
-        },
+    let window = window_of(base, format, height);
+    Output {
+        set: true,
+        counts: true,
+        base,
+        step: window.step,
+        height,
+        span: window.span,
     }
 }
 

@@ -6,6 +6,7 @@ use Rattle.layout.specs.Layout.{wellFormed, rowStep, windowRule, judgeOf}
 use Rattle.layout.proofs.Window.{judged-malformed, judged-broken, judged-accepted}
 use Rattle.command.specs.Format.{pitchOf, codeOf, sizeOf, tiledOf, windowOf}
 use Rattle.command.specs.Rules.{isGiven}
+use Rattle.command.proofs.Windows.{window-read}
 
 module _
     (base format h p k s : ℕ)
@@ -16,8 +17,7 @@ module _
     (et : t ≡ tiledOf format)
   where
     same : windowOf base format h ≡ judgeOf base p h s t
-    unfolding windowOf
-    same = sym (λ i. judgeOf base (ep i) h ((es ∙ ap sizeOf ek) i) (et i))
+    same = sym (window-read base format h p k s t ep ek es et)
 
     pub accepted : wellFormed base p s ≡ true → windowRule base t s (rowStep t s p) h ≡ true → true ≡ isGiven (windowOf base format h)
     unfolding isGiven

@@ -2,8 +2,20 @@
 -- over them. Assumes nothing.
 use mathlib.Core.Path.{_≡_, refl, sym, ap, ap₂, _∙_}
 use mathlib.Core.Bool.{Bool, true, false}
-use Prim.Native.Nat.{ℕ, _+_, _-_, _*_, _/_, _^_, _<_, _≤_}
-use native.Mathlib.Nat.{mul-assoc, mul-left-comm, mul-le-mul, mul-pos, le-of-mul-le-mul-right, lt-of-mul-lt-mul-right}
+use Prim.Native.Nat.{ℕ, _+_, _-_, _*_, _/_, _%_, _^_, _<_, _≤_}
+use native.Mathlib.Nat.{
+  mul-assoc,
+  mul-left-comm,
+  one-mul,
+  mul-le-mul,
+  mul-pos,
+  le-trans,
+  le-of-mul-le-mul-right,
+  lt-of-le-of-lt,
+  lt-of-mul-lt-mul-right,
+  div-mul-le-self,
+  mod-eq-of-lt,
+}
 use native.Mathlib.Omega.{arith}
 use lib.Dec.{leb}
 use borrow.Author.Tests.{leb-true, le-leb, lt-leb}
@@ -22,55 +34,97 @@ form-pitch base pitch s e = leb-true _ _ (and-left _ _ (and-right _ _ (and-right
 pub bytes-most : (s n : ℕ) → isSize s ≡ true → n ≤ 8188 → n * s ≤ 131008
 bytes-most s n z h = mul-le-mul h (size-most s z)
 
--- the row step in bytes
-pub linear-row : (s n : ℕ) → isSize s ≡ true → n * s / 32 * 32 ≡ rowStep false s n * s
-unfolding rowStep unitOf pick widthOf placeOf
-linear-row s n =
-    by-size (λ s. n * s / 32 * 32 ≡ rowStep false s n * s) (omega arith) (omega arith) (omega arith) (omega arith) (omega arith)
-    s
+-- the powers of 2 that row steps and rows are multiples of, as the code reads them off a number, three bits for a size
+abbrev read : ℕ → ℕ → ℕ
+read logs s = logs / 2 ^ (3 * s) % 8
 
-pub narrow-row : (s n : ℕ) → isSize s ≡ true → s < 4 → n * s / 64 * 64 ≡ rowStep true s n * s
-unfolding rowStep unitOf pick widthOf placeOf
-narrow-row s n =
-    by-size (λ s. s < 4 → n * s / 64 * 64 ≡ rowStep true s n * s) (omega arith) (omega arith) (omega arith) (omega arith)
-    (omega arith)
-    s
+module _ (tiled : Bool) where
+  pub step-log : (s : ℕ) → isSize s ≡ true → (read (pick tiled 1125899973972336 281475010277672) s ≤ 6) × (2 ^ read (pick tiled 1125899973972336 281475010277672) s ≡ unitOf tiled s)
+  unfolding unitOf pick widthOf placeOf
+  step-log = go tiled
+    where
+      go : (t : Bool) (s : ℕ) → isSize s ≡ true → (read (pick t 1125899973972336 281475010277672) s ≤ 6) × (2 ^ read (pick t 1125899973972336 281475010277672) s ≡ unitOf t s)
+      go true =
+          by-size (λ s. (read 1125899973972336 s ≤ 6) × (2 ^ read 1125899973972336 s ≡ unitOf true s))
+          (omega arith, refl)
+          (omega arith, refl)
+          (omega arith, refl)
+          (omega arith, refl)
+          (omega arith, refl)
+      go false =
+          by-size (λ s. (read 281475010277672 s ≤ 6) × (2 ^ read 281475010277672 s ≡ unitOf false s))
+          (omega arith, refl)
+          (omega arith, refl)
+          (omega arith, refl)
+          (omega arith, refl)
+          (omega arith, refl)
 
-pub middle-row : (s n : ℕ) → isSize s ≡ true → 4 ≤ s → s < 16 → n * s / 128 * 128 ≡ rowStep true s n * s
-unfolding rowStep unitOf pick widthOf placeOf
-middle-row s n =
-    by-size (λ s. 4 ≤ s → s < 16 → n * s / 128 * 128 ≡ rowStep true s n * s) (omega arith) (omega arith) (omega arith)
-    (omega arith)
-    (omega arith)
-    s
+  pub rows-log : (s : ℕ) → isSize s ≡ true → (read (pick tiled 844424997257576 0) s ≤ 5) × (2 ^ read (pick tiled 844424997257576 0) s ≡ pick tiled (heightOf s) 1)
+  unfolding pick heightOf placeOf
+  rows-log = go tiled
+    where
+      go : (t : Bool) (s : ℕ) → isSize s ≡ true → (read (pick t 844424997257576 0) s ≤ 5) × (2 ^ read (pick t 844424997257576 0) s ≡ pick t (heightOf s) 1)
+      go true =
+          by-size (λ s. (read 844424997257576 s ≤ 5) × (2 ^ read 844424997257576 s ≡ heightOf s))
+          (omega arith, refl)
+          (omega arith, refl)
+          (omega arith, refl)
+          (omega arith, refl)
+          (omega arith, refl)
+      go false =
+          by-size (λ s. (read 0 s ≤ 5) × (2 ^ read 0 s ≡ 1))
+          (omega arith, refl)
+          (omega arith, refl)
+          (omega arith, refl)
+          (omega arith, refl)
+          (omega arith, refl)
 
-pub wide-row : (s n : ℕ) → isSize s ≡ true → 16 ≤ s → n * s / 256 * 256 ≡ rowStep true s n * s
-unfolding rowStep unitOf pick widthOf placeOf
-wide-row s n =
-    by-size (λ s. 16 ≤ s → n * s / 256 * 256 ≡ rowStep true s n * s) (omega arith) (omega arith) (omega arith) (omega arith)
-    (omega arith)
-    s
+-- cutting down by shifts stays in 32 bits
+shifted : (n k : ℕ) → n < 4294967296 → n / k * k % 4294967296 ≡ n / k * k
+shifted n k h = mod-eq-of-lt (lt-of-le-of-lt (div-mul-le-self n k) h)
+
+pub cut-step : (tiled : Bool) (s p l : ℕ) → p < 4294967296 → 2 ^ l ≡ unitOf tiled s → p / 2 ^ l * 2 ^ l % 4294967296 ≡ rowStep tiled s p
+unfolding rowStep
+cut-step tiled s p l h e = shifted p (2 ^ l) h ∙ ap (λ (k : ℕ). p / k * k) e
+
+pub step-fits : (tiled : Bool) (s p : ℕ) → isSize s ≡ true → p ≤ 8188 → (r : ℕ) → r ≡ rowStep tiled s p → r * s ≤ 131008
+unfolding rowStep
+step-fits tiled s p z h r e = bytes-most s r z (rw e (le-trans (div-mul-le-self p (unitOf tiled s)) h))
 
 -- the height filled up to whole tiles
-module _ (h : ℕ) where
-  pub low-rows : (s : ℕ) → isSize s ≡ true → s < 4 → (h + 31) / 32 * 32 ≡ rowsTaken true s h
-  unfolding rowsTaken tileRows pick heightOf placeOf
-  low-rows =
-      by-size (λ s. s < 4 → (h + 31) / 32 * 32 ≡ rowsTaken true s h) (omega arith) (omega arith) (omega arith) (omega arith)
-      (omega arith)
+filled : (tiled : Bool) (s h : ℕ) → (h + (pick tiled (heightOf s) 1 - 1)) / pick tiled (heightOf s) 1 * pick tiled (heightOf s) 1 ≡ rowsTaken tiled s h
+unfolding rowsTaken tileRows pick
+filled true s h = refl
+filled false s h = omega arith
 
-  pub middle-rows : (s : ℕ) → isSize s ≡ true → 4 ≤ s → s < 16 → (h + 15) / 16 * 16 ≡ rowsTaken true s h
-  unfolding rowsTaken tileRows pick heightOf placeOf
-  middle-rows =
-      by-size (λ s. 4 ≤ s → s < 16 → (h + 15) / 16 * 16 ≡ rowsTaken true s h) (omega arith) (omega arith) (omega arith)
-      (omega arith)
-      (omega arith)
+tile-rows : (s : ℕ) → isSize s ≡ true → (1 ≤ heightOf s) × (heightOf s ≤ 32)
+unfolding heightOf placeOf
+tile-rows =
+    by-size (λ s. (1 ≤ heightOf s) × (heightOf s ≤ 32)) (omega arith) (omega arith) (omega arith) (omega arith) (omega arith)
 
-  pub high-rows : (s : ℕ) → isSize s ≡ true → 16 ≤ s → (h + 7) / 8 * 8 ≡ rowsTaken true s h
-  unfolding rowsTaken tileRows pick heightOf placeOf
-  high-rows =
-      by-size (λ s. 16 ≤ s → (h + 7) / 8 * 8 ≡ rowsTaken true s h) (omega arith) (omega arith) (omega arith) (omega arith)
-      (omega arith)
+-- the rows that a window's are a multiple of, and the power of 2 as the code has it
+module _ (tiled : Bool) (s l : ℕ) (z : isSize s ≡ true) (e : 2 ^ l ≡ pick tiled (heightOf s) 1) where
+  abbrev unit : ℕ
+  unit = pick tiled (heightOf s) 1
+
+  bounds : (1 ≤ unit) × (unit ≤ 32)
+  bounds =
+      by-pick (λ (n : ℕ). (1 ≤ n) × (n ≤ 32)) tiled (heightOf s) 1 (λ _. tile-rows s z) (λ _. (omega arith, omega arith))
+
+  made : 1 * 2 ^ l % 4294967296 ≡ unit
+  made = ap (λ (n : ℕ). n % 4294967296) (one-mul (2 ^ l) ∙ e) ∙ mod-eq-of-lt (omega (arith, bounds))
+
+  pub unit-least : 1 ≤ 1 * 2 ^ l % 4294967296
+  unit-least = rw made (bounds .0)
+
+  pub unit-fits : (h : ℕ) → h ≤ 4096 → h + (1 * 2 ^ l % 4294967296 - 1) ≤ 4127
+  unit-fits h b = rw made (omega (arith, b, bounds))
+
+  pub filled-rows : (h : ℕ) → h ≤ 4096 → (h + (1 * 2 ^ l % 4294967296 - 1)) / 2 ^ l * 2 ^ l % 4294967296 ≡ rowsTaken tiled s h
+  filled-rows h b =
+      shifted _ (2 ^ l) (lt-of-le-of-lt (unit-fits h b) (omega arith)) ∙
+      ap₂ (λ (n k : ℕ). (h + (n - 1)) / k * k) made e ∙
+      filled tiled s h
 
 -- 4,096 is a whole number of tiles at every size
 filled-most : (s h : ℕ) → isSize s ≡ true → h ≤ 4096 → tileRows s h * heightOf s ≤ 4096

@@ -2,11 +2,12 @@
 // is accepted, with its row step and span, or refused with 3 (malformed) or 6 (window rule).
 use refusal::Refusal;
 ghost use mathlib.Core.Path.{_≡_};
-ghost use mathlib.Core.Bool.{true, false};
-ghost use Prim.Native.Nat.{_*_, _<_, _≤_};
+ghost use mathlib.Core.Bool.{true};
+ghost use Prim.Native.Nat.{_*_, _^_, _<_, _≤_};
 ghost use lib.ListN.{getD};
 ghost use Rattle.layout.specs.Sizes.{isSize, sizes, widths, heights, widthOf, heightOf};
-ghost use Rattle.layout.specs.Layout.{wellFormed, rowStep, rowsTaken, rowBytes, judgeOf, toldJudged};
+ghost use Rattle.laws.specs.Choice.{pick};
+ghost use Rattle.layout.specs.Layout.{wellFormed, unitOf, rowStep, rowsTaken, rowBytes, judgeOf, toldJudged};
 
 // The address of a byte: one of document 01's three kinds of number, never a word's position or a slot number.
 pub struct ByteAddress(pub u32);
@@ -112,32 +113,23 @@ pub fn well_formed(base: u32, pitch: u32, size: u32) -> bool
     is_size(size)
 }
 
-// The pitch cut down to a multiple of 32 bytes.
-fn linear_step(pitch: u32, size: u32) -> u32
-    requires { ⌜ isSize size ≡ true ⌝ }
-    ensures { λ r. ⌜ r ≡ rowStep false size pitch ⌝ }
+// What row steps are multiples of, as powers of 2 that stand in one number, three bits for a size. The sizes of a stream can't be
+// foretold, so no branch is taken on them.
+fn step_logs(tiled: bool) -> u64
+    ensures { λ r. ⌜ r ≡ pick tiled 1125899973972336 281475010277672 ⌝ }
 {
-    match size {
-        1 => pitch / 32 * 32,
-        2 => pitch / 16 * 16,
-        4 => pitch / 8 * 8,
-        8 => pitch / 4 * 4,
-        _ => pitch / 2 * 2,
+    if tiled {
+        1125899973972336
+    } else {
+        281475010277672
     }
 }
 
-// The pitch cut down to a multiple of the tile's width.
-fn tiled_step(pitch: u32, size: u32) -> u32
+fn step_log(size: u32, tiled: bool) -> u32
     requires { ⌜ isSize size ≡ true ⌝ }
-    ensures { λ r. ⌜ r ≡ rowStep true size pitch ⌝ }
+    ensures { λ r. ⌜ (r ≤ 6) × (2 ^ r ≡ unitOf tiled size) ⌝ }
 {
-    match size {
-        1 => pitch / 64 * 64,
-        2 => pitch / 32 * 32,
-        4 => pitch / 32 * 32,
-        8 => pitch / 16 * 16,
-        _ => pitch / 16 * 16,
-    }
+    ((step_logs(tiled) >> (3 * size)) % 8) as u32
 }
 
 // Document 01's row step E: the elements from one row to the next.
@@ -145,65 +137,39 @@ pub fn row_step(pitch: u32, size: u32, tiled: bool) -> u32
     requires { ⌜ isSize size ≡ true ⌝ }
     ensures { λ r. ⌜ r ≡ rowStep tiled size pitch ⌝ }
 {
-    if tiled {
-        tiled_step(pitch, size)
-    } else {
-        linear_step(pitch, size)
-    }
+    let log = step_log(size, tiled);
+    pitch >> log << log
 }
 
-// The bytes from one row to the next where tiled: the pitch's bytes cut down to whole tiles. Tiles of sizes 1 and 2 are 64
-// bytes wide, of 4 and 8 twice that, of 16 four times.
-fn tiled_row(pitch: u32, size: u32) -> u32
-    requires { ⌜ (isSize size ≡ true) × (pitch ≤ 8188) ⌝ }
-    ensures { λ r. ⌜ r ≡ rowStep true size pitch * size ⌝ }
-{
-    let bytes = pitch * size;
-    if size < 4 {
-        return bytes / 64 * 64;
-    }
-    if size < 16 {
-        return bytes / 128 * 128;
-    }
-    bytes / 256 * 256
-}
-
-// The row step in bytes. Counted so, a linear row is cut to 32 bytes at every size, and no branch on the size is needed.
+// The row step in bytes.
 fn row(pitch: u32, size: u32, tiled: bool) -> u32
     requires { ⌜ (isSize size ≡ true) × (pitch ≤ 8188) ⌝ }
     ensures { λ r. ⌜ r ≡ rowStep tiled size pitch * size ⌝ }
 {
-    if tiled {
-        tiled_row(pitch, size)
-    } else {
-        pitch * size / 32 * 32
-    }
+    row_step(pitch, size, tiled) * size
 }
 
-// The height filled up to whole tiles.
-fn tiled_rows(height: u32, size: u32) -> u32
-    requires { ⌜ (isSize size ≡ true) × (height ≤ 4096) ⌝ }
-    ensures { λ r. ⌜ r ≡ rowsTaken true size height ⌝ }
+// What the rows of a window's bytes are a multiple of, likewise: the rows of a tile, or 1.
+fn rows_logs(tiled: bool) -> u64
+    ensures { λ r. ⌜ r ≡ pick tiled 844424997257576 0 ⌝ }
 {
-    if size < 4 {
-        return (height + 31) / 32 * 32;
-    }
-    if size < 16 {
-        return (height + 15) / 16 * 16;
-    }
-    (height + 7) / 8 * 8
+    if tiled { 844424997257576 } else { 0 }
 }
 
-// The rows that a window's bytes make up.
-fn rows_taken(height: u32, size: u32, tiled: bool) -> u32
+fn rows_log(size: u32, tiled: bool) -> u32
+    requires { ⌜ isSize size ≡ true ⌝ }
+    ensures { λ r. ⌜ (r ≤ 5) × (2 ^ r ≡ pick tiled (heightOf size) 1) ⌝ }
+{
+    ((rows_logs(tiled) >> (3 * size)) % 8) as u32
+}
+
+// The rows that a window's bytes make up: the height, filled up to whole tiles where tiled.
+pub fn rows_taken(height: u32, size: u32, tiled: bool) -> u32
     requires { ⌜ (isSize size ≡ true) × (height ≤ 4096) ⌝ }
     ensures { λ r. ⌜ r ≡ rowsTaken tiled size height ⌝ }
 {
-    if tiled {
-        tiled_rows(height, size)
-    } else {
-        height
-    }
+    let log = rows_log(size, tiled);
+    (height + ((1u32 << log) - 1)) >> log << log
 }
 
 // The bytes from one row to the next, or 0 where the window rule is broken. It is a number, so that it stays in a register;

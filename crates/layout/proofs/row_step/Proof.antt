@@ -1,22 +1,20 @@
--- `layout::row_step` meets its contract: its two callees are the two cases of the definition. Assumes nothing.
-use mathlib.Core.Path.{_∙_, sym, ap}
-use mathlib.Core.Bool.{Bool}
+-- `layout::row_step` meets its contract: the pitch cut down by shifts. Assumes nothing.
+use Rattle.layout.proofs.Rows.{cut-step}
 use borrow.Author.Needs.{needs}
-use Rattle.layout.specs.Layout.{rowStep}
 use Rattle.layout.proofs.row_step.Statement.{statement}
 use Rattle.layout.proofs.row_step.Tie as tie
 
-tiled-step-requires : tie.Need-tiled-step-requires
-tiled-step-requires c κs = search needs
+step-log-requires : tie.Need-step-log-requires
+step-log-requires c κs = search needs
 
-linear-step-requires : tie.Need-linear-step-requires
-linear-step-requires c κs = search needs
+shr-result : tie.Need-shr-result
+shr-result c = search needs
+
+shl-result : tie.Need-shl-result
+shl-result c = search needs
 
 returns : tie.Need-returns
-returns c = c .tiled-step .ensures ∙ sym (ap (λ (t : Bool). rowStep t (c .before .before .args .size) (c .before .before .args .pitch)) (c .before .if1 .taken))
-
-returns-2 : tie.Need-returns-2
-returns-2 c = c .linear-step .ensures ∙ sym (ap (λ (t : Bool). rowStep t (c .before .before .args .size) (c .before .before .args .pitch)) (c .before .if1 .left))
+returns c = cut-step _ _ _ _ (c .before .fits .pitch .fits) (c .step-log .ensures .1)
 
 pub row-step-spec : {M : Type 1} → statement M
-row-step-spec = tie.close (tie.spec tiled-step-requires linear-step-requires returns returns-2)
+row-step-spec = tie.close (tie.spec step-log-requires shr-result shl-result returns)

@@ -1,21 +1,32 @@
--- `layout::rows_taken` meets its contract: the two kinds of layout. Assumes nothing.
-use mathlib.Core.Path.{_∙_, sym, ap}
-use mathlib.Core.Bool.{Bool}
-use Rattle.laws.proofs.Choice.{pick-no}
-use Rattle.layout.specs.Layout.{rowsTaken}
+-- `layout::rows_taken` meets its contract: the height filled up by shifts. Assumes nothing.
+use Rattle.layout.proofs.Rows.{unit-least, unit-fits, filled-rows}
+use native.Mathlib.Omega.{arith}
 use borrow.Author.Needs.{needs}
 use Rattle.layout.proofs.rows_taken.Statement.{statement}
 use Rattle.layout.proofs.rows_taken.Tie as tie
 
-tiled-rows-requires : tie.Need-tiled-rows-requires
-tiled-rows-requires c κs = search needs
+rows-log-requires : tie.Need-rows-log-requires
+rows-log-requires c κs = search needs
+
+shl-result : tie.Need-shl-result
+shl-result c = search needs
+
+sub-result : tie.Need-sub-result
+sub-result c = unit-least _ _ _ (c .before .pre .0) (c .rows-log .ensures .1)
+
+add-result : tie.Need-add-result
+add-result c = omega (arith, unit-fits _ _ _ (c .before .pre .0) (c .rows-log .ensures .1) _ (c .before .pre .1))
+
+shr-result : tie.Need-shr-result
+shr-result c = search needs
+
+shl-result-2 : tie.Need-shl-result-2
+shl-result-2 c = search needs
 
 returns : tie.Need-returns
-returns c = c .tiled-rows .ensures ∙ sym (ap (λ (t : Bool). rowsTaken t (c .before .before .args .size) (c .before .before .args .height)) (c .before .if1 .taken))
-
-returns-2 : tie.Need-returns-2
-unfolding rowsTaken
-returns-2 c = sym (pick-no _ _ (c .if1 .left))
+returns c = filled-rows _ _ _ (c .before .pre .0) (c .rows-log .ensures .1) _ (c .before .pre .1)
 
 pub rows-taken-spec : {M : Type 1} → statement M
-rows-taken-spec = tie.close (tie.spec tiled-rows-requires returns returns-2)
+rows-taken-spec =
+    tie.close
+    (tie.spec rows-log-requires shl-result sub-result add-result shr-result shl-result-2 returns)

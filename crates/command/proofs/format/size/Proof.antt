@@ -1,32 +1,26 @@
--- `command::format::size` meets its contract: each arm by the definition at that code. Assumes nothing.
-use mathlib.Core.Path.{sym, ap}
-use Rattle.command.specs.Format.{sizeOf}
-use Rattle.command.proofs.Windows.{size-past}
+-- `command::format::size` meets its contract: the number read at each code. Assumes nothing.
+use Rattle.command.proofs.Windows.{size-past, size-read}
+use borrow.Author.Needs.{needs}
 use Rattle.command.proofs.format.size.Statement.{statement}
 use Rattle.command.proofs.format.size.Tie as tie
 
 returns : tie.Need-returns
-unfolding sizeOf
-returns c = sym (ap sizeOf (c .match .keys1))
+returns c = size-past _ (c .if1 .taken)
+
+mul-result : tie.Need-mul-result
+mul-result c = search needs
+
+cast-result : tie.Need-cast-result
+cast-result c = search needs
+
+shr-result : tie.Need-shr-result
+shr-result c = search needs
+
+cast-result-2 : tie.Need-cast-result-2
+cast-result-2 c = search needs
 
 returns-2 : tie.Need-returns-2
-unfolding sizeOf
-returns-2 c = sym (ap sizeOf (c .match .keys2))
-
-returns-3 : tie.Need-returns-3
-unfolding sizeOf
-returns-3 c = sym (ap sizeOf (c .match .keys3))
-
-returns-4 : tie.Need-returns-4
-unfolding sizeOf
-returns-4 c = sym (ap sizeOf (c .match .keys4))
-
-returns-5 : tie.Need-returns-5
-unfolding sizeOf
-returns-5 c = sym (ap sizeOf (c .match .keys5))
-
-returns-6 : tie.Need-returns-6
-returns-6 c = sym (size-past _ (c .match .rest))
+returns-2 c = size-read _ (c .if1 .left)
 
 pub size-spec : {M : Type 1} → statement M
-size-spec = tie.close (tie.spec returns returns-2 returns-3 returns-4 returns-5 returns-6)
+size-spec = tie.close (tie.spec returns mul-result cast-result shr-result cast-result-2 returns-2)
