@@ -1,5 +1,6 @@
 -- A piece of bytes, as the code feeds it, is the definition's fold. Assumes nothing.
 use mathlib.Core.Path.{_≡_, refl, sym, ap, ap₂, _∙_, subst}
+use mathlib.Core.Bool.{Bool, true, false, false≢true}
 use mathlib.Core.List.{List, _++_}
 use Prim.Native.Nat.{ℕ, suc, _+_, _-_, _*_, _<_, _≤_}
 use native.Mathlib.Nat.{zero-add, add-zero}
@@ -20,8 +21,8 @@ use Rattle.log.specs.Bytes.{byteStep}
 use Rattle.log.specs.Feed.{ahead, proceed, replayOf, wordRecords, afterWords}
 use Rattle.log.specs.Feed as piece
 use Rattle.records.specs.Cells.{viewed, replayIn, LogHeld, LogValid, LogGiven}
-use Rattle.log.specs.Asked.{PieceLeft, LogSized, Became, WordsAsked, WordsLeft, Words32, Gathered, Idle, RecordsLeft, unread, read}
-use Rattle.records.specs.Own.{replyOf}
+use Rattle.log.specs.Asked.{Grew, grown, ungrown, Filled, PieceLeft, LogSized, Became, WordsAsked, WordsLeft, Words32, Gathered, Idle, RecordsLeft, unread, read}
+use Rattle.records.specs.Own.{Answered, replyOf}
 use Rattle.records.specs.declared.bytes.Answer.{Answer}
 use Rattle.records.specs.declared.bytes.Answer.the-variants.{Taken, Refused}
 use Rattle.log.specs.declared.replay.Fed.{Fed}
@@ -51,9 +52,6 @@ pub record Fold (r : Replay) (bs l m o t s : List ℕ) (i : ℕ) : Type 0 where
 ahead-none : (f : piece.Fed) → f ≡ ahead 0 f
 ahead-none f = λ i. record { taken = sym (zero-add (f .taken)) i; refusal = f .refusal; replay = f .replay }
 
-pub fold-begins : (bs l m o t s : List ℕ) → LogGiven l m o t s → Fold (replayIn l m o t s) bs l m o t s 0
-fold-begins bs l m o t s g = record { given = g; within = omega arith; rest = ahead-none (replayOf (replayIn l m o t s) bs) }
-
 abbrev answered : ℕ → firsts.First → Fed
 answered i f = record { taken = record { 0 = i }; refusal = f }
 
@@ -62,12 +60,15 @@ module _ (r : Replay) (bs l m o t s : List ℕ) (i : ℕ) (f : Fold r bs l m o t
   now = replayIn l m o t s
 
   -- the piece's end
-  pub fold-ends : length bs ≤ i → PieceLeft (replayOf r bs) (answered i firstly.Nothing) l m o t s
-  fold-ends h =
+  ends : length bs ≤ i → PieceLeft (replayOf r bs) (answered i firstly.Nothing) l m o t s
+  ends h =
       subst (λ (x : piece.Fed). PieceLeft x (answered i firstly.Nothing) l m o t s)
       (sym (f .rest ∙ ap (λ (x : List ℕ). ahead i (replayOf now x)) (drop-of-length-le bs h)))
       (unfold replayOf in
       record { taken = sym (add-zero i); refusal = refl; held = held-view l m o t s (f .given) })
+
+  pub fold-ends : length bs ≤ i → (y : firsts.First) → y ≡ firstly.Nothing → PieceLeft (replayOf r bs) (answered i y) l m o t s
+  fold-ends h y e = subst (λ (x : firsts.First). PieceLeft (replayOf r bs) (answered i x) l m o t s) (sym e) (ends h)
 
   pub asked : WordsAsked l o t s
   unfolding viewed
@@ -160,6 +161,62 @@ module _ (r : Replay) (bs l m o t s : List ℕ) (i : ℕ) (f : Fold r bs l m o t
   fold-same n l1 o1 t1 s1 h unread = f
   fold-same n l1 o1 t1 s1 h (read ws l2 o2 t2 s2 e w fit begins c) =
       subst (Fold r bs l2 m o2 t2 s2) (let z : length ws ≡ 0 = omega arith in omega arith) (words-go ws l2 o2 t2 s2 e w fit begins c)
+
+-- bytes that only add to a record, as they are taken one by one
+module _ (bs log : List ℕ) where
+  pub filled-none : length log ≡ 10 → Filled bs log 0 log
+  filled-none z =
+      record {
+        log-length = z;
+        within = omega arith;
+        valid = λ marks s v. v;
+        rest = λ marks s. ahead-none (replayOf (viewed log marks s) bs);
+      }
+
+  module _ (i : ℕ) (log1 : List ℕ) (f : Filled bs log i log1) (less : i < length bs) where
+    abbrev front : ℕ
+    front = getD bs i 0
+
+    one-more : (log2 : List ℕ) → front < 256 → Answered (λ r. byteStep r front) taken log1 log2 → Filled bs log (i + 1) log2
+    one-more log2 h a =
+        record {
+          log-length = a .log-length;
+          within = omega (arith, less);
+          valid =
+              λ marks s v.
+              subst (λ (t : Stepped). LogValid (t .replay)) (a .view marks s)
+              (byte-valid (viewed log1 marks s) (f .valid marks s v) front h);
+          rest =
+              λ marks s.
+              f .rest marks s ∙ ap (λ (x : List ℕ). ahead i (replayOf (viewed log1 marks s) x)) (drop-cons bs i 0 less) ∙
+              ap (ahead i) (stepped (viewed log1 marks s) front (drop (suc i) bs) _ (a .view marks s)) ∙
+              unfold proceed in ahead-ahead i 1 (replayOf (viewed log2 marks s) (drop (suc i) bs)) ∙
+              ap (λ (k : ℕ). ahead (i + 1) (replayOf (viewed log2 marks s) (drop k bs))) (sym (add-one i));
+        }
+
+    pub filled-goes : (x : ℕ) → x ≡ front → x < 256 → (r : Bool) (log2 : List ℕ) → Grew x log1 r log2 → r ≡ true → Filled bs log (i + 1) log2
+    filled-goes x e h r log2 (grown l a) t =
+        one-more l (omega (arith, e, h)) (subst (λ (b : ℕ). Answered (λ r. byteStep r b) taken log1 l) e a)
+    filled-goes x e h r log2 ungrown t = absurd (false≢true t)
+
+    pub filled-stays : (x : ℕ) (r : Bool) (log2 : List ℕ) → Grew x log1 r log2 → r ≡ false → Filled bs log i log2
+    filled-stays x r log2 (grown l a) t = absurd (false≢true (sym t))
+    filled-stays x r log2 ungrown t = f
+
+pub fold-filled : (bs l m o t s : List ℕ) (n : ℕ) (l1 : List ℕ) → LogGiven l m o t s → Filled bs l n l1 →
+    Fold (replayIn l m o t s) bs l1 m o t s n
+fold-filled bs l m o t s n l1 g f =
+    record {
+      given =
+          record {
+            log-length = f .log-length;
+            marks-length = g .marks-length;
+            session-sized = g .session-sized;
+            valid = f .valid m (sessionOf o t s) (g .valid);
+          };
+      within = f .within;
+      rest = f .rest m (sessionOf o t s);
+    }
 
 -- words that were gathered and fed
 pub records-left : (bs l o t s words : List ℕ) (n : ℕ) (l1 o1 t1 s1 : List ℕ) → Idle l → Gathered bs n words →

@@ -1,9 +1,13 @@
 -- What the routines of a replay leave, return by return: each is the step that the definitions say. Assumes nothing.
 use mathlib.Core.Path.{_≡_, refl, sym, ap, ap₂, _∙_}
+use mathlib.Core.Bool.{true}
 use mathlib.Core.List.{List, [], _∷_}
 use Prim.Native.Nat.{ℕ, _<_, _≤_}
+use native.Mathlib.Omega.{arith}
 use lib.Dec.{eqb}
 use lib.ListN.{length, getD}
+use denote.Enum.Declared.{tagOf}
+use types.Run.{OneOf}
 use borrow.Author.Tests.{eq-eqb, ne-eqb, lt-ltb, le-ltb}
 use Rattle.laws.specs.Choice.{_and_, pick}
 use Rattle.laws.proofs.Choice.{pick-yes, pick-no}
@@ -16,16 +20,24 @@ use Rattle.session.specs.Step as stream
 use Rattle.session.specs.Feed.{First, nothing, first, feedOf, proceed as feeding}
 use Rattle.session.specs.Feed as pieces
 use Rattle.session.specs.Answers.{PieceLeft as WordsFed}
+use Rattle.session.specs.Asked.{Left}
+use Rattle.session.specs.Answers.{firstOf, replyOf as wordReply}
+use Rattle.session.specs.declared.stream.Answer.{Answer}
+use Rattle.session.specs.declared.stream.Answer.the-variants.{Refused}
 use Rattle.session.specs.declared.stream.Fed as declared
+use Rattle.session.proofs.Feeding.{Fold, fold-begins, fold-ends, fold-goes, fold-refused}
+use Rattle.session.proofs.stream.Answer.{the-type}
 use Rattle.session.proofs.Handed.{piece-given}
 use Rattle.session.proofs.Refusals.{fed-valid}
 use Rattle.records.specs.State.{WordRefused, Replay, noRecord}
-use Rattle.records.specs.Step.{StopNumber, byKind, byDay, Reply, taken, refused, Stepped, opening, taking, kindStep, withByte, numberFrom, notedReply, withWords, afterWord, midnightStep}
+use Rattle.records.specs.Step.{StopNumber, byKind, byDay, Reply, taken, refused, Stepped, opening, taking, ofKind, isKind, kindStep, withByte, numberFrom, notedReply, withWords, afterWord, midnightStep}
 use Rattle.log.specs.Bytes.{recordStep, openStep, byteStep}
 use Rattle.log.specs.Feed.{notedFirst, afterWords}
 use Rattle.records.specs.Cells.{viewed, replayIn, LogGiven}
 use Rattle.records.specs.Own.{Changed, Answered, noting}
-use Rattle.log.specs.Asked.{Became, LogSized, OpenAsked, WordsAsked, WordsLeft}
+use Rattle.refusal.specs.Number.{numberOf}
+use Rattle.refusal.specs.declared.Refusal.{Refusal}
+use Rattle.log.specs.Asked.{Became, Grew, grown, LogSized, OpenAsked, WordsAsked, WordsLeft}
 use Rattle.records.specs.Own.{MidnightLeft, NumberAsked}
 
 -- a replay and what a step tells of it
@@ -71,6 +83,70 @@ module _ (ws l own tallies shared l1 own1 tallies1 shared1 : List ℕ) (g : Give
             d .view marks (sessionOf own1 tallies1 shared1) ∙ ap (noting n) (c .view marks (sessionOf own1 tallies1 shared1)) ∙
             unfold viewed in after-first (first n) e marks;
       }
+
+-- one word, by the session's step
+module _
+    (w : ℕ)
+    (l own tallies shared l1 own1 tallies1 shared1 : List ℕ)
+    (g : Given own tallies shared)
+    (a : Answer)
+    (h : Left (stepOf (sessionOf own tallies shared) w) (wordReply a) own1 tallies1 shared1)
+    (c : Changed (opening noRecord) l l1)
+  where
+    fold : Fold (sessionOf own tallies shared) (w ∷ []) own tallies shared 0 0
+    fold = fold-begins (w ∷ []) own tallies shared g
+
+    abbrev Piece : declared.Fed → Type 0
+    Piece r = WordsFed (feedOf (sessionOf own tallies shared) (w ∷ [])) r own1 tallies1 shared1
+
+    fine : (r : declared.Fed) → nothing ≡ firstOf (r .refusal) → Piece r → WordsLeft (w ∷ []) l own tallies shared l1 own1 tallies1 shared1
+    fine r e p = words-fine (w ∷ []) l own tallies shared l1 own1 tallies1 shared1 g r p c (e ∙ p .refusal)
+
+    pub word-fine : OneOf (0 ∷ 1 ∷ []) (tagOf the-type a) → WordsLeft (w ∷ []) l own tallies shared l1 own1 tallies1 shared1
+    word-fine o =
+        fine _ refl
+        (fold-ends (sessionOf own tallies shared) (w ∷ []) own1 tallies1 shared1 _ _
+        (fold-goes (sessionOf own tallies shared) (w ∷ []) own tallies shared 0 0 fold (omega arith) own1 tallies1 shared1 a o h _ refl)
+        (omega arith))
+
+    module _ (l2 : List ℕ) (n : ℕ) (d : Changed (noting n) l1 l2) where
+      denied-with : (r : declared.Fed) → first n ≡ firstOf (r .refusal) → Piece r → WordsLeft (w ∷ []) l own tallies shared l2 own1 tallies1 shared1
+      denied-with r e p = words-noted (w ∷ []) l own tallies shared l1 own1 tallies1 shared1 g r p l2 n c d (e ∙ p .refusal)
+
+      pub word-noted : (why : Refusal) → a ≡ Refused why → n ≡ numberOf why → WordsLeft (w ∷ []) l own tallies shared l2 own1 tallies1 shared1
+      word-noted why e k =
+          denied-with _ (ap first k)
+          (fold-refused (sessionOf own tallies shared) (w ∷ []) own tallies shared 0 0 fold (omega arith) own1 tallies1 shared1 a why e h)
+
+-- a byte that only adds to a record
+module _ (l l1 : List ℕ) (b : ℕ) (going : getD l 0 0 ≡ 0) where
+  pub grown-open : getD l 5 0 < 4 → 0 < getD l 5 0 → Changed (λ r. opening (withByte (r .opened) b) r) l l1 → Grew b l true l1
+  grown-open few some c =
+      grown l1
+      (record {
+        log-length = c .log-length;
+        view =
+            λ marks s.
+            unfold byteStep openStep viewed in
+            (pick-yes _ _ (eq-eqb (getD l 0 0) 0 going) ∙ pick-no _ _ (ne-eqb (getD l 5 0) 0 (more some)) ∙
+            pick-yes _ _ (lt-ltb (getD l 5 0) 4 few)) ∙
+            ap taking (sym (c .view marks s));
+      })
+    where
+      more : {n : ℕ} → 0 < n → n ≡ 0 → ⊥
+      more h e = omega (arith, h, e)
+
+  pub grown-kind : getD l 5 0 ≡ 0 → isKind b ≡ true → Changed (opening (ofKind b)) l l1 → Grew b l true l1
+  grown-kind none k c =
+      grown l1
+      (record {
+        log-length = c .log-length;
+        view =
+            λ marks s.
+            unfold byteStep kindStep viewed in
+            (pick-yes _ _ (eq-eqb (getD l 0 0) 0 going) ∙ pick-yes _ _ (eq-eqb (getD l 5 0) 0 none) ∙ pick-yes _ _ k) ∙
+            ap taking (sym (c .view marks s));
+      })
 
 -- one word's record is a piece of one word
 one-reply : (r : stream.Reply) (s : Session) → (midnights : ℕ) (f : WordRefused) →

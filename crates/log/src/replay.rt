@@ -6,6 +6,7 @@ use refusal::Refusal;
 use session::stream;
 use session::stream::First;
 ghost use mathlib.Core.Path.{_≡_};
+ghost use mathlib.Core.List.{[], _∷_};
 ghost use Prim.Native.Nat.{_<_, _≤_};
 ghost use lib.ListN.{length, drop};
 ghost use Rattle.refusal.specs.Number.{numberOf};
@@ -14,7 +15,7 @@ ghost use Rattle.log.specs.Bytes.{byteStep, openStep};
 ghost use Rattle.log.specs.Feed.{replayOf};
 ghost use Rattle.records.specs.Cells.{LogGiven, LogHeld, replayIn};
 ghost use Rattle.records.specs.Step.{StopNumber};
-ghost use Rattle.log.specs.Asked.{Became, Gathered, OpenAsked, PieceLeft, RecordsLeft, WordsAsked, WordsLeft};
+ghost use Rattle.log.specs.Asked.{Became, Filled, Gathered, Grew, OpenAsked, PieceLeft, RecordsLeft, WordsAsked, WordsLeft};
 ghost use Rattle.records.specs.Own.{replyOf};
 
 // Words of records that are fed to the session in one piece.
@@ -57,6 +58,24 @@ fn take_words(
     }
 }
 
+// The word of a record that was read byte by byte.
+fn take_word(
+    log: &mut [u32; 10],
+    own: &mut [u32; 17],
+    tallies: &mut [u64; 2],
+    shared: &mut [u32; 101],
+    word: u32,
+)
+    requires { ⌜ WordsAsked (now log) (now own) (now tallies) (now shared) ⌝ }
+    ensures { λ _. ⌜ WordsLeft (word ∷ []) (now (log .entry)) (now (own .entry)) (now (tallies .entry)) (now (shared .entry)) (now (log .exit)) (now (own .exit)) (now (tallies .exit)) (now (shared .exit)) ⌝ }
+{
+    let answer = stream::word(own, tallies, shared, word);
+    own::close(log);
+    if let stream::Answer::Refused(why) = answer {
+        own::note(log, refusal::number(why))
+    }
+}
+
 // A byte of an open record; the fifth completes it.
 fn open_byte(
     log: &mut [u32; 10],
@@ -76,8 +95,7 @@ fn open_byte(
     }
     let value = bytes::number(log[own::LOW], log[own::SECOND], log[own::THIRD], byte);
     if log[own::KIND] == 1 {
-        let words: [u32; 1] = [value];
-        take_words(log, own, tallies, shared, &words);
+        take_word(log, own, tallies, shared, value);
         return Answer::Taken;
     }
     bytes::midnight(log, marks, tallies, value)
@@ -180,6 +198,45 @@ fn take_records(
     n
 }
 
+// Whether a byte only adds to a record, as its kind or inside its number; then it is added. The session isn't looked at, so a
+// piece that holds no more is answered soon: a log that comes byte by byte is mostly such pieces.
+fn grows(log: &mut [u32; 10], byte: u32) -> bool
+    requires { ⌜ length (now log) ≡ 10 ⌝ }
+    ensures { λ r. ⌜ Grew byte (now (log .entry)) r (now (log .exit)) ⌝ }
+{
+    if log[own::STOPPED_BY] != 0 {
+        return false;
+    }
+    let count = log[own::COUNT];
+    if 3 < count {
+        return false;
+    }
+    if 0 < count {
+        own::add(log, count, byte);
+        return true;
+    }
+    if bytes::is_kind(byte) {
+        own::open(log, byte);
+        return true;
+    }
+    false
+}
+
+// The bytes at a piece's front that only add to a record, one after the other; how many they are.
+fn fill(log: &mut [u32; 10], bytes: &[u8]) -> usize
+    requires { ⌜ length (now log) ≡ 10 ⌝ }
+    ensures { λ n. ⌜ Filled (now (bytes .entry)) (now (log .entry)) n (now (log .exit)) ⌝ }
+{
+    let mut i: usize = 0;
+    while i < bytes.len() {
+        if !grows(log, wide(bytes[i])) {
+            return i;
+        }
+        i = i + 1;
+    }
+    i
+}
+
 // What a piece is answered: the bytes taken, which is also the place of the refused byte if there is one; and the refusal.
 pub struct Fed {
     pub taken: BytePosition,
@@ -198,7 +255,8 @@ pub fn feed(
     requires { ⌜ LogGiven (now log) (now marks) (now own) (now tallies) (now shared) ⌝ }
     ensures { λ r. ⌜ PieceLeft (replayOf (replayIn (now (log .entry)) (now (marks .entry)) (now (own .entry)) (now (tallies .entry)) (now (shared .entry))) (now (bytes .entry))) r (now (log .exit)) (now (marks .exit)) (now (own .exit)) (now (tallies .exit)) (now (shared .exit)) ⌝ }
 {
-    let mut i: usize = 0;
+    let mut i = fill(log, bytes);
+    let mut refusal = First::Nothing;
     while i < bytes.len() {
         let records = take_records(log, own, tallies, shared, bytes, i);
         if 0 < records {
@@ -207,15 +265,13 @@ pub fn feed(
         }
         let answer = byte(log, marks, own, tallies, shared, wide(bytes[i]));
         if let Answer::Refused(why) = answer {
-            return Fed {
-                taken: BytePosition(i as u64),
-                refusal: First::Refused(why),
-            };
+            refusal = First::Refused(why);
+            break;
         }
         i = i + 1;
     }
     Fed {
         taken: BytePosition(i as u64),
-        refusal: First::Nothing,
+        refusal,
     }
 }

@@ -23,7 +23,8 @@ pub fn number(low: u32, second: u32, third: u32, high: u32) -> u32
     low + 256 * second + 65536 * third + 16777216 * high
 }
 
-fn is_kind(byte: u32) -> bool
+// Whether a byte is a record's kind.
+pub fn is_kind(byte: u32) -> bool
     ensures { λ r. ⌜ r ≡ isKind byte ⌝ }
 {
     if byte == 1 { true } else { byte == 2 }

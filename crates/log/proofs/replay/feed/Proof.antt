@@ -1,36 +1,41 @@
 -- `log::replay::feed` meets its contract. Assumes nothing.
-use Prim.Native.Nat.{_-_}
-use Rattle.records.specs.Cells.{replayIn}
+use Rattle.records.specs.State.{Replay}
+use Rattle.log.proofs.Feeding.{Fold, fold-filled, fold-ends, fold-refused, fold-goes, fold-records, fold-same, asked}
+use Rattle.session.specs.declared.stream.First.the-variants.{Nothing}
 use borrow.Author.Needs.{needs}
 use lib.ListN.{length}
 use native.Mathlib.Omega.{arith}
-use Rattle.log.proofs.Feeding.{Fold, fold-begins, fold-ends, fold-refused, fold-goes, fold-records, fold-same, asked}
+use Prim.Native.Nat.{_-_}
+use mathlib.Core.Path.{_≡_, refl}
 use Rattle.log.proofs.replay.feed.Statement.{statement}
 use Rattle.log.proofs.replay.feed.Tie as tie
 
 abbrev Inv-loop : tie.InvT-loop
-Inv-loop log₀ marks₀ own₀ tallies₀ shared₀ bytes i₀ log marks own tallies shared i = Fold (replayIn log₀ marks₀ own₀ tallies₀ shared₀) bytes log marks own tallies shared i
+Inv-loop log₀ marks₀ own₀ tallies₀ shared₀ bytes i₀ refusal₀ log marks own tallies shared i refusal = ((r : Replay) → Fold r bytes log₀ marks₀ own₀ tallies₀ shared₀ i₀ → Fold r bytes log marks own tallies shared i) × (refusal ≡ Nothing)
 
 abbrev μ-loop : tie.MeasureT-loop
-μ-loop log₀ marks₀ own₀ tallies₀ shared₀ bytes i₀ log marks own tallies shared i = length bytes - i
+μ-loop log₀ marks₀ own₀ tallies₀ shared₀ bytes i₀ refusal₀ log marks own tallies shared i refusal = length bytes - i
+
+fill-requires : tie.Need-fill-requires Inv-loop μ-loop
+fill-requires c κs = c .before .before .pre .log-length
 
 loop-holds : tie.Need-loop-holds Inv-loop μ-loop
-loop-holds c = fold-begins _ _ _ _ _ _ (c .before .pre)
+loop-holds c = ((λ r f. f), refl)
 
 take-records-requires : tie.Need-take-records-requires Inv-loop μ-loop
-take-records-requires c κs = (asked _ _ _ _ _ _ _ _ (c .before .before .before .before .before .loop .inv), c .before .before .before .before .before .loop .inv .within)
+take-records-requires c κs = (asked _ _ _ _ _ _ _ _ (c .before .before .before .before .before .loop .inv .0 _ (fold-filled _ _ _ _ _ _ _ _ (c .before .before .before .before .before .before .before .before .before .pre) (c .before .before .before .before .before .before .fill .ensures))), (c .before .before .before .before .before .loop .inv .0 _ (fold-filled _ _ _ _ _ _ _ _ (c .before .before .before .before .before .before .before .before .before .pre) (c .before .before .before .before .before .before .fill .ensures))) .within)
 
 mul-i : tie.Need-mul-i Inv-loop μ-loop
-mul-i c = omega (arith, (fold-records _ _ _ _ _ _ _ _ (c .before .before .before .before .before .before .before .loop .inv) _ _ _ _ _ (c .if1 .taken) (c .before .take-records .ensures)) .within)
+mul-i c = omega (arith, (fold-records _ _ _ _ _ _ _ _ (c .before .before .before .before .before .before .before .loop .inv .0 _ (fold-filled _ _ _ _ _ _ _ _ (c .before .before .before .before .before .before .before .before .before .before .before .pre) (c .before .before .before .before .before .before .before .before .fill .ensures))) _ _ _ _ _ (c .if1 .taken) (c .before .take-records .ensures)) .within)
 
 add-i : tie.Need-add-i Inv-loop μ-loop
-add-i c = omega (arith, (fold-records _ _ _ _ _ _ _ _ (c .before .before .before .before .before .before .before .loop .inv) _ _ _ _ _ (c .if1 .taken) (c .before .take-records .ensures)) .within)
+add-i c = omega (arith, (fold-records _ _ _ _ _ _ _ _ (c .before .before .before .before .before .before .before .loop .inv .0 _ (fold-filled _ _ _ _ _ _ _ _ (c .before .before .before .before .before .before .before .before .before .before .before .pre) (c .before .before .before .before .before .before .before .before .fill .ensures))) _ _ _ _ _ (c .if1 .taken) (c .before .take-records .ensures)) .within)
 
 loop-less : tie.Need-loop-less Inv-loop μ-loop
 loop-less c = omega (arith, c .if1 .taken, c .before .before .before .before .before .before .loop-test .taken)
 
 loop-again : tie.Need-loop-again Inv-loop μ-loop
-loop-again c = (fold-records _ _ _ _ _ _ _ _ (c .before .before .before .before .before .before .before .loop .inv) _ _ _ _ _ (c .if1 .taken) (c .before .take-records .ensures))
+loop-again c = ((λ r f. (fold-records _ _ _ _ _ _ _ _ (c .before .before .before .before .before .before .before .loop .inv .0 r f) _ _ _ _ _ (c .if1 .taken) (c .before .take-records .ensures))), c .before .before .before .before .before .before .before .loop .inv .1)
 
 shared-slice-read-wide : tie.Need-shared-slice-read-wide Inv-loop μ-loop
 shared-slice-read-wide c = search needs
@@ -39,13 +44,10 @@ wide-requires : tie.Need-wide-requires Inv-loop μ-loop
 wide-requires c κs = search needs
 
 byte-requires : tie.Need-byte-requires Inv-loop μ-loop
-byte-requires c κs = ((fold-same _ _ _ _ _ _ _ _ (c .before .before .before .before .before .before .before .before .before .before .before .before .before .before .loop .inv) _ _ _ _ _ (c .before .before .before .before .before .before .before .if1 .left) (c .before .before .before .before .before .before .before .before .take-records .ensures)) .given, c .wide .ensures .1)
+byte-requires c κs = ((fold-same _ _ _ _ _ _ _ _ (c .before .before .before .before .before .before .before .before .before .before .before .before .before .before .loop .inv .0 _ (fold-filled _ _ _ _ _ _ _ _ (c .before .before .before .before .before .before .before .before .before .before .before .before .before .before .before .before .before .before .pre) (c .before .before .before .before .before .before .before .before .before .before .before .before .before .before .before .fill .ensures))) _ _ _ _ _ (c .before .before .before .before .before .before .before .if1 .left) (c .before .before .before .before .before .before .before .before .take-records .ensures)) .given, c .wide .ensures .1)
 
 enum-known-answer : tie.Need-enum-known-answer Inv-loop μ-loop
 enum-known-answer c = search needs
-
-returns : tie.Need-returns Inv-loop μ-loop
-returns c = fold-refused _ _ _ _ _ _ _ _ (fold-same _ _ _ _ _ _ _ _ (c .before .before .before .before .before .before .before .before .before .before .before .before .before .before .before .before .before .before .loop .inv) _ _ _ _ _ (c .before .before .before .before .before .before .before .before .before .before .before .if1 .left) (c .before .before .before .before .before .before .before .before .before .before .before .before .take-records .ensures)) (c .before .before .before .before .before .before .before .before .before .before .before .before .before .before .before .before .before .loop-test .taken) _ _ _ _ _ _ _ _ (c .before .before .before .before .wide .ensures .0) (c .before .before .before .before .wide .ensures .1) (c .before .answer .given .1) (c .before .before .before .byte .ensures)
 
 enum-told : tie.Need-enum-told Inv-loop μ-loop
 enum-told c = search needs
@@ -57,10 +59,13 @@ loop-less-2 : tie.Need-loop-less-2 Inv-loop μ-loop
 loop-less-2 c = search needs
 
 loop-again-2 : tie.Need-loop-again-2 Inv-loop μ-loop
-loop-again-2 c = fold-goes _ _ _ _ _ _ _ _ (fold-same _ _ _ _ _ _ _ _ (c .before .before .before .before .before .before .before .before .before .before .before .before .before .before .before .before .before .loop .inv) _ _ _ _ _ (c .before .before .before .before .before .before .before .before .before .before .if1 .left) (c .before .before .before .before .before .before .before .before .before .before .before .take-records .ensures)) (c .before .before .before .before .before .before .before .before .before .before .before .before .before .before .before .before .loop-test .taken) _ _ _ _ _ _ _ (c .before .before .before .wide .ensures .0) (c .before .before .before .wide .ensures .1) (c .enum-told .given .1) (c .before .before .byte .ensures)
+loop-again-2 c = ((λ r f. fold-goes _ _ _ _ _ _ _ _ (fold-same _ _ _ _ _ _ _ _ (c .before .before .before .before .before .before .before .before .before .before .before .before .before .before .before .before .before .loop .inv .0 r f) _ _ _ _ _ (c .before .before .before .before .before .before .before .before .before .before .if1 .left) (c .before .before .before .before .before .before .before .before .before .before .before .take-records .ensures)) (c .before .before .before .before .before .before .before .before .before .before .before .before .before .before .before .before .loop-test .taken) _ _ _ _ _ _ _ (c .before .before .before .wide .ensures .0) (c .before .before .before .wide .ensures .1) (c .enum-told .given .1) (c .before .before .byte .ensures)), c .before .before .before .before .before .before .before .before .before .before .before .before .before .before .before .before .before .loop .inv .1)
+
+returns : tie.Need-returns Inv-loop μ-loop
+returns c = fold-ends _ _ _ _ _ _ _ _ (c .before .loop .inv .0 _ (fold-filled _ _ _ _ _ _ _ _ (c .before .before .before .before .before .pre) (c .before .before .fill .ensures))) (c .loop-test .left) _ (c .before .loop .inv .1)
 
 returns-2 : tie.Need-returns-2 Inv-loop μ-loop
-returns-2 c = fold-ends _ _ _ _ _ _ _ _ (c .before .loop .inv) (c .loop-test .left)
+returns-2 c = fold-refused _ _ _ _ _ _ _ _ (fold-same _ _ _ _ _ _ _ _ (c .before .before .before .before .before .before .before .before .before .before .before .before .before .before .before .before .before .before .loop .inv .0 _ (fold-filled _ _ _ _ _ _ _ _ (c .before .before .before .before .before .before .before .before .before .before .before .before .before .before .before .before .before .before .before .before .before .before .pre) (c .before .before .before .before .before .before .before .before .before .before .before .before .before .before .before .before .before .before .before .fill .ensures))) _ _ _ _ _ (c .before .before .before .before .before .before .before .before .before .before .before .if1 .left) (c .before .before .before .before .before .before .before .before .before .before .before .before .take-records .ensures)) (c .before .before .before .before .before .before .before .before .before .before .before .before .before .before .before .before .before .loop-test .taken) _ _ _ _ _ _ _ _ (c .before .before .before .before .wide .ensures .0) (c .before .before .before .before .wide .ensures .1) (c .before .answer .given .1) (c .before .before .before .byte .ensures)
 
 pub feed-spec : {M : Type 1} → statement M
 feed-spec =
@@ -68,6 +73,7 @@ feed-spec =
     (tie.spec
     Inv-loop
     μ-loop
+    fill-requires
     loop-holds
     take-records-requires
     mul-i
@@ -78,9 +84,9 @@ feed-spec =
     wide-requires
     byte-requires
     enum-known-answer
-    returns
     enum-told
     add-i-2
     loop-less-2
     loop-again-2
+    returns
     returns-2)

@@ -1,6 +1,5 @@
 -- `log::replay::open_byte` meets its contract. Assumes nothing.
 use Rattle.log.proofs.Steps.{byte-added, word-read, midnight-read, number-asked, words-asked}
-use Rattle.log.proofs.Steps.{byte-added, word-read, midnight-read}
 use borrow.Author.Needs.{needs}
 use Rattle.log.proofs.replay.open_byte.Statement.{statement}
 use Rattle.log.proofs.replay.open_byte.Tie as tie
@@ -29,14 +28,11 @@ number-requires c κs = number-asked _ _ _ _ _ _ (c .before .before .before .bef
 element-copy-out-if2 : tie.Need-element-copy-out-if2
 element-copy-out-if2 c = search needs
 
-slice-aggregate-take-words : tie.Need-slice-aggregate-take-words
-slice-aggregate-take-words c = search needs
-
-take-words-requires : tie.Need-take-words-requires
-take-words-requires c κs = words-asked _ _ _ _ _ _ (c .before .before .before .before .before .before .before .before .before .before .before .before .before .pre)
+take-word-requires : tie.Need-take-word-requires
+take-word-requires c κs = words-asked _ _ _ _ _ _ (c .before .before .before .before .before .before .before .before .before .before .before .before .pre)
 
 returns-2 : tie.Need-returns-2
-returns-2 c = word-read (c .before .before .before .before .before .before .before .before .before .before .before .before .before .before .args .log .now) (c .before .before .before .before .before .before .before .before .before .before .before .before .before .before .args .marks .now) (c .before .before .before .before .before .before .before .before .before .before .before .before .before .before .args .own .now) (c .before .before .before .before .before .before .before .before .before .before .before .before .before .before .args .tallies .now) (c .before .before .before .before .before .before .before .before .before .before .before .before .before .before .args .shared .now) _ (c .before .before .before .before .before .before .before .before .before .before .before .before .before .before .pre) _ _ _ _ _ (c .before .before .before .before .before .before .before .before .before .before .before .before .if1 .left) (c .before .before .before .before .before .before .if2 .taken) (c .before .before .before .before .before .before .before .before .number .ensures) (c .take-words .ensures)
+returns-2 c = word-read (c .before .before .before .before .before .before .before .before .before .before .before .before .before .args .log .now) (c .before .before .before .before .before .before .before .before .before .before .before .before .before .args .marks .now) (c .before .before .before .before .before .before .before .before .before .before .before .before .before .args .own .now) (c .before .before .before .before .before .before .before .before .before .before .before .before .before .args .tallies .now) (c .before .before .before .before .before .before .before .before .before .before .before .before .before .args .shared .now) _ (c .before .before .before .before .before .before .before .before .before .before .before .before .before .pre) _ _ _ _ _ (c .before .before .before .before .before .before .before .before .before .before .before .if1 .left) (c .before .before .before .before .before .if2 .taken) (c .before .before .before .before .before .before .before .number .ensures) (c .take-word .ensures)
 
 midnight-requires : tie.Need-midnight-requires
 midnight-requires c κs = search needs
@@ -56,8 +52,7 @@ open-byte-spec =
     element-copy-out-number-3
     number-requires
     element-copy-out-if2
-    slice-aggregate-take-words
-    take-words-requires
+    take-word-requires
     returns-2
     midnight-requires
     returns-3)
