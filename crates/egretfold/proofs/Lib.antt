@@ -1,3 +1,4 @@
+pub mod BytesFed
 pub mod Crossings
 pub mod Formats
 pub mod Known

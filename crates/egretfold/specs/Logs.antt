@@ -13,6 +13,11 @@ pub record LogBegins (r : ℕ) (log marks own tallies shared : List ℕ) : Type 
   pub status : r ≡ 0
   pub held : LogHeld newReplay log marks own tallies shared
 
+-- a byte: its refusal or 0
+pub record ByteCrosses (f : Fed) (r : ℕ) (log marks own tallies shared : List ℕ) : Type 0 where
+  pub status : r ≡ firstStatus (f .refusal)
+  pub held : LogHeld (f .replay) log marks own tallies shared
+
 -- a piece: the refusal of its first refused byte or 0, and in any case the bytes taken
 pub record LogCrosses (f : Fed) (r : ℕ) (log marks own tallies shared taken : List ℕ) : Type 0 where
   pub status : r ≡ firstStatus (f .refusal)

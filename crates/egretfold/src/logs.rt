@@ -3,14 +3,14 @@
 use days::report;
 use log::replay;
 use session::stream::First;
-ghost use mathlib.Core.List.{[]};
+ghost use mathlib.Core.List.{[], _∷_};
 ghost use Rattle.cells.specs.State.{newSession};
 ghost use Rattle.log.specs.Feed.{replayOf};
 ghost use Rattle.records.specs.Report.{partOf};
 ghost use Rattle.records.specs.Cells.{LogGiven, replayIn, viewed};
 ghost use Rattle.days.specs.Reported.{midnightsIn, nowIn, statusOf};
 ghost use Rattle.egretfold.specs.Sessions.{Shows};
-ghost use Rattle.egretfold.specs.Logs.{LogBegins, LogCrosses, standingOf, tallyNumbers};
+ghost use Rattle.egretfold.specs.Logs.{ByteCrosses, LogBegins, LogCrosses, standingOf, tallyNumbers};
 
 // A replay that has read nothing, over a new session.
 #[no_mangle]
@@ -27,6 +27,31 @@ pub extern "C" fn egretfold_log_begin(
     0
 }
 
+// One byte: 0 where it was taken, else 18 or 19.
+#[no_mangle]
+pub extern "C" fn egretfold_log_byte(
+    log: &mut [u32; 10],
+    marks: &mut [u64; 800],
+    own: &mut [u32; 17],
+    tallies: &mut [u64; 2],
+    shared: &mut [u32; 101],
+    byte: u8,
+) -> u32
+    requires { ⌜ LogGiven (now log) (now marks) (now own) (now tallies) (now shared) ⌝ }
+    ensures { λ r. ⌜ ByteCrosses (replayOf (replayIn (now (log .entry)) (now (marks .entry)) (now (own .entry)) (now (tallies .entry)) (now (shared .entry))) (byte ∷ [])) r (now (log .exit)) (now (marks .exit)) (now (own .exit)) (now (tallies .exit)) (now (shared .exit)) ⌝ }
+{
+    let bytes: [u8; 1] = [byte];
+    if replay::grows(log, &bytes) {
+        return 0;
+    }
+    let piece = replay::feed(log, marks, own, tallies, shared, &bytes);
+    let refusal = piece.refusal;
+    match refusal {
+        First::Nothing => 0,
+        First::Refused(why) => refusal::number(why),
+    }
+}
+
 // A piece of bytes: how many were taken, and 18 or 19 for the first that wasn't, if any.
 #[no_mangle]
 pub extern "C" fn egretfold_log_feed(
@@ -41,6 +66,10 @@ pub extern "C" fn egretfold_log_feed(
     requires { ⌜ LogGiven (now log) (now marks) (now own) (now tallies) (now shared) ⌝ }
     ensures { λ r. ⌜ LogCrosses (replayOf (replayIn (now (log .entry)) (now (marks .entry)) (now (own .entry)) (now (tallies .entry)) (now (shared .entry))) (now (bytes .entry))) r (now (log .exit)) (now (marks .exit)) (now (own .exit)) (now (tallies .exit)) (now (shared .exit)) (now (taken .exit)) ⌝ }
 {
+    if replay::grows(log, bytes) {
+        *taken = [1];
+        return 0;
+    }
     let piece = replay::feed(log, marks, own, tallies, shared, bytes);
     *taken = [piece.taken.0];
     let refusal = piece.refusal;

@@ -1,7 +1,7 @@
 -- A piece of bytes, as the code feeds it, is the definition's fold. Assumes nothing.
 use mathlib.Core.Path.{_≡_, refl, sym, ap, ap₂, _∙_, subst}
 use mathlib.Core.Bool.{Bool, true, false, false≢true}
-use mathlib.Core.List.{List, _++_}
+use mathlib.Core.List.{List, [], _∷_, _++_}
 use Prim.Native.Nat.{ℕ, suc, _+_, _-_, _*_, _<_, _≤_}
 use native.Mathlib.Nat.{zero-add, add-zero}
 use native.Mathlib.Numerals.{add-one}
@@ -21,7 +21,7 @@ use Rattle.log.specs.Bytes.{byteStep}
 use Rattle.log.specs.Feed.{ahead, proceed, replayOf, wordRecords, afterWords}
 use Rattle.log.specs.Feed as piece
 use Rattle.records.specs.Cells.{viewed, replayIn, LogHeld, LogValid, LogGiven}
-use Rattle.log.specs.Asked.{Grew, grown, ungrown, Filled, PieceLeft, LogSized, Became, WordsAsked, WordsLeft, Words32, Gathered, Idle, RecordsLeft, unread, read}
+use Rattle.log.specs.Asked.{Grew, grown, ungrown, PieceLeft, LogSized, Became, WordsAsked, WordsLeft, Words32, Gathered, Idle, RecordsLeft, unread, read}
 use Rattle.records.specs.Own.{Answered, replyOf}
 use Rattle.records.specs.declared.bytes.Answer.{Answer}
 use Rattle.records.specs.declared.bytes.Answer.the-variants.{Taken, Refused}
@@ -51,6 +51,9 @@ pub record Fold (r : Replay) (bs l m o t s : List ℕ) (i : ℕ) : Type 0 where
 
 ahead-none : (f : piece.Fed) → f ≡ ahead 0 f
 ahead-none f = λ i. record { taken = sym (zero-add (f .taken)) i; refusal = f .refusal; replay = f .replay }
+
+pub fold-begins : (bs l m o t s : List ℕ) → LogGiven l m o t s → Fold (replayIn l m o t s) bs l m o t s 0
+fold-begins bs l m o t s g = record { given = g; within = omega arith; rest = ahead-none (replayOf (replayIn l m o t s) bs) }
 
 abbrev answered : ℕ → firsts.First → Fed
 answered i f = record { taken = record { 0 = i }; refusal = f }
@@ -162,61 +165,45 @@ module _ (r : Replay) (bs l m o t s : List ℕ) (i : ℕ) (f : Fold r bs l m o t
   fold-same n l1 o1 t1 s1 h (read ws l2 o2 t2 s2 e w fit begins c) =
       subst (Fold r bs l2 m o2 t2 s2) (let z : length ws ≡ 0 = omega arith in omega arith) (words-go ws l2 o2 t2 s2 e w fit begins c)
 
--- bytes that only add to a record, as they are taken one by one
-module _ (bs log : List ℕ) where
-  pub filled-none : length log ≡ 10 → Filled bs log 0 log
-  filled-none z =
-      record {
-        log-length = z;
-        within = omega arith;
-        valid = λ marks s v. v;
-        rest = λ marks s. ahead-none (replayOf (viewed log marks s) bs);
-      }
+-- a piece of one byte that only adds to a record
+pub record Alone (f : piece.Fed) (l m o t s : List ℕ) : Type 0 where
+  pub taken : 1 ≡ f .taken
+  pub refusal : nothing ≡ f .refusal
+  pub held : LogHeld (f .replay) l m o t s
 
-  module _ (i : ℕ) (log1 : List ℕ) (f : Filled bs log i log1) (less : i < length bs) where
-    abbrev front : ℕ
-    front = getD bs i 0
+module _ (bs l : List ℕ) where
+  pub grown-alone : (m o t s : List ℕ) → LogGiven l m o t s → (r : Bool) (l1 : List ℕ) → Grew bs l r l1 → r ≡ true →
+      Alone (replayOf (replayIn l m o t s) bs) l1 m o t s
+  grown-alone m o t s g r l1 (grown l2 z v) e =
+      subst (λ (x : piece.Fed). Alone x l2 m o t s) (sym (v m (sessionOf o t s)))
+      (record {
+        taken = refl;
+        refusal = refl;
+        held =
+            record {
+              log-cells = sym (log-canon l2 m (sessionOf o t s) z);
+              mark-cells = unfold viewed in refl;
+              session-cells = unfold viewed in same o t s 0 (record { sized = g .session-sized; valid = unfold viewed in g .valid .session });
+            };
+      })
+  grown-alone m o t s g r l1 ungrown e = absurd (false≢true e)
 
-    one-more : (log2 : List ℕ) → front < 256 → Answered (λ r. byteStep r front) taken log1 log2 → Filled bs log (i + 1) log2
-    one-more log2 h a =
-        record {
-          log-length = a .log-length;
-          within = omega (arith, less);
-          valid =
-              λ marks s v.
-              subst (λ (t : Stepped). LogValid (t .replay)) (a .view marks s)
-              (byte-valid (viewed log1 marks s) (f .valid marks s v) front h);
-          rest =
-              λ marks s.
-              f .rest marks s ∙ ap (λ (x : List ℕ). ahead i (replayOf (viewed log1 marks s) x)) (drop-cons bs i 0 less) ∙
-              ap (ahead i) (stepped (viewed log1 marks s) front (drop (suc i) bs) _ (a .view marks s)) ∙
-              unfold proceed in ahead-ahead i 1 (replayOf (viewed log2 marks s) (drop (suc i) bs)) ∙
-              ap (λ (k : ℕ). ahead (i + 1) (replayOf (viewed log2 marks s) (drop k bs))) (sym (add-one i));
-        }
+  pub not-grown : (r : Bool) (l1 : List ℕ) → Grew bs l r l1 → r ≡ false → l ≡ l1
+  not-grown r l1 (grown l2 z v) e = absurd (false≢true (sym e))
+  not-grown r l1 ungrown e = refl
 
-    pub filled-goes : (x : ℕ) → x ≡ front → x < 256 → (r : Bool) (log2 : List ℕ) → Grew x log1 r log2 → r ≡ true → Filled bs log (i + 1) log2
-    filled-goes x e h r log2 (grown l a) t =
-        one-more l (omega (arith, e, h)) (subst (λ (b : ℕ). Answered (λ r. byteStep r b) taken log1 l) e a)
-    filled-goes x e h r log2 ungrown t = absurd (false≢true t)
-
-    pub filled-stays : (x : ℕ) (r : Bool) (log2 : List ℕ) → Grew x log1 r log2 → r ≡ false → Filled bs log i log2
-    filled-stays x r log2 (grown l a) t = absurd (false≢true (sym t))
-    filled-stays x r log2 ungrown t = f
-
-pub fold-filled : (bs l m o t s : List ℕ) (n : ℕ) (l1 : List ℕ) → LogGiven l m o t s → Filled bs l n l1 →
-    Fold (replayIn l m o t s) bs l1 m o t s n
-fold-filled bs l m o t s n l1 g f =
-    record {
-      given =
-          record {
-            log-length = f .log-length;
-            marks-length = g .marks-length;
-            session-sized = g .session-sized;
-            valid = f .valid m (sessionOf o t s) (g .valid);
-          };
-      within = f .within;
-      rest = f .rest m (sessionOf o t s);
-    }
+  -- by the byte's step
+  pub grown-by : length bs ≡ 1 → (b : ℕ) → b ≡ getD bs 0 0 → (l1 : List ℕ) → Answered (λ r. byteStep r b) taken l l1 → Grew bs l true l1
+  grown-by n b e l1 a =
+      grown l1 (a .log-length)
+      (λ marks s.
+      ap (replayOf (viewed l marks s)) (only bs n ∙ ap (λ (x : ℕ). x ∷ []) (sym e)) ∙
+      stepped (viewed l marks s) b [] _ (a .view marks s) ∙ unfold proceed replayOf in refl)
+    where
+      only : (xs : List ℕ) → length xs ≡ 1 → xs ≡ getD xs 0 0 ∷ []
+      only [] h = absurd (omega (arith, h))
+      only (x ∷ []) h = refl
+      only (x ∷ y ∷ xs) h = absurd (omega (arith, h))
 
 -- words that were gathered and fed
 pub records-left : (bs l o t s words : List ℕ) (n : ℕ) (l1 o1 t1 s1 : List ℕ) → Idle l → Gathered bs n words →

@@ -37,7 +37,7 @@ use Rattle.records.specs.Cells.{viewed, replayIn, LogGiven}
 use Rattle.records.specs.Own.{Changed, Answered, noting}
 use Rattle.refusal.specs.Number.{numberOf}
 use Rattle.refusal.specs.declared.Refusal.{Refusal}
-use Rattle.log.specs.Asked.{Became, Grew, grown, LogSized, OpenAsked, WordsAsked, WordsLeft}
+use Rattle.log.specs.Asked.{Became, LogSized, OpenAsked, WordsAsked, WordsLeft}
 use Rattle.records.specs.Own.{MidnightLeft, NumberAsked}
 
 -- a replay and what a step tells of it
@@ -120,10 +120,10 @@ module _
 
 -- a byte that only adds to a record
 module _ (l l1 : List ℕ) (b : ℕ) (going : getD l 0 0 ≡ 0) where
-  pub grown-open : getD l 5 0 < 4 → 0 < getD l 5 0 → Changed (λ r. opening (withByte (r .opened) b) r) l l1 → Grew b l true l1
-  grown-open few some c =
-      grown l1
-      (record {
+  pub added : getD l 5 0 < 4 → 0 < getD l 5 0 → Changed (λ r. opening (withByte (r .opened) b) r) l l1 →
+      Answered (λ r. byteStep r b) taken l l1
+  added few some c =
+      record {
         log-length = c .log-length;
         view =
             λ marks s.
@@ -131,22 +131,21 @@ module _ (l l1 : List ℕ) (b : ℕ) (going : getD l 0 0 ≡ 0) where
             (pick-yes _ _ (eq-eqb (getD l 0 0) 0 going) ∙ pick-no _ _ (ne-eqb (getD l 5 0) 0 (more some)) ∙
             pick-yes _ _ (lt-ltb (getD l 5 0) 4 few)) ∙
             ap taking (sym (c .view marks s));
-      })
+      }
     where
       more : {n : ℕ} → 0 < n → n ≡ 0 → ⊥
       more h e = omega (arith, h, e)
 
-  pub grown-kind : getD l 5 0 ≡ 0 → isKind b ≡ true → Changed (opening (ofKind b)) l l1 → Grew b l true l1
-  grown-kind none k c =
-      grown l1
-      (record {
+  pub opened : getD l 5 0 ≡ 0 → isKind b ≡ true → Changed (opening (ofKind b)) l l1 → Answered (λ r. byteStep r b) taken l l1
+  opened none k c =
+      record {
         log-length = c .log-length;
         view =
             λ marks s.
             unfold byteStep kindStep viewed in
             (pick-yes _ _ (eq-eqb (getD l 0 0) 0 going) ∙ pick-yes _ _ (eq-eqb (getD l 5 0) 0 none) ∙ pick-yes _ _ k) ∙
             ap taking (sym (c .view marks s));
-      })
+      }
 
 -- one word's record is a piece of one word
 one-reply : (r : stream.Reply) (s : Session) → (midnights : ℕ) (f : WordRefused) →

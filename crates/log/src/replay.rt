@@ -15,7 +15,7 @@ ghost use Rattle.log.specs.Bytes.{byteStep, openStep};
 ghost use Rattle.log.specs.Feed.{replayOf};
 ghost use Rattle.records.specs.Cells.{LogGiven, LogHeld, replayIn};
 ghost use Rattle.records.specs.Step.{StopNumber};
-ghost use Rattle.log.specs.Asked.{Became, Filled, Gathered, Grew, OpenAsked, PieceLeft, RecordsLeft, WordsAsked, WordsLeft};
+ghost use Rattle.log.specs.Asked.{Became, Gathered, Grew, OpenAsked, PieceLeft, RecordsLeft, WordsAsked, WordsLeft};
 ghost use Rattle.records.specs.Own.{replyOf};
 
 // Words of records that are fed to the session in one piece.
@@ -198,12 +198,15 @@ fn take_records(
     n
 }
 
-// Whether a byte only adds to a record, as its kind or inside its number; then it is added. The session isn't looked at, so a
-// piece that holds no more is answered soon: a log that comes byte by byte is mostly such pieces.
-fn grows(log: &mut [u32; 10], byte: u32) -> bool
+// Whether a piece is one byte that only adds to a record, as its kind or inside its number; then it is added. The session isn't
+// looked at, so that a log that comes byte by byte is soon read.
+pub fn grows(log: &mut [u32; 10], bytes: &[u8]) -> bool
     requires { ⌜ length (now log) ≡ 10 ⌝ }
-    ensures { λ r. ⌜ Grew byte (now (log .entry)) r (now (log .exit)) ⌝ }
+    ensures { λ r. ⌜ Grew (now (bytes .entry)) (now (log .entry)) r (now (log .exit)) ⌝ }
 {
+    if bytes.len() != 1 {
+        return false;
+    }
     if log[own::STOPPED_BY] != 0 {
         return false;
     }
@@ -211,6 +214,7 @@ fn grows(log: &mut [u32; 10], byte: u32) -> bool
     if 3 < count {
         return false;
     }
+    let byte = wide(bytes[0]);
     if 0 < count {
         own::add(log, count, byte);
         return true;
@@ -220,21 +224,6 @@ fn grows(log: &mut [u32; 10], byte: u32) -> bool
         return true;
     }
     false
-}
-
-// The bytes at a piece's front that only add to a record, one after the other; how many they are.
-fn fill(log: &mut [u32; 10], bytes: &[u8]) -> usize
-    requires { ⌜ length (now log) ≡ 10 ⌝ }
-    ensures { λ n. ⌜ Filled (now (bytes .entry)) (now (log .entry)) n (now (log .exit)) ⌝ }
-{
-    let mut i: usize = 0;
-    while i < bytes.len() {
-        if !grows(log, wide(bytes[i])) {
-            return i;
-        }
-        i = i + 1;
-    }
-    i
 }
 
 // What a piece is answered: the bytes taken, which is also the place of the refused byte if there is one; and the refusal.
@@ -255,7 +244,7 @@ pub fn feed(
     requires { ⌜ LogGiven (now log) (now marks) (now own) (now tallies) (now shared) ⌝ }
     ensures { λ r. ⌜ PieceLeft (replayOf (replayIn (now (log .entry)) (now (marks .entry)) (now (own .entry)) (now (tallies .entry)) (now (shared .entry))) (now (bytes .entry))) r (now (log .exit)) (now (marks .exit)) (now (own .exit)) (now (tallies .exit)) (now (shared .exit)) ⌝ }
 {
-    let mut i = fill(log, bytes);
+    let mut i: usize = 0;
     let mut refusal = First::Nothing;
     while i < bytes.len() {
         let records = take_records(log, own, tallies, shared, bytes, i);

@@ -1,6 +1,6 @@
 -- `log::replay::feed` meets its contract. Assumes nothing.
-use Rattle.records.specs.State.{Replay}
-use Rattle.log.proofs.Feeding.{Fold, fold-filled, fold-ends, fold-refused, fold-goes, fold-records, fold-same, asked}
+use Rattle.log.proofs.Feeding.{Fold, fold-begins, fold-ends, fold-refused, fold-goes, fold-records, fold-same, asked}
+use Rattle.records.specs.Cells.{replayIn}
 use Rattle.session.specs.declared.stream.First.the-variants.{Nothing}
 use borrow.Author.Needs.{needs}
 use lib.ListN.{length}
@@ -11,31 +11,28 @@ use Rattle.log.proofs.replay.feed.Statement.{statement}
 use Rattle.log.proofs.replay.feed.Tie as tie
 
 abbrev Inv-loop : tie.InvT-loop
-Inv-loop log₀ marks₀ own₀ tallies₀ shared₀ bytes i₀ refusal₀ log marks own tallies shared i refusal = ((r : Replay) → Fold r bytes log₀ marks₀ own₀ tallies₀ shared₀ i₀ → Fold r bytes log marks own tallies shared i) × (refusal ≡ Nothing)
+Inv-loop log₀ marks₀ own₀ tallies₀ shared₀ bytes i₀ refusal₀ log marks own tallies shared i refusal = Fold (replayIn log₀ marks₀ own₀ tallies₀ shared₀) bytes log marks own tallies shared i × (refusal ≡ Nothing)
 
 abbrev μ-loop : tie.MeasureT-loop
 μ-loop log₀ marks₀ own₀ tallies₀ shared₀ bytes i₀ refusal₀ log marks own tallies shared i refusal = length bytes - i
 
-fill-requires : tie.Need-fill-requires Inv-loop μ-loop
-fill-requires c κs = c .before .before .pre .log-length
-
 loop-holds : tie.Need-loop-holds Inv-loop μ-loop
-loop-holds c = ((λ r f. f), refl)
+loop-holds c = (fold-begins _ _ _ _ _ _ (c .before .pre), refl)
 
 take-records-requires : tie.Need-take-records-requires Inv-loop μ-loop
-take-records-requires c κs = (asked _ _ _ _ _ _ _ _ (c .before .before .before .before .before .loop .inv .0 _ (fold-filled _ _ _ _ _ _ _ _ (c .before .before .before .before .before .before .before .before .before .pre) (c .before .before .before .before .before .before .fill .ensures))), (c .before .before .before .before .before .loop .inv .0 _ (fold-filled _ _ _ _ _ _ _ _ (c .before .before .before .before .before .before .before .before .before .pre) (c .before .before .before .before .before .before .fill .ensures))) .within)
+take-records-requires c κs = (asked _ _ _ _ _ _ _ _ (c .before .before .before .before .before .loop .inv .0), c .before .before .before .before .before .loop .inv .0 .within)
 
 mul-i : tie.Need-mul-i Inv-loop μ-loop
-mul-i c = omega (arith, (fold-records _ _ _ _ _ _ _ _ (c .before .before .before .before .before .before .before .loop .inv .0 _ (fold-filled _ _ _ _ _ _ _ _ (c .before .before .before .before .before .before .before .before .before .before .before .pre) (c .before .before .before .before .before .before .before .before .fill .ensures))) _ _ _ _ _ (c .if1 .taken) (c .before .take-records .ensures)) .within)
+mul-i c = omega (arith, (fold-records _ _ _ _ _ _ _ _ (c .before .before .before .before .before .before .before .loop .inv .0) _ _ _ _ _ (c .if1 .taken) (c .before .take-records .ensures)) .within)
 
 add-i : tie.Need-add-i Inv-loop μ-loop
-add-i c = omega (arith, (fold-records _ _ _ _ _ _ _ _ (c .before .before .before .before .before .before .before .loop .inv .0 _ (fold-filled _ _ _ _ _ _ _ _ (c .before .before .before .before .before .before .before .before .before .before .before .pre) (c .before .before .before .before .before .before .before .before .fill .ensures))) _ _ _ _ _ (c .if1 .taken) (c .before .take-records .ensures)) .within)
+add-i c = omega (arith, (fold-records _ _ _ _ _ _ _ _ (c .before .before .before .before .before .before .before .loop .inv .0) _ _ _ _ _ (c .if1 .taken) (c .before .take-records .ensures)) .within)
 
 loop-less : tie.Need-loop-less Inv-loop μ-loop
 loop-less c = omega (arith, c .if1 .taken, c .before .before .before .before .before .before .loop-test .taken)
 
 loop-again : tie.Need-loop-again Inv-loop μ-loop
-loop-again c = ((λ r f. (fold-records _ _ _ _ _ _ _ _ (c .before .before .before .before .before .before .before .loop .inv .0 r f) _ _ _ _ _ (c .if1 .taken) (c .before .take-records .ensures))), c .before .before .before .before .before .before .before .loop .inv .1)
+loop-again c = ((fold-records _ _ _ _ _ _ _ _ (c .before .before .before .before .before .before .before .loop .inv .0) _ _ _ _ _ (c .if1 .taken) (c .before .take-records .ensures)), c .before .before .before .before .before .before .before .loop .inv .1)
 
 shared-slice-read-wide : tie.Need-shared-slice-read-wide Inv-loop μ-loop
 shared-slice-read-wide c = search needs
@@ -44,7 +41,7 @@ wide-requires : tie.Need-wide-requires Inv-loop μ-loop
 wide-requires c κs = search needs
 
 byte-requires : tie.Need-byte-requires Inv-loop μ-loop
-byte-requires c κs = ((fold-same _ _ _ _ _ _ _ _ (c .before .before .before .before .before .before .before .before .before .before .before .before .before .before .loop .inv .0 _ (fold-filled _ _ _ _ _ _ _ _ (c .before .before .before .before .before .before .before .before .before .before .before .before .before .before .before .before .before .before .pre) (c .before .before .before .before .before .before .before .before .before .before .before .before .before .before .before .fill .ensures))) _ _ _ _ _ (c .before .before .before .before .before .before .before .if1 .left) (c .before .before .before .before .before .before .before .before .take-records .ensures)) .given, c .wide .ensures .1)
+byte-requires c κs = ((fold-same _ _ _ _ _ _ _ _ (c .before .before .before .before .before .before .before .before .before .before .before .before .before .before .loop .inv .0) _ _ _ _ _ (c .before .before .before .before .before .before .before .if1 .left) (c .before .before .before .before .before .before .before .before .take-records .ensures)) .given, c .wide .ensures .1)
 
 enum-known-answer : tie.Need-enum-known-answer Inv-loop μ-loop
 enum-known-answer c = search needs
@@ -59,13 +56,13 @@ loop-less-2 : tie.Need-loop-less-2 Inv-loop μ-loop
 loop-less-2 c = search needs
 
 loop-again-2 : tie.Need-loop-again-2 Inv-loop μ-loop
-loop-again-2 c = ((λ r f. fold-goes _ _ _ _ _ _ _ _ (fold-same _ _ _ _ _ _ _ _ (c .before .before .before .before .before .before .before .before .before .before .before .before .before .before .before .before .before .loop .inv .0 r f) _ _ _ _ _ (c .before .before .before .before .before .before .before .before .before .before .if1 .left) (c .before .before .before .before .before .before .before .before .before .before .before .take-records .ensures)) (c .before .before .before .before .before .before .before .before .before .before .before .before .before .before .before .before .loop-test .taken) _ _ _ _ _ _ _ (c .before .before .before .wide .ensures .0) (c .before .before .before .wide .ensures .1) (c .enum-told .given .1) (c .before .before .byte .ensures)), c .before .before .before .before .before .before .before .before .before .before .before .before .before .before .before .before .before .loop .inv .1)
+loop-again-2 c = (fold-goes _ _ _ _ _ _ _ _ (fold-same _ _ _ _ _ _ _ _ (c .before .before .before .before .before .before .before .before .before .before .before .before .before .before .before .before .before .loop .inv .0) _ _ _ _ _ (c .before .before .before .before .before .before .before .before .before .before .if1 .left) (c .before .before .before .before .before .before .before .before .before .before .before .take-records .ensures)) (c .before .before .before .before .before .before .before .before .before .before .before .before .before .before .before .before .loop-test .taken) _ _ _ _ _ _ _ (c .before .before .before .wide .ensures .0) (c .before .before .before .wide .ensures .1) (c .enum-told .given .1) (c .before .before .byte .ensures), c .before .before .before .before .before .before .before .before .before .before .before .before .before .before .before .before .before .loop .inv .1)
 
 returns : tie.Need-returns Inv-loop μ-loop
-returns c = fold-ends _ _ _ _ _ _ _ _ (c .before .loop .inv .0 _ (fold-filled _ _ _ _ _ _ _ _ (c .before .before .before .before .before .pre) (c .before .before .fill .ensures))) (c .loop-test .left) _ (c .before .loop .inv .1)
+returns c = fold-ends _ _ _ _ _ _ _ _ (c .before .loop .inv .0) (c .loop-test .left) _ (c .before .loop .inv .1)
 
 returns-2 : tie.Need-returns-2 Inv-loop μ-loop
-returns-2 c = fold-refused _ _ _ _ _ _ _ _ (fold-same _ _ _ _ _ _ _ _ (c .before .before .before .before .before .before .before .before .before .before .before .before .before .before .before .before .before .before .loop .inv .0 _ (fold-filled _ _ _ _ _ _ _ _ (c .before .before .before .before .before .before .before .before .before .before .before .before .before .before .before .before .before .before .before .before .before .before .pre) (c .before .before .before .before .before .before .before .before .before .before .before .before .before .before .before .before .before .before .before .fill .ensures))) _ _ _ _ _ (c .before .before .before .before .before .before .before .before .before .before .before .if1 .left) (c .before .before .before .before .before .before .before .before .before .before .before .before .take-records .ensures)) (c .before .before .before .before .before .before .before .before .before .before .before .before .before .before .before .before .before .loop-test .taken) _ _ _ _ _ _ _ _ (c .before .before .before .before .wide .ensures .0) (c .before .before .before .before .wide .ensures .1) (c .before .answer .given .1) (c .before .before .before .byte .ensures)
+returns-2 c = fold-refused _ _ _ _ _ _ _ _ (fold-same _ _ _ _ _ _ _ _ (c .before .before .before .before .before .before .before .before .before .before .before .before .before .before .before .before .before .before .loop .inv .0) _ _ _ _ _ (c .before .before .before .before .before .before .before .before .before .before .before .if1 .left) (c .before .before .before .before .before .before .before .before .before .before .before .before .take-records .ensures)) (c .before .before .before .before .before .before .before .before .before .before .before .before .before .before .before .before .before .loop-test .taken) _ _ _ _ _ _ _ _ (c .before .before .before .before .wide .ensures .0) (c .before .before .before .before .wide .ensures .1) (c .before .answer .given .1) (c .before .before .before .byte .ensures)
 
 pub feed-spec : {M : Type 1} → statement M
 feed-spec =
@@ -73,7 +70,6 @@ feed-spec =
     (tie.spec
     Inv-loop
     μ-loop
-    fill-requires
     loop-holds
     take-records-requires
     mul-i
