@@ -109,6 +109,10 @@ uint32_t egretfold_log_begin(uint32_t log[10], uint64_t marks[800], uint32_t own
 uint32_t egretfold_log_feed(uint32_t log[10], uint64_t marks[800], uint32_t own[17], uint64_t tallies[2],
                             uint32_t shared[101], const uint8_t *bytes, size_t length, uint64_t taken[1]);
 
+/* The same for one byte. Returns its refusal, or 0 where it was taken. */
+uint32_t egretfold_log_byte(uint32_t log[10], uint64_t marks[800], uint32_t own[17], uint64_t tallies[2],
+                            uint32_t shared[101], uint8_t byte);
+
 /* status: 18 or 19 if it stopped the replay, else 0; the first refused word's refusal, 0 if none was refused; how many
  * midnights came before that word; how many midnights came; the first day and the last one (0 before the first midnight);
  * and how many bytes of an unfinished record stand, 0 to 4. Returns 0.

@@ -153,6 +153,23 @@ pub fn log_feed(replay: &mut Replay, bytes: &[u8], taken: &mut [u64; 1]) -> u32 
     unsafe { raw::egretfold_log_feed(log, marks, own, tallies, shared, start, length, taken) }
 }
 
+/// One byte. Returns its refusal, or 0.
+#[inline]
+pub fn log_byte(replay: &mut Replay, byte: u8) -> u32 {
+    let Replay {
+        log,
+        marks,
+        session,
+    } = replay;
+    let Session {
+        own,
+        tallies,
+        shared,
+    } = session;
+    // SAFETY: the arrays are a replay's that the library gave out.
+    unsafe { raw::egretfold_log_byte(log, marks, own, tallies, shared, byte) }
+}
+
 /// status: what stopped the replay, the first refused word's refusal and the
 /// midnights before it, the midnights, the first and the last day, and the bytes
 /// of an unfinished record.

@@ -79,6 +79,12 @@ impl Replay {
         }
     }
 
+    /// Takes one byte. 18 or 19, as [`Replay::feed`].
+    #[inline]
+    pub fn byte(&mut self, byte: u8) -> Result<(), u32> {
+        answer(lent::log_byte(self, byte))
+    }
+
     pub fn status(&self) -> LogStatus {
         let mut status = [0; 7];
         lent::log_status(self, &mut status);

@@ -61,6 +61,15 @@ extern "C" {
         taken: &mut [u64; 1],
     ) -> u32;
 
+    pub fn egretfold_log_byte(
+        log: &mut [u32; 10],
+        marks: &mut [u64; 800],
+        own: &mut [u32; 17],
+        tallies: &mut [u64; 2],
+        shared: &mut [u32; 101],
+        byte: u8,
+    ) -> u32;
+
     pub fn egretfold_log_status(log: &[u32; 10], status: &mut [u32; 7]) -> u32;
 
     pub fn egretfold_log_part(

@@ -118,6 +118,21 @@ fn pieces_may_be_cut_at_every_byte() {
 }
 
 #[test]
+fn bytes_one_by_one_are_a_piece() {
+    for last in [vec![1, 7], vec![3, 1], midnight(104)] {
+        let bytes = [three_days(), last].concat();
+        let mut whole = Replay::new();
+        let answer = whole.feed(&bytes);
+        let mut single = Replay::new();
+        for (place, byte) in bytes.iter().enumerate() {
+            let refusal = answer.refusal.filter(|_| place as u64 >= answer.taken);
+            assert_eq!(single.byte(*byte), refusal.map_or(Ok(()), Err), "byte {place}");
+        }
+        assert_eq!(single, whole);
+    }
+}
+
+#[test]
 fn a_wrong_kind_byte_is_18() {
     let mut replay = Replay::new();
     let bytes = [three_days(), vec![3], words(&[START, 0])].concat();

@@ -259,6 +259,10 @@ static void check_log_days(void)
     agree("log_feed, a wrong day", feed_log(&r, bytes, 10, taken), 19);
     agree("log_feed, bytes before a wrong day's last", taken[0], 9);
     check_log_status("log_status after a wrong day", &r, stopped);
+    agree("log_begin, again", egretfold_log_begin(r.log, r.marks, r.s.own, r.s.tallies, r.s.shared), 0);
+    for (unsigned i = 0; i < 10; i++)
+        agree("log_byte", egretfold_log_byte(r.log, r.marks, r.s.own, r.s.tallies, r.s.shared, bytes[i]), i < 9 ? 0 : 19);
+    check_log_status("log_status after a wrong day, byte by byte", &r, stopped);
 }
 
 static void check_commands(void)

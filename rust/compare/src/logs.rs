@@ -1,5 +1,6 @@
 //! Cases of the sixth kind: a station's log is given whole to the second program,
-//! and to the product whole and cut at random bytes. Answers, days, settings and
+//! and to the product whole and cut at random bytes, single ones also by the
+//! function for one byte. Answers, days, settings and
 //! tallies are compared, then what later bytes get.
 
 use crate::case::{Agreed, Agreement, Case};
@@ -123,7 +124,7 @@ fn fed_in_pieces(case: &mut Case, log: &[u8], whole: Fed) -> Agreed<Product> {
     while !left.is_empty() {
         let most = (left.len() as u32).min(length);
         let (piece, rest) = left.split_at(case.random.between(0, most) as usize);
-        let answer = fed(&mut product, piece);
+        let answer = given(case, &mut product, piece);
         if piece.is_empty() || sum.refusal.is_some() {
             let (taken, refusal) = (0, sum.refusal.filter(|_| !piece.is_empty()));
             let asked = || format!("piece {piece:X?} of {log:X?}");
@@ -135,6 +136,21 @@ fn fed_in_pieces(case: &mut Case, log: &[u8], whole: Fed) -> Agreed<Product> {
     }
     case.agree(|| format!("pieces of {log:X?}"), &sum, &whole)?;
     Ok(product)
+}
+
+/// A piece; one byte goes to either of the two functions that take it.
+fn given(case: &mut Case, product: &mut Product, piece: &[u8]) -> Fed {
+    match *piece {
+        [byte] if case.random.below(2) == 0 => {
+            case.tally.mark("bytes by themselves");
+            let refusal = product.byte(byte).err();
+            Fed {
+                taken: u64::from(refusal.is_none()),
+                refusal,
+            }
+        }
+        _ => fed(product, piece),
+    }
 }
 
 /// More bytes after the log's end, to both: a stopped replay takes none of them.

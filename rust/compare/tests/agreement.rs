@@ -178,6 +178,7 @@ fn logs(numbers: Range<u64>) {
     marks(&tally, &[("bytes", 20_000_000), ("midnights", 500_000)]);
     marks(&tally, &[("unfinished records", 2_000)]);
     marks(&tally, &[("later bytes refused", 20_000)]);
+    marks(&tally, &[("bytes by themselves", 500_000)]);
     marks(&tally, &[("logs with 400 midnights", 500)]);
     marks(&tally, &[("logs up to the last day's number", 2_000)]);
     marks(
