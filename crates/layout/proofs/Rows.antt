@@ -22,6 +22,7 @@ use borrow.Author.Tests.{leb-true, le-leb, lt-leb}
 use Rattle.laws.specs.Choice.{_and_, pick, placeOf}
 use Rattle.laws.proofs.Choice.{pick-yes, pick-no, by-pick, and-intro, and-left, and-right, and-no-left, and-no-right, Tested, tested, holds, fails}
 use Rattle.layout.specs.Sizes.{isSize, widthOf, heightOf}
+use Rattle.layout.specs.Asked.{RowAsked}
 use Rattle.layout.specs.Layout.{wellFormed, unitOf, rowStep, tileRows, spanOf, inBounds, windowRule, rowsTaken, rowBytes}
 use Rattle.layout.proofs.Sizes.{by-size, tile}
 use Rattle.layout.proofs.Window.{form-size, size-most, step-whole, rule-bounds}
@@ -59,6 +60,28 @@ module _ (tiled : Bool) where
           (omega arith, refl)
           (omega arith, refl)
 
+  pub row-log : (s : ℕ) → isSize s ≡ true →
+      (pick tiled 12885033492 0 / 2 ^ (2 * s) % 4 + 5 ≤ 8) × (2 ^ (pick tiled 12885033492 0 / 2 ^ (2 * s) % 4 + 5) ≡ unitOf tiled s * s)
+  unfolding unitOf pick widthOf placeOf
+  row-log = go tiled
+    where
+      go : (t : Bool) (s : ℕ) → isSize s ≡ true →
+          (pick t 12885033492 0 / 2 ^ (2 * s) % 4 + 5 ≤ 8) × (2 ^ (pick t 12885033492 0 / 2 ^ (2 * s) % 4 + 5) ≡ unitOf t s * s)
+      go true =
+          by-size (λ s. (12885033492 / 2 ^ (2 * s) % 4 + 5 ≤ 8) × (2 ^ (12885033492 / 2 ^ (2 * s) % 4 + 5) ≡ unitOf true s * s))
+          (omega arith, refl)
+          (omega arith, refl)
+          (omega arith, refl)
+          (omega arith, refl)
+          (omega arith, refl)
+      go false =
+          by-size (λ s. (0 / 2 ^ (2 * s) % 4 + 5 ≤ 8) × (2 ^ (0 / 2 ^ (2 * s) % 4 + 5) ≡ unitOf false s * s))
+          (omega arith, refl)
+          (omega arith, refl)
+          (omega arith, refl)
+          (omega arith, refl)
+          (omega arith, refl)
+
   pub rows-log : (s : ℕ) → isSize s ≡ true → (read (pick tiled 844424997257576 0) s ≤ 5) × (2 ^ read (pick tiled 844424997257576 0) s ≡ pick tiled (heightOf s) 1)
   unfolding pick heightOf placeOf
   rows-log = go tiled
@@ -87,9 +110,42 @@ pub cut-step : (tiled : Bool) (s p l : ℕ) → p < 4294967296 → 2 ^ l ≡ uni
 unfolding rowStep
 cut-step tiled s p l h e = shifted p (2 ^ l) h ∙ ap (λ (k : ℕ). p / k * k) e
 
-pub step-fits : (tiled : Bool) (s p : ℕ) → isSize s ≡ true → p ≤ 8188 → (r : ℕ) → r ≡ rowStep tiled s p → r * s ≤ 131008
-unfolding rowStep
-step-fits tiled s p z h r e = bytes-most s r z (rw e (le-trans (div-mul-le-self p (unitOf tiled s)) h))
+-- the row step in bytes
+cut : (tiled : Bool) (s p : ℕ) → isSize s ≡ true → p * s / (unitOf tiled s * s) * (unitOf tiled s * s) ≡ rowStep tiled s p * s
+unfolding rowStep unitOf pick widthOf placeOf
+cut true s p =
+    by-size (λ s. p * s / (unitOf true s * s) * (unitOf true s * s) ≡ rowStep true s p * s)
+    (omega arith)
+    (omega arith)
+    (omega arith)
+    (omega arith)
+    (omega arith)
+    s
+cut false s p =
+    by-size (λ s. p * s / (unitOf false s * s) * (unitOf false s * s) ≡ rowStep false s p * s)
+    (omega arith)
+    (omega arith)
+    (omega arith)
+    (omega arith)
+    (omega arith)
+    s
+
+pub cut-row : (tiled : Bool) (s p l : ℕ) → isSize s ≡ true → p ≤ 8188 → 2 ^ l ≡ unitOf tiled s * s →
+    p * s / 2 ^ l * 2 ^ l % 4294967296 ≡ rowStep tiled s p * s
+cut-row tiled s p l z h e =
+    shifted (p * s) (2 ^ l) (lt-of-le-of-lt (bytes-most s p z h) (omega arith)) ∙ ap (λ (k : ℕ). p * s / k * k) e ∙ cut tiled s p z
+
+-- a linear row of bytes is a multiple of 32, and its rows are multiples of 1
+pub linear-asked : (base pitch s : ℕ) → wellFormed base pitch s ≡ true → RowAsked base pitch s false 5 0
+unfolding unitOf pick
+linear-asked base pitch s w =
+    record {
+      form = w;
+      row-few = omega arith;
+      row-unit = by-size (λ s. 32 ≡ 32 / s * s) refl refl refl refl refl s (form-size base pitch s w);
+      rows-few = omega arith;
+      rows-unit = refl;
+    }
 
 -- the height filled up to whole tiles
 filled : (tiled : Bool) (s h : ℕ) → (h + (pick tiled (heightOf s) 1 - 1)) / pick tiled (heightOf s) 1 * pick tiled (heightOf s) 1 ≡ rowsTaken tiled s h

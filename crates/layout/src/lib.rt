@@ -8,6 +8,7 @@ ghost use lib.ListN.{getD};
 ghost use Rattle.layout.specs.Sizes.{isSize, sizes, widths, heights, widthOf, heightOf};
 ghost use Rattle.laws.specs.Choice.{pick};
 ghost use Rattle.layout.specs.Layout.{wellFormed, unitOf, rowStep, rowsTaken, rowBytes, judgeOf, toldJudged};
+ghost use Rattle.layout.specs.Asked.{RowAsked};
 
 // The address of a byte: one of document 01's three kinds of number, never a word's position or a slot number.
 pub struct ByteAddress(pub u32);
@@ -141,12 +142,18 @@ pub fn row_step(pitch: u32, size: u32, tiled: bool) -> u32
     pitch >> log << log
 }
 
-// The row step in bytes.
-fn row(pitch: u32, size: u32, tiled: bool) -> u32
-    requires { ⌜ (isSize size ≡ true) × (pitch ≤ 8188) ⌝ }
-    ensures { λ r. ⌜ r ≡ rowStep tiled size pitch * size ⌝ }
+// What the bytes of rows are multiples of, likewise, two bits for a size: 32, or the bytes of a tile's row.
+fn row_logs(tiled: bool) -> u64
+    ensures { λ r. ⌜ r ≡ pick tiled 12885033492 0 ⌝ }
 {
-    row_step(pitch, size, tiled) * size
+    if tiled { 12885033492 } else { 0 }
+}
+
+fn row_log(size: u32, tiled: bool) -> u32
+    requires { ⌜ isSize size ≡ true ⌝ }
+    ensures { λ r. ⌜ (r ≤ 8) × (2 ^ r ≡ unitOf tiled size * size) ⌝ }
+{
+    ((row_logs(tiled) >> (2 * size)) % 4) as u32 + 5
 }
 
 // What the rows of a window's bytes are a multiple of, likewise: the rows of a tile, or 1.
@@ -172,13 +179,21 @@ pub fn rows_taken(height: u32, size: u32, tiled: bool) -> u32
     (height + ((1u32 << log) - 1)) >> log << log
 }
 
-// The bytes from one row to the next, or 0 where the window rule is broken. It is a number, so that it stays in a register;
-// a row has at most 2^16 bytes and a window 2^12 rows, so the span is at most 2^28.
-pub fn window_row(base: u32, pitch: u32, height: u32, size: u32, tiled: bool) -> u32
-    requires { ⌜ wellFormed base pitch size ≡ true ⌝ }
+// The bytes from one row to the next, or 0 where the window rule is broken, by what rows of bytes and rows are multiples of. It is
+// a number, so that it stays in a register; a row has at most 2^16 bytes and a window 2^12 rows, so the span is at most 2^28.
+fn row_by(
+    base: u32,
+    pitch: u32,
+    height: u32,
+    size: u32,
+    tiled: bool,
+    row_log: u32,
+    rows_log: u32,
+) -> u32
+    requires { ⌜ RowAsked base pitch size tiled «row_log» «rows_log» ⌝ }
     ensures { λ r. ⌜ r ≡ rowBytes base pitch height size tiled ⌝ }
 {
-    let row = row(pitch, size, tiled);
+    let row = pitch * size >> row_log << row_log;
     if row < 1 {
         return 0;
     }
@@ -191,12 +206,49 @@ pub fn window_row(base: u32, pitch: u32, height: u32, size: u32, tiled: bool) ->
     if 4096 < height {
         return 0;
     }
-    let rows = rows_taken(height, size, tiled);
+    let rows = (height + ((1u32 << rows_log) - 1)) >> rows_log << rows_log;
     // base plus span is at most 2^32, asked so that nothing wraps
     if 4294967295 - base < rows * row - 1 {
         return 0;
     }
     row
+}
+
+// The bytes from one row to the next, or 0 where the window rule is broken: for callers whose layouts are mostly alike, so that
+// a branch is guessed and a linear row waits for nothing but its pitch.
+pub fn window_row(base: u32, pitch: u32, height: u32, size: u32, tiled: bool) -> u32
+    requires { ⌜ wellFormed base pitch size ≡ true ⌝ }
+    ensures { λ r. ⌜ r ≡ rowBytes base pitch height size tiled ⌝ }
+{
+    if tiled {
+        row_by(
+            base,
+            pitch,
+            height,
+            size,
+            true,
+            row_log(size, true),
+            rows_log(size, true),
+        )
+    } else {
+        row_by(base, pitch, height, size, false, 5, 0)
+    }
+}
+
+// The same for the windows of a stream, which can't be foretold: no branch.
+pub fn stream_row(base: u32, pitch: u32, height: u32, size: u32, tiled: bool) -> u32
+    requires { ⌜ wellFormed base pitch size ≡ true ⌝ }
+    ensures { λ r. ⌜ r ≡ rowBytes base pitch height size tiled ⌝ }
+{
+    row_by(
+        base,
+        pitch,
+        height,
+        size,
+        tiled,
+        row_log(size, tiled),
+        rows_log(size, tiled),
+    )
 }
 
 // A layout's row step and span, or 3 where base, pitch or size is malformed, or 6 where the window rule is broken.
