@@ -71,6 +71,12 @@ impl Replay {
     /// 19, which stop the replay: every later byte gets the same number.
     #[inline]
     pub fn feed(&mut self, bytes: &[u8]) -> BytesFed {
+        // A byte by itself goes in registers and needs no room for the answer.
+        if let [byte] = *bytes {
+            let refusal = self.byte(byte).err();
+            let taken = u64::from(refusal.is_none());
+            return BytesFed { taken, refusal };
+        }
         let mut taken = [0];
         let number = lent::log_feed(self, bytes, &mut taken);
         BytesFed {

@@ -129,6 +129,13 @@ fn bytes_one_by_one_are_a_piece() {
             assert_eq!(single.byte(*byte), refusal.map_or(Ok(()), Err), "byte {place}");
         }
         assert_eq!(single, whole);
+        let mut pieces = Replay::new();
+        for (place, piece) in bytes.chunks(1).enumerate() {
+            let refusal = answer.refusal.filter(|_| place as u64 >= answer.taken);
+            let taken = usize::from(refusal.is_none());
+            assert_eq!(pieces.feed(piece), fed(taken, refusal), "piece {place}");
+        }
+        assert_eq!(pieces, whole);
     }
 }
 

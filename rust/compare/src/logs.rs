@@ -7,7 +7,7 @@ use crate::case::{Agreed, Agreement, Case};
 use crate::records;
 use crate::settings;
 use crate::starts;
-use boundary::Replay as Product;
+use boundary::{lent, Replay as Product};
 use second::log::{Fed, Part, RefusedWord, Replay as Second};
 
 /// All that can be asked of a replay, from either program.
@@ -40,11 +40,13 @@ pub fn run(case: &mut Case) -> Agreement {
     later_bytes(case, cut, second, &log)
 }
 
+/// A piece by the function for pieces, whatever its length.
 fn fed(product: &mut Product, bytes: &[u8]) -> Fed {
-    let answer = product.feed(bytes);
+    let mut taken = [0];
+    let number = lent::log_feed(product, bytes, &mut taken);
     Fed {
-        taken: answer.taken,
-        refusal: answer.refusal,
+        taken: taken[0],
+        refusal: (number != 0).then_some(number),
     }
 }
 
