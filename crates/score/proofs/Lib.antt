@@ -1,0 +1,7 @@
+pub mod Dates
+pub mod Filling
+pub mod Lines
+pub mod Rooms
+pub mod Scores
+pub mod Sums
+pub mod Verdicts
