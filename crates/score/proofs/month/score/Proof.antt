@@ -1,55 +1,44 @@
+-- `score::month::score` meets its contract. Assumes nothing.
+use mathlib.Core.Path.{_∙_}
+use native.Mathlib.Omega.{arith}
+use Rattle.score.proofs.Lines.{bounds}
+use Rattle.score.proofs.Scores.{was-taken, was-refused, was-21, owed-small, score-line, score-stopped, score-given}
 use borrow.Author.Needs.{needs}
 use Rattle.score.proofs.month.score.Statement.{statement}
 use Rattle.score.proofs.month.score.Tie as tie
-use Rattle.score.proofs.month.score.Reads as reads
-use Rattle.score.proofs.month.score.Lts as lts
-use Rattle.refusal.proofs.number.Reads as number-reads
-use Rattle.score.proofs.line.judge.Reads as judge-reads
-use Rattle.score.proofs.month.called.Reads as called-reads
-use Rattle.score.proofs.month.fill.Reads as fill-reads
 
--- src/month.rt:86:9
 judge-requires : tie.Need-judge-requires
 judge-requires c κs = search needs
 
--- src/month.rt:87:28
 enum-known-judged : tie.Need-enum-known-judged
 enum-known-judged c = search needs
 
--- src/month.rt:88:32
 number-requires : tie.Need-number-requires
 number-requires c κs = search needs
 
--- src/month.rt:88:9
 returns : tie.Need-returns
-returns c = ?
+returns c = score-line _ _ _ _ _ _ (was-refused _ _ (c .before .before .before .before .judge .ensures) _ (c .before .before .judged .given .1)) _ (c .number .ensures ∙ was-21 _ _ (c .before .before .before .before .judge .ensures) _ (c .before .before .judged .given .1))
 
 enum-told : tie.Need-enum-told
 enum-told c = search needs
 
--- src/month.rt:90:14
 element-copy-out-by : tie.Need-element-copy-out-by
 element-copy-out-by c = search needs
 
--- src/month.rt:92:9
 returns-2 : tie.Need-returns-2
-returns-2 c = ?
+returns-2 c = score-stopped _ _ _ _ _ _ (was-taken _ _ (c .before .before .before .before .judge .ensures) (c .before .before .enum-told .given .1)) (c .if1 .taken)
 
--- src/month.rt:94:9
 fill-requires : tie.Need-fill-requires
-fill-requires c κs = ?
+fill-requires c κs = bounds _ (was-taken _ _ (c .before .before .before .before .before .before .judge .ensures) (c .before .before .before .before .enum-told .given .1))
 
--- src/month.rt:95:15
 mul-due : tie.Need-mul-due
-mul-due c = ?
+mul-due c = omega (arith, owed-small _ _ (bounds _ (was-taken _ _ (c .before .before .before .before .before .before .before .judge .ensures) (c .before .before .before .before .before .enum-told .given .1)) .few-days) (bounds _ (was-taken _ _ (c .before .before .before .before .before .before .before .judge .ensures) (c .before .before .before .before .before .enum-told .given .1)) .few-owed))
 
--- src/month.rt:96:9
 called-requires : tie.Need-called-requires
 called-requires c κs = search needs
 
--- src/month.rt:74:1
 returns-3 : tie.Need-returns-3
-returns-3 c = ?
+returns-3 c = score-given _ _ _ _ _ _ (was-taken _ _ (c .before .before .before .before .before .before .before .before .judge .ensures) (c .before .before .before .before .before .before .enum-told .given .1)) (c .before .before .before .before .if1 .left) _ _ _ (c .before .fill .ensures) _ (c .called .ensures)
 
 pub score-spec : {M : Type 1} → statement M
 score-spec =
