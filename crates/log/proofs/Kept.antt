@@ -18,7 +18,7 @@ use Rattle.records.specs.Report.{beganWith, endedWith}
 use Rattle.log.specs.Feed.{afterWords}
 use Rattle.records.specs.Cells.{Grows, LogValid}
 use Rattle.records.proofs.Marks.{grows-on, grows-marked}
-use Rattle.records.proofs.Midnights.{few}
+use Rattle.records.proofs.Midnights.{few, enough}
 use Rattle.log.proofs.Steps.{one-word}
 
 -- a new replay
@@ -34,6 +34,7 @@ new-replay-valid =
       second-byte = omega arith;
       third-byte = omega arith;
       midnights-most = omega arith;
+      days-number = omega arith;
       marks-length = length-replicate {A = ℕ} 800 0;
       growing = λ k h. nothing-yet k (omega arith);
     }
@@ -55,6 +56,7 @@ module _ (r : Replay) (v : LogValid r) where
         second-byte = omega arith;
         third-byte = omega arith;
         midnights-most = v .midnights-most;
+        days-number = v .days-number;
         marks-length = v .marks-length;
         growing = v .growing;
       }
@@ -73,6 +75,7 @@ module _ (r : Replay) (v : LogValid r) where
         second-byte = omega arith;
         third-byte = omega arith;
         midnights-most = v .midnights-most;
+        days-number = v .days-number;
         marks-length = v .marks-length;
         growing =
             λ k h.
@@ -97,6 +100,7 @@ module _ (r : Replay) (v : LogValid r) where
         second-byte = omega arith;
         third-byte = omega arith;
         midnights-most = omega arith;
+        days-number = enough (r .midnights) (r .lastDay) day e (v .days-number);
         marks-length = simp length-set (v .marks-length);
         growing =
             λ k h.
@@ -123,6 +127,7 @@ module _ (r : Replay) (v : LogValid r) where
         second-byte = b;
         third-byte = c;
         midnights-most = v .midnights-most;
+        days-number = v .days-number;
         marks-length = v .marks-length;
         growing = v .growing;
       }
