@@ -11,11 +11,12 @@ use Rattle.laws.proofs.Choice.{pick-yes, pick-no, and-intro, and-yes, and-left,
 use Rattle.cells.specs.State.{Tally}
 use Rattle.cells.specs.Cells.{partyOf}
 use Rattle.records.specs.State.{Replay}
-use Rattle.records.specs.Report.{partOf, partAt, dayAt}
-use Rattle.records.specs.Cells.{viewed}
+use Rattle.records.specs.Report.{partOf}
+use Rattle.records.specs.Cells.{viewed, LogValid}
 use Rattle.days.specs.Reported.{midnightsIn, nowIn}
 use Rattle.score.specs.Score.{hasMidnight, partOfDay, claimedOn}
 use Rattle.score.specs.Answers.{replayFor}
+use Rattle.score.specs.Promises.{DayPart, Claimed, on-part, on-none}
 
 module _ (midnights lastDay day : ℕ) where
   pub no-later : lastDay < day → false ≡ hasMidnight midnights lastDay day
@@ -51,23 +52,31 @@ module _ (log marks tallies : List ℕ) (day : ℕ) where
   unfolding claimedOn viewed
   claimed-none e = sym (pick-no _ _ e)
 
--- "A day without a midnight record in the log": no part of the log is that day. The days of a log don't reach below 0.
-module _ (r : Replay) (h : r .midnights ≤ r .lastDay + 1) (day : ℕ) where
-  -- a day with a midnight record is a part after the first midnight
-  pub record DayPart (k : ℕ) : Type 0 where
-    pub begun : 0 < k
-    pub reached : k ≤ r .midnights
-    pub same-day : dayAt r k ≡ day
+-- the days that have a midnight record are the parts after the first midnight
+module _ (r : Replay) (v : LogValid r) (day : ℕ) where
+  abbrev has : Bool
+  has = hasMidnight (r .midnights) (r .lastDay) day
 
-  pub has-part : hasMidnight (r .midnights) (r .lastDay) day ≡ true → DayPart (partOfDay (r .midnights) (r .lastDay) day)
+  pub has-part : has ≡ true → DayPart r day (partOfDay (r .midnights) (r .lastDay) day)
   has-part e =
       let a : day ≤ r .lastDay = not-after _ _ _ e in
       let b : r .lastDay < day + r .midnights = not-before _ _ _ e in
       record { begun = omega arith; reached = omega arith; same-day = omega arith }
 
-  pub part-has : (k : ℕ) → DayPart k → hasMidnight (r .midnights) (r .lastDay) day ≡ true
+  pub part-has : (k : ℕ) → DayPart r day k → has ≡ true
   unfolding hasMidnight
   part-has k p =
       let a : r .lastDay + k - r .midnights ≡ day = p .same-day in
+      let b : r .midnights ≤ r .lastDay + 1 = v .days-number in
       and-intro (le-leb day (r .lastDay) (omega (arith, p .begun, p .reached)))
       (lt-ltb (r .lastDay) (day + r .midnights) (omega (arith, p .begun, p .reached)))
+
+  pub claimed-from : Claimed r day
+  unfolding claimedOn
+  claimed-from = go (tested has)
+    where
+      go : Tested has → Claimed r day
+      go (holds e) = on-part _ (has-part e) (pick-yes _ _ e)
+      go (fails e) =
+          on-none (λ k p. let z : true ≡ false = sym (part-has k p) ∙ e in let n : _≡_ {A = ℕ} 0 1 = cc in omega arith)
+          (pick-no _ _ e)

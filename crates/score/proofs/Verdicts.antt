@@ -15,7 +15,8 @@ use Rattle.cells.specs.Start.{sumBelow}
 use Rattle.records.specs.State.{Replay}
 use Rattle.score.specs.Lease.{Lease}
 use Rattle.score.specs.Score.{claimedAt, servedAt, servedInAll, owedInAll, servedInFull, verdictOf}
-use Rattle.score.specs.Answers.{Bounded, calledBy}
+use Rattle.score.specs.Answers.{calledBy}
+use Rattle.score.specs.Promises.{AllServed}
 use Rattle.score.specs.declared.month.Verdict.{Verdict}
 use Rattle.score.specs.declared.month.Verdict.the-variants.{Full, Short, NothingOwed}
 use Rattle.score.proofs.Sums.{sum-full, sum-most, each-full}
@@ -42,17 +43,12 @@ module _ (l : Lease) (r : Replay) where
   pub served-month : servedInAll l r ≤ owedInAll l
   served-month = sum-most (servedAt l r) (l .owed) served-day (l .days)
 
-  -- every day owes more than 0 and is served in full
-  pub record AllServed : Type 0 where
-    pub owes : 0 < l .owed
-    pub full-days : (k : ℕ) → k < l .days → servedAt l r k ≡ l .owed
-
-  all-served : AllServed → every (l .days) (servedInFull l r) ≡ true
+  all-served : AllServed l r → every (l .days) (servedInFull l r) ≡ true
   all-served a =
       every-yes (l .days) (servedInFull l r)
       (λ k h. and-intro (lt-ltb 0 (l .owed) (a .owes)) (eq-eqb (servedAt l r k) (l .owed) (a .full-days k h)))
 
-  served-all : 1 ≤ l .days → every (l .days) (servedInFull l r) ≡ true → AllServed
+  served-all : 1 ≤ l .days → every (l .days) (servedInFull l r) ≡ true → AllServed l r
   served-all some e =
       record {
         owes = ltb-true 0 (l .owed) (and-left _ _ (every-at (l .days) (servedInFull l r) e 0 some));
@@ -61,15 +57,15 @@ module _ (l : Lease) (r : Replay) where
       }
 
   -- "full exactly when"
-  pub full-if : AllServed → verdictOf l r ≡ Full
+  pub full-if : AllServed l r → verdictOf l r ≡ Full
   unfolding verdictOf
   full-if a = pick-yes _ _ (all-served a)
 
-  pub full-only-if : 1 ≤ l .days → verdictOf l r ≡ Full → AllServed
+  pub full-only-if : 1 ≤ l .days → verdictOf l r ≡ Full → AllServed l r
   unfolding verdictOf
   full-only-if some e = go (tested (every (l .days) (servedInFull l r))) (tested (eqb (owedInAll l) 0))
     where
-      go : Tested (every (l .days) (servedInFull l r)) → Tested (eqb (owedInAll l) 0) → AllServed
+      go : Tested (every (l .days) (servedInFull l r)) → Tested (eqb (owedInAll l) 0) → AllServed l r
       go (holds t) u = served-all some t
       go (fails t) (holds u) =
           let other : NothingOwed ≡ Full = sym (pick-no _ _ t ∙ pick-yes _ _ u) ∙ e in
@@ -84,7 +80,7 @@ module _ (l : Lease) (r : Replay) where
     nothing-a-day e =
         let h : 1 * l .owed ≤ l .days * l .owed = mul-le-mul some (omega arith) in omega (arith, one-mul (l .owed), e)
 
-    not-all : (AllServed → ⊥) → every (l .days) (servedInFull l r) ≡ false
+    not-all : (AllServed l r → ⊥) → every (l .days) (servedInFull l r) ≡ false
     not-all never = go (tested (every (l .days) (servedInFull l r)))
       where
         go : Tested (every (l .days) (servedInFull l r)) → every (l .days) (servedInFull l r) ≡ false
@@ -97,7 +93,7 @@ module _ (l : Lease) (r : Replay) where
         pick-no _ _ (not-all (λ a. omega (arith, a .owes))) ∙
         pick-yes _ _ (eq-eqb (owedInAll l) 0 (ap (λ (n : ℕ). l .days * n) z ∙ mul-zero (l .days)))
 
-    pub called-short : (l .owed ≡ 0 → ⊥) → (AllServed → ⊥) → verdictOf l r ≡ Short
+    pub called-short : (l .owed ≡ 0 → ⊥) → (AllServed l r → ⊥) → verdictOf l r ≡ Short
     unfolding verdictOf
     called-short owes never = pick-no _ _ (not-all never) ∙ pick-no _ _ (ne-eqb (owedInAll l) 0 (λ z. owes (nothing-a-day z)))
 

@@ -1,3 +1,4 @@
 pub mod Answers
 pub mod Lease
+pub mod Promises
 pub mod Score

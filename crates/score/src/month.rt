@@ -94,5 +94,9 @@ pub fn score(
     let total = fill(log, marks, tallies, first_day, days, owed, claimed, served);
     let due = days as u64 * owed as u64;
     let verdict = called(total, due);
-    Scored::Month(Totals { served: total, owed: due, verdict })
+    Scored::Month(Totals {
+        served: total,
+        owed: due,
+        verdict,
+    })
 }
