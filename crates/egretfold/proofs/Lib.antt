@@ -1,4 +1,5 @@
 pub mod Crossings
 pub mod Formats
 pub mod Known
+pub mod Months
 pub mod Numbers
