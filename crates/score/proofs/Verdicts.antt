@@ -1,6 +1,6 @@
 -- What a station is called: "full exactly when every day owes more than 0 and is served in full; owing nothing is called "nothing
 -- owed", any other "short"". No day is served more than it owes, so the month's two numbers tell the three apart. Assumes nothing.
-use mathlib.Core.Path.{_≡_, refl, sym, ap, _∙_}
+use mathlib.Core.Path.{_≡_, refl, sym, ap, _∙_, subst}
 use mathlib.Core.Bool.{Bool, true, false}
 use Prim.Native.Nat.{ℕ, zero, suc, _+_, _*_, _<_, _≤_, min}
 use native.Mathlib.Nat.{min-le-left, min-le-right, mul-le-mul, one-mul, mul-zero}
@@ -16,7 +16,7 @@ use Rattle.records.specs.State.{Replay}
 use Rattle.score.specs.Lease.{Lease}
 use Rattle.score.specs.Score.{claimedAt, servedAt, servedInAll, owedInAll, servedInFull, verdictOf}
 use Rattle.score.specs.Answers.{calledBy}
-use Rattle.score.specs.Promises.{AllServed}
+use Rattle.score.specs.Promises.{AllServed, Calling, full, nothing, short}
 use Rattle.score.specs.declared.month.Verdict.{Verdict}
 use Rattle.score.specs.declared.month.Verdict.the-variants.{Full, Short, NothingOwed}
 use Rattle.score.proofs.Sums.{sum-full, sum-most, each-full}
@@ -96,6 +96,20 @@ module _ (l : Lease) (r : Replay) where
     pub called-short : (l .owed ≡ 0 → ⊥) → (AllServed l r → ⊥) → verdictOf l r ≡ Short
     unfolding verdictOf
     called-short owes never = pick-no _ _ (not-all never) ∙ pick-no _ _ (ne-eqb (owedInAll l) 0 (λ z. owes (nothing-a-day z)))
+
+    -- whichever name it is, it is given for its cause; the causes exclude each other
+    pub calling : Calling l r (verdictOf l r)
+    calling = go (tested (every (l .days) (servedInFull l r))) (tested (eqb (l .owed) 0))
+      where
+        go : Tested (every (l .days) (servedInFull l r)) → Tested (eqb (l .owed) 0) → Calling l r (verdictOf l r)
+        go (holds t) u =
+            let all : AllServed l r = served-all some t in subst (Calling l r) (sym (full-if all)) (full all)
+        go (fails t) (holds u) =
+            let none : l .owed ≡ 0 = eqb-true (l .owed) 0 u in subst (Calling l r) (sym (nothing-owed none)) (nothing none)
+        go (fails t) (fails u) =
+            let owes : l .owed ≡ 0 → ⊥ = eqb-false (l .owed) 0 u in
+            let never : AllServed l r → ⊥ = λ a. (let z : true ≡ false = sym (all-served a) ∙ t in let n : _≡_ {A = ℕ} 0 1 = cc in omega arith) in
+            subst (Calling l r) (sym (called-short owes never)) (short (omega (arith, owes)) never)
 
     -- by the month's two numbers
     pub by-numbers : calledBy (servedInAll l r) (owedInAll l) ≡ verdictOf l r

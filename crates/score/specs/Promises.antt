@@ -9,12 +9,19 @@ use Rattle.records.specs.Step.{StopNumber}
 use Rattle.records.specs.Report.{partAt, dayAt}
 use Rattle.score.specs.Lease.{Lease, isLease}
 use Rattle.score.specs.Score.{Month, claimedOn, claimedAt, servedAt, monthOf}
+use Rattle.score.specs.declared.month.Verdict.{Verdict}
 use Rattle.score.specs.declared.month.Verdict.the-variants.{Full, Short, NothingOwed}
 
 -- "every day owes more than 0 and is served in full"
 pub record AllServed (l : Lease) (r : Replay) : Type 0 where
   pub owes : 0 < l .owed
   pub full-days : (k : ℕ) → k < l .days → servedAt l r k ≡ l .owed
+
+-- the three names, each with what it is given for
+pub data Calling (l : Lease) (r : Replay) : Verdict → Type 0 where
+  full : AllServed l r → Calling l r Full
+  nothing : l .owed ≡ 0 → Calling l r NothingOwed
+  short : 0 < l .owed → (AllServed l r → ⊥) → Calling l r Short
 
 -- part `k` of a log is a day: it began at a midnight, and the midnight's number is the day's
 pub record DayPart (r : Replay) (day k : ℕ) : Type 0 where

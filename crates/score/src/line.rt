@@ -10,7 +10,7 @@ pub const MOST_DAYS: u32 = 31;
 const MOST_OWED: u32 = 100000000;
 
 // The greatest number of a day.
-const LAST_DAY: u32 = 4294967295;
+const LAST_DAY: u64 = 4294967295;
 
 pub enum Judged {
     Accepted,
@@ -30,8 +30,8 @@ pub fn judge(first_day: u32, days: u32, owed: u32) -> Judged
     if MOST_OWED < owed {
         return Judged::Refused(Refusal::LeaseLine);
     }
-    // The days that follow the first, so that the sum can't wrap.
-    if LAST_DAY - first_day < days - 1 {
+    // In 64 bits, so that the sum can't wrap.
+    if LAST_DAY < first_day as u64 + days as u64 - 1 {
         return Judged::Refused(Refusal::LeaseLine);
     }
     Judged::Accepted
