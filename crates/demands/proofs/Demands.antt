@@ -116,13 +116,13 @@ pub score-refusals :
     Refusing l (replayOf newReplay bytes .replay) n
 score-refusals l bytes b n = refused-with l (replayOf newReplay bytes .replay) (piece-valid newReplay new-replay-valid bytes b) n
 
--- Request 5: a score is of a lease line that was taken and of a replay that wasn't stopped, and served ≤ owed, day by day and in the
--- month.
+-- Request 5: a score is of a lease line that was taken and of a replay that wasn't stopped, and served ≤ owed, day by day and in
+-- the month.
 pub score-given : (l : Lease) (r : Replay) (m : Month) → scoreOf l r ≡ scored m → Scoring l r m
 score-given = scored-as
 
--- Request 5: where a day's claimed number comes from: it is that of the day's part of the log, which began at a midnight of its number,
--- or 0 where there is no such part. So what ended before the first midnight serves no day.
+-- Request 5: a day's claimed number is that of the day's part of the log, which began at a midnight with its number, or 0 where
+-- there is no such part. So what ended before the first midnight serves no day.
 pub score-days : (bytes : List ℕ) → Bytes8 bytes → (day : ℕ) → Claimed (replayOf newReplay bytes .replay) day
 score-days bytes b day = claimed-from (replayOf newReplay bytes .replay) (piece-valid newReplay new-replay-valid bytes b) day
 

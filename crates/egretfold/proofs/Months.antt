@@ -1,5 +1,5 @@
 -- A score that is known crosses as it says. Assumes nothing.
-use mathlib.Core.Path.{_≡_, refl, sym, ap, _∙_, subst}
+use mathlib.Core.Path.{_≡_, refl, ap, _∙_, subst}
 use mathlib.Core.List.{List, [], _∷_}
 use Prim.Native.Nat.{ℕ}
 use native.Mathlib.Omega.{arith}
@@ -30,21 +30,23 @@ module _ (claimed served month claimed' served' : List ℕ) where
         month-room = record { status = same; room = refl };
       }
 
-  given-crosses : (s : Score) (t : Totals) → Left s (answer.Month t) claimed served claimed' served' →
-      MonthCrosses s 0 claimed served month claimed' served' (numbersOf t)
-  given-crosses (refused k) t h =
+  given-crosses : (s : Score) (t : Totals) (v : ℕ) → v ≡ verdictNumber (t .verdict) →
+      Left s (answer.Month t) claimed served claimed' served' →
+      MonthCrosses s 0 claimed served month claimed' served' (t .served ∷ t .owed ∷ v ∷ [])
+  given-crosses (refused k) t v named h =
       let other : answer.Month t ≡ answer.Refused k = h .answer in
       let z : _≡_ {A = ℕ} 0 1 = cc in absurd (omega arith)
-  given-crosses (scored m) t h =
+  given-crosses (scored m) t v named h =
       let told : answer.Month t ≡ answer.Month (m .totals) = h .answer in
       let same : t ≡ m .totals = cc in
       record {
         claimed-room = record { status = refl; room = h .claimed-room };
         served-room = record { status = refl; room = h .served-room };
-        month-room = record { status = refl; room = ap numbersOf same };
+        month-room = record { status = refl; room = ap (λ (x : ℕ). t .served ∷ t .owed ∷ x ∷ []) named ∙ ap numbersOf same };
       }
 
-  module _ (l : Lease) (log marks tallies : List ℕ) (a : Scored) (told : Scores l log marks tallies a claimed served claimed' served')
+  module _ (l : Lease) (log marks tallies : List ℕ)
+      (a : Scored) (told : Scores l log marks tallies a claimed served claimed' served')
     where
       abbrev score : List ℕ → List ℕ → Score
       score own shared = scoreOf l (replayIn log marks own tallies shared)
@@ -65,7 +67,6 @@ module _ (claimed served month claimed' served' : List ℕ) where
           record {
             crosses =
                 λ own shared.
-                subst (λ (x : ℕ). MonthCrosses (score own shared) 0 claimed served month claimed' served' (t .served ∷ t .owed ∷ x ∷ [])) (sym named)
-                (given-crosses (score own shared) t
-                (subst (λ (x : Scored). Left (score own shared) x claimed served claimed' served') e (told .told own shared)));
+                given-crosses (score own shared) t v named
+                (subst (λ (x : Scored). Left (score own shared) x claimed served claimed' served') e (told .told own shared));
           }

@@ -33,7 +33,10 @@ pub record MonthCrosses (s : Score) (r : ℕ) (claimed served month claimed' ser
   pub month-room : Crosses (monthTold s) r month month'
 
 -- the score of a replay, whatever its session's other arrays hold
-pub record ScoreCrosses (l : Lease) (log marks tallies : List ℕ) (r : ℕ) (claimed served month claimed' served' month' : List ℕ) : Type 0 where
-  pub crosses :
-      (own shared : List ℕ) →
-      MonthCrosses (scoreOf l (replayIn log marks own tallies shared)) r claimed served month claimed' served' month'
+pub record ScoreCrosses (l : Lease) (log marks tallies : List ℕ) (r : ℕ)
+    (claimed served month claimed' served' month' : List ℕ)
+    : Type 0
+  where
+    pub crosses :
+        (own shared : List ℕ) →
+        MonthCrosses (scoreOf l (replayIn log marks own tallies shared)) r claimed served month claimed' served' month'

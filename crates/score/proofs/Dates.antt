@@ -7,7 +7,8 @@ use native.Mathlib.Omega.{arith}
 use lib.Dec.{ltb}
 use lib.ListN.{getD}
 use borrow.Author.Tests.{lt-ltb, le-ltb, le-leb, lt-leb, ltb-true, ltb-false, leb-true}
-use Rattle.laws.proofs.Choice.{pick-yes, pick-no, and-intro, and-yes, and-left, and-right, and-no-left, Tested, tested, holds, fails}
+use Rattle.laws.proofs.Choice.{pick-yes, pick-no, and-intro, and-yes, and-left, and-right, and-no-left}
+use Rattle.laws.proofs.Choice.{Tested, tested, holds, fails}
 use Rattle.cells.specs.State.{Tally}
 use Rattle.cells.specs.Cells.{partyOf}
 use Rattle.records.specs.State.{Replay}
@@ -46,7 +47,8 @@ module _ (log marks tallies : List ℕ) (day : ℕ) where
       t .claims ≡ claimedOn (replayFor log marks tallies) day
   unfolding claimedOn viewed
   claimed-part e part same t told =
-      ap (λ (x : Tally). x .claims) (told ∙ ap (partOf marks (getD log 3 0) (nowIn tallies)) same) ∙ unfold partyOf in sym (pick-yes _ _ e)
+      ap (λ (x : Tally). x .claims) (told ∙ ap (partOf marks (getD log 3 0) (nowIn tallies)) same) ∙
+      unfold partyOf in sym (pick-yes _ _ e)
 
   pub claimed-none : hasMidnight (getD log 3 0) (getD log 4 0) day ≡ false → 0 ≡ claimedOn (replayFor log marks tallies) day
   unfolding claimedOn viewed

@@ -45,28 +45,34 @@ module _ (l : Lease) (r : Replay) where
     total-most =
         omega (arith, f .sum, sum-most (servedAt l r) 100000000 (λ j. omega (arith, served-day l r j, f .bounded .few-owed)) k)
 
-    module _ (more : k < l .days) (number counted : ℕ) (is : number ≡ claimedAt l r k) (cap : counted ≡ min number (l .owed)) where
-      capped : counted ≡ servedAt l r k
-      unfolding servedAt
-      capped = cap ∙ ap (λ (n : ℕ). min n (l .owed)) is
+    module _ (more : k < l .days) (number counted : ℕ)
+        (is : number ≡ claimedAt l r k) (cap : counted ≡ min number (l .owed))
+      where
+        capped : counted ≡ servedAt l r k
+        unfolding servedAt
+        capped = cap ∙ ap (λ (n : ℕ). min n (l .owed)) is
 
-      pub counted-most : counted ≤ 100000000
-      counted-most = omega (arith, capped, served-day l r k, f .bounded .few-owed)
+        pub counted-most : counted ≤ 100000000
+        counted-most = omega (arith, capped, served-day l r k, f .bounded .few-owed)
 
-      few : k < 31
-      few = omega (arith, f .bounded .few-days)
+        few : k < 31
+        few = omega (arith, f .bounded .few-days)
 
-      pub filling-goes : Filling l r (set claimed k number) (set served k counted) (total + counted) (k + 1)
-      filling-goes =
-          record {
-            bounded = f .bounded;
-            reached = omega arith;
-            sum = ap₂ _+_ (f .sum) capped ∙ unfold sumBelow in refl ∙ ap (λ (n : ℕ). sumBelow n (servedAt l r)) (sym (add-one k));
-            claimed-room =
-                ap₂ (λ (room : List ℕ) (n : ℕ). set room k n) (f .claimed-room) is ∙ room-more (claimedAt l r) k few;
-            served-room =
-                ap₂ (λ (room : List ℕ) (n : ℕ). set room k n) (f .served-room) capped ∙ room-more (servedAt l r) k few;
-          }
+        one-more : sumBelow k (servedAt l r) + servedAt l r k ≡ sumBelow (k + 1) (servedAt l r)
+        unfolding sumBelow
+        one-more = ap (λ (n : ℕ). sumBelow n (servedAt l r)) (sym (add-one k))
+
+        pub filling-goes : Filling l r (set claimed k number) (set served k counted) (total + counted) (k + 1)
+        filling-goes =
+            record {
+              bounded = f .bounded;
+              reached = omega arith;
+              sum = ap₂ _+_ (f .sum) capped ∙ one-more;
+              claimed-room =
+                  ap₂ (λ (room : List ℕ) (n : ℕ). set room k n) (f .claimed-room) is ∙ room-more (claimedAt l r) k few;
+              served-room =
+                  ap₂ (λ (room : List ℕ) (n : ℕ). set room k n) (f .served-room) capped ∙ room-more (servedAt l r) k few;
+            }
 
     pub filling-ends : l .days ≤ k → Filled l r total claimed served
     filling-ends h =

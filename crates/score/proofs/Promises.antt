@@ -17,7 +17,8 @@ use Rattle.log.specs.Feed.{replayOf, replayPieces}
 use Rattle.log.specs.Feed as piece
 use Rattle.log.proofs.Cut.{cut-anywhere}
 use Rattle.score.specs.Lease.{Lease, isLease}
-use Rattle.score.specs.Score.{hasMidnight, Month, Score, scored, refused, claimedOn, servedAt, roomFor, monthOf, scoreOf, scoreOfLog}
+use Rattle.score.specs.Score.{hasMidnight, claimedOn, servedAt, roomFor, Month, monthOf}
+use Rattle.score.specs.Score.{scored, refused, scoreOf, scoreOfLog}
 use Rattle.score.specs.Promises.{Refusing, by-line, by-log, Scoring}
 use Rattle.score.proofs.Lines.{bounds}
 use Rattle.score.proofs.Rooms.{room-day}

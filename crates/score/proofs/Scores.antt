@@ -16,7 +16,7 @@ use Rattle.cells.specs.Cells.{partyOf}
 use Rattle.records.specs.State.{Replay}
 use Rattle.records.specs.Cells.{viewed, replayIn}
 use Rattle.score.specs.Lease.{Lease, isLease, leaseTold, toldJudged}
-use Rattle.score.specs.Score.{Month, Score, scored, refused, claimedOn, claimedAt, servedAt, owedInAll, verdictOf, monthOf, scoreOf}
+use Rattle.score.specs.Score.{Score, scored, claimedOn, servedAt, owedInAll, verdictOf, monthOf, scoreOf}
 use Rattle.score.specs.Answers.{replayFor, Bounded, Filled, calledBy, Left, Scores}
 use Rattle.score.specs.declared.line.Judged.{Judged}
 use Rattle.score.specs.declared.line.Judged.the-variants as judged
@@ -89,7 +89,8 @@ module _ (l : Lease) (log marks tallies claimed served : List ℕ) where
   left-by s {t} {r} {claimed'} {served'} e h =
       subst (λ (x : Score). Left x r claimed served claimed' served') (sym e) h
 
-  pub score-line : isLease l ≡ false → (n : ℕ) → n ≡ 21 → Scores l log marks tallies (answer.Refused n) claimed served claimed served
+  pub score-line : isLease l ≡ false → (n : ℕ) → n ≡ 21 →
+      Scores l log marks tallies (answer.Refused n) claimed served claimed served
   unfolding scoreOf
   score-line e n same =
       record {
@@ -118,7 +119,8 @@ module _ (l : Lease) (log marks tallies claimed served : List ℕ) where
 
   pub score-given : isLease l ≡ true → getD log 0 0 ≡ 0 → (total : ℕ) (claimed' served' : List ℕ) →
       Filled l (replayFor log marks tallies) total claimed' served' → (v : Verdict) → v ≡ calledBy total (owedInAll l) →
-      Scores l log marks tallies (answer.Month (record { served = total; owed = owedInAll l; verdict = v })) claimed served claimed' served'
+      Scores l log marks tallies (answer.Month (record { served = total; owed = owedInAll l; verdict = v })) claimed served
+      claimed' served'
   score-given e z total claimed' served' f v named =
       record {
         told =

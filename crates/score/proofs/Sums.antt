@@ -1,5 +1,5 @@
--- A sum of numbers none of which is over a bound: it is at most so many bounds, and it is as much exactly where each number is the
--- bound. Assumes nothing.
+-- A sum of numbers none of which is over a bound: it is at most so many bounds, and it is as much exactly where each number is
+-- the bound. Assumes nothing.
 use mathlib.Core.Path.{_≡_, refl}
 use Prim.Native.Nat.{ℕ, zero, suc, _+_, _*_, _<_, _≤_}
 use native.Mathlib.Nat.{suc-mul}

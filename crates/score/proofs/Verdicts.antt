@@ -1,5 +1,6 @@
--- What a station is called: "full exactly when every day owes more than 0 and is served in full; owing nothing is called "nothing
--- owed", any other "short"". No day is served more than it owes, so the month's two numbers tell the three apart. Assumes nothing.
+-- What a station is called: "full exactly when every day owes more than 0 and is served in full; owing nothing is called
+-- "nothing owed", any other "short"". No day is served more than it owes, so the month's two numbers tell the three apart.
+-- Assumes nothing.
 use mathlib.Core.Path.{_≡_, refl, sym, ap, _∙_, subst}
 use mathlib.Core.Bool.{Bool, true, false}
 use Prim.Native.Nat.{ℕ, zero, suc, _+_, _*_, _<_, _≤_, min}
@@ -108,8 +109,10 @@ module _ (l : Lease) (r : Replay) where
             let none : l .owed ≡ 0 = eqb-true (l .owed) 0 u in subst (Calling l r) (sym (nothing-owed none)) (nothing none)
         go (fails t) (fails u) =
             let owes : l .owed ≡ 0 → ⊥ = eqb-false (l .owed) 0 u in
-            let never : AllServed l r → ⊥ = λ a. (let z : true ≡ false = sym (all-served a) ∙ t in let n : _≡_ {A = ℕ} 0 1 = cc in omega arith) in
             subst (Calling l r) (sym (called-short owes never)) (short (omega (arith, owes)) never)
+          where
+            never : AllServed l r → ⊥
+            never a = let z : true ≡ false = sym (all-served a) ∙ t in let n : _≡_ {A = ℕ} 0 1 = cc in omega arith
 
     -- by the month's two numbers
     pub by-numbers : calledBy (servedInAll l r) (owedInAll l) ≡ verdictOf l r

@@ -1,4 +1,5 @@
--- What the routines of a score ask, what their answers tell, and what they leave in the rooms that they are lent. Assumes nothing.
+-- What the routines of a score ask, what their answers tell, and what they leave in the rooms that they are lent.
+-- Assumes nothing.
 use mathlib.Core.Path.{_≡_}
 use mathlib.Core.List.{List, []}
 use Prim.Native.Nat.{ℕ, _+_, _≤_}

@@ -1,5 +1,5 @@
--- Document 02, request 5: the lease line, "(first day, days from 1 to 31, elements owed a day, one number for all its days, from 0
--- to 100,000,000, last day below 2^32, else 21". Assumes nothing.
+-- Document 02, request 5: the lease line, "(first day, days from 1 to 31, elements owed a day, one number for all its days,
+-- from 0 to 100,000,000, last day below 2^32, else 21". Assumes nothing.
 use mathlib.Core.Bool.{Bool}
 use mathlib.Core.List.{[]}
 use Prim.Native.Nat.{ℕ, _+_, _-_}

@@ -4,8 +4,8 @@ ghost use mathlib.Core.Path.{_≡_};
 ghost use Rattle.score.specs.Lease.{leaseTold, toldJudged};
 ghost use Rattle.score.specs.Answers.{leaseLine};
 
-// A room for the numbers of a lease's days has as many places.
-pub const MOST_DAYS: u32 = 31;
+// The rooms for the numbers of a lease's days have as many places.
+const MOST_DAYS: u32 = 31;
 
 const MOST_OWED: u32 = 100000000;
 
