@@ -22,7 +22,7 @@ use Rattle.memory.proofs.ReadBack.{read-back}
 use Rattle.cells.specs.State.{Session, newSession}
 use Rattle.cells.specs.Effects.{limit}
 use Rattle.session.specs.Step.{refused, stepOf}
-use Rattle.session.specs.Feed.{nothing, feedOf, written, fedPieces, uncut}
+use Rattle.session.specs.Feed.{nothing, first, feedOf, written, fedPieces, uncut}
 use Rattle.cells.specs.Valid.{Valid, heldOf}
 use Rattle.session.specs.Refusals.{RefusedTo}
 use Rattle.session.specs.Again.{Idle, SameSettings, ReadAgain}
@@ -48,12 +48,12 @@ use Rattle.log.proofs.Days.{all-runs, all-claims}
 use Rattle.log.specs.Asked.{Bytes8}
 use Rattle.log.proofs.Kept.{new-replay-valid, piece-valid}
 use Rattle.score.specs.Lease.{Lease, isLease}
-use Rattle.score.specs.Score.{hasMidnight, servedAt, verdictOf, Month, scored, refused as refusedScore, scoreOf, scoreOfLog}
+use Rattle.score.specs.Score.{hasMidnight, servedAt, verdictOf, Month, monthOf, scored, refused as refusedScore, scoreOf, scoreOfLog}
 use Rattle.score.specs.declared.month.Verdict.the-variants.{Full}
 use Rattle.score.specs.Promises.{AllServed, Calling, Claimed, Refusing, Scoring}
 use Rattle.score.proofs.Dates.{claimed-from}
 use Rattle.score.proofs.Lines.{bounds}
-use Rattle.score.proofs.Promises.{line-first, dark-day, refused-with, scored-as, in-pieces}
+use Rattle.score.proofs.Promises.{line-first, dark-day, refused-with, scored-as, log-refused, log-scored, in-pieces}
 use Rattle.score.proofs.Verdicts.{full-if, full-only-if, calling}
 use Rattle.group.specs.Proc.{wants, decided, worked}
 use Rattle.group.specs.Group.{allowed, fresh, turnedIf, wishOf, overLimit, wayOf, settled, slotStep, ended, stepOf as flowStep}
@@ -110,7 +110,18 @@ log-claims = all-claims
 pub score-line : (l : Lease) → isLease l ≡ false → (r : Replay) → scoreOf l r ≡ refusedScore 21
 score-line = line-first
 
--- Request 5: a score is refused with 21 for the lease line, or else with the 18 or 19 that stopped the replay of its log.
+-- Request 5: where the lease line is taken, a log whose bytes are refused gives that number, and any other log is scored.
+pub score-log :
+    (l : Lease) → isLease l ≡ true → (bytes : List ℕ) (n : ℕ) → replayOf newReplay bytes .refusal ≡ first n →
+    scoreOfLog l bytes ≡ refusedScore n
+score-log = log-refused
+
+pub score-month :
+    (l : Lease) → isLease l ≡ true → (bytes : List ℕ) → replayOf newReplay bytes .refusal ≡ nothing →
+    scoreOfLog l bytes ≡ scored (monthOf l (replayOf newReplay bytes .replay))
+score-month = log-scored
+
+-- Request 5: no other numbers refuse a score: 21 for the lease line, or else the 18 or 19 that stopped the replay of its log.
 pub score-refusals :
     (l : Lease) (bytes : List ℕ) → Bytes8 bytes → (n : ℕ) → scoreOfLog l bytes ≡ refusedScore n →
     Refusing l (replayOf newReplay bytes .replay) n

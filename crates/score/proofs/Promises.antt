@@ -9,13 +9,13 @@ use lib.Dec.{eqb}
 use lib.ListN.{getD}
 use borrow.Author.Tests.{eq-eqb, ne-eqb, eqb-true, eqb-false}
 use Rattle.laws.proofs.Choice.{pick-yes, pick-no, Tested, tested, holds, fails}
-use Rattle.session.specs.Feed.{uncut}
+use Rattle.session.specs.Feed.{nothing, first, uncut}
 use Rattle.records.specs.State.{Replay, newReplay}
 use Rattle.records.specs.Step.{StopNumber}
 use Rattle.records.specs.Cells.{LogValid}
 use Rattle.log.specs.Feed.{replayOf, replayPieces}
 use Rattle.log.specs.Feed as piece
-use Rattle.log.proofs.Cut.{cut-anywhere}
+use Rattle.log.proofs.Cut.{stopping, cut-anywhere}
 use Rattle.score.specs.Lease.{Lease, isLease}
 use Rattle.score.specs.Score.{hasMidnight, claimedOn, servedAt, roomFor, Month, monthOf}
 use Rattle.score.specs.Score.{scored, refused, scoreOf, scoreOfLog}
@@ -94,6 +94,17 @@ module _ (l : Lease) where
             let same : scored (monthOf l r) ≡ scored m = sym (then-month t running) ∙ e in
             let is : monthOf l r ≡ m = cc in
             subst (Scoring l r) is (scoring t running)
+
+  -- "then 18 or 19 from the log": a log that is refused gives its number, and any other is scored
+  module _ (e : isLease l ≡ true) (bytes : List ℕ) where
+    pub log-refused : (n : ℕ) → replayOf newReplay bytes .refusal ≡ first n → scoreOfLog l bytes ≡ refused n
+    log-refused n f =
+        let by : replayOf newReplay bytes .replay .stoppedBy ≡ n = stopping newReplay bytes .by-number n f in
+        then-log (replayOf newReplay bytes .replay) e (λ z. stopping newReplay bytes .not-none n f (sym by ∙ z)) ∙ ap refused by
+
+    pub log-scored :
+        replayOf newReplay bytes .refusal ≡ nothing → scoreOfLog l bytes ≡ scored (monthOf l (replayOf newReplay bytes .replay))
+    log-scored f = then-month (replayOf newReplay bytes .replay) e (stopping newReplay bytes .goes-on f)
 
   -- a log in pieces, cut anywhere
   pub in-pieces : (ps : List (List ℕ)) → scoreOf l (replayPieces newReplay ps .replay) ≡ scoreOfLog l (uncut ps)
