@@ -1,6 +1,6 @@
 -- The page of top theorems. Each has its statement in words, and a proof that cites the crate that has it.
 -- Assumes nothing.
-use mathlib.Core.Path.{_≡_, refl}
+use mathlib.Core.Path.{_≡_, refl, _∙_}
 use mathlib.Core.Bool.{true, false}
 use mathlib.Core.List.{List, [], _++_}
 use Prim.Native.Nat.{ℕ, _+_, _≤_}
@@ -48,11 +48,13 @@ use Rattle.log.proofs.Days.{all-runs, all-claims}
 use Rattle.log.specs.Asked.{Bytes8}
 use Rattle.log.proofs.Kept.{new-replay-valid, piece-valid}
 use Rattle.score.specs.Lease.{Lease, isLease}
-use Rattle.score.specs.Score.{hasMidnight, servedAt, verdictOf, Month, monthOf, scored, refused as refusedScore, scoreOf, scoreOfLog}
+use Rattle.score.specs.Midnights.{among, daysIn}
+use Rattle.score.specs.Score.{servedAt, verdictOf, Month, monthOf, scored, refused as refusedScore, scoreOf, scoreOfLog}
 use Rattle.score.specs.declared.month.Verdict.the-variants.{Full}
 use Rattle.score.specs.Promises.{AllServed, Calling, Claimed, Refusing, Scoring}
 use Rattle.score.proofs.Dates.{claimed-from}
 use Rattle.score.proofs.Lines.{bounds}
+use Rattle.score.proofs.Midnights.{midnight-records}
 use Rattle.score.proofs.Promises.{line-first, dark-day, refused-with, scored-as, log-refused, log-scored, in-pieces}
 use Rattle.score.proofs.Verdicts.{full-if, full-only-if, calling}
 use Rattle.group.specs.Proc.{wants, decided, worked}
@@ -137,10 +139,11 @@ score-given = scored-as
 pub score-days : (bytes : List ℕ) → Bytes8 bytes → (day : ℕ) → Claimed (replayOf newReplay bytes .replay) day
 score-days bytes b day = claimed-from (replayOf newReplay bytes .replay) (piece-valid newReplay new-replay-valid bytes b) day
 
--- Request 5: a day without a midnight record in the log is served 0.
+-- Request 5: a day without a midnight record in the log is served 0: where its number is among none of the log's midnights.
 pub score-dark :
-    (l : Lease) (r : Replay) (k : ℕ) → hasMidnight (r .midnights) (r .lastDay) (l .firstDay + k) ≡ false → servedAt l r k ≡ 0
-score-dark = dark-day
+    (l : Lease) (bytes : List ℕ) (k : ℕ) → among (l .firstDay + k) (daysIn newReplay bytes) ≡ false →
+    servedAt l (replayOf newReplay bytes .replay) k ≡ 0
+score-dark l bytes k e = dark-day l (replayOf newReplay bytes .replay) k (midnight-records bytes (l .firstDay + k) ∙ e)
 
 -- Request 5: a station is called full exactly when every day owes more than 0 and is served in full.
 pub score-full-when : (l : Lease) (r : Replay) → AllServed l r → verdictOf l r ≡ Full

@@ -1,6 +1,7 @@
 pub mod Dates
 pub mod Filling
 pub mod Lines
+pub mod Midnights
 pub mod Promises
 pub mod Rooms
 pub mod Scores

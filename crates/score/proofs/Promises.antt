@@ -3,7 +3,7 @@
 use mathlib.Core.Path.{_≡_, refl, sym, ap, _∙_, subst}
 use mathlib.Core.Bool.{true, false}
 use mathlib.Core.List.{List}
-use Prim.Native.Nat.{ℕ, _+_, _<_, _≤_, min}
+use Prim.Native.Nat.{ℕ, _+_}
 use native.Mathlib.Omega.{arith}
 use lib.Dec.{eqb}
 use lib.ListN.{getD}
@@ -11,7 +11,6 @@ use borrow.Author.Tests.{eq-eqb, ne-eqb, eqb-true, eqb-false}
 use Rattle.laws.proofs.Choice.{pick-yes, pick-no, Tested, tested, holds, fails}
 use Rattle.session.specs.Feed.{nothing, first, uncut}
 use Rattle.records.specs.State.{Replay, newReplay}
-use Rattle.records.specs.Step.{StopNumber}
 use Rattle.records.specs.Cells.{LogValid}
 use Rattle.log.specs.Feed.{replayOf, replayPieces}
 use Rattle.log.specs.Feed as piece

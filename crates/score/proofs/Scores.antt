@@ -5,7 +5,6 @@ use mathlib.Core.List.{List, []}
 use Prim.Native.Nat.{ℕ, _*_, _≤_}
 use native.Mathlib.Nat.{mul-le-mul}
 use native.Mathlib.Omega.{arith}
-use lib.Dec.{eqb}
 use lib.ListN.{getD}
 use borrow.Author.Tests.{eq-eqb, ne-eqb}
 use Rattle.laws.proofs.Choice.{pick-yes, pick-no, Tested, tested, holds, fails}
@@ -13,16 +12,14 @@ use Rattle.refusal.specs.Number.{numberOf}
 use Rattle.refusal.specs.Told.{gives, refuses}
 use Rattle.refusal.specs.declared.Refusal.{Refusal}
 use Rattle.cells.specs.Cells.{partyOf}
-use Rattle.records.specs.State.{Replay}
 use Rattle.records.specs.Cells.{viewed, replayIn}
 use Rattle.score.specs.Lease.{Lease, isLease, leaseTold, toldJudged}
 use Rattle.score.specs.Score.{Score, scored, claimedOn, servedAt, owedInAll, verdictOf, monthOf, scoreOf}
-use Rattle.score.specs.Answers.{replayFor, Bounded, Filled, calledBy, Left, Scores}
+use Rattle.score.specs.Answers.{replayFor, Filled, calledBy, Left, Scores}
 use Rattle.score.specs.declared.line.Judged.{Judged}
 use Rattle.score.specs.declared.line.Judged.the-variants as judged
 use Rattle.score.specs.declared.month.Verdict.{Verdict}
 use Rattle.score.specs.declared.month.Verdict.the-variants.{Full, Short, NothingOwed}
-use Rattle.score.specs.declared.month.Totals.{Totals}
 use Rattle.score.specs.declared.month.Scored.{Scored}
 use Rattle.score.specs.declared.month.Scored.the-variants as answer
 use Rattle.score.proofs.Lines.{bounds}

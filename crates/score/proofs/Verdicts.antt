@@ -3,22 +3,20 @@
 -- Assumes nothing.
 use mathlib.Core.Path.{_≡_, refl, sym, ap, _∙_, subst}
 use mathlib.Core.Bool.{Bool, true, false}
-use Prim.Native.Nat.{ℕ, zero, suc, _+_, _*_, _<_, _≤_, min}
+use Prim.Native.Nat.{ℕ, zero, suc, _*_, _<_, _≤_}
 use native.Mathlib.Nat.{min-le-left, min-le-right, mul-le-mul, one-mul, mul-zero}
 use native.Mathlib.Omega.{arith}
-use lib.Dec.{eqb, ltb}
+use lib.Dec.{eqb}
 use borrow.Author.Tests.{eq-eqb, ne-eqb, eqb-true, eqb-false, lt-ltb, ltb-true}
-use Rattle.laws.specs.Choice.{_and_, pick}
+use Rattle.laws.specs.Choice.{_and_}
 use Rattle.laws.specs.Masks.{every}
 use Rattle.laws.proofs.Choice.{pick-yes, pick-no, and-intro, and-left, and-right, Tested, tested, holds, fails}
 use Rattle.laws.proofs.Masks.{every-at, every-same}
-use Rattle.cells.specs.Start.{sumBelow}
 use Rattle.records.specs.State.{Replay}
 use Rattle.score.specs.Lease.{Lease}
 use Rattle.score.specs.Score.{claimedAt, servedAt, servedInAll, owedInAll, servedInFull, verdictOf}
 use Rattle.score.specs.Answers.{calledBy}
 use Rattle.score.specs.Promises.{AllServed, Calling, full, nothing, short}
-use Rattle.score.specs.declared.month.Verdict.{Verdict}
 use Rattle.score.specs.declared.month.Verdict.the-variants.{Full, Short, NothingOwed}
 use Rattle.score.proofs.Sums.{sum-full, sum-most, each-full}
 

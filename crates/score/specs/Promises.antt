@@ -1,14 +1,13 @@
 -- What request 5 promises of every score, as statements about its definitions. Assumes nothing.
 use mathlib.Core.Path.{_≡_}
 use mathlib.Core.Bool.{true, false}
-use mathlib.Core.List.{List}
 use Prim.Native.Nat.{ℕ, _<_, _≤_}
 use lib.ListN.{getD}
 use Rattle.records.specs.State.{Replay}
 use Rattle.records.specs.Step.{StopNumber}
 use Rattle.records.specs.Report.{partAt, dayAt}
 use Rattle.score.specs.Lease.{Lease, isLease}
-use Rattle.score.specs.Score.{Month, claimedOn, claimedAt, servedAt, monthOf}
+use Rattle.score.specs.Score.{Month, claimedOn, servedAt, monthOf}
 use Rattle.score.specs.declared.month.Verdict.{Verdict}
 use Rattle.score.specs.declared.month.Verdict.the-variants.{Full, Short, NothingOwed}
 
