@@ -3,10 +3,9 @@
 use mathlib.Core.Path.{_≡_, refl, sym, ap, _∙_, subst}
 use mathlib.Core.Bool.{true, false}
 use mathlib.Core.List.{List}
-use Prim.Native.Nat.{ℕ, _+_}
+use Prim.Native.Nat.{ℕ, _+_, _<_}
 use native.Mathlib.Omega.{arith}
 use lib.Dec.{eqb}
-use lib.ListN.{getD}
 use borrow.Author.Tests.{eq-eqb, ne-eqb, eqb-true, eqb-false}
 use Rattle.laws.proofs.Choice.{pick-yes, pick-no, Tested, tested, holds, fails}
 use Rattle.session.specs.Feed.{nothing, first, uncut}
@@ -16,11 +15,11 @@ use Rattle.log.specs.Feed.{replayOf, replayPieces}
 use Rattle.log.specs.Feed as piece
 use Rattle.log.proofs.Cut.{stopping, cut-anywhere}
 use Rattle.score.specs.Lease.{Lease, isLease}
-use Rattle.score.specs.Score.{hasMidnight, claimedOn, servedAt, roomFor, Month, monthOf}
+use Rattle.score.specs.Score.{hasMidnight, claimedOn, claimedAt, servedAt, Month, monthOf}
 use Rattle.score.specs.Score.{scored, refused, scoreOf, scoreOfLog}
 use Rattle.score.specs.Promises.{Refusing, by-line, by-log, Scoring}
 use Rattle.score.proofs.Lines.{bounds}
-use Rattle.score.proofs.Rooms.{room-day}
+use Rattle.score.proofs.Rooms.{room-day, room-past}
 use Rattle.score.proofs.Verdicts.{served-day, served-month}
 
 module _ (l : Lease) where
@@ -70,13 +69,16 @@ module _ (l : Lease) where
           taken = t;
           running = z;
           month = refl;
-          day-most =
-              λ k h.
-              let is : getD (roomFor (l .days) (servedAt l r)) k 0 ≡ servedAt l r k
-              = room-day (servedAt l r) (l .days) k (omega (arith, bounds l t .few-days)) h in
-              omega (arith, served-day l r k);
+          claimed-days = λ k h. room-day (claimedAt l r) (l .days) k (few k h) h;
+          served-days = λ k h. room-day (servedAt l r) (l .days) k (few k h) h;
+          claimed-past = λ k h low. room-past (claimedAt l r) (l .days) k low h;
+          served-past = λ k h low. room-past (servedAt l r) (l .days) k low h;
+          day-most = λ k h. omega (arith, room-day (servedAt l r) (l .days) k (few k h) h, served-day l r k);
           month-most = served-month l r;
         }
+      where
+        few : (k : ℕ) → k < l .days → k < 31
+        few k h = omega (arith, bounds l t .few-days)
 
     pub scored-as : (m : Month) → scoreOf l r ≡ scored m → Scoring l r m
     scored-as m e = go (tested (isLease l)) (tested (eqb (r .stoppedBy) 0))

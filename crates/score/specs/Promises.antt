@@ -1,7 +1,7 @@
 -- What request 5 promises of every score, as statements about its definitions. Assumes nothing.
 use mathlib.Core.Path.{_≡_}
 use mathlib.Core.Bool.{true, false}
-use Prim.Native.Nat.{ℕ, _<_, _≤_}
+use Prim.Native.Nat.{ℕ, _+_, _<_, _≤_}
 use lib.ListN.{getD}
 use Rattle.records.specs.State.{Replay}
 use Rattle.records.specs.Step.{StopNumber}
@@ -38,11 +38,15 @@ pub data Refusing (l : Lease) (r : Replay) : ℕ → Type 0 where
   by-line : isLease l ≡ false → Refusing l r 21
   by-log : isLease l ≡ true → StopNumber (r .stoppedBy) → Refusing l r (r .stoppedBy)
 
--- a month that was scored: the lease line was taken, the replay wasn't stopped, and neither a day nor the month is served more
--- than it owes
+-- a month that was scored: the lease line was taken, the replay wasn't stopped, the rooms hold each day's numbers and zeros past
+-- the last day, and neither a day nor the month is served more than it owes
 pub record Scoring (l : Lease) (r : Replay) (m : Month) : Type 0 where
   pub taken : isLease l ≡ true
   pub running : r .stoppedBy ≡ 0
   pub month : m ≡ monthOf l r
+  pub claimed-days : (k : ℕ) → k < l .days → getD (m .claimed) k 0 ≡ claimedOn r (l .firstDay + k)
+  pub served-days : (k : ℕ) → k < l .days → getD (m .served) k 0 ≡ servedAt l r k
+  pub claimed-past : (k : ℕ) → l .days ≤ k → k < 31 → getD (m .claimed) k 0 ≡ 0
+  pub served-past : (k : ℕ) → l .days ≤ k → k < 31 → getD (m .served) k 0 ≡ 0
   pub day-most : (k : ℕ) → k < l .days → getD (m .served) k 0 ≤ l .owed
   pub month-most : m .totals .served ≤ m .totals .owed
