@@ -1,5 +1,5 @@
-/* Egretfold: CTM command streams, logs of them over midnight, tile addresses, elements in lent memory, and flow words for one
- * group.
+/* Egretfold: CTM command streams, logs of them over midnight, their monthly score, tile addresses, elements in lent memory, and
+ * flow words for one group.
  *
  * Every function returns 0, or the number of a refusal of document 01; a refusal touches no room and no state except where
  * its function says so. Nothing is allocated and nothing is kept between calls: all state lies in arrays that the caller
@@ -24,6 +24,7 @@
  *     17  the session has taken 1,000,000,000 words
  *     18  the kind byte of a log's record is neither 1 nor 2
  *     19  a midnight's day isn't one more than the last, or it is the 401st midnight
+ *     21  a lease line out of its bounds
  *
  * What the caller owes: pointers to arrays of the lengths shown, no two of them overlapping where one is written (a session's
  * three arrays, a replay's five, rooms and memory are apart), and states as these functions left them: a session's arrays
@@ -124,6 +125,23 @@ uint32_t egretfold_log_status(const uint32_t log[10], uint32_t status[7]);
  * day; 0 and 0 past the last day. Returns 0. */
 uint32_t egretfold_log_part(const uint32_t log[10], const uint64_t marks[800], const uint64_t tallies[2], uint32_t part,
                             uint64_t counts[2]);
+
+/* ---- A station's monthly score, by its lease line and the replay of its log ----
+ *
+ * A lease line is the number of its first day, its days, and the elements owed on each of them. A score has no state of its own:
+ * the log is fed by egretfold_log_begin and egretfold_log_feed, and may be scored at any time. */
+
+/* Judges a lease line: 1 to 31 days, at most 100,000,000 elements owed a day, and first_day + days - 1 below 2^32. 21. */
+uint32_t egretfold_score_lease(uint32_t first_day, uint32_t days, uint32_t owed);
+
+/* claimed and served: a number for each day of the lease, 0 past its last day. claimed[k] is what was claimed on the day numbered
+ * first_day + k, 0 where the log has no midnight of that number; what ended before the first midnight is of no day, and the
+ * last day goes on to the log's end. served[k] is the same, capped at the owed number. month: served and owed in all, and the
+ * verdict: 0 full (every day owes more than 0 and is served in full), 1 short, 2 nothing owed. 21 for the lease line, then 18
+ * or 19 where it stopped the replay. Refused words and an unfinished record refuse nothing. */
+uint32_t egretfold_score_month(const uint32_t log[10], const uint64_t marks[800], const uint64_t tallies[2],
+                               uint32_t first_day, uint32_t days, uint32_t owed, uint64_t claimed[31], uint64_t served[31],
+                               uint64_t month[3]);
 
 /* ---- Commands by themselves ---- */
 

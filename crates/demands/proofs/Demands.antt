@@ -1,6 +1,7 @@
 -- The page of top theorems. Each has its statement in words, and a proof that cites the crate that has it.
 -- Assumes nothing.
-use mathlib.Core.Path.{_≡_, refl}
+use mathlib.Core.Path.{_≡_, refl, _∙_}
+use mathlib.Core.Bool.{true, false}
 use mathlib.Core.List.{List, [], _++_}
 use Prim.Native.Nat.{ℕ, _+_, _≤_}
 use lib.ListN.{length}
@@ -21,7 +22,7 @@ use Rattle.memory.proofs.ReadBack.{read-back}
 use Rattle.cells.specs.State.{Session, newSession}
 use Rattle.cells.specs.Effects.{limit}
 use Rattle.session.specs.Step.{refused, stepOf}
-use Rattle.session.specs.Feed.{nothing, feedOf, written, fedPieces, uncut}
+use Rattle.session.specs.Feed.{nothing, first, feedOf, written, fedPieces, uncut}
 use Rattle.cells.specs.Valid.{Valid, heldOf}
 use Rattle.session.specs.Refusals.{RefusedTo}
 use Rattle.session.specs.Again.{Idle, SameSettings, ReadAgain}
@@ -33,7 +34,7 @@ use Rattle.session.proofs.ReadAgain.{read-again}
 use Rattle.session.proofs.Refusals.{refused-word}
 use Rattle.session.proofs.Tallies.{Tallied, tallied}
 use Rattle.cells.specs.Start.{sumBelow}
-use Rattle.records.specs.State.{Replay}
+use Rattle.records.specs.State.{Replay, newReplay}
 use Rattle.records.specs.Step.{refused as byteRefused}
 use Rattle.log.specs.Bytes.{byteStep}
 use Rattle.log.specs.Feed.{replayOf, replayPieces}
@@ -44,6 +45,18 @@ use Rattle.records.specs.Cells.{LogValid}
 use Rattle.log.proofs.Cut.{refused-byte, cut-anywhere as bytes-cut-anywhere}
 use Rattle.log.proofs.Words.{one-session}
 use Rattle.log.proofs.Days.{all-runs, all-claims}
+use Rattle.log.specs.Asked.{Bytes8}
+use Rattle.log.proofs.Kept.{new-replay-valid, piece-valid}
+use Rattle.score.specs.Lease.{Lease, isLease}
+use Rattle.score.specs.Midnights.{among, daysIn}
+use Rattle.score.specs.Score.{servedAt, verdictOf, Month, monthOf, scored, refused as refusedScore, scoreOf, scoreOfLog}
+use Rattle.score.specs.declared.month.Verdict.the-variants.{Full}
+use Rattle.score.specs.Promises.{AllServed, Calling, Claimed, Refusing, Scoring}
+use Rattle.score.proofs.Dates.{claimed-from}
+use Rattle.score.proofs.Lines.{bounds}
+use Rattle.score.proofs.Midnights.{midnight-records}
+use Rattle.score.proofs.Promises.{line-first, dark-day, refused-with, scored-as, log-refused, log-scored, in-pieces}
+use Rattle.score.proofs.Verdicts.{full-if, full-only-if, calling}
 use Rattle.group.specs.Proc.{wants, decided, worked}
 use Rattle.group.specs.Group.{allowed, fresh, turnedIf, wishOf, overLimit, wayOf, settled, slotStep, ended, stepOf as flowStep}
 use Rattle.flow.specs.Cases.{oneWord, c9, c10, c11, c12}
@@ -94,6 +107,58 @@ log-runs = all-runs
 
 pub log-claims : (r : Replay) → LogValid r → sumBelow (r .midnights + 1) (λ k. partAt r k .claims) ≡ r .session .party .tally .claims
 log-claims = all-claims
+
+-- Request 5: a lease line that is refused gives 21, whatever the log: it comes before 18 and 19, and reads no log.
+pub score-line : (l : Lease) → isLease l ≡ false → (r : Replay) → scoreOf l r ≡ refusedScore 21
+score-line = line-first
+
+-- Request 5: where the lease line is taken, a log whose bytes are refused gives that number, and any other log is scored.
+pub score-log :
+    (l : Lease) → isLease l ≡ true → (bytes : List ℕ) (n : ℕ) → replayOf newReplay bytes .refusal ≡ first n →
+    scoreOfLog l bytes ≡ refusedScore n
+score-log = log-refused
+
+pub score-month :
+    (l : Lease) → isLease l ≡ true → (bytes : List ℕ) → replayOf newReplay bytes .refusal ≡ nothing →
+    scoreOfLog l bytes ≡ scored (monthOf l (replayOf newReplay bytes .replay))
+score-month = log-scored
+
+-- Request 5: no other numbers refuse a score: 21 for the lease line, or else the 18 or 19 that stopped the replay of its log.
+pub score-refusals :
+    (l : Lease) (bytes : List ℕ) → Bytes8 bytes → (n : ℕ) → scoreOfLog l bytes ≡ refusedScore n →
+    Refusing l (replayOf newReplay bytes .replay) n
+score-refusals l bytes b n = refused-with l (replayOf newReplay bytes .replay) (piece-valid newReplay new-replay-valid bytes b) n
+
+-- Request 5: a score is of a lease line that was taken and of a replay that wasn't stopped, and served ≤ owed, day by day and in
+-- the month.
+pub score-given : (l : Lease) (r : Replay) (m : Month) → scoreOf l r ≡ scored m → Scoring l r m
+score-given = scored-as
+
+-- Request 5: a day's claimed number is that of the day's part of the log, which began at a midnight with its number, or 0 where
+-- there is no such part. So what ended before the first midnight serves no day.
+pub score-days : (bytes : List ℕ) → Bytes8 bytes → (day : ℕ) → Claimed (replayOf newReplay bytes .replay) day
+score-days bytes b day = claimed-from (replayOf newReplay bytes .replay) (piece-valid newReplay new-replay-valid bytes b) day
+
+-- Request 5: a day without a midnight record in the log is served 0: where its number is among none of the log's midnights.
+pub score-dark :
+    (l : Lease) (bytes : List ℕ) (k : ℕ) → among (l .firstDay + k) (daysIn newReplay bytes) ≡ false →
+    servedAt l (replayOf newReplay bytes .replay) k ≡ 0
+score-dark l bytes k e = dark-day l (replayOf newReplay bytes .replay) k (midnight-records bytes (l .firstDay + k) ∙ e)
+
+-- Request 5: a station is called full exactly when every day owes more than 0 and is served in full.
+pub score-full-when : (l : Lease) (r : Replay) → AllServed l r → verdictOf l r ≡ Full
+score-full-when = full-if
+
+pub score-full-only-when : (l : Lease) → isLease l ≡ true → (r : Replay) → verdictOf l r ≡ Full → AllServed l r
+score-full-only-when l e r = full-only-if l r (bounds l e .some-days)
+
+-- Request 5: where it isn't full, it is called "nothing owed" where it owes nothing, and else "short".
+pub score-verdict : (l : Lease) → isLease l ≡ true → (r : Replay) → Calling l r (verdictOf l r)
+score-verdict l e r = calling l r (bounds l e .some-days)
+
+-- Request 5: a log fed in pieces, cut anywhere, has the score of the uncut log.
+pub score-cut : (l : Lease) (ps : List (List ℕ)) → scoreOf l (replayPieces newReplay ps .replay) ≡ scoreOfLog l (uncut ps)
+score-cut = in-pieces
 
 -- Elements in lent memory: after a write, a read of that pair gives what was written, and a read of any other pair of the
 -- window answers as before.

@@ -6,4 +6,5 @@ pub mod commands;
 pub mod elements;
 pub mod groups;
 pub mod logs;
+pub mod scores;
 pub mod sessions;

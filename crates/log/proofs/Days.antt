@@ -36,9 +36,9 @@ module _ (r : Replay) (day : ℕ) (e : mayBegin (r .midnights) (r .lastDay) day 
           eqb-true day (r .lastDay + 1)
           (sym (pick-no _ _ (ne-eqb (r .midnights) 0 (λ z. omega arith))) ∙ and-right _ _ e)
 
--- so the days are consecutive: each part is one day after the part before it
-pub consecutive : (r : Replay) (k : ℕ) → r .midnights ≤ r .lastDay + k → dayAt r (k + 1) ≡ dayAt r k + 1
-consecutive r k h = omega arith
+-- so the days are consecutive: each part from the second day on is one day after the part before it
+pub consecutive : (r : Replay) → LogValid r → (k : ℕ) → 0 < k → dayAt r (k + 1) ≡ dayAt r k + 1
+consecutive r v k h = omega (arith, v .days-number)
 
 -- all parts together
 module _ (r : Replay) (v : LogValid r) where

@@ -1,8 +1,8 @@
--- Validity holds of a new replay and is kept by every byte. Assumes nothing.
+-- Validity holds of a new replay and is kept by every byte, so by every piece. Assumes nothing.
 use mathlib.Core.Path.{_≡_, refl, sym, subst}
 use mathlib.Core.Bool.{Bool, true}
 use mathlib.Core.List.{List, [], _∷_}
-use Prim.Native.Nat.{ℕ, _<_, _≤_}
+use Prim.Native.Nat.{ℕ, zero, suc, _<_, _≤_, suc-le-suc}
 use native.Mathlib.Omega.{arith}
 use lib.ListN.{replicate, length-set, length-replicate}
 use borrow.Author.Tests.{ltb-true, eqb-true}
@@ -12,13 +12,14 @@ use Rattle.session.proofs.Kept.{new-valid}
 use Rattle.session.proofs.Refusals.{fed-valid}
 use Rattle.session.proofs.Tallies.{tallied}
 use Rattle.records.specs.State.{OpenRecord, Replay, newReplay}
-use Rattle.records.specs.Step.{StopNumber, byKind, byDay, Stepped, opening, stopped, ofKind, kindStep, withByte, afterWord, mayBegin, afterMidnight, midnightStep}
+use Rattle.records.specs.Step.{Reply, taken, refused, StopNumber, byKind, byDay, Stepped, opening, stopped, ofKind, kindStep, withByte, afterWord, mayBegin, afterMidnight, midnightStep}
 use Rattle.log.specs.Bytes.{recordStep, openStep, byteStep}
 use Rattle.records.specs.Report.{beganWith, endedWith}
-use Rattle.log.specs.Feed.{afterWords}
+use Rattle.log.specs.Feed.{Fed, proceed, replayOf, afterWords}
+use Rattle.log.specs.Asked.{Bytes8}
 use Rattle.records.specs.Cells.{Grows, LogValid}
 use Rattle.records.proofs.Marks.{grows-on, grows-marked}
-use Rattle.records.proofs.Midnights.{few}
+use Rattle.records.proofs.Midnights.{few, enough}
 use Rattle.log.proofs.Steps.{one-word}
 
 -- a new replay
@@ -34,6 +35,7 @@ new-replay-valid =
       second-byte = omega arith;
       third-byte = omega arith;
       midnights-most = omega arith;
+      days-number = omega arith;
       marks-length = length-replicate {A = ℕ} 800 0;
       growing = λ k h. nothing-yet k (omega arith);
     }
@@ -55,6 +57,7 @@ module _ (r : Replay) (v : LogValid r) where
         second-byte = omega arith;
         third-byte = omega arith;
         midnights-most = v .midnights-most;
+        days-number = v .days-number;
         marks-length = v .marks-length;
         growing = v .growing;
       }
@@ -73,6 +76,7 @@ module _ (r : Replay) (v : LogValid r) where
         second-byte = omega arith;
         third-byte = omega arith;
         midnights-most = v .midnights-most;
+        days-number = v .days-number;
         marks-length = v .marks-length;
         growing =
             λ k h.
@@ -97,6 +101,7 @@ module _ (r : Replay) (v : LogValid r) where
         second-byte = omega arith;
         third-byte = omega arith;
         midnights-most = omega arith;
+        days-number = enough (r .midnights) (r .lastDay) day e (v .days-number);
         marks-length = simp length-set (v .marks-length);
         growing =
             λ k h.
@@ -123,6 +128,7 @@ module _ (r : Replay) (v : LogValid r) where
         second-byte = b;
         third-byte = c;
         midnights-most = v .midnights-most;
+        days-number = v .days-number;
         marks-length = v .marks-length;
         growing = v .growing;
       }
@@ -150,3 +156,17 @@ module _ (r : Replay) (v : LogValid r) where
       (byte-or b (r .opened .third) _ h (v .third-byte)))
       (λ g. record-valid (r .opened .kind) _)))
       (λ e. v)
+
+-- every piece
+after-byte : (y : Reply) (u : Replay) (rest : Fed) → LogValid u → LogValid (rest .replay) → LogValid (proceed y u rest .replay)
+unfolding proceed
+after-byte taken u rest v w = w
+after-byte (refused n) u rest v w = v
+
+pub piece-valid : (r : Replay) → LogValid r → (bs : List ℕ) → Bytes8 bs → LogValid (replayOf r bs .replay)
+unfolding replayOf
+piece-valid r v [] h = v
+piece-valid r v (b ∷ bs) h =
+    let u : LogValid (byteStep r b .replay) = byte-valid r v b (h zero (omega arith)) in
+    after-byte (byteStep r b .reply) (byteStep r b .replay) (replayOf (byteStep r b .replay) bs) u
+    (piece-valid (byteStep r b .replay) u bs (λ k le. h (suc k) (suc-le-suc le)))

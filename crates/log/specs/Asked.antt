@@ -53,6 +53,10 @@ pub record WordsLeft (ws log own tallies shared log1 own1 tallies1 shared1 : Lis
 abbrev pub Words32 : List ℕ → Type 0
 Words32 ws = (k : ℕ) → k < length ws → getD ws k 0 < 4294967296
 
+-- each is a byte
+abbrev pub Bytes8 : List ℕ → Type 0
+Bytes8 bs = (k : ℕ) → k < length bs → getD bs k 0 < 256
+
 -- bytes begin with `n` records of words, and these words are the first of a list
 pub record Gathered (bs : List ℕ) (n : ℕ) (words : List ℕ) : Type 0 where
   pub fit : 5 * n ≤ length bs

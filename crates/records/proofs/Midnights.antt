@@ -3,12 +3,13 @@ use mathlib.Core.Path.{_≡_, refl, sym, ap, _∙_, subst}
 use mathlib.Core.Bool.{Bool, true, false}
 use mathlib.Core.List.{List}
 use Prim.Native.Nat.{ℕ, _+_, _*_, _<_, _≤_}
+use native.Mathlib.Omega.{arith}
 use lib.Dec.{eqb}
 use lib.ListN.{length, getD, set, length-set}
-use borrow.Author.Tests.{eq-eqb, ne-eqb, lt-ltb, le-ltb, ltb-true}
+use borrow.Author.Tests.{eq-eqb, ne-eqb, eqb-true, lt-ltb, le-ltb, ltb-true}
 use Rattle.laws.specs.Choice.{_and_}
 use Rattle.laws.specs.Masks.{_or_}
-use Rattle.laws.proofs.Choice.{pick-yes, pick-no, and-left, and-yes, and-no-left}
+use Rattle.laws.proofs.Choice.{pick-yes, pick-no, and-left, and-right, and-yes, and-no-left, Tested, tested, holds, fails}
 use Rattle.cells.specs.Cells.{partyOf, sessionOf}
 use Rattle.records.specs.State.{Replay}
 use Rattle.records.specs.Step.{Reply, taken, refused, Stepped, opening, stopped, taking, isKind, ofKind, kindStep, mayBegin, afterMidnight, midnightStep}
@@ -55,6 +56,15 @@ module _ (midnights last day : ℕ) where
   pub few : mayBegin midnights last day ≡ true → midnights < 400
   unfolding mayBegin
   few e = ltb-true midnights 400 (and-left _ _ e)
+
+  -- as many days as midnights, the last one's among them, are numbered from 0 on
+  pub enough : mayBegin midnights last day ≡ true → midnights ≤ last + 1 → midnights + 1 ≤ day + 1
+  unfolding mayBegin
+  enough e h = go (tested (eqb midnights 0))
+    where
+      go : Tested (eqb midnights 0) → midnights + 1 ≤ day + 1
+      go (holds z) = omega (arith, eqb-true midnights 0 z)
+      go (fails z) = omega (arith, eqb-true day (last + 1) (sym (pick-no _ _ z) ∙ and-right _ _ e))
 
 -- a midnight
 module _ (l marks tallies l1 : List ℕ) (day : ℕ) where

@@ -2,7 +2,7 @@
 -- three arrays. Assumes nothing.
 use mathlib.Core.Path.{_≡_}
 use mathlib.Core.List.{List, [], _∷_}
-use Prim.Native.Nat.{ℕ, _≤_, _<_}
+use Prim.Native.Nat.{ℕ, _+_, _≤_, _<_}
 use lib.ListN.{length, getD}
 use Rattle.cells.specs.State.{Session}
 use Rattle.cells.specs.Cells.{sessionOf, Sized}
@@ -59,6 +59,7 @@ pub record LogValid (r : Replay) : Type 0 where
   pub second-byte : r .opened .second < 256
   pub third-byte : r .opened .third < 256
   pub midnights-most : r .midnights ≤ mostMidnights
+  pub days-number : r .midnights ≤ r .lastDay + 1
   pub marks-length : length (r .marks) ≡ 800
   pub growing : (k : ℕ) → k ≤ r .midnights → Grows (r .marks) (r .midnights) (r .session .party .tally .runs) (r .session .party .tally .claims) k
 

@@ -1,0 +1,9 @@
+pub mod Dates
+pub mod Filling
+pub mod Lines
+pub mod Midnights
+pub mod Promises
+pub mod Rooms
+pub mod Scores
+pub mod Sums
+pub mod Verdicts
