@@ -95,7 +95,7 @@ fn days(random: &mut Random, log: &Second) -> u32 {
         1 => random.word(),
         2 => random.one_of(&[1, MOST_DAYS]),
         // As many as the log has, so that all may be served.
-        3..=6 => (log.days().len() as u32).max(1).min(MOST_DAYS),
+        3..=6 => (log.days().len() as u32).clamp(1, MOST_DAYS),
         7..=9 => random.between(1, 4),
         _ => random.between(1, MOST_DAYS),
     }
