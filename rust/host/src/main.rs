@@ -2,8 +2,8 @@
 //! addresses and steps flow programs for people. Every answer is the product's,
 //! through the crate `boundary`; here it is only named, laid out and parsed.
 //!
-//! One module a subcommand: `score` (with `civil`, and its forms in `card` and
-//! `picture`), `decode` (with `walk`, and its forms `listing` and `json`), `encode`,
+//! One module a subcommand: `score` (with `month` and `civil`, and its forms `card`,
+//! `rows` and `picture`, drawn from `cell`s), `decode` (with `walk`, and its forms `listing` and `json`), `encode`,
 //! `replay` (with `log`, and its forms in `days`), `address`, `locate` (with `owners`),
 //! `flow` (with `slots`, `steps`), `explain`, and `sample` for no arguments, which
 //! scores `station` 14's month. `names`, `tiles` and `refusals` hold the documents'
@@ -16,6 +16,7 @@
 mod address;
 mod card;
 mod cause;
+mod cell;
 mod civil;
 mod days;
 mod decode;
@@ -31,6 +32,7 @@ mod lines;
 mod listing;
 mod locate;
 mod log;
+mod month;
 mod names;
 mod numbers;
 mod owners;
@@ -38,6 +40,7 @@ mod picture;
 mod progress;
 mod refusals;
 mod replay;
+mod rows;
 mod sample;
 mod score;
 mod settings;

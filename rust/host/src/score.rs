@@ -7,10 +7,12 @@ use crate::days;
 use crate::failure::{Failure, Outcome};
 use crate::file::Replaced;
 use crate::log::Log;
+use crate::month::Score;
 use crate::numbers;
 use crate::picture;
+use crate::rows;
 use crate::source::Source;
-use boundary::{Lease, Month, ScoredDay, Verdict};
+use boundary::{Lease, Verdict};
 use clap::Args;
 use std::io::{self, Write};
 use std::path::PathBuf;
@@ -65,73 +67,6 @@ pub struct LeaseLine {
     pub owed: u32,
 }
 
-/// A month with all that its forms show.
-pub struct Score<'a> {
-    pub lease: Lease,
-    pub log: &'a Log,
-    pub month: Month,
-    pub days: Vec<Day>,
-}
-
-/// A day of the lease, as it is shown.
-pub struct Day {
-    pub number: u32,
-    pub date: Option<Date>,
-    pub claimed: u64,
-    pub served: u64,
-    pub owed: u64,
-    /// Whether the log has a midnight of this number.
-    pub in_log: bool,
-}
-
-impl Day {
-    /// Served nothing of what it owes.
-    pub fn is_dark(&self) -> bool {
-        self.owed > 0 && self.served == 0
-    }
-
-    /// Served all of what it owes, which is something.
-    pub fn is_full(&self) -> bool {
-        self.owed > 0 && self.served == self.owed
-    }
-
-    /// Served something, but not all.
-    pub fn is_part(&self) -> bool {
-        self.served > 0 && self.served < self.owed
-    }
-}
-
-impl Score<'_> {
-    pub fn count(&self, kind: fn(&Day) -> bool) -> usize {
-        self.days.iter().filter(|day| kind(day)).count()
-    }
-
-    pub fn dates(&self) -> Option<(Date, Date)> {
-        let (first, last) = (self.days.first()?, self.days.last()?);
-        first.date.zip(last.date)
-    }
-
-    /// The log by its names.
-    pub fn log_name(&self) -> String {
-        match self.log.inputs.as_slice() {
-            [(name, _)] => name.clone(),
-            [(first, _), .., (last, _)] => {
-                format!("{first} to {last}, {} inputs", self.log.inputs.len())
-            }
-            [] => String::new(),
-        }
-    }
-}
-
-/// What a month is called, in the request's words.
-pub fn name(verdict: Verdict) -> &'static str {
-    match verdict {
-        Verdict::Full => "full",
-        Verdict::Short => "short",
-        Verdict::NothingOwed => "nothing owed",
-    }
-}
-
 pub fn run(options: &Options, out: &mut dyn Write) -> Outcome {
     let line = LeaseLine {
         first_day: options.first_day,
@@ -141,7 +76,7 @@ pub fn run(options: &Options, out: &mut dyn Write) -> Outcome {
     // Before any log is opened.
     let lease = accepted(line).or_else(|refused| {
         if options.json {
-            card::refused_line(&line, &refused, out)?;
+            rows::refused_line(&line, &refused, out)?;
         }
         Err(refused_line(refused))
     })?;
@@ -154,14 +89,14 @@ pub fn run(options: &Options, out: &mut dyn Write) -> Outcome {
         Ok(score) => score,
         Err(failure) => {
             if options.json {
-                card::refused_log(&lease, &log, out)?;
+                rows::refused_log(&line, &log, out)?;
             }
             return Err(failure);
         }
     };
     let drawn = picture.map_or(Ok(()), |file| file.write(&picture::svg(&score)));
     let printed = match (options.json, options.csv) {
-        (true, _) => card::json(&score, out),
+        (true, _) => rows::json(&score, &line, out),
         (_, true) => csv(&score, out),
         _ => card::text(&score, out),
     };
@@ -207,35 +142,18 @@ fn dates(from: Option<Date>, lease: &Lease) -> Outcome<Vec<Option<Date>>> {
     Ok(dates.into_iter().map(Some).collect())
 }
 
-/// The product's month, with what is known of its days besides.
 fn score(log: &Log, lease: Lease, dates: Vec<Option<Date>>) -> Outcome<Score<'_>> {
-    let month = log.replay.score(&lease).map_err(|number| match &log.stop {
-        Some(stop) => Failure::Refused(log.complaint(stop)),
-        None => Failure::Refused(cause::refused(number, None).to_string()),
-    })?;
-    let ends = log.replay.status().days;
-    let in_log = |number| ends.map_or(false, |(first, last)| first <= number && number <= last);
-    let day = |(day, date): (&ScoredDay, Option<Date>)| Day {
-        number: day.number,
-        date,
-        claimed: day.claimed,
-        served: day.served,
-        owed: u64::from(lease.owed()),
-        in_log: in_log(day.number),
-    };
-    let days = month.days.iter().zip(dates).map(day).collect();
-    Ok(Score {
-        lease,
-        log,
-        month,
-        days,
-    })
+    match (log.replay.score(&lease), &log.stop) {
+        (Ok(month), _) => Ok(Score::new(lease, dates, month, log)),
+        (Err(_), Some(stop)) => Err(Failure::Refused(log.complaint(stop))),
+        (Err(number), None) => Err(Failure::Refused(cause::refused(number, None).to_string())),
+    }
 }
 
 /// The rows have no place for what is told below the card, so it goes to standard
 /// error.
 fn csv(score: &Score, out: &mut dyn Write) -> Outcome {
-    card::csv(score, out)?;
+    rows::csv(score, out)?;
     out.flush()?;
     for note in days::notes(score.log) {
         // Where standard error is closed, the rows must do.

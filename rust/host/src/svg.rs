@@ -2,6 +2,13 @@
 
 use std::fmt::Write;
 
+/// The colours of a picture.
+pub const INK: &str = "#1a1a1a";
+pub const PALE_INK: &str = "#4d4d4d";
+pub const FULL: &str = "#1f6b48";
+pub const PART: &str = "#b8651b";
+pub const PAPER: &str = "#ffffff";
+
 /// How a text is set.
 #[derive(Clone, Copy)]
 pub struct Style {
@@ -68,7 +75,7 @@ pub struct Drawing {
 }
 
 impl Drawing {
-    pub fn text_of_all(self) -> String {
+    pub fn elements(self) -> String {
         self.text
     }
 
