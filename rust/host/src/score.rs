@@ -54,7 +54,7 @@ pub struct Options {
     /// One row of comma-separated values a day
     #[arg(long)]
     csv: bool,
-    /// Draw the month as a calendar to be printed, into this file
+    /// Draw the month as a calendar to be printed, into this file; an earlier picture there is replaced, nothing else
     #[arg(long, value_name = "FILE")]
     svg: Option<PathBuf>,
 }
