@@ -188,6 +188,39 @@ pub fn log_part(replay: &Replay, part: u32, counts: &mut [u64; 2]) -> u32 {
     unsafe { raw::egretfold_log_part(&replay.log, &replay.marks, tallies, part, counts) }
 }
 
+/// Judges a lease line: first day, days, elements owed a day. 21.
+#[inline]
+pub fn score_lease((first_day, days, owed): (u32, u32, u32)) -> u32 {
+    // SAFETY: numbers alone.
+    unsafe { raw::egretfold_score_lease(first_day, days, owed) }
+}
+
+/// Of a lease line (first day, days, elements owed a day), for each of its days:
+/// claimed and served, then zeros; month: served, owed and the verdict, 0 full, 1
+/// short, 2 nothing owed. 21; then 18 or 19.
+#[inline]
+pub fn score_month(
+    replay: &Replay,
+    (first_day, days, owed): (u32, u32, u32),
+    claimed: &mut [u64; 31],
+    served: &mut [u64; 31],
+    month: &mut [u64; 3],
+) -> u32 {
+    let Replay {
+        log,
+        marks,
+        session,
+    } = replay;
+    let tallies = &session.tallies;
+    // SAFETY: the arrays are a replay's that the library gave out; the three rooms
+    // are apart from them and from each other.
+    unsafe {
+        raw::egretfold_score_month(
+            log, marks, tallies, first_day, days, owed, claimed, served, month,
+        )
+    }
+}
+
 /// count: how many parameters a header announces. 2.
 #[inline]
 pub fn command_parameters(header: u32, count: &mut [u32; 1]) -> u32 {

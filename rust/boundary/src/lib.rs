@@ -22,6 +22,7 @@ mod layout;
 pub mod lent;
 mod log;
 mod raw;
+mod score;
 mod session;
 
 pub use command::{parameters, write_command, Command};
@@ -29,6 +30,7 @@ pub use element::{read, superfine, write, Element};
 pub use flow::{Group, Program, Report, Stepped};
 pub use layout::{layout, locate, translate, Layout, Window};
 pub use log::{BytesFed, Day, LogStatus, Part, RefusedWord, Replay};
+pub use score::{Lease, Month, ScoredDay, Verdict};
 pub use session::{Fed, Format, Reply, Session, Status};
 
 /// What a call answers: its result, or document 01's refusal number.

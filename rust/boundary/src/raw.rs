@@ -80,6 +80,20 @@ extern "C" {
         counts: &mut [u64; 2],
     ) -> u32;
 
+    pub fn egretfold_score_lease(first_day: u32, days: u32, owed: u32) -> u32;
+
+    pub fn egretfold_score_month(
+        log: &[u32; 10],
+        marks: &[u64; 800],
+        tallies: &[u64; 2],
+        first_day: u32,
+        days: u32,
+        owed: u32,
+        claimed: &mut [u64; 31],
+        served: &mut [u64; 31],
+        month: &mut [u64; 3],
+    ) -> u32;
+
     pub fn egretfold_command_parameters(header: u32, count: &mut [u32; 1]) -> u32;
 
     pub fn egretfold_command_write(

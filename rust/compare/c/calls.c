@@ -265,6 +265,59 @@ static void check_log_days(void)
     check_log_status("log_status after a wrong day, byte by byte", &r, stopped);
 }
 
+static void check_lease_lines(void)
+{
+    agree("score_lease, 1 day that owes nothing", egretfold_score_lease(0, 1, 0), 0);
+    agree("score_lease, 31 days of 100,000,000", egretfold_score_lease(0, 31, 100000000), 0);
+    agree("score_lease, up to the last number", egretfold_score_lease(4294967265, 31, 1), 0);
+    agree("score_lease, 0 days", egretfold_score_lease(30, 0, 1), 21);
+    agree("score_lease, 32 days", egretfold_score_lease(30, 32, 1), 21);
+    agree("score_lease, 100,000,001 owed", egretfold_score_lease(30, 1, 100000001), 21);
+    agree("score_lease, past the last number", egretfold_score_lease(4294967266, 31, 1), 21);
+}
+
+static uint64_t claimed[31], served[31], month[3];
+
+/* All rooms of a score, the first numbers of each as given and the others 0. */
+static void check_month(const char *call, const uint64_t claims[3], const uint64_t serves[3], const uint64_t sums[3])
+{
+    for (unsigned i = 0; i < 31; i++) {
+        agree(call, claimed[i], i < 3 ? claims[i] : 0);
+        agree(call, served[i], i < 3 ? serves[i] : 0);
+    }
+    for (unsigned i = 0; i < 3; i++)
+        agree(call, month[i], sums[i]);
+}
+
+static uint32_t score(const struct replay *r, uint32_t first_day, uint32_t days, uint32_t owed)
+{
+    return egretfold_score_month(r->log, r->marks, r->s.tallies, first_day, days, owed, claimed, served, month);
+}
+
+/* The log of check_log: 1,728 elements on day 30, none on day 31 for its refused word. */
+static void check_scores(void)
+{
+    const uint64_t claims[3] = {0, 1728, 0}, serves[3] = {0, 1000, 0}, shorts[3] = {1000, 3000, 1};
+    const uint64_t one[3] = {1728, 0, 0}, fulls[3] = {1728, 1728, 0}, none[3] = {0, 0, 0}, nothings[3] = {0, 0, 2};
+    static uint8_t bytes[110];
+    static struct replay r;
+    uint64_t taken[1] = {9};
+    const size_t length = put_log(bytes);
+    agree("log_begin", egretfold_log_begin(r.log, r.marks, r.s.own, r.s.tallies, r.s.shared), 0);
+    agree("log_feed, the log", feed_log(&r, bytes, length, taken), 0);
+    agree("score_month, short", score(&r, 29, 3, 1000), 0);
+    check_month("score_month, short", claims, serves, shorts);
+    agree("score_month, full", score(&r, 30, 1, 1728), 0);
+    check_month("score_month, full", one, one, fulls);
+    agree("score_month, nothing owed", score(&r, 30, 1, 0), 0);
+    check_month("score_month, nothing owed", one, none, nothings);
+    bytes[0] = 3;
+    agree("log_feed, a wrong kind", feed_log(&r, bytes, 1, taken), 18);
+    agree("score_month, 21 comes first", score(&r, 30, 32, 1000), 21);
+    agree("score_month, stopped", score(&r, 29, 3, 1000), 18);
+    check_month("score_month, rooms after a refusal", one, none, nothings);
+}
+
 static void check_commands(void)
 {
     const uint32_t output[4] = {0, 0x800, 0x2010064, 0x12};
@@ -428,6 +481,8 @@ int main(void)
     check_silent();
     check_log();
     check_log_days();
+    check_lease_lines();
+    check_scores();
     check_commands();
     check_addresses();
     check_elements();

@@ -2,14 +2,15 @@
 //! made apart from it, on millions of made-up inputs: good ones, ones at the
 //! edges of the rules, damaged ones and noise.
 //!
-//! There are six kinds of cases, one module each:
+//! There are seven kinds of cases, one module each:
 //!
 //! * [`addresses`]: layouts judged, pairs translated, addresses located back;
 //! * [`memory`]: elements read and written in lent memory, superfine reads;
 //! * [`streams`]: streams of command words, by words, in pieces and uncut;
 //! * [`writer`]: commands written to words;
 //! * [`flow`]: programs loaded, groups stepped and run;
-//! * [`logs`]: logs of a station over midnight, cut anywhere.
+//! * [`logs`]: logs of a station over midnight, cut anywhere;
+//! * [`scores`]: months of such logs scored against lease lines.
 //!
 //! Every case is made from its kind, a seed and its number alone, so that any
 //! case can be run again by itself. The tests run fixed cases; the program
@@ -29,6 +30,7 @@ pub mod options;
 pub mod programs;
 pub mod random;
 pub mod records;
+pub mod scores;
 pub mod settings;
 pub mod starts;
 pub mod streams;
@@ -52,16 +54,18 @@ pub enum Kind {
     Writer,
     Flow,
     Logs,
+    Scores,
 }
 
 impl Kind {
-    pub const ALL: [Kind; 6] = [
+    pub const ALL: [Kind; 7] = [
         Kind::Addresses,
         Kind::Memory,
         Kind::Streams,
         Kind::Writer,
         Kind::Flow,
         Kind::Logs,
+        Kind::Scores,
     ];
 
     pub fn name(self) -> &'static str {
@@ -72,6 +76,7 @@ impl Kind {
             Kind::Writer => "writer",
             Kind::Flow => "flow",
             Kind::Logs => "logs",
+            Kind::Scores => "scores",
         }
     }
 
@@ -87,6 +92,7 @@ impl Kind {
             Kind::Writer => writer::run(case),
             Kind::Flow => flow::run(case),
             Kind::Logs => logs::run(case),
+            Kind::Scores => scores::run(case),
         }
     }
 }

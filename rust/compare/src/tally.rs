@@ -4,8 +4,9 @@
 
 use std::collections::BTreeMap;
 
-/// Document 01's refusals have the numbers 1 to 17; request 1 added 18 and 19.
-pub const REFUSALS: usize = 19;
+/// The highest number of a refusal: document 01's are 1 to 17; request 1 added 18
+/// and 19, request 5 added 21.
+pub const REFUSALS: usize = 21;
 
 #[derive(Clone, Debug, Default, PartialEq, Eq)]
 pub struct Tally {

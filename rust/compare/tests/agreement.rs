@@ -205,3 +205,47 @@ fn logs_first_half() {
 fn logs_second_half() {
     logs(50_000..100_000);
 }
+
+#[test]
+fn scores() {
+    let tally = agree(Kind::Scores, 0..40_000);
+    let verdicts = [("full months", 10_000), ("short months", 50_000)];
+    marks(&tally, &verdicts);
+    marks(&tally, &[("months that owe nothing", 20_000)]);
+    marks(&tally, &[("full months of several days", 1_000)]);
+    marks(&tally, &[("short months that a surplus would fill", 2_000)]);
+    for lie in [
+        "leases before the log's days",
+        "leases across the log's first day",
+        "leases inside the log's days",
+        "leases across the log's last day",
+        "leases around the log's days",
+        "leases behind the log's days",
+    ] {
+        marks(&tally, &[(lie, 2_000)]);
+    }
+    for bound in [
+        "lease lines of 1 day",
+        "lease lines of 31 days",
+        "lease lines of 0 days",
+        "lease lines of 32 days",
+        "lease lines that owe 100,000,000",
+        "lease lines that owe 100,000,001",
+        "lease lines up to the last day's number",
+        "lease lines one day past the last number",
+    ] {
+        marks(&tally, &[(bound, 5_000)]);
+    }
+    let before = "leases with the day before the first midnight, which has claims";
+    marks(&tally, &[(before, 1_000)]);
+    marks(&tally, &[("scores of logs with a refused word", 3_000)]);
+    marks(
+        &tally,
+        &[("scores of logs with an unfinished record", 5_000)],
+    );
+    marks(
+        &tally,
+        &[("lease lines refused before a stopped log", 10_000)],
+    );
+    refusals(&tally, &[(18, 10_000), (19, 20_000), (21, 40_000)]);
+}

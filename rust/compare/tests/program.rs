@@ -1,5 +1,6 @@
 //! The program `compare` itself: its answers to good and bad command lines.
 
+use compare::Kind;
 use std::process::{Command, Output};
 
 fn compare(line: &str) -> Output {
@@ -38,7 +39,7 @@ fn a_wrong_line_ends_with_2_and_the_help_text() {
 
 #[test]
 fn one_case_prints_both_answers() {
-    for kind in ["addresses", "memory", "streams", "writer", "flow", "logs"] {
+    for kind in Kind::ALL.map(Kind::name) {
         let output = compare(&format!("--kind {kind} --seed 5 --case 3"));
         assert_eq!(output.status.code(), Some(0), "{kind}");
         let text = text(&output);
@@ -60,7 +61,7 @@ fn all_kinds_run_until_the_seconds_are_over() {
     let output = compare("--seconds 1 --seed 2");
     assert_eq!(output.status.code(), Some(0));
     let text = text(&output);
-    for kind in ["addresses", "memory", "streams", "writer", "flow", "logs"] {
+    for kind in Kind::ALL.map(Kind::name) {
         assert!(text.contains(&format!("{kind}: ")), "{kind}");
     }
     assert!(text.ends_with(" cases, 0 differences\n"), "{text}");

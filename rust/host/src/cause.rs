@@ -4,6 +4,7 @@
 use crate::kinds::{Address, Word};
 use crate::names::{self, FormatWord, Kind, Line};
 use crate::refusals;
+use crate::score::LeaseLine;
 use crate::settings;
 use crate::text;
 use crate::tiles;
@@ -13,6 +14,10 @@ use std::fmt;
 
 const MEMORY_END: u64 = 1 << 32;
 const LARGEST: u32 = 4096;
+
+/// The bounds of a lease line.
+const MOST_DAYS: u32 = 31;
+const MOST_OWED: u32 = 100_000_000;
 
 /// A refusal in words: "refused 6, window rule: pitch 28 gives row step 0".
 #[derive(Clone, Debug, PartialEq, Eq)]
@@ -31,6 +36,32 @@ impl fmt::Display for Refused {
 pub fn refused(number: u32, cause: Option<String>) -> Refused {
     let cause = cause.unwrap_or_else(|| refusals::cause(number).to_string());
     Refused { number, cause }
+}
+
+/// 21 of a lease line: the first number that is out of its bounds.
+pub fn of_lease(line: &LeaseLine) -> Option<String> {
+    let LeaseLine {
+        first_day,
+        days,
+        owed,
+    } = *line;
+    if days == 0 {
+        return Some("0 days are below 1".to_string());
+    }
+    if days > MOST_DAYS {
+        return Some(format!("{days} days are over {MOST_DAYS}"));
+    }
+    if owed > MOST_OWED {
+        return Some(format!("{owed} elements owed a day are over {MOST_OWED}"));
+    }
+    let last = u64::from(first_day) + u64::from(days) - 1;
+    let count = text::count(u64::from(days), "day");
+    (last > u64::from(u32::MAX)).then(|| {
+        format!(
+            "{count} from day {first_day} on end at day {last}, which is over {}",
+            u32::MAX
+        )
+    })
 }
 
 /// 3 or 6 of a layout.

@@ -1,4 +1,5 @@
-//! The forms of `replay`: a table of the days, and JSON.
+//! The forms of `replay`: a table of the days, and JSON; also what `score` tells of a
+//! log beside its score.
 
 use crate::cause::Refused;
 use crate::failure::Outcome;
@@ -18,8 +19,15 @@ pub fn table(log: &Log, out: &mut dyn Write) -> Outcome {
         line(out, &day.number.to_string(), day.part)?;
     }
     line(out, "total", total(log))?;
-    for closing in closing(log) {
-        writeln!(out, "{closing}")?;
+    writeln!(
+        out,
+        "{}: {}, {}",
+        text::count(log.records(), "record"),
+        text::count(log.words(), "word"),
+        text::count(u64::from(log.replay.status().midnights), "midnight"),
+    )?;
+    for note in notes(log) {
+        writeln!(out, "{note}")?;
     }
     Ok(())
 }
@@ -37,14 +45,9 @@ fn total(log: &Log) -> Part {
     }
 }
 
-fn closing(log: &Log) -> Vec<String> {
-    let status = log.replay.status();
-    let mut lines = vec![format!(
-        "{}: {}, {}",
-        text::count(log.records(), "record"),
-        text::count(log.words(), "word"),
-        text::count(u64::from(status.midnights), "midnight"),
-    )];
+/// What was refused, and what the log's end cuts.
+pub fn notes(log: &Log) -> Vec<String> {
+    let mut lines = Vec::new();
     if let Some((place, refused)) = &log.word {
         let after = text::count(log.words_after(), "word");
         lines.push(format!("{place}: word {refused}"));
@@ -62,11 +65,11 @@ fn closing(log: &Log) -> Vec<String> {
             "ends inside {name}: {taken} of its {due} parameters taken"
         ));
     }
-    if status.unfinished > 0 {
+    let unfinished = log.replay.status().unfinished;
+    if unfinished > 0 {
+        let record = log.records();
         lines.push(format!(
-            "ends inside record {}: {} of its {RECORD} bytes, counted nowhere",
-            log.records(),
-            status.unfinished
+            "ends inside record {record}: {unfinished} of its {RECORD} bytes, counted nowhere"
         ));
     }
     lines
@@ -97,7 +100,8 @@ pub fn json(log: &Log, out: &mut dyn Write) -> Outcome {
     Ok(())
 }
 
-fn summary(log: &Log) -> Value {
+/// All of a log but its days.
+pub fn summary(log: &Log) -> Value {
     let status = log.replay.status();
     let Part { runs, claims } = total(log);
     let inputs: Vec<&String> = log.inputs.iter().map(|(name, _)| name).collect();

@@ -22,9 +22,10 @@ pub fn run(options: &Options, out: &mut dyn Write) -> Outcome {
         None => return list(options.json, out),
     };
     let refusal = refusals::refusal(number).ok_or_else(|| {
-        let last = refusals::ALL.len();
+        let numbers = refusals::ALL.iter().map(|refusal| refusal.number);
+        let known = text::ranges(&numbers.collect::<Vec<_>>());
         Failure::Wrong(format!(
-            "explain {number}: refusals have the numbers 1 to {last}"
+            "explain {number}: refusals have the numbers {known}"
         ))
     })?;
     match options.json {
@@ -70,6 +71,8 @@ fn effect(number: u32) -> &'static str {
          command and stops the session"
     } else if refusals::stops_replay(number) {
         "changes no day, no tally and no setting; drops the open record and stops the replay"
+    } else if refusals::is_of_a_lease(number) {
+        "no log is read, and nothing is scored"
     } else {
         "changes no byte of lent memory, no setting and no flow state"
     }

@@ -9,6 +9,8 @@ pub enum Failure {
     /// A wrong command line, or a file that can't be read or written. Exit status
     /// 2.
     Wrong(String),
+    /// A month that is short, which the card has told. Exit status 3.
+    Short,
     /// The reader of our output has gone, as `head` does: nothing to complain of.
     Closed,
 }
@@ -36,6 +38,7 @@ impl Failure {
         let (text, status) = match self {
             Failure::Refused(text) => (text, 1),
             Failure::Wrong(text) => (text, 2),
+            Failure::Short => return 3,
             Failure::Closed => return 0,
         };
         // Where standard error is closed too, the status alone must do.

@@ -25,6 +25,11 @@ pub fn stops_replay(number: u32) -> bool {
     number == 18 || number == 19
 }
 
+/// Whether it refuses a lease line.
+pub fn is_of_a_lease(number: u32) -> bool {
+    number == 21
+}
+
 pub fn refusal(number: u32) -> Option<&'static Refusal> {
     ALL.iter().find(|refusal| refusal.number == number)
 }
@@ -74,7 +79,7 @@ const SILENCE: &[&str] = &[
     "The channels are one, four, one, two and four for codes 0 to 4.",
 ];
 
-pub const ALL: [Refusal; 19] = [
+pub const ALL: [Refusal; 20] = [
     entry(
         1,
         "the session is stopped",
@@ -229,6 +234,14 @@ pub const ALL: [Refusal; 19] = [
         &[
             "The first midnight may name any day; each later one is one more than the last, and at most 400 come in all, else refusal 19 at its last byte",
             "Both stop the replay and drop the open record. What came before stands; later bytes get that number again.",
+        ],
+    ),
+    added(
+        21,
+        "a lease line is out of its bounds",
+        "a lease line, before its log is read",
+        &[
+            "a station's log and lease line (first day, days from 1 to 31, elements owed a day, one number for all its days, from 0 to 100,000,000, last day below 2^32, else 21; then 18 or 19 from the log)",
         ],
     ),
 ];

@@ -29,16 +29,8 @@ pub struct Options {
 }
 
 pub fn run(options: &Options, out: &mut dyn Write) -> Outcome {
-    // All are opened first, so that none is read where one is missing.
-    let sources = match options.files.as_slice() {
-        [] => vec![Source::open(None)?],
-        files => files
-            .iter()
-            .map(|file| Source::open(Some(file)))
-            .collect::<Outcome<_>>()?,
-    };
     let mut log = Log::new();
-    let ended = log.read(sources);
+    let ended = log.read(Source::open_all(&options.files)?);
     match options.json {
         true => days::json(&log, out)?,
         false => days::table(&log, out)?,

@@ -7,7 +7,7 @@ use crate::progress;
 use indicatif::ProgressBar;
 use std::fs::File;
 use std::io::{self, Read};
-use std::path::Path;
+use std::path::{Path, PathBuf};
 
 /// Bytes that are read at once: a whole number of words.
 pub const PIECE: usize = 1 << 16;
@@ -44,6 +44,15 @@ impl Source {
         let file = File::open(path).map_err(|error| Failure::Wrong(format!("{name}: {error}")))?;
         let length = file.metadata().ok().map(|about| about.len());
         Ok(Source::new(name, Box::new(file), length))
+    }
+
+    /// All of these files; standard input where none is named. All are opened first,
+    /// so that none is read where one is missing.
+    pub fn open_all(files: &[PathBuf]) -> Outcome<Vec<Source>> {
+        match files {
+            [] => Ok(vec![Source::open(None)?]),
+            files => files.iter().map(|file| Source::open(Some(file))).collect(),
+        }
     }
 
     /// Bytes that stand in the program itself.

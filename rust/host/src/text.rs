@@ -39,6 +39,22 @@ pub fn count(number: u64, what: &str) -> String {
     }
 }
 
+/// Numbers in rising order, those in a row as one: "1 to 19, 21".
+pub fn ranges(numbers: &[u32]) -> String {
+    let mut rows: Vec<(u32, u32)> = Vec::new();
+    for number in numbers {
+        match rows.last_mut() {
+            Some((_, last)) if *last + 1 == *number => *last = *number,
+            _ => rows.push((*number, *number)),
+        }
+    }
+    let row = |(first, last): &(u32, u32)| match first == last {
+        true => first.to_string(),
+        false => format!("{first} to {last}"),
+    };
+    rows.iter().map(row).collect::<Vec<_>>().join(", ")
+}
+
 pub fn linear_or_tiled(tiled: bool) -> &'static str {
     if tiled {
         "tiled"

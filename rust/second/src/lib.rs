@@ -11,7 +11,9 @@
 //! * [`memory`]: elements read and written in lent memory, the superfine read;
 //! * [`flow`]: programs of flow words, and a group stepped through them;
 //! * [`log`]: a station's log over midnight, from document 02's request 1;
-//! * `silent`: outputs that a start passes over, from document 02's request 2.
+//! * `silent`: outputs that a start passes over, from document 02's request 2;
+//! * [`score`]: a month of a log scored against its lease line, from document
+//!   02's request 5.
 //!
 //! Every refusal is document 01's number, as the `Err` of an [`Answer`].
 
@@ -23,6 +25,7 @@ pub mod flow;
 pub mod layout;
 pub mod log;
 pub mod memory;
+pub mod score;
 pub mod session;
 mod silent;
 

@@ -7,6 +7,10 @@
 
 #![forbid(unsafe_code)]
 
+#[path = "../station.rs"]
+#[allow(dead_code)] // what it owes and its dates are for the score
+mod station;
+
 use std::path::{Path, PathBuf};
 use std::{env, fs, io};
 
@@ -82,6 +86,90 @@ fn refused() -> Log {
         .words(&[START, 0])
 }
 
+/// Station 14's two cameras of 640 x 480 pixels, UINT8_4 in tiles, each with an output
+/// of its own. A frame claims 614,400 elements.
+#[rustfmt::skip]
+const CAMERAS: [u32; 18] = [
+    0xC001_0A00, 0x1000, 0x0400_0010,
+    SET_OUT, 0, 0x0010_0000, 0x0101_0280, 480,
+    SET_OUT, 1, 0x0030_0000, 0x0101_0280, 480,
+    SET_DOMAIN, 0, 0, 639, 479,
+];
+
+const FRAME: [u32; 4] = [START, 0, WAIT, 0];
+
+/// A frame an hour.
+const FRAMES: usize = 24;
+
+/// Every channel of output 1, the second camera, masked off.
+const SECOND_CAMERA_OFF: [u32; 2] = [SET_OUT_MASK, 0xFF0F];
+const ALL_ON: [u32; 2] = [SET_OUT_MASK, 0xFFFF];
+
+impl Log {
+    fn frames(self, count: usize) -> Log {
+        self.words(&FRAME.repeat(count))
+    }
+}
+
+/// Station 14's month. The cameras are set up before the first midnight, with a frame
+/// that serves no day. From the ninth to the twelfth the log goes on without a frame. On
+/// the evening of the 19th the second camera is masked off; on the 20th the cameras are
+/// set up again, which leaves the mask as it is; the mask is taken away by a command that
+/// the next midnight cuts. Three more midnights cut a start.
+fn station_14() -> Log {
+    let mut log = Log::new().words(&CAMERAS).frames(1);
+    // What a midnight cut off a command.
+    let mut rest: &[u32] = &[];
+    for date in 1..=station::DAYS {
+        log = log.midnight(station::FIRST_DAY + date - 1).words(rest);
+        let (day, cut): (Log, &[u32]) = match date {
+            3 | 14 | 26 => (log.frames(FRAMES - 1).words(&FRAME[..1]), &FRAME[1..]),
+            9..=12 => (log.words(&[WAIT, 0].repeat(FRAMES)), &[]),
+            19 => (log.frames(FRAMES).words(&SECOND_CAMERA_OFF), &[]),
+            20 => {
+                let again = log.words(&CAMERAS).frames(FRAMES);
+                (again.words(&ALL_ON[..1]), &ALL_ON[1..])
+            }
+            _ => (log.frames(FRAMES), &[]),
+        };
+        (log, rest) = (day, cut);
+    }
+    log
+}
+
+/// The month after, full: 31 days.
+fn full_month() -> Log {
+    let first = station::FIRST_DAY + station::DAYS;
+    let mut log = Log::new().words(&CAMERAS);
+    for day in first..first + 31 {
+        log = log.midnight(day).frames(FRAMES);
+    }
+    log
+}
+
+/// A February in which the station wasn't leased, with two frames to try it.
+fn nothing_owed() -> Log {
+    let first = station::FIRST_DAY - 59;
+    let mut log = Log::new().words(&CAMERAS);
+    for day in first..first + 28 {
+        log = log.midnight(day);
+        if day == first + 9 {
+            log = log.frames(2);
+        }
+    }
+    log
+}
+
+/// Station 14's month with one record lost on its way: the midnight of the 17th.
+fn damaged() -> Vec<u8> {
+    let lost = [&[2][..], &(station::FIRST_DAY + 16).to_le_bytes()].concat();
+    let log = station_14().bytes;
+    log.chunks(lost.len())
+        .filter(|record| *record != lost)
+        .collect::<Vec<_>>()
+        .concat()
+}
+
 /// Two cameras: output 0 of FLOAT32_1 and output 1 of FLOAT32_2. The second is
 /// masked off and then set anew over the first one's bytes and too low for the
 /// domain, which a silent output may; last the first is masked off too.
@@ -104,8 +192,12 @@ fn stream(words: &[u32]) -> Vec<u8> {
 }
 
 /// The bytes of every file, by its name.
-fn files() -> [(&'static str, Vec<u8>); 3] {
+fn files() -> [(&'static str, Vec<u8>); 7] {
     [
+        ("station-14.log", station_14().bytes),
+        ("full-month.log", full_month().bytes),
+        ("nothing-owed.log", nothing_owed().bytes),
+        ("damaged.log", damaged()),
         ("three-days.log", three_days().bytes),
         ("refused.log", refused().bytes),
         ("masked.ctm", stream(&[&SETTINGS[..], &MASKED].concat())),

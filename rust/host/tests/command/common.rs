@@ -1,5 +1,8 @@
 //! Runs the command `egretfold` from the repository's root, as a user would.
 
+use compare::records::{record, MIDNIGHT, WORD};
+use serde_json::Value;
+use std::fs;
 use std::io::Write;
 use std::path::{Path, PathBuf};
 use std::process::{Command, Output, Stdio};
@@ -41,4 +44,48 @@ pub fn told(output: &Output) -> String {
 /// What stands on standard error.
 pub fn complained(output: &Output) -> String {
     String::from_utf8(output.stderr.clone()).expect("text")
+}
+
+/// The last line, which is JSON.
+pub fn last_line(text: &str) -> Value {
+    let line = text.lines().last().expect("a line");
+    serde_json::from_str(line).expect("JSON")
+}
+
+/// The bytes of a file in samples/.
+pub fn sample(name: &str) -> Vec<u8> {
+    fs::read(root().join("samples").join(name)).expect("the sample is there")
+}
+
+pub fn words(words: &[u32]) -> Vec<u8> {
+    words.iter().flat_map(|word| record(WORD, *word)).collect()
+}
+
+pub fn midnights(days: std::ops::Range<u32>) -> Vec<u8> {
+    days.flat_map(|day| record(MIDNIGHT, day)).collect()
+}
+
+/// A folder of a test's own, gone when the test is over.
+pub struct Folder(pub PathBuf);
+
+impl Folder {
+    pub fn new(name: &str) -> Folder {
+        let name = format!("egretfold-{name}-{}", std::process::id());
+        let folder = std::env::temp_dir().join(name);
+        fs::create_dir_all(&folder).expect("a folder to write in");
+        Folder(folder)
+    }
+
+    /// Writes a file and gives its name.
+    pub fn write(&self, name: &str, bytes: &[u8]) -> String {
+        let file = self.0.join(name);
+        fs::write(&file, bytes).expect("the file is written");
+        file.display().to_string()
+    }
+}
+
+impl Drop for Folder {
+    fn drop(&mut self) {
+        let _ = fs::remove_dir_all(&self.0);
+    }
 }

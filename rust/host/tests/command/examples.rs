@@ -1,9 +1,14 @@
-//! The examples that the documents print: a line `    $ …` with `./egretfold` in it and,
-//! indented alike below it, what it prints. Each is run as it stands.
+//! The examples that the documents print: a line `    $ …` with `./egretfold` in it, or
+//! with the program that starts anew at each midnight, and, indented alike below it,
+//! what it prints. Each is run as it stands.
 
 use crate::common::{complained, root, told, with_input};
 use std::fs;
 use std::process::Command;
+
+/// The line that runs station 14's log anew at each midnight.
+const ANEW: &str =
+    "cargo run -q --release --manifest-path rust/Cargo.toml -p host --bin anew-each-midnight";
 
 struct Example {
     line: String,
@@ -18,7 +23,7 @@ fn examples(text: &str) -> Vec<Example> {
         let indented = line.strip_prefix("    ");
         match indented.and_then(|line| line.strip_prefix("$ ")) {
             Some(command) => {
-                inside = command.contains("./egretfold");
+                inside = command.contains("./egretfold") || command == ANEW;
                 if inside {
                     found.push(Example {
                         line: command.to_string(),
@@ -40,7 +45,11 @@ fn examples(text: &str) -> Vec<Example> {
 
 fn run(example: &Example) -> String {
     let program = env!("CARGO_BIN_EXE_egretfold");
-    let line = example.line.replace("./egretfold", program);
+    let anew = env!("CARGO_BIN_EXE_anew-each-midnight");
+    let line = example
+        .line
+        .replace("./egretfold", program)
+        .replace(ANEW, anew);
     let mut shell = Command::new("sh");
     shell.args(["-c", &line]);
     let output = with_input(shell, b"");

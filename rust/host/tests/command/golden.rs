@@ -1,15 +1,90 @@
-//! The output of every subcommand, held against the files in tests/golden. After a
-//! wanted change the files are renewed by
+//! The output of every subcommand, held against the files in tests/golden, and
+//! pictures, against those in tests/pictures. After a wanted change the files are renewed by
 //!
 //!     RENEW=1 cargo test -p host golden
 
-use crate::common::{complained, egretfold, root, told};
+use crate::common::{complained, egretfold, root, told, Folder};
 use std::fs;
 use std::path::Path;
 
 /// The file's name, the arguments, and what stands on standard input.
 const CASES: &[(&str, &str, &str)] = &[
     ("sample", "", ""),
+    (
+        "score-station-14",
+        "score samples/station-14.log --first-day 101 --days 30 --owed 14000000 --from 2026-04-01",
+        "",
+    ),
+    (
+        "score-json",
+        "score samples/station-14.log --first-day 101 --days 30 --owed 14000000 --from 2026-04-01 --json",
+        "",
+    ),
+    (
+        "score-csv",
+        "score samples/station-14.log --first-day 101 --days 30 --owed 14000000 --from 2026-04-01 --csv",
+        "",
+    ),
+    (
+        "score-without-dates",
+        "score samples/station-14.log --first-day 95 --days 12 --owed 15000000",
+        "",
+    ),
+    (
+        "score-without-dates-csv",
+        "score samples/station-14.log --first-day 95 --days 12 --owed 15000000 --csv",
+        "",
+    ),
+    (
+        "score-full-month",
+        "score samples/full-month.log --first-day 131 --days 31 --owed 14000000 --from 2026-05-01",
+        "",
+    ),
+    (
+        "score-nothing-owed",
+        "score samples/nothing-owed.log --first-day 42 --days 28 --owed 0 --from 2026-02-01",
+        "",
+    ),
+    (
+        "score-damaged",
+        "score samples/damaged.log --first-day 101 --days 30 --owed 14000000",
+        "",
+    ),
+    (
+        "score-damaged-json",
+        "score samples/damaged.log --first-day 101 --days 30 --owed 14000000 --json",
+        "",
+    ),
+    (
+        "score-several",
+        "score samples/three-days.log samples/refused.log --first-day 101 --days 3 --owed 1728",
+        "",
+    ),
+    (
+        "score-unfinished",
+        "score - --first-day 101 --days 1 --owed 1",
+        "\u{2}\u{65}\0\0\0\u{1}\u{7}\0\0\0\u{1}\0",
+    ),
+    (
+        "score-unfinished-json",
+        "score - --first-day 101 --days 1 --owed 1 --json",
+        "\u{2}\u{65}\0\0\0\u{1}\u{7}\0\0\0\u{1}\0",
+    ),
+    (
+        "score-lease",
+        "score samples/station-14.log --first-day 101 --days 32 --owed 1",
+        "",
+    ),
+    (
+        "score-lease-json",
+        "score samples/station-14.log --first-day 101 --days 32 --owed 1 --json",
+        "",
+    ),
+    (
+        "score-past-9999",
+        "score samples/station-14.log --first-day 101 --days 30 --owed 1 --from 9999-12-31",
+        "",
+    ),
     ("decode-whole", "decode samples/whole.ctm", ""),
     ("decode-several", "decode samples/several.ctm", ""),
     ("decode-refused", "decode --hex samples/refused.hex", ""),
@@ -209,10 +284,50 @@ const CASES: &[(&str, &str, &str)] = &[
     ("explain-18", "explain 18", ""),
     ("explain-19", "explain 19", ""),
     ("explain-20", "explain 20", ""),
+    ("explain-21", "explain 21", ""),
     ("explain-json-18", "explain --json 18", ""),
     ("missing-file", "decode samples/nothing.ctm", ""),
     ("a-folder", "decode samples", ""),
 ];
+
+/// The picture's file in tests/pictures, and the score that it is of.
+const PICTURES: &[(&str, &str)] = &[
+    (
+        "station-14",
+        "samples/station-14.log --first-day 101 --days 30 --owed 14000000 --from 2026-04-01",
+    ),
+    (
+        "full-month",
+        "samples/full-month.log --first-day 131 --days 31 --owed 14000000 --from 2026-05-01",
+    ),
+    (
+        "nothing-owed",
+        "samples/nothing-owed.log --first-day 42 --days 28 --owed 0 --from 2026-02-01",
+    ),
+    (
+        "without-dates",
+        "samples/station-14.log --first-day 95 --days 12 --owed 15000000",
+    ),
+];
+
+#[test]
+fn the_pictures_are_as_stored() {
+    let folder = root().join("rust/host/tests/pictures");
+    let renew = std::env::var_os("RENEW").is_some();
+    let drawn = Folder::new("pictures");
+    for (name, arguments) in PICTURES {
+        let is = drawn.0.join(format!("{name}.svg"));
+        egretfold(&format!("score {arguments} --svg {}", is.display()), b"");
+        let is = fs::read_to_string(is).expect("the picture is there");
+        let file = folder.join(format!("{name}.svg"));
+        if renew {
+            fs::write(&file, &is).expect("the file is written");
+        }
+        // Not shown where they differ: a picture is looked at, not read.
+        let same = fs::read_to_string(&file).map_or(false, |stored| stored == is);
+        assert!(same, "{name} differs");
+    }
+}
 
 #[test]
 fn the_output_is_as_stored() {

@@ -1,6 +1,6 @@
 //! The command `egretfold` run as a user runs it: its outputs held against stored
-//! ones, its command line, streams there and back, logs over midnight, the working by
-//! hand, and the examples of the documents.
+//! ones, its command line, streams there and back, logs over midnight, months scored, the
+//! working by hand, and the examples of the documents.
 
 mod causes;
 mod common;
@@ -9,4 +9,5 @@ mod golden;
 mod program;
 mod replay;
 mod round_trip;
+mod score;
 mod working;

@@ -6,8 +6,8 @@ use std::fs;
 use std::io::Write;
 use std::process::{Command, Stdio};
 
-const SUBCOMMANDS: [&str; 8] = [
-    "decode", "encode", "replay", "address", "locate", "tile", "flow", "explain",
+const SUBCOMMANDS: [&str; 9] = [
+    "score", "decode", "encode", "replay", "address", "locate", "tile", "flow", "explain",
 ];
 
 #[test]
@@ -38,6 +38,12 @@ fn a_wrong_line_ends_with_2_and_no_answer() {
         "locate --pitch 100 --height 3 --size 4 123456789",
         "locate --words 3 800",
         "flow --hex samples/branch.hex 1",
+        "score samples/station-14.log",
+        "score samples/station-14.log --first-day 101 --days 30",
+        "score samples/station-14.log --first-day 101 --days 30 --owed 1 --json --csv",
+        "score samples/station-14.log --first-day -1 --days 30 --owed 1",
+        "score samples/station-14.log --first-day 4294967296 --days 1 --owed 1",
+        "score samples/station-14.log --first-day 101 --days 30 --owed 1 --from 2026-04",
         "explain 0",
         "explain six",
     ] {
@@ -164,11 +170,15 @@ fn the_examples_of_the_help_texts_run() {
                 .current_dir(&folder)
                 .stdin(Stdio::null());
             let output = shell.output().expect("the line runs");
-            let refused = line.contains("/refused.");
-            assert_eq!(output.status.code(), Some(i32::from(refused)), "{line}");
+            let status = match () {
+                _ if line.contains("/refused.") => 1,
+                _ if line.contains(" score ") && line.contains("/station-14.") => 3,
+                _ => 0,
+            };
+            assert_eq!(output.status.code(), Some(status), "{line}");
             count += 1;
         }
     }
     fs::remove_dir_all(&folder).expect("the folder goes");
-    assert!(count >= 17, "{count}");
+    assert!(count >= 20, "{count}");
 }

@@ -1,15 +1,14 @@
 //! `replay`: logs cut into files, refusals with their place and cause, the end of a
 //! log, long logs, and the sample logs themselves.
 
-use crate::common::{complained, egretfold, root, told};
+use crate::common::{complained, egretfold, last_line, midnights, sample, told, words, Folder};
 use crate::program::peak;
 use compare::random::Random;
 use compare::records::{record, MIDNIGHT, WORD};
-use compare::words;
+use compare::words as streams;
 use serde_json::Value;
 use std::fs;
 use std::io::Write;
-use std::path::PathBuf;
 use std::process::{Command, Stdio};
 
 const START: u32 = 0xC000_0800;
@@ -19,52 +18,10 @@ const SET_DOMAIN: u32 = 0xC003_0700;
 /// Bytes that the command reads at once.
 const PIECE: usize = 1 << 16;
 
-fn sample(name: &str) -> Vec<u8> {
-    fs::read(root().join("samples").join(name)).expect("the sample is there")
-}
-
-fn words(words: &[u32]) -> Vec<u8> {
-    words.iter().flat_map(|word| record(WORD, *word)).collect()
-}
-
-fn midnights(days: std::ops::Range<u32>) -> Vec<u8> {
-    days.flat_map(|day| record(MIDNIGHT, day)).collect()
-}
-
-/// A folder of a test's own, gone when the test is over.
-struct Folder(PathBuf);
-
-impl Folder {
-    fn new(name: &str) -> Folder {
-        let name = format!("egretfold-{name}-{}", std::process::id());
-        let folder = std::env::temp_dir().join(name);
-        fs::create_dir_all(&folder).expect("a folder to write in");
-        Folder(folder)
-    }
-
-    /// Writes a file and gives its name.
-    fn write(&self, name: &str, bytes: &[u8]) -> String {
-        let file = self.0.join(name);
-        fs::write(&file, bytes).expect("the file is written");
-        file.display().to_string()
-    }
-}
-
-impl Drop for Folder {
-    fn drop(&mut self) {
-        let _ = fs::remove_dir_all(&self.0);
-    }
-}
-
 /// What `replay --json` says of the whole of this log.
 fn summary(log: &[u8]) -> Value {
     let output = egretfold("replay --json", log);
     last_line(&told(&output))["summary"].clone()
-}
-
-fn last_line(text: &str) -> Value {
-    let line = text.lines().last().expect("a line");
-    serde_json::from_str(line).expect("JSON")
 }
 
 #[test]
@@ -80,7 +37,7 @@ fn the_samples_are_what_their_program_makes() {
         assert_eq!(fs::read(&file).expect("a file"), sample(&name), "{name}");
         count += 1;
     }
-    assert_eq!(count, 3);
+    assert_eq!(count, 7);
 }
 
 #[test]
@@ -147,7 +104,7 @@ fn a_refused_word_has_its_cause() {
     let mut refused = 0;
     for number in 0..60 {
         let mut random = Random::of_case(96, 1, number);
-        let stream = words::any(&mut random);
+        let stream = streams::any(&mut random);
         let expected = match cause_by_decode(&stream) {
             Some(expected) => expected,
             None => continue,
