@@ -1,3 +1,4 @@
+pub mod Powers
 pub mod Rows
 pub mod Sizes
 pub mod Window

@@ -1,5 +1,6 @@
 -- `layout::row_by` meets its contract: a law for each return. Assumes nothing.
-use Rattle.layout.proofs.Rows.{form-pitch, bytes-most, cut-row, no-row, long-row, no-height, great-height, unit-least, unit-fits, filled-rows, span-most, span-least, kept, too-high}
+use Rattle.layout.proofs.Rows.{form-pitch, bytes-most, no-row, long-row, no-height, great-height, span-most, span-least, kept, too-high}
+use Rattle.layout.proofs.Powers.{cut-row, unit-least, unit-fits, filled-rows}
 use Rattle.layout.proofs.Window.{form-size, size-most}
 use native.Mathlib.Omega.{arith}
 use borrow.Author.Needs.{needs}

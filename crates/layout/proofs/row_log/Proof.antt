@@ -1,6 +1,6 @@
 -- `layout::row_log` meets its contract: the number read at each of the five sizes. Assumes nothing.
 use Rattle.layout.proofs.Window.{size-most}
-use Rattle.layout.proofs.Rows.{row-log}
+use Rattle.layout.proofs.Powers.{row-log}
 use native.Mathlib.Omega.{arith}
 use borrow.Author.Needs.{needs}
 use Rattle.layout.proofs.row_log.Statement.{statement}

@@ -1,5 +1,5 @@
 -- `layout::row_step` meets its contract: the pitch cut down by shifts. Assumes nothing.
-use Rattle.layout.proofs.Rows.{cut-step}
+use Rattle.layout.proofs.Powers.{cut-step}
 use borrow.Author.Needs.{needs}
 use Rattle.layout.proofs.row_step.Statement.{statement}
 use Rattle.layout.proofs.row_step.Tie as tie

@@ -1,6 +1,6 @@
 -- `layout::rows_log` meets its contract: the number read at each of the five sizes. Assumes nothing.
 use Rattle.layout.proofs.Window.{size-most}
-use Rattle.layout.proofs.Rows.{rows-log}
+use Rattle.layout.proofs.Powers.{rows-log}
 use native.Mathlib.Omega.{arith}
 use borrow.Author.Needs.{needs}
 use Rattle.layout.proofs.rows_log.Statement.{statement}

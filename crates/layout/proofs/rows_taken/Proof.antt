@@ -1,5 +1,5 @@
 -- `layout::rows_taken` meets its contract: the height filled up by shifts. Assumes nothing.
-use Rattle.layout.proofs.Rows.{unit-least, unit-fits, filled-rows}
+use Rattle.layout.proofs.Powers.{unit-least, unit-fits, filled-rows}
 use native.Mathlib.Omega.{arith}
 use borrow.Author.Needs.{needs}
 use Rattle.layout.proofs.rows_taken.Statement.{statement}

@@ -1,6 +1,6 @@
 -- `layout::step_log` meets its contract: the number read at each of the five sizes. Assumes nothing.
 use Rattle.layout.proofs.Window.{size-most}
-use Rattle.layout.proofs.Rows.{step-log}
+use Rattle.layout.proofs.Powers.{step-log}
 use native.Mathlib.Omega.{arith}
 use borrow.Author.Needs.{needs}
 use Rattle.layout.proofs.step_log.Statement.{statement}

@@ -1,5 +1,5 @@
 -- `layout::window_row` meets its contract: the two kinds of layout. Assumes nothing.
-use Rattle.layout.proofs.Rows.{linear-asked}
+use Rattle.layout.proofs.Powers.{linear-asked}
 use Rattle.layout.proofs.Window.{form-size}
 use Rattle.layout.specs.Layout.{rowBytes}
 use mathlib.Core.Bool.{Bool}
