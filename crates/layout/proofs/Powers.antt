@@ -14,78 +14,91 @@ use Rattle.layout.proofs.Sizes.{by-size}
 use Rattle.layout.proofs.Window.{form-size}
 use Rattle.layout.proofs.Rows.{bytes-most}
 
--- the powers of 2 that row steps and rows are multiples of, as the code reads them off a number, three bits for a size
-abbrev read : ℕ → ℕ → ℕ
-read logs s = logs / 2 ^ (3 * s) % 8
+-- the numbers that the code reads powers off: of row steps, tiled and linear, and of tiles' rows, three bits for a size; of the
+-- bytes of tiles' rows over 32, two bits for a size
+abbrev tiledSteps : ℕ
+tiledSteps = 1125899973972336
 
-module _ (tiled : Bool) where
-  pub step-log : (s : ℕ) → isSize s ≡ true → (read (pick tiled 1125899973972336 281475010277672) s ≤ 6) × (2 ^ read (pick tiled 1125899973972336 281475010277672) s ≡ unitOf tiled s)
-  unfolding unitOf pick widthOf placeOf
-  step-log = go tiled
-    where
-      go : (t : Bool) (s : ℕ) → isSize s ≡ true → (read (pick t 1125899973972336 281475010277672) s ≤ 6) × (2 ^ read (pick t 1125899973972336 281475010277672) s ≡ unitOf t s)
-      go true =
-          by-size (λ s. (read 1125899973972336 s ≤ 6) × (2 ^ read 1125899973972336 s ≡ unitOf true s))
-          (omega arith, refl)
-          (omega arith, refl)
-          (omega arith, refl)
-          (omega arith, refl)
-          (omega arith, refl)
-      go false =
-          by-size (λ s. (read 281475010277672 s ≤ 6) × (2 ^ read 281475010277672 s ≡ unitOf false s))
-          (omega arith, refl)
-          (omega arith, refl)
-          (omega arith, refl)
-          (omega arith, refl)
-          (omega arith, refl)
+abbrev linearSteps : ℕ
+linearSteps = 281475010277672
 
-  pub row-log : (s : ℕ) → isSize s ≡ true →
-      (pick tiled 12885033492 0 / 2 ^ (2 * s) % 4 + 5 ≤ 8) × (2 ^ (pick tiled 12885033492 0 / 2 ^ (2 * s) % 4 + 5) ≡ unitOf tiled s * s)
-  unfolding unitOf pick widthOf placeOf
-  row-log = go tiled
-    where
-      go : (t : Bool) (s : ℕ) → isSize s ≡ true →
-          (pick t 12885033492 0 / 2 ^ (2 * s) % 4 + 5 ≤ 8) × (2 ^ (pick t 12885033492 0 / 2 ^ (2 * s) % 4 + 5) ≡ unitOf t s * s)
-      go true =
-          by-size (λ s. (12885033492 / 2 ^ (2 * s) % 4 + 5 ≤ 8) × (2 ^ (12885033492 / 2 ^ (2 * s) % 4 + 5) ≡ unitOf true s * s))
-          (omega arith, refl)
-          (omega arith, refl)
-          (omega arith, refl)
-          (omega arith, refl)
-          (omega arith, refl)
-      go false =
-          by-size (λ s. (0 / 2 ^ (2 * s) % 4 + 5 ≤ 8) × (2 ^ (0 / 2 ^ (2 * s) % 4 + 5) ≡ unitOf false s * s))
-          (omega arith, refl)
-          (omega arith, refl)
-          (omega arith, refl)
-          (omega arith, refl)
-          (omega arith, refl)
+abbrev tileHeights : ℕ
+tileHeights = 844424997257576
 
-  pub rows-log : (s : ℕ) → isSize s ≡ true → (read (pick tiled 844424997257576 0) s ≤ 5) × (2 ^ read (pick tiled 844424997257576 0) s ≡ pick tiled (heightOf s) 1)
-  unfolding pick heightOf placeOf
-  rows-log = go tiled
-    where
-      go : (t : Bool) (s : ℕ) → isSize s ≡ true → (read (pick t 844424997257576 0) s ≤ 5) × (2 ^ read (pick t 844424997257576 0) s ≡ pick t (heightOf s) 1)
-      go true =
-          by-size (λ s. (read 844424997257576 s ≤ 5) × (2 ^ read 844424997257576 s ≡ heightOf s))
-          (omega arith, refl)
-          (omega arith, refl)
-          (omega arith, refl)
-          (omega arith, refl)
-          (omega arith, refl)
-      go false =
-          by-size (λ s. (read 0 s ≤ 5) × (2 ^ read 0 s ≡ 1))
-          (omega arith, refl)
-          (omega arith, refl)
-          (omega arith, refl)
-          (omega arith, refl)
-          (omega arith, refl)
+abbrev tileBytes : ℕ
+tileBytes = 12885033492
+
+abbrev inThrees : ℕ → ℕ → ℕ
+inThrees logs s = logs / 2 ^ (3 * s) % 8
+
+abbrev inTwos : ℕ → ℕ → ℕ
+inTwos logs s = logs / 2 ^ (2 * s) % 4
+
+-- a power of 2, bounded
+abbrev Power : ℕ → ℕ → ℕ → Type 0
+Power most log n = (log ≤ most) × (2 ^ log ≡ n)
+
+-- what is read at a size, for both kinds of layout
+abbrev Read : (most : ℕ) (log : Bool → ℕ → ℕ) (n : Bool → ℕ → ℕ) → Type 0
+Read most log n = (tiled : Bool) (s : ℕ) → isSize s ≡ true → Power most (log tiled s) (n tiled s)
+
+pub step-log : Read 6 (λ t s. inThrees (pick t tiledSteps linearSteps) s) unitOf
+unfolding unitOf pick widthOf placeOf
+step-log true =
+    by-size (λ s. Power 6 (inThrees tiledSteps s) (unitOf true s))
+    (omega arith, refl)
+    (omega arith, refl)
+    (omega arith, refl)
+    (omega arith, refl)
+    (omega arith, refl)
+step-log false =
+    by-size (λ s. Power 6 (inThrees linearSteps s) (unitOf false s))
+    (omega arith, refl)
+    (omega arith, refl)
+    (omega arith, refl)
+    (omega arith, refl)
+    (omega arith, refl)
+
+pub row-log : Read 8 (λ t s. inTwos (pick t tileBytes 0) s + 5) (λ t s. unitOf t s * s)
+unfolding unitOf pick widthOf placeOf
+row-log true =
+    by-size (λ s. Power 8 (inTwos tileBytes s + 5) (unitOf true s * s))
+    (omega arith, refl)
+    (omega arith, refl)
+    (omega arith, refl)
+    (omega arith, refl)
+    (omega arith, refl)
+row-log false =
+    by-size (λ s. Power 8 (inTwos 0 s + 5) (unitOf false s * s))
+    (omega arith, refl)
+    (omega arith, refl)
+    (omega arith, refl)
+    (omega arith, refl)
+    (omega arith, refl)
+
+pub rows-log : Read 5 (λ t s. inThrees (pick t tileHeights 0) s) (λ t s. pick t (heightOf s) 1)
+unfolding pick heightOf placeOf
+rows-log true =
+    by-size (λ s. Power 5 (inThrees tileHeights s) (heightOf s))
+    (omega arith, refl)
+    (omega arith, refl)
+    (omega arith, refl)
+    (omega arith, refl)
+    (omega arith, refl)
+rows-log false =
+    by-size (λ s. Power 5 (inThrees 0 s) 1)
+    (omega arith, refl)
+    (omega arith, refl)
+    (omega arith, refl)
+    (omega arith, refl)
+    (omega arith, refl)
 
 -- cutting down by shifts stays in 32 bits
 shifted : (n k : ℕ) → n < 4294967296 → n / k * k % 4294967296 ≡ n / k * k
 shifted n k h = mod-eq-of-lt (lt-of-le-of-lt (div-mul-le-self n k) h)
 
-pub cut-step : (tiled : Bool) (s p l : ℕ) → p < 4294967296 → 2 ^ l ≡ unitOf tiled s → p / 2 ^ l * 2 ^ l % 4294967296 ≡ rowStep tiled s p
+pub cut-step : (tiled : Bool) (s p l : ℕ) → p < 4294967296 → 2 ^ l ≡ unitOf tiled s →
+    p / 2 ^ l * 2 ^ l % 4294967296 ≡ rowStep tiled s p
 unfolding rowStep
 cut-step tiled s p l h e = shifted p (2 ^ l) h ∙ ap (λ (k : ℕ). p / k * k) e
 
@@ -127,7 +140,8 @@ linear-asked base pitch s w =
     }
 
 -- the height filled up to whole tiles
-filled : (tiled : Bool) (s h : ℕ) → (h + (pick tiled (heightOf s) 1 - 1)) / pick tiled (heightOf s) 1 * pick tiled (heightOf s) 1 ≡ rowsTaken tiled s h
+filled : (tiled : Bool) (s h : ℕ) →
+    (h + (pick tiled (heightOf s) 1 - 1)) / pick tiled (heightOf s) 1 * pick tiled (heightOf s) 1 ≡ rowsTaken tiled s h
 unfolding rowsTaken tileRows pick
 filled true s h = refl
 filled false s h = omega arith

@@ -179,8 +179,8 @@ pub fn rows_taken(height: u32, size: u32, tiled: bool) -> u32
     (height + ((1u32 << log) - 1)) >> log << log
 }
 
-// The bytes from one row to the next, or 0 where the window rule is broken, by what rows of bytes and rows are multiples of. It is
-// a number, so that it stays in a register; a row has at most 2^16 bytes and a window 2^12 rows, so the span is at most 2^28.
+// The bytes from one row to the next, or 0 where the window rule is broken, by what rows of bytes and rows are multiples of. It
+// is a number, so that it stays in a register; a row has at most 2^16 bytes and a window 2^12 rows, so the span is at most 2^28.
 fn row_by(
     base: u32,
     pitch: u32,
