@@ -1,8 +1,8 @@
 // A station's log: bytes in pieces of any length, and what their replay reports. A replay's five arrays are as
 // `egretfold_log_begin` and `egretfold_log_feed` left them; the last three are its session's.
-use crate::sessions::first_number;
 use days::report;
 use log::replay;
+use session::stream::First;
 ghost use mathlib.Core.List.{[], _∷_};
 ghost use Rattle.cells.specs.State.{newSession};
 ghost use Rattle.log.specs.Feed.{replayOf};
@@ -46,7 +46,10 @@ pub extern "C" fn egretfold_log_byte(
     }
     let piece = replay::feed(log, marks, own, tallies, shared, &bytes);
     let refusal = piece.refusal;
-    first_number(refusal)
+    match refusal {
+        First::Nothing => 0,
+        First::Refused(why) => refusal::number(why),
+    }
 }
 
 // A piece of bytes: how many were taken, and 18 or 19 for the first that wasn't, if any.
@@ -70,7 +73,10 @@ pub extern "C" fn egretfold_log_feed(
     let piece = replay::feed(log, marks, own, tallies, shared, bytes);
     *taken = [piece.taken.0];
     let refusal = piece.refusal;
-    first_number(refusal)
+    match refusal {
+        First::Nothing => 0,
+        First::Refused(why) => refusal::number(why),
+    }
 }
 
 // Where a replay stands: the number that stopped it; the first refused word's number and the midnights before it; the

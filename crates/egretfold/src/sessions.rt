@@ -13,11 +13,10 @@ ghost use mathlib.Core.Path.{_≡_};
 ghost use mathlib.Core.List.{[]};
 ghost use Rattle.cells.specs.Asked.{Given};
 ghost use Rattle.cells.specs.Cells.{partyOf, sessionOf, sharedOf};
-ghost use Rattle.session.specs.Answers.{firstOf};
 ghost use Rattle.session.specs.Feed.{feedOf};
 ghost use Rattle.session.specs.Step.{stepOf};
 ghost use Rattle.egretfold.specs.Crossing.{Crosses, flag};
-ghost use Rattle.egretfold.specs.Sessions.{BeginCrosses, FeedCrosses, Shows, WordCrosses, countsOf, domainOf, firstStatus, formatAt, formatOf, masksOf, openHeader, statusOf, toldFound};
+ghost use Rattle.egretfold.specs.Sessions.{BeginCrosses, FeedCrosses, Shows, WordCrosses, countsOf, domainOf, formatAt, formatOf, masksOf, openHeader, statusOf, toldFound};
 
 // A new session: nothing set, mask 65535.
 #[no_mangle]
@@ -59,16 +58,6 @@ pub extern "C" fn egretfold_session_word(
     }
 }
 
-// The number of a piece's first refusal, or 0.
-pub fn first_number(first: First) -> u32
-    ensures { λ r. ⌜ r ≡ firstStatus (firstOf first) ⌝ }
-{
-    match first {
-        First::Nothing => 0,
-        First::Refused(why) => refusal::number(why),
-    }
-}
-
 // A piece of words: the words taken and the commands that they completed, and the first refusal, if any.
 #[no_mangle]
 pub extern "C" fn egretfold_session_feed(
@@ -84,7 +73,10 @@ pub extern "C" fn egretfold_session_feed(
     let piece = stream::feed(own, tallies, shared, words);
     *fed = [piece.taken.0, piece.commands];
     let refusal = piece.refusal;
-    first_number(refusal)
+    match refusal {
+        First::Nothing => 0,
+        First::Refused(why) => refusal::number(why),
+    }
 }
 
 fn flag_of(present: bool) -> u32
