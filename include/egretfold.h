@@ -110,7 +110,7 @@ uint32_t egretfold_log_begin(uint32_t log[10], uint64_t marks[800], uint32_t own
 uint32_t egretfold_log_feed(uint32_t log[10], uint64_t marks[800], uint32_t own[17], uint64_t tallies[2],
                             uint32_t shared[101], const uint8_t *bytes, size_t length, uint64_t taken[1]);
 
-/* The same for one byte. Returns its refusal, or 0 where it was taken. */
+/* The same for one byte, and faster than a piece of one. Returns its refusal, or 0 where it was taken. */
 uint32_t egretfold_log_byte(uint32_t log[10], uint64_t marks[800], uint32_t own[17], uint64_t tallies[2],
                             uint32_t shared[101], uint8_t byte);
 

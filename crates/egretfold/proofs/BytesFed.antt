@@ -1,39 +1,59 @@
--- A piece of a log's bytes, answered by numbers: it is one byte that only adds to a record, or it was fed. Assumes nothing.
-use mathlib.Core.Path.{_≡_, sym, ap, _∙_, subst}
+-- A byte of a log by itself, answered by a number: it only added to a record, or it was read. Assumes nothing.
+use mathlib.Core.Path.{_≡_, refl, sym, ap, subst}
 use mathlib.Core.Bool.{Bool, true, false}
 use mathlib.Core.List.{List, [], _∷_}
-use Prim.Native.Nat.{ℕ}
-use Rattle.session.specs.Answers.{firstOf}
+use Prim.Native.Nat.{ℕ, _<_}
+use Rattle.refusal.specs.Number.{numberOf}
+use Rattle.refusal.specs.declared.Refusal.{Refusal}
 use Rattle.records.specs.Cells.{LogGiven, replayIn}
+use Rattle.records.specs.Own.{replyOf}
+use Rattle.records.specs.declared.bytes.Answer.{Answer}
+use Rattle.records.specs.declared.bytes.Answer.the-variants.{Taken, Refused}
+use Rattle.session.specs.Feed.{First, nothing}
+use Rattle.log.specs.Bytes.{byteStep}
 use Rattle.log.specs.Feed.{replayOf}
 use Rattle.log.specs.Feed as pieces
-use Rattle.log.specs.Asked.{Grew, PieceLeft}
-use Rattle.log.specs.declared.replay.Fed.{Fed}
-use Rattle.log.proofs.Feeding.{grown-alone, not-grown}
+use Rattle.log.specs.Asked.{Became, Grew}
+use Rattle.log.proofs.Feeding.{Single, single-grown, not-grown, single-taken, single-refused}
 use Rattle.egretfold.specs.Sessions.{firstStatus}
-use Rattle.egretfold.specs.Logs.{ByteCrosses, LogCrosses}
+use Rattle.egretfold.specs.Logs.{ByteCrosses}
 
-module _ (bs l m o t s : List ℕ) (g : LogGiven l m o t s) (r : Bool) (l1 : List ℕ) (w : Grew bs l r l1) where
-  pub one-byte : r ≡ true → LogCrosses (replayOf (replayIn l m o t s) bs) 0 l1 m o t s (1 ∷ [])
-  one-byte e =
-      let a = grown-alone bs l m o t s g r l1 w e in
-      record { status = ap firstStatus (a .refusal); room = ap (λ (n : ℕ). n ∷ []) (a .taken); held = a .held }
+crosses : {f : pieces.Fed} {y : First} {n : ℕ} {l m o t s : List ℕ} → n ≡ firstStatus y → Single f y l m o t s → ByteCrosses f n l m o t s
+crosses {f} {y} {n} {l} {m} {o} {t} {s} e c =
+    subst (λ (k : ℕ). ByteCrosses f k l m o t s) (sym e) (record { status = ap firstStatus (c .refusal); held = c .held })
 
-  pub still-given : r ≡ false → LogGiven l1 m o t s
-  still-given e = subst (λ (x : List ℕ). LogGiven x m o t s) (not-grown bs l r l1 w e) g
+module _ (l m o t s : List ℕ) (g : LogGiven l m o t s) (byte b : ℕ) (e : b ≡ byte) (r : Bool) (l1 : List ℕ) (w : Grew b l r l1) where
+  abbrev Told : ℕ → List ℕ → List ℕ → List ℕ → List ℕ → List ℕ → Type 0
+  Told = ByteCrosses (replayOf (replayIn l m o t s) (byte ∷ []))
 
-  pub fed : r ≡ false → (f : Fed) (l2 m2 o2 t2 s2 : List ℕ) → PieceLeft (replayOf (replayIn l1 m o t s) bs) f l2 m2 o2 t2 s2 →
-      (n : ℕ) → n ≡ firstStatus (firstOf (f .refusal)) →
-      LogCrosses (replayOf (replayIn l m o t s) bs) n l2 m2 o2 t2 s2 (f .taken .0 ∷ [])
-  fed e f l2 m2 o2 t2 s2 p n k =
-      subst (λ (x : List ℕ). LogCrosses (replayOf (replayIn x m o t s) bs) n l2 m2 o2 t2 s2 (f .taken .0 ∷ []))
-      (sym (not-grown bs l r l1 w e))
-      (record {
-        status = k ∙ ap firstStatus (p .refusal);
-        room = ap (λ (a : ℕ). a ∷ []) (p .taken);
-        held = p .held;
-      })
+  as-told : (n : ℕ) (l2 m2 o2 t2 s2 : List ℕ) → ByteCrosses (replayOf (replayIn l m o t s) (b ∷ [])) n l2 m2 o2 t2 s2 →
+      Told n l2 m2 o2 t2 s2
+  as-told n l2 m2 o2 t2 s2 c = subst (λ (x : ℕ). ByteCrosses (replayOf (replayIn l m o t s) (x ∷ [])) n l2 m2 o2 t2 s2) e c
 
--- a byte by itself is told no place
-pub byte-of-piece : {f : pieces.Fed} {n : ℕ} {l m o t s room : List ℕ} → LogCrosses f n l m o t s room → ByteCrosses f n l m o t s
-byte-of-piece c = record { status = c .status; held = c .held }
+  pub byte-grown : r ≡ true → Told 0 l1 m o t s
+  byte-grown k = as-told 0 l1 m o t s (crosses refl (single-grown l m o t s g b r l1 w k))
+
+  module _ (k : r ≡ false) where
+    same : l ≡ l1
+    same = not-grown l m o t s g b r l1 w k
+
+    pub still-given : LogGiven l1 m o t s
+    still-given = subst (λ (x : List ℕ). LogGiven x m o t s) same g
+
+    module _ (h : b < 256) (a : Answer) (l2 m2 o2 t2 s2 : List ℕ) (d : Became (byteStep (replayIn l1 m o t s) b) (replyOf a) l2 m2 o2 t2 s2) where
+      read : Became (byteStep (replayIn l m o t s) b) (replyOf a) l2 m2 o2 t2 s2
+      read = subst (λ (x : List ℕ). Became (byteStep (replayIn x m o t s) b) (replyOf a) l2 m2 o2 t2 s2) (sym same) d
+
+      pub byte-taken : a ≡ Taken → Told 0 l2 m2 o2 t2 s2
+      byte-taken q =
+          as-told 0 l2 m2 o2 t2 s2
+          (crosses refl
+          (single-taken l m o t s g b h l2 m2 o2 t2 s2
+          (subst (λ (x : Answer). Became (byteStep (replayIn l m o t s) b) (replyOf x) l2 m2 o2 t2 s2) q read)))
+
+      pub byte-refused : (why : Refusal) → a ≡ Refused why → (n : ℕ) → n ≡ numberOf why → Told n l2 m2 o2 t2 s2
+      byte-refused why q n f =
+          as-told n l2 m2 o2 t2 s2
+          (crosses f
+          (single-refused l m o t s g b h l2 m2 o2 t2 s2 (numberOf why)
+          (subst (λ (x : Answer). Became (byteStep (replayIn l m o t s) b) (replyOf x) l2 m2 o2 t2 s2) q read)))

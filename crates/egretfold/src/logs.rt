@@ -2,6 +2,7 @@
 // `egretfold_log_begin` and `egretfold_log_feed` left them; the last three are its session's.
 use days::report;
 use log::replay;
+use records::bytes::Answer;
 use session::stream::First;
 ghost use mathlib.Core.List.{[], _∷_};
 ghost use Rattle.cells.specs.State.{newSession};
@@ -40,15 +41,14 @@ pub extern "C" fn egretfold_log_byte(
     requires { ⌜ LogGiven (now log) (now marks) (now own) (now tallies) (now shared) ⌝ }
     ensures { λ r. ⌜ ByteCrosses (replayOf (replayIn (now (log .entry)) (now (marks .entry)) (now (own .entry)) (now (tallies .entry)) (now (shared .entry))) (byte ∷ [])) r (now (log .exit)) (now (marks .exit)) (now (own .exit)) (now (tallies .exit)) (now (shared .exit)) ⌝ }
 {
-    let bytes: [u8; 1] = [byte];
-    if replay::grows(log, &bytes) {
+    let byte = replay::wide(byte);
+    if replay::grows(log, byte) {
         return 0;
     }
-    let piece = replay::feed(log, marks, own, tallies, shared, &bytes);
-    let refusal = piece.refusal;
-    match refusal {
-        First::Nothing => 0,
-        First::Refused(why) => refusal::number(why),
+    let answer = replay::byte(log, marks, own, tallies, shared, byte);
+    match answer {
+        Answer::Taken => 0,
+        Answer::Refused(why) => refusal::number(why),
     }
 }
 
@@ -66,10 +66,6 @@ pub extern "C" fn egretfold_log_feed(
     requires { ⌜ LogGiven (now log) (now marks) (now own) (now tallies) (now shared) ⌝ }
     ensures { λ r. ⌜ LogCrosses (replayOf (replayIn (now (log .entry)) (now (marks .entry)) (now (own .entry)) (now (tallies .entry)) (now (shared .entry))) (now (bytes .entry))) r (now (log .exit)) (now (marks .exit)) (now (own .exit)) (now (tallies .exit)) (now (shared .exit)) (now (taken .exit)) ⌝ }
 {
-    if replay::grows(log, bytes) {
-        *taken = [1];
-        return 0;
-    }
     let piece = replay::feed(log, marks, own, tallies, shared, bytes);
     *taken = [piece.taken.0];
     let refusal = piece.refusal;

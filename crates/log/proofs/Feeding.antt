@@ -11,7 +11,7 @@ use lib.Seq.{drop-cons, drop-drop, getD-take, length-take-le}
 use Rattle.refusal.specs.Number.{numberOf}
 use Rattle.refusal.specs.declared.Refusal.{Refusal}
 use Rattle.cells.specs.Cells.{sessionOf}
-use Rattle.session.specs.Feed.{nothing}
+use Rattle.session.specs.Feed.{First, nothing, first}
 use Rattle.session.specs.declared.stream.First as firsts
 use Rattle.session.specs.declared.stream.First.the-variants as firstly
 use Rattle.session.proofs.Taking.{same}
@@ -22,7 +22,7 @@ use Rattle.log.specs.Feed.{ahead, proceed, replayOf, wordRecords, afterW
 use Rattle.log.specs.Feed as piece
 use Rattle.records.specs.Cells.{viewed, replayIn, LogHeld, LogValid, LogGiven}
 use Rattle.log.specs.Asked.{Grew, grown, ungrown, PieceLeft, LogSized, Became, WordsAsked, WordsLeft, Words32, Gathered, Idle, RecordsLeft, unread, read}
-use Rattle.records.specs.Own.{Answered, replyOf}
+use Rattle.records.specs.Own.{replyOf}
 use Rattle.records.specs.declared.bytes.Answer.{Answer}
 use Rattle.records.specs.declared.bytes.Answer.the-variants.{Taken, Refused}
 use Rattle.log.specs.declared.replay.Fed.{Fed}
@@ -165,45 +165,58 @@ module _ (r : Replay) (bs l m o t s : List ℕ) (i : ℕ) (f : Fold r bs l m o t
   fold-same n l1 o1 t1 s1 h (read ws l2 o2 t2 s2 e w fit begins c) =
       subst (Fold r bs l2 m o2 t2 s2) (let z : length ws ≡ 0 = omega arith in omega arith) (words-go ws l2 o2 t2 s2 e w fit begins c)
 
--- a piece of one byte that only adds to a record
-pub record Alone (f : piece.Fed) (l m o t s : List ℕ) : Type 0 where
-  pub taken : 1 ≡ f .taken
-  pub refusal : nothing ≡ f .refusal
+-- a byte by itself, told by its answer
+pub record Single (f : piece.Fed) (first : First) (l m o t s : List ℕ) : Type 0 where
+  pub refusal : first ≡ f .refusal
   pub held : LogHeld (f .replay) l m o t s
 
-module _ (bs l : List ℕ) where
-  pub grown-alone : (m o t s : List ℕ) → LogGiven l m o t s → (r : Bool) (l1 : List ℕ) → Grew bs l r l1 → r ≡ true →
-      Alone (replayOf (replayIn l m o t s) bs) l1 m o t s
-  grown-alone m o t s g r l1 (grown l2 z v) e =
-      subst (λ (x : piece.Fed). Alone x l2 m o t s) (sym (v m (sessionOf o t s)))
-      (record {
-        taken = refl;
+module _ (l m o t s : List ℕ) (g : LogGiven l m o t s) (b : ℕ) where
+  abbrev start : Replay
+  start = replayIn l m o t s
+
+  one : (y : Reply) (u : Replay) → byteStep start b ≡ record { reply = y; replay = u } → replayOf start (b ∷ []) ≡ proceed y u (replayOf u [])
+  one y u e = stepped start b [] _ e
+
+  -- it only added to a record
+  pub single-grown : (r : Bool) (l1 : List ℕ) → Grew b l r l1 → r ≡ true → Single (replayOf start (b ∷ [])) nothing l1 m o t s
+  single-grown r l1 (grown l2 a) e =
+      subst (λ (x : piece.Fed). Single x nothing l2 m o t s) (sym (one taken (viewed l2 m (sessionOf o t s)) (a .view m (sessionOf o t s))))
+      (unfold proceed replayOf in
+      record {
         refusal = refl;
         held =
             record {
-              log-cells = sym (log-canon l2 m (sessionOf o t s) z);
+              log-cells = sym (log-canon l2 m (sessionOf o t s) (a .log-length));
               mark-cells = unfold viewed in refl;
-              session-cells = unfold viewed in same o t s 0 (record { sized = g .session-sized; valid = unfold viewed in g .valid .session });
+              session-cells =
+                  unfold viewed in same o t s 0 (record { sized = g .session-sized; valid = unfold viewed in g .valid .session });
             };
       })
-  grown-alone m o t s g r l1 ungrown e = absurd (false≢true e)
+  single-grown r l1 ungrown e = absurd (false≢true e)
 
-  pub not-grown : (r : Bool) (l1 : List ℕ) → Grew bs l r l1 → r ≡ false → l ≡ l1
-  not-grown r l1 (grown l2 z v) e = absurd (false≢true (sym e))
+  pub not-grown : (r : Bool) (l1 : List ℕ) → Grew b l r l1 → r ≡ false → l ≡ l1
+  not-grown r l1 (grown l2 a) e = absurd (false≢true (sym e))
   not-grown r l1 ungrown e = refl
 
-  -- by the byte's step
-  pub grown-by : length bs ≡ 1 → (b : ℕ) → b ≡ getD bs 0 0 → (l1 : List ℕ) → Answered (λ r. byteStep r b) taken l l1 → Grew bs l true l1
-  grown-by n b e l1 a =
-      grown l1 (a .log-length)
-      (λ marks s.
-      ap (replayOf (viewed l marks s)) (only bs n ∙ ap (λ (x : ℕ). x ∷ []) (sym e)) ∙
-      stepped (viewed l marks s) b [] _ (a .view marks s) ∙ unfold proceed replayOf in refl)
-    where
-      only : (xs : List ℕ) → length xs ≡ 1 → xs ≡ getD xs 0 0 ∷ []
-      only [] h = absurd (omega (arith, h))
-      only (x ∷ []) h = refl
-      only (x ∷ y ∷ xs) h = absurd (omega (arith, h))
+  -- it was read
+  module _ (h : b < 256) (l1 m1 o1 t1 s1 : List ℕ) where
+    given : (y : Reply) → Became (byteStep start b) y l1 m1 o1 t1 s1 → LogGiven l1 m1 o1 t1 s1
+    given y d =
+        given-from l1 m1 o1 t1 s1 (d .sized)
+        (subst (λ (x : Stepped). LogValid (x .replay)) (d .view) (byte-valid start (g .valid) b h))
+
+    pub single-taken : Became (byteStep start b) taken l1 m1 o1 t1 s1 → Single (replayOf start (b ∷ [])) nothing l1 m1 o1 t1 s1
+    single-taken d =
+        subst (λ (x : piece.Fed). Single x nothing l1 m1 o1 t1 s1) (sym (one taken _ (d .view)))
+        (unfold proceed replayOf in
+        record { refusal = refl; held = held-view l1 m1 o1 t1 s1 (given taken d) })
+
+    pub single-refused : (n : ℕ) → Became (byteStep start b) (refused n) l1 m1 o1 t1 s1 →
+        Single (replayOf start (b ∷ [])) (first n) l1 m1 o1 t1 s1
+    single-refused n d =
+        subst (λ (x : piece.Fed). Single x (first n) l1 m1 o1 t1 s1) (sym (one (refused n) _ (d .view)))
+        (unfold proceed replayOf in
+        record { refusal = refl; held = held-view l1 m1 o1 t1 s1 (given (refused n) d) })
 
 -- words that were gathered and fed
 pub records-left : (bs l o t s words : List ℕ) (n : ℕ) (l1 o1 t1 s1 : List ℕ) → Idle l → Gathered bs n words →

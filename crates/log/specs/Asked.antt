@@ -4,15 +4,15 @@ use mathlib.Core.Bool.{Bool, true, false}
 use mathlib.Core.List.{List, _++_}
 use Prim.Native.Nat.{ℕ, _*_, _≤_, _<_}
 use lib.ListN.{length, take, drop, getD}
-use Rattle.cells.specs.State.{Session}
 use Rattle.cells.specs.Asked.{Given}
 use Rattle.cells.specs.Cells.{Sized}
 use Rattle.session.specs.Answers.{firstOf}
-use Rattle.session.specs.Feed.{nothing}
-use Rattle.records.specs.Step.{Reply, Stepped}
+use Rattle.records.specs.Step.{Reply, taken, Stepped}
+use Rattle.records.specs.Own.{Answered}
+use Rattle.log.specs.Bytes.{byteStep}
 use Rattle.log.specs.Feed as piece
-use Rattle.log.specs.Feed.{afterWords, replayOf, wordRecords}
-use Rattle.records.specs.Cells.{viewed, replayIn, LogHeld, LogGiven}
+use Rattle.log.specs.Feed.{afterWords, wordRecords}
+use Rattle.records.specs.Cells.{replayIn, LogHeld, LogGiven}
 use Rattle.log.specs.declared.replay.Fed.{Fed}
 
 -- a piece's answer, and arrays that hold the replay after it
@@ -77,11 +77,7 @@ pub data RecordsLeft (bs log own tallies shared : List ℕ) : ℕ → List ℕ �
       bs ≡ wordRecords ws ++ drop (5 * length ws) bs → WordsLeft ws log own tallies shared log1 own1 tallies1 shared1 →
       RecordsLeft bs log own tallies shared (length ws) log1 own1 tallies1 shared1
 
--- a piece of one byte that only adds to a record was taken, whatever the marks and the session; or nothing was changed
-pub data Grew (bs log : List ℕ) : Bool → List ℕ → Type 0 where
-  grown :
-      (log1 : List ℕ) → length log1 ≡ 10 →
-      ((marks : List ℕ) (s : Session) →
-      replayOf (viewed log marks s) bs ≡ record { taken = 1; refusal = nothing; replay = viewed log1 marks s }) →
-      Grew bs log true log1
-  ungrown : Grew bs log false log
+-- a byte that only adds to a record was taken; or nothing was changed
+pub data Grew (b : ℕ) (log : List ℕ) : Bool → List ℕ → Type 0 where
+  grown : (log1 : List ℕ) → Answered (λ r. byteStep r b) taken log log1 → Grew b log true log1
+  ungrown : Grew b log false log

@@ -102,7 +102,7 @@ fn open_byte(
 }
 
 // A byte as a wider number.
-fn wide(byte: u8) -> u32
+pub fn wide(byte: u8) -> u32
     ensures { λ r. ⌜ (r ≡ byte) × (r < 256) ⌝ }
 {
     byte as u32
@@ -121,7 +121,7 @@ fn stop_cause(number: u32) -> Refusal
 }
 
 // One byte. A replay that was stopped answers the same number again.
-fn byte(
+pub fn byte(
     log: &mut [u32; 10],
     marks: &mut [u64; 800],
     own: &mut [u32; 17],
@@ -198,15 +198,12 @@ fn take_records(
     n
 }
 
-// Whether a piece is one byte that only adds to a record, as its kind or inside its number; then it is added. The session isn't
-// looked at, so that a log that comes byte by byte is soon read.
-pub fn grows(log: &mut [u32; 10], bytes: &[u8]) -> bool
+// Whether a byte only adds to a record, as its kind or inside its number; then it is added. The session isn't looked at, so that
+// a log that comes byte by byte is soon read.
+pub fn grows(log: &mut [u32; 10], byte: u32) -> bool
     requires { ⌜ length (now log) ≡ 10 ⌝ }
-    ensures { λ r. ⌜ Grew (now (bytes .entry)) (now (log .entry)) r (now (log .exit)) ⌝ }
+    ensures { λ r. ⌜ Grew byte (now (log .entry)) r (now (log .exit)) ⌝ }
 {
-    if bytes.len() != 1 {
-        return false;
-    }
     if log[own::STOPPED_BY] != 0 {
         return false;
     }
@@ -214,7 +211,6 @@ pub fn grows(log: &mut [u32; 10], bytes: &[u8]) -> bool
     if 3 < count {
         return false;
     }
-    let byte = wide(bytes[0]);
     if 0 < count {
         own::add(log, count, byte);
         return true;
