@@ -114,8 +114,9 @@ pub fn well_formed(base: u32, pitch: u32, size: u32) -> bool
     is_size(size)
 }
 
-// What row steps are multiples of, as powers of 2 that stand in one number, three bits for a size. The sizes of a stream can't be
-// foretold, so no branch is taken on them.
+// What row steps are multiples of, as powers of 2 that stand in one number, three bits for a size from bit 3 * size on: for sizes
+// 1, 2, 4, 8 and 16 they are 6, 5, 5, 4, 4 where tiled, else 5, 4, 3, 2, 1. The sizes of a stream can't be foretold, so no
+// branch is taken on them.
 fn step_logs(tiled: bool) -> u64
     ensures { λ r. ⌜ r ≡ pick tiled 1125899973972336 281475010277672 ⌝ }
 {
@@ -142,7 +143,8 @@ pub fn row_step(pitch: u32, size: u32, tiled: bool) -> u32
     pitch >> log << log
 }
 
-// What the bytes of rows are multiples of, likewise, two bits for a size: 32, or the bytes of a tile's row.
+// What the bytes of rows are multiples of, likewise, less 5 and two bits for a size: 32 bytes, or those of a tile's row, whose
+// powers are 6, 6, 7, 7, 8.
 fn row_logs(tiled: bool) -> u64
     ensures { λ r. ⌜ r ≡ pick tiled 12885033492 0 ⌝ }
 {
@@ -156,7 +158,7 @@ fn row_log(size: u32, tiled: bool) -> u32
     ((row_logs(tiled) >> (2 * size)) % 4) as u32 + 5
 }
 
-// What the rows of a window's bytes are a multiple of, likewise: the rows of a tile, or 1.
+// What the rows of a window's bytes are a multiple of, likewise: the rows of a tile, 5, 5, 4, 4, 3 as powers, or 1.
 fn rows_logs(tiled: bool) -> u64
     ensures { λ r. ⌜ r ≡ pick tiled 844424997257576 0 ⌝ }
 {

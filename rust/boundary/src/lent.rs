@@ -109,6 +109,25 @@ pub fn session_masks(session: &Session, masks: &mut [u32; 5]) -> u32 {
     unsafe { raw::egretfold_session_masks(&session.shared, masks) }
 }
 
+/// A replay's five arrays, its session's last.
+type Arrays<'a> = (
+    &'a mut [u32; 10],
+    &'a mut [u64; 800],
+    &'a mut [u32; 17],
+    &'a mut [u64; 2],
+    &'a mut [u32; 101],
+);
+
+#[inline]
+fn arrays(replay: &mut Replay) -> Arrays<'_> {
+    let Session {
+        own,
+        tallies,
+        shared,
+    } = &mut replay.session;
+    (&mut replay.log, &mut replay.marks, own, tallies, shared)
+}
+
 /// A new replay. This call has no refusal.
 #[inline]
 pub fn log_begin() -> Replay {
@@ -117,16 +136,7 @@ pub fn log_begin() -> Replay {
         marks: Box::new([0; 800]),
         session: UNFILLED,
     };
-    let Replay {
-        log,
-        marks,
-        session,
-    } = &mut replay;
-    let Session {
-        own,
-        tallies,
-        shared,
-    } = session;
+    let (log, marks, own, tallies, shared) = arrays(&mut replay);
     // SAFETY: five separate arrays of the right lengths; no state is read.
     let number = unsafe { raw::egretfold_log_begin(log, marks, own, tallies, shared) };
     assert_eq!(number, 0, "a replay's begin has no refusal");
@@ -137,16 +147,7 @@ pub fn log_begin() -> Replay {
 /// refusal, or 0.
 #[inline]
 pub fn log_feed(replay: &mut Replay, bytes: &[u8], taken: &mut [u64; 1]) -> u32 {
-    let Replay {
-        log,
-        marks,
-        session,
-    } = replay;
-    let Session {
-        own,
-        tallies,
-        shared,
-    } = session;
+    let (log, marks, own, tallies, shared) = arrays(replay);
     let (start, length) = (bytes.as_ptr(), bytes.len());
     // SAFETY: the arrays are a replay's that the library gave out; start and
     // length are one slice's; the room is apart from all of them.
@@ -156,16 +157,7 @@ pub fn log_feed(replay: &mut Replay, bytes: &[u8], taken: &mut [u64; 1]) -> u32 
 /// One byte. Returns its refusal, or 0.
 #[inline]
 pub fn log_byte(replay: &mut Replay, byte: u8) -> u32 {
-    let Replay {
-        log,
-        marks,
-        session,
-    } = replay;
-    let Session {
-        own,
-        tallies,
-        shared,
-    } = session;
+    let (log, marks, own, tallies, shared) = arrays(replay);
     // SAFETY: the arrays are a replay's that the library gave out.
     unsafe { raw::egretfold_log_byte(log, marks, own, tallies, shared, byte) }
 }

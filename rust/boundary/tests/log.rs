@@ -126,7 +126,11 @@ fn bytes_one_by_one_are_a_piece() {
         let mut single = Replay::new();
         for (place, byte) in bytes.iter().enumerate() {
             let refusal = answer.refusal.filter(|_| place as u64 >= answer.taken);
-            assert_eq!(single.byte(*byte), refusal.map_or(Ok(()), Err), "byte {place}");
+            assert_eq!(
+                single.byte(*byte),
+                refusal.map_or(Ok(()), Err),
+                "byte {place}"
+            );
         }
         assert_eq!(single, whole);
         let mut pieces = Replay::new();

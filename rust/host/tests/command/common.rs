@@ -36,6 +36,30 @@ pub fn with_input(mut command: Command, input: &[u8]) -> Output {
     output
 }
 
+/// Runs the command on these pieces of input. Gives its output, and the most
+/// kilobytes that it had by Linux's own account, read while it waits for more.
+pub fn peak_on(arguments: &str, pieces: impl Iterator<Item = Vec<u8>>) -> (Output, u64) {
+    let mut child = Command::new(env!("CARGO_BIN_EXE_egretfold"))
+        .args(arguments.split_whitespace())
+        .stdin(Stdio::piped())
+        .stdout(Stdio::piped())
+        .spawn()
+        .expect("the command runs");
+    let mut stdin = child.stdin.take().expect("it has an input");
+    for piece in pieces {
+        stdin.write_all(&piece).expect("the input is taken");
+    }
+    let status = fs::read_to_string(format!("/proc/{}/status", child.id())).expect("Linux tells");
+    drop(stdin);
+    let output = child.wait_with_output().expect("the command ends");
+    (output, peak(&status).expect("the account has the peak"))
+}
+
+fn peak(status: &str) -> Option<u64> {
+    let line = status.lines().find(|line| line.starts_with("VmHWM:"))?;
+    line.split_whitespace().nth(1)?.parse().ok()
+}
+
 /// What stands on standard output.
 pub fn told(output: &Output) -> String {
     String::from_utf8(output.stdout.clone()).expect("text")

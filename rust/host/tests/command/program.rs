@@ -1,7 +1,7 @@
 //! The command line itself: help, exit statuses, files that are not as they should
 //! be, long input.
 
-use crate::common::{complained, egretfold, root, told};
+use crate::common::{complained, egretfold, peak_on, root, told};
 use std::fs;
 use std::io::Write;
 use std::process::{Command, Stdio};
@@ -107,26 +107,12 @@ fn a_closed_pipe_ends_quietly() {
     assert_eq!(output.status.code(), Some(0));
 }
 
-/// Memory stays the same for a long stream. It is read off Linux's own account of
-/// the process while it waits for the stream's end.
+/// Memory stays the same for a long stream.
 #[test]
 fn a_long_stream_takes_no_more_memory() {
-    let mut child = Command::new(env!("CARGO_BIN_EXE_egretfold"))
-        .args(["decode", "--summary"])
-        .stdin(Stdio::piped())
-        .stdout(Stdio::piped())
-        .spawn()
-        .expect("the command runs");
-    let mut stdin = child.stdin.take().expect("it has an input");
     let piece = waits(1 << 17);
     let pieces = 32;
-    for _ in 0..pieces {
-        stdin.write_all(&piece).expect("the words are taken");
-    }
-    let status = fs::read_to_string(format!("/proc/{}/status", child.id())).expect("Linux tells");
-    drop(stdin);
-    let output = child.wait_with_output().expect("the command ends");
-    let kilobytes = peak(&status).expect("the account has the peak");
+    let (output, kilobytes) = peak_on("decode --summary", (0..pieces).map(|_| piece.clone()));
     assert!(kilobytes < 16 << 10, "{kilobytes} kB for 32 MB of words");
     let words = pieces * (1 << 18);
     let due = format!(
@@ -134,11 +120,6 @@ fn a_long_stream_takes_no_more_memory() {
         words / 2
     );
     assert!(told(&output).contains(&due), "{}", told(&output));
-}
-
-pub fn peak(status: &str) -> Option<u64> {
-    let line = status.lines().find(|line| line.starts_with("VmHWM:"))?;
-    line.split_whitespace().nth(1)?.parse().ok()
 }
 
 /// So many commands wait_for_idle, two words each.

@@ -1,15 +1,15 @@
 //! `replay`: logs cut into files, refusals with their place and cause, the end of a
 //! log, long logs, and the sample logs themselves.
 
-use crate::common::{complained, egretfold, last_line, midnights, sample, told, words, Folder};
-use crate::program::peak;
+use crate::common::{
+    complained, egretfold, last_line, midnights, peak_on, sample, told, words, Folder,
+};
 use compare::random::Random;
 use compare::records::{record, MIDNIGHT, WORD};
 use compare::words as streams;
 use serde_json::Value;
 use std::fs;
-use std::io::Write;
-use std::process::{Command, Stdio};
+use std::process::Command;
 
 const START: u32 = 0xC000_0800;
 const WAIT: u32 = 0xC000_0900;
@@ -215,25 +215,12 @@ fn the_end_of_a_log_is_told_and_is_no_refusal() {
     assert!(whole.ends_with("ends inside set_domain: 1 of its 4 parameters taken\n"));
 }
 
-/// Memory stays the same for a long log, read while the command waits for its end.
+/// Memory stays the same for a long log.
 #[test]
 fn a_long_log_takes_no_more_memory() {
-    let mut child = Command::new(env!("CARGO_BIN_EXE_egretfold"))
-        .args(["replay", "-"])
-        .stdin(Stdio::piped())
-        .stdout(Stdio::piped())
-        .spawn()
-        .expect("the command runs");
-    let mut stdin = child.stdin.take().expect("it has an input");
     let piece = words_of_waits(100_000);
-    for day in 0..32 {
-        stdin.write_all(&record(MIDNIGHT, day)).expect("a midnight");
-        stdin.write_all(&piece).expect("the records are taken");
-    }
-    let status = fs::read_to_string(format!("/proc/{}/status", child.id())).expect("Linux tells");
-    drop(stdin);
-    let output = child.wait_with_output().expect("the command ends");
-    let kilobytes = peak(&status).expect("the account has the peak");
+    let days = (0..32).map(|day| [&record(MIDNIGHT, day)[..], &piece].concat());
+    let (output, kilobytes) = peak_on("replay -", days);
     assert!(kilobytes < 16 << 10, "{kilobytes} kB for 32 MB of records");
     let due = "\n6400032 records: 6400000 words, 32 midnights\n";
     assert!(told(&output).contains(due), "{}", told(&output));

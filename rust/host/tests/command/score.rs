@@ -2,12 +2,12 @@
 //! be, logs cut into files, long logs, and the picture's file.
 
 use crate::common::Folder;
-use crate::common::{complained, egretfold, last_line, midnights, sample, told, with_input, words};
-use crate::program::peak;
+use crate::common::{
+    complained, egretfold, last_line, midnights, peak_on, sample, told, with_input, words,
+};
 use std::fs;
-use std::io::Write;
 use std::os::unix::fs::symlink;
-use std::process::{Command, Output, Stdio};
+use std::process::{Command, Output};
 
 const APRIL: &str = "--first-day 101 --days 30 --owed 14000000 --from 2026-04-01";
 const MAY: &str = "--first-day 131 --days 31 --owed 14000000 --from 2026-05-01";
@@ -289,36 +289,12 @@ fn the_verdict_comes_with_its_card() {
     }
 }
 
-/// Memory stays the same for a long log, read while the command waits for its end.
+/// Memory stays the same for a long log.
 #[test]
 fn a_long_log_takes_no_more_memory() {
-    let mut child = Command::new(env!("CARGO_BIN_EXE_egretfold"))
-        .args([
-            "score",
-            "-",
-            "--first-day",
-            "0",
-            "--days",
-            "31",
-            "--owed",
-            "1",
-        ])
-        .stdin(Stdio::piped())
-        .stdout(Stdio::piped())
-        .spawn()
-        .expect("the command runs");
-    let mut stdin = child.stdin.take().expect("it has an input");
     let piece = words(&[0xC000_0900, 0]).repeat(100_000);
-    for day in 0..32 {
-        stdin
-            .write_all(&midnights(day..day + 1))
-            .expect("a midnight");
-        stdin.write_all(&piece).expect("the records are taken");
-    }
-    let status = fs::read_to_string(format!("/proc/{}/status", child.id())).expect("Linux tells");
-    drop(stdin);
-    let output = child.wait_with_output().expect("the command ends");
-    let kilobytes = peak(&status).expect("the account has the peak");
+    let days = (0..32).map(|day| [midnights(day..day + 1), piece.clone()].concat());
+    let (output, kilobytes) = peak_on("score - --first-day 0 --days 31 --owed 1", days);
     assert!(kilobytes < 16 << 10, "{kilobytes} kB for 32 MB of records");
     assert!(told(&output).ends_with("\nshort: of 31 days, 0 served in full, 0 in part, 31 dark\n"));
 }
