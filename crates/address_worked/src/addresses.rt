@@ -5,10 +5,10 @@ use address::Translated;
 use layout::ByteAddress;
 use layout::Judged;
 use layout::Layout;
-use trials::tally::Tally;
-use trials::windows::linear;
-use trials::windows::tiled;
-use trials::windows::window_of;
+use worked::tally::Tally;
+use worked::windows::linear;
+use worked::windows::tiled;
+use worked::windows::window_of;
 
 // Whether a pair goes to this address.
 pub fn goes_to(layout: Layout, x: u32, y: u32, at: u32) -> bool {

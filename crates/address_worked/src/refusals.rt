@@ -6,7 +6,7 @@ use crate::addresses::refused;
 use crate::addresses::unlocated;
 use layout::ByteAddress;
 use layout::Layout;
-use trials::tally::Tally;
+use worked::tally::Tally;
 
 // One combination: the first value of each list is good, those after it are bad (the height 4,096 is good too).
 struct Trial {

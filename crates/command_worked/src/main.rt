@@ -3,12 +3,12 @@
 use command::commands::Command;
 use command::commands::NoEffect;
 use command::commands::Stored;
-use judging::writer;
-use judging::writer::Written;
+use rules::writer;
+use rules::writer::Written;
 use session::stream;
 use session::stream::Answer;
-use trials::streams::whole_stream;
-use trials::tally::Tally;
+use worked::streams::whole_stream;
+use worked::tally::Tally;
 
 // The last word's answer.
 fn last_answer(words: &[u32]) -> Answer {

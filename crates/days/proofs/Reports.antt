@@ -6,9 +6,9 @@ use native.Mathlib.Omega.{arith}
 use lib.ListN.{length, getD, List·getD-eq-default}
 use borrow.Author.Tests.{eq-eqb, ne-eqb, le-leb, lt-leb}
 use Rattle.laws.proofs.Choice.{pick-yes, pick-no}
-use Rattle.cells.specs.State.{Tally, newSession}
-use Rattle.records.specs.Report.{noTally, markAt, beganWith, endedWith, less, partOf, firstDay}
-use Rattle.records.specs.Cells.{viewed}
+use Rattle.state.specs.State.{Tally, newSession}
+use Rattle.replay.specs.Report.{noTally, markAt, beganWith, endedWith, less, partOf, firstDay}
+use Rattle.replay.specs.Cells.{viewed}
 use Rattle.days.specs.Reported.{statusOf}
 use Rattle.days.specs.declared.report.Standing.{Standing}
 

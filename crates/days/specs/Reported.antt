@@ -1,11 +1,11 @@
 -- What the reports of a replay tell, over the numbers of its arrays. Assumes nothing.
 use mathlib.Core.List.{List, []}
 use Prim.Native.Nat.{ℕ, _-_}
-use Rattle.cells.specs.State.{Tally, newSession}
-use Rattle.cells.specs.Cells.{partyOf}
-use Rattle.records.specs.State.{Replay}
-use Rattle.records.specs.Report.{firstDay}
-use Rattle.records.specs.Cells.{viewed}
+use Rattle.state.specs.State.{Tally, newSession}
+use Rattle.state.specs.Cells.{partyOf}
+use Rattle.replay.specs.State.{Replay}
+use Rattle.replay.specs.Report.{firstDay}
+use Rattle.replay.specs.Cells.{viewed}
 use Rattle.days.specs.declared.report.Counts.{Counts}
 use Rattle.days.specs.declared.report.Standing.{Standing}
 

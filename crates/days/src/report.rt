@@ -1,13 +1,13 @@
 // What a replay reports: where it stands, and the runs and claims of each part. Nothing here changes a number, and any numbers
 // are answered.
-use records::own;
+use replay::own;
 ghost use mathlib.Core.Path.{_≡_};
 ghost use mathlib.Core.List.{[]};
 ghost use Prim.Native.Nat.{_-_};
 ghost use lib.ListN.{getD};
-ghost use Rattle.cells.specs.State.{newSession};
-ghost use Rattle.records.specs.Report.{beganWith, endedWith, firstDay, markAt, partOf};
-ghost use Rattle.records.specs.Cells.{viewed};
+ghost use Rattle.state.specs.State.{newSession};
+ghost use Rattle.replay.specs.Report.{beganWith, endedWith, firstDay, markAt, partOf};
+ghost use Rattle.replay.specs.Cells.{viewed};
 ghost use Rattle.days.specs.Reported.{midnightsIn, nowIn, statusOf, tallyOf};
 
 // Runs, and claimed elements.

@@ -19,11 +19,11 @@ use Rattle.refusal.specs.Told.{gives}
 use Rattle.memory.specs.Elements.{Wrote}
 use Rattle.memory.specs.Reads.{ReadBack}
 use Rattle.memory.proofs.ReadBack.{read-back}
-use Rattle.cells.specs.State.{Session, newSession}
-use Rattle.cells.specs.Effects.{limit}
+use Rattle.state.specs.State.{Session, newSession}
+use Rattle.state.specs.Effects.{limit}
 use Rattle.session.specs.Step.{refused, stepOf}
 use Rattle.session.specs.Feed.{nothing, first, feedOf, written, fedPieces, uncut}
-use Rattle.cells.specs.Valid.{Valid, heldOf}
+use Rattle.state.specs.Valid.{Valid, heldOf}
 use Rattle.session.specs.Refusals.{RefusedTo}
 use Rattle.session.specs.Again.{Idle, SameSettings, ReadAgain}
 use Rattle.session.specs.Silent.{SilentSettings, startWords, EmptyRun, AsBefore}
@@ -33,15 +33,15 @@ use Rattle.session.proofs.WriteBack.{fed-back}
 use Rattle.session.proofs.ReadAgain.{read-again}
 use Rattle.session.proofs.Refusals.{refused-word}
 use Rattle.session.proofs.Tallies.{Tallied, tallied}
-use Rattle.cells.specs.Start.{sumBelow}
-use Rattle.records.specs.State.{Replay, newReplay}
-use Rattle.records.specs.Step.{refused as byteRefused}
+use Rattle.state.specs.Start.{sumBelow}
+use Rattle.replay.specs.State.{Replay, newReplay}
+use Rattle.replay.specs.Step.{refused as byteRefused}
 use Rattle.log.specs.Bytes.{byteStep}
 use Rattle.log.specs.Feed.{replayOf, replayPieces}
 use Rattle.log.specs.Words.{wordsIn}
-use Rattle.records.specs.Report.{partAt}
+use Rattle.replay.specs.Report.{partAt}
 use Rattle.log.specs.Refusals.{RefusedTo as LogRefusedTo}
-use Rattle.records.specs.Cells.{LogValid}
+use Rattle.replay.specs.Cells.{LogValid}
 use Rattle.log.proofs.Cut.{refused-byte, cut-anywhere as bytes-cut-anywhere}
 use Rattle.log.proofs.Words.{one-session}
 use Rattle.log.proofs.Days.{all-runs, all-claims}

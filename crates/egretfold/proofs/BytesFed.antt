@@ -5,10 +5,10 @@ use mathlib.Core.List.{List, [], _∷_}
 use Prim.Native.Nat.{ℕ, _<_}
 use Rattle.refusal.specs.Number.{numberOf}
 use Rattle.refusal.specs.declared.Refusal.{Refusal}
-use Rattle.records.specs.Cells.{LogGiven, replayIn}
-use Rattle.records.specs.Own.{replyOf}
-use Rattle.records.specs.declared.bytes.Answer.{Answer}
-use Rattle.records.specs.declared.bytes.Answer.the-variants.{Taken, Refused}
+use Rattle.replay.specs.Cells.{LogGiven, replayIn}
+use Rattle.replay.specs.Own.{replyOf}
+use Rattle.replay.specs.declared.bytes.Answer.{Answer}
+use Rattle.replay.specs.declared.bytes.Answer.the-variants.{Taken, Refused}
 use Rattle.session.specs.Feed.{First, nothing}
 use Rattle.log.specs.Bytes.{byteStep}
 use Rattle.log.specs.Feed.{replayOf}

@@ -13,7 +13,7 @@ use Rattle.command.specs.Table.{headers, headerOf}
 use Rattle.command.specs.Commands.{lineOf, placesOf}
 use Rattle.command.specs.declared.commands.Command.{Command}
 use Rattle.command.specs.declared.commands.Places.{Places}
-use Rattle.cells.specs.State.{Party, Shared}
+use Rattle.state.specs.State.{Party, Shared}
 use Rattle.session.specs.Step.{completed}
 use Rattle.queries.specs.Queries.{boundsOf}
 use Rattle.queries.specs.declared.Bounds.{Bounds}

@@ -3,7 +3,7 @@ use mathlib.Core.Path.{_≡_, refl, ap, _∙_, subst}
 use mathlib.Core.List.{List, [], _∷_}
 use Prim.Native.Nat.{ℕ}
 use native.Mathlib.Omega.{arith}
-use Rattle.records.specs.Cells.{replayIn}
+use Rattle.replay.specs.Cells.{replayIn}
 use Rattle.score.specs.Lease.{Lease}
 use Rattle.score.specs.Score.{Score, scored, refused, scoreOf}
 use Rattle.score.specs.Answers.{Left, Scores}

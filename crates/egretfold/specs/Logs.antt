@@ -2,10 +2,10 @@
 use mathlib.Core.Path.{_≡_}
 use mathlib.Core.List.{List, [], _∷_}
 use Prim.Native.Nat.{ℕ}
-use Rattle.cells.specs.State.{Tally}
-use Rattle.records.specs.State.{newReplay}
+use Rattle.state.specs.State.{Tally}
+use Rattle.replay.specs.State.{newReplay}
 use Rattle.log.specs.Feed.{Fed}
-use Rattle.records.specs.Cells.{LogHeld}
+use Rattle.replay.specs.Cells.{LogHeld}
 use Rattle.days.specs.declared.report.Standing.{Standing}
 use Rattle.egretfold.specs.Sessions.{firstStatus}
 

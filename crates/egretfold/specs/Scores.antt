@@ -2,7 +2,7 @@
 use mathlib.Core.List.{List, [], _∷_}
 use Prim.Native.Nat.{ℕ}
 use Rattle.refusal.specs.Told.{Told, gives, refuses}
-use Rattle.records.specs.Cells.{replayIn}
+use Rattle.replay.specs.Cells.{replayIn}
 use Rattle.score.specs.Lease.{Lease}
 use Rattle.score.specs.Score.{Score, scored, refused, scoreOf}
 use Rattle.score.specs.declared.month.Verdict.{Verdict}

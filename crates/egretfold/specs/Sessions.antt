@@ -12,10 +12,10 @@ use Rattle.refusal.specs.Told.{Told, gives, refuses}
 use Rattle.command.specs.Table.{headerOf}
 use Rattle.command.specs.Commands.{lineOf, fieldsOf}
 use Rattle.command.specs.declared.commands.Command.{Command}
-use Rattle.cells.specs.State.{Party, Shared, Buffer, Domain, unset, newSession}
+use Rattle.state.specs.State.{Party, Shared, Buffer, Domain, unset, newSession}
 use Rattle.session.specs.Step.{Reply, Stepped, stillOpen, completed, refused}
 use Rattle.session.specs.Feed.{Fed, First, nothing, first}
-use Rattle.cells.specs.Asked.{Held}
+use Rattle.state.specs.Asked.{Held}
 use Rattle.queries.specs.Queries.{settingOf}
 use Rattle.queries.specs.declared.Setting.{Setting}
 use Rattle.egretfold.specs.declared.sessions.Found.{Found}

@@ -3,9 +3,9 @@ use command::commands;
 use command::commands::Command;
 use command::table;
 use command::table::Line;
-use judging::writer;
-use judging::writer::Written;
 use refusal::Refusal;
+use rules::writer;
+use rules::writer::Written;
 ghost use Rattle.egretfold.specs.Crossing.{Crosses};
 ghost use Rattle.egretfold.specs.Commands.{parametersOf, CommandCrosses, WordsCross};
 

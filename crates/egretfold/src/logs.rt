@@ -1,14 +1,14 @@
 // A station's log: bytes in pieces of any length, and what their replay reports. A replay's five arrays are as
 // `egretfold_log_begin` and `egretfold_log_feed` left them; the last three are its session's.
 use days::report;
-use log::replay;
-use records::bytes::Answer;
+use log::stream;
+use replay::bytes::Answer;
 use session::stream::First;
 ghost use mathlib.Core.List.{[], _∷_};
-ghost use Rattle.cells.specs.State.{newSession};
+ghost use Rattle.state.specs.State.{newSession};
 ghost use Rattle.log.specs.Feed.{replayOf};
-ghost use Rattle.records.specs.Report.{partOf};
-ghost use Rattle.records.specs.Cells.{LogGiven, replayIn, viewed};
+ghost use Rattle.replay.specs.Report.{partOf};
+ghost use Rattle.replay.specs.Cells.{LogGiven, replayIn, viewed};
 ghost use Rattle.days.specs.Reported.{midnightsIn, nowIn, statusOf};
 ghost use Rattle.egretfold.specs.Sessions.{Shows};
 ghost use Rattle.egretfold.specs.Logs.{ByteCrosses, LogBegins, LogCrosses, standingOf, tallyNumbers};

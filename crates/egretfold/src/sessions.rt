@@ -1,6 +1,5 @@
 // Sessions: words one by one and in pieces, and what a session holds. Its three arrays are as `egretfold_session_begin` and
 // these functions left them.
-use cells::own;
 use command::commands;
 use command::table;
 use command::table::Line;
@@ -9,10 +8,11 @@ use refusal::Refusal;
 use session::stream;
 use session::stream::Answer;
 use session::stream::First;
+use state::own;
 ghost use mathlib.Core.Path.{_≡_};
 ghost use mathlib.Core.List.{[]};
-ghost use Rattle.cells.specs.Asked.{Given};
-ghost use Rattle.cells.specs.Cells.{partyOf, sessionOf, sharedOf};
+ghost use Rattle.state.specs.Asked.{Given};
+ghost use Rattle.state.specs.Cells.{partyOf, sessionOf, sharedOf};
 ghost use Rattle.session.specs.Feed.{feedOf};
 ghost use Rattle.session.specs.Step.{stepOf};
 ghost use Rattle.egretfold.specs.Crossing.{Crosses, flag};

@@ -9,8 +9,8 @@ use native.Mathlib.Omega.{arith}
 use borrow.Author.Tests.{ne-eqb, eqb-true, eqb-false}
 use Rattle.laws.proofs.Choice.{by-pick, pick-no}
 use Rattle.session.specs.Feed.{First, nothing, first, uncut}
-use Rattle.records.specs.State.{Replay}
-use Rattle.records.specs.Step.{byKind, byDay, taken, refused, Stepped, stopped, taking, kindStep, afterWord, afterMidnight, midnightStep}
+use Rattle.replay.specs.State.{Replay}
+use Rattle.replay.specs.Step.{byKind, byDay, taken, refused, Stepped, stopped, taking, kindStep, afterWord, afterMidnight, midnightStep}
 use Rattle.log.specs.Bytes.{recordStep, openStep, byteStep}
 use Rattle.log.specs.Feed.{Fed, ahead, ended, proceed, replayOf, joined, replayPieces}
 use Rattle.log.specs.Refusals.{RefusedTo, again, newly}

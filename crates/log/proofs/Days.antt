@@ -9,16 +9,16 @@ use native.Mathlib.Omega.{arith}
 use lib.ListN.{length}
 use borrow.Author.Tests.{eqb-true, ne-eqb, le-leb}
 use Rattle.laws.proofs.Choice.{pick-yes, pick-no, and-right}
-use Rattle.cells.specs.State.{Tally}
-use Rattle.cells.specs.Start.{sumBelow}
+use Rattle.state.specs.State.{Tally}
+use Rattle.state.specs.Start.{sumBelow}
 use Rattle.session.specs.Feed.{nothing}
-use Rattle.records.specs.State.{OpenRecord, Replay}
-use Rattle.records.specs.Step.{opening, isKind, ofKind, withByte, mayBegin, afterMidnight}
-use Rattle.records.specs.Report.{noTally, beganWith, endedWith, less, partOf, partAt, dayAt}
+use Rattle.replay.specs.State.{OpenRecord, Replay}
+use Rattle.replay.specs.Step.{opening, isKind, ofKind, withByte, mayBegin, afterMidnight}
+use Rattle.replay.specs.Report.{noTally, beganWith, endedWith, less, partOf, partAt, dayAt}
 use Rattle.log.specs.Feed.{Fed, ahead, replayOf}
-use Rattle.records.specs.Cells.{LogValid}
+use Rattle.replay.specs.Cells.{LogValid}
 use Rattle.log.specs.Unfinished.{OpenOnly, openOnly}
-use Rattle.records.proofs.Marks.{ended-past, ended-now}
+use Rattle.replay.proofs.Marks.{ended-past, ended-now}
 use Rattle.log.proofs.Records.{Ready, took, kind-byte, next-byte}
 
 -- a midnight that is read: its day is the last part's, and no earlier part's day has changed

@@ -10,23 +10,23 @@ use lib.ListN.{length, getD, take, drop, length-drop, drop-of-length-le}
 use lib.Seq.{drop-cons, drop-drop, getD-take, length-take-le}
 use Rattle.refusal.specs.Number.{numberOf}
 use Rattle.refusal.specs.declared.Refusal.{Refusal}
-use Rattle.cells.specs.Cells.{sessionOf}
+use Rattle.state.specs.Cells.{sessionOf}
 use Rattle.session.specs.Feed.{First, nothing, first}
 use Rattle.session.specs.declared.stream.First as firsts
 use Rattle.session.specs.declared.stream.First.the-variants as firstly
 use Rattle.session.proofs.Taking.{same}
-use Rattle.records.specs.State.{Replay}
-use Rattle.records.specs.Step.{Reply, taken, refused, Stepped}
+use Rattle.replay.specs.State.{Replay}
+use Rattle.replay.specs.Step.{Reply, taken, refused, Stepped}
 use Rattle.log.specs.Bytes.{byteStep}
 use Rattle.log.specs.Feed.{ahead, proceed, replayOf, wordRecords, afterWords}
 use Rattle.log.specs.Feed as piece
-use Rattle.records.specs.Cells.{viewed, replayIn, LogHeld, LogValid, LogGiven}
+use Rattle.replay.specs.Cells.{viewed, replayIn, LogHeld, LogValid, LogGiven}
 use Rattle.log.specs.Asked.{Grew, grown, ungrown, PieceLeft, LogSized, Became, WordsAsked, WordsLeft, Words32, Gathered, Idle, RecordsLeft, unread, read}
-use Rattle.records.specs.Own.{replyOf}
-use Rattle.records.specs.declared.bytes.Answer.{Answer}
-use Rattle.records.specs.declared.bytes.Answer.the-variants.{Taken, Refused}
-use Rattle.log.specs.declared.replay.Fed.{Fed}
-use Rattle.records.proofs.Changes.{log-canon}
+use Rattle.replay.specs.Own.{replyOf}
+use Rattle.replay.specs.declared.bytes.Answer.{Answer}
+use Rattle.replay.specs.declared.bytes.Answer.the-variants.{Taken, Refused}
+use Rattle.log.specs.declared.stream.Fed.{Fed}
+use Rattle.replay.proofs.Changes.{log-canon}
 use Rattle.log.proofs.Kept.{byte-valid, words-valid}
 use Rattle.log.proofs.Records.{Ready, stepped, ahead-ahead, words-read}
 

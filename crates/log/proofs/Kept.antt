@@ -11,15 +11,15 @@ use Rattle.laws.proofs.Choice.{by-pick}
 use Rattle.session.proofs.Kept.{new-valid}
 use Rattle.session.proofs.Refusals.{fed-valid}
 use Rattle.session.proofs.Tallies.{tallied}
-use Rattle.records.specs.State.{OpenRecord, Replay, newReplay}
-use Rattle.records.specs.Step.{Reply, taken, refused, StopNumber, byKind, byDay, Stepped, opening, stopped, ofKind, kindStep, withByte, afterWord, mayBegin, afterMidnight, midnightStep}
+use Rattle.replay.specs.State.{OpenRecord, Replay, newReplay}
+use Rattle.replay.specs.Step.{Reply, taken, refused, StopNumber, byKind, byDay, Stepped, opening, stopped, ofKind, kindStep, withByte, afterWord, mayBegin, afterMidnight, midnightStep}
 use Rattle.log.specs.Bytes.{recordStep, openStep, byteStep}
-use Rattle.records.specs.Report.{beganWith, endedWith}
+use Rattle.replay.specs.Report.{beganWith, endedWith}
 use Rattle.log.specs.Feed.{Fed, proceed, replayOf, afterWords}
 use Rattle.log.specs.Asked.{Bytes8}
-use Rattle.records.specs.Cells.{Grows, LogValid}
-use Rattle.records.proofs.Marks.{grows-on, grows-marked}
-use Rattle.records.proofs.Midnights.{few, enough}
+use Rattle.replay.specs.Cells.{Grows, LogValid}
+use Rattle.replay.proofs.Marks.{grows-on, grows-marked}
+use Rattle.replay.proofs.Midnights.{few, enough}
 use Rattle.log.proofs.Steps.{one-word}
 
 -- a new replay

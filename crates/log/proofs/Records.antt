@@ -13,15 +13,15 @@ use borrow.Author.Tests.{eq-eqb, ne-eqb, eqb-true, eqb-false, lt-ltb, le-ltb}
 use Rattle.laws.specs.Choice.{pick}
 use Rattle.laws.specs.Masks.{_or_}
 use Rattle.laws.proofs.Choice.{pick-yes, pick-no, Tested, tested, holds, fails}
-use Rattle.cells.specs.State.{Session}
+use Rattle.state.specs.State.{Session}
 use Rattle.session.specs.Step.{stillOpen, completed, refused as denied, stepOf}
 use Rattle.session.specs.Step as stream
 use Rattle.session.specs.Refusals.{low, full, RefusedTo, unchanged, stopping}
 use Rattle.session.specs.Feed.{First, nothing, first, feedOf, proceed as feeding}
 use Rattle.session.specs.Feed as pieces
 use Rattle.session.proofs.Refusals.{refused-word, stopped-for-good, stopped-piece}
-use Rattle.records.specs.State.{OpenRecord, WordRefused, Replay, noRecord}
-use Rattle.records.specs.Step.{taken, refused, Stepped, opening, taking, isKind, ofKind, kindStep, withByte, numberFrom, noted, notedReply, withWords, afterWord, afterMidnight, midnightStep}
+use Rattle.replay.specs.State.{OpenRecord, WordRefused, Replay, noRecord}
+use Rattle.replay.specs.Step.{taken, refused, Stepped, opening, taking, isKind, ofKind, kindStep, withByte, numberFrom, noted, notedReply, withWords, afterWord, afterMidnight, midnightStep}
 use Rattle.log.specs.Bytes.{recordStep, openStep, byteStep}
 use Rattle.log.specs.Feed.{Fed, ahead, proceed, replayOf, recordBytes, wordRecords, notedFirst, afterWords}
 use Rattle.log.specs.Asked.{Gathered, Words32}

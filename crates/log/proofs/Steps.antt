@@ -11,10 +11,10 @@ use types.Run.{OneOf}
 use borrow.Author.Tests.{eq-eqb, ne-eqb, lt-ltb, le-ltb}
 use Rattle.laws.specs.Choice.{_and_, pick}
 use Rattle.laws.proofs.Choice.{pick-yes, pick-no}
-use Rattle.cells.specs.State.{Session}
-use Rattle.cells.specs.Cells.{sessionOf}
-use Rattle.cells.specs.Asked.{Given}
-use Rattle.cells.proofs.Cells.{held-view}
+use Rattle.state.specs.State.{Session}
+use Rattle.state.specs.Cells.{sessionOf}
+use Rattle.state.specs.Asked.{Given}
+use Rattle.state.proofs.Cells.{held-view}
 use Rattle.session.specs.Step.{stillOpen, completed, refused as denied, stepOf}
 use Rattle.session.specs.Step as stream
 use Rattle.session.specs.Feed.{First, nothing, first, feedOf, proceed as feeding}
@@ -29,16 +29,16 @@ use Rattle.session.proofs.Feeding.{Fold, fold-begins, fold-ends, fold-goes, fol
 use Rattle.session.proofs.stream.Answer.{the-type}
 use Rattle.session.proofs.Handed.{piece-given}
 use Rattle.session.proofs.Refusals.{fed-valid}
-use Rattle.records.specs.State.{WordRefused, Replay, noRecord}
-use Rattle.records.specs.Step.{StopNumber, byKind, byDay, Reply, taken, refused, Stepped, opening, taking, ofKind, isKind, kindStep, withByte, numberFrom, notedReply, withWords, afterWord, midnightStep}
+use Rattle.replay.specs.State.{WordRefused, Replay, noRecord}
+use Rattle.replay.specs.Step.{StopNumber, byKind, byDay, Reply, taken, refused, Stepped, opening, taking, ofKind, isKind, kindStep, withByte, numberFrom, notedReply, withWords, afterWord, midnightStep}
 use Rattle.log.specs.Bytes.{recordStep, openStep, byteStep}
 use Rattle.log.specs.Feed.{notedFirst, afterWords}
-use Rattle.records.specs.Cells.{viewed, replayIn, LogGiven}
-use Rattle.records.specs.Own.{Changed, Answered, noting}
+use Rattle.replay.specs.Cells.{viewed, replayIn, LogGiven}
+use Rattle.replay.specs.Own.{Changed, Answered, noting}
 use Rattle.refusal.specs.Number.{numberOf}
 use Rattle.refusal.specs.declared.Refusal.{Refusal}
 use Rattle.log.specs.Asked.{Became, LogSized, OpenAsked, WordsAsked, WordsLeft}
-use Rattle.records.specs.Own.{MidnightLeft, NumberAsked}
+use Rattle.replay.specs.Own.{MidnightLeft, NumberAsked}
 
 -- a replay and what a step tells of it
 abbrev told : Reply → Replay → Stepped

@@ -9,15 +9,15 @@ use lib.Dec.{eqb, leb, ltb}
 use borrow.Author.Tests.{eqb-true, eqb-false, ne-eqb, ltb-true, ltb-false, lt-leb, le-leb}
 use Rattle.laws.specs.Choice.{_and_, pick}
 use Rattle.laws.proofs.Choice.{pick-yes, pick-no, and-intro, and-no-left, and-no-right, by-pick, Tested, tested, holds, fails}
-use Rattle.cells.specs.State.{Session}
+use Rattle.state.specs.State.{Session}
 use Rattle.session.specs.Step.{stillOpen, completed, refused as denied, stepOf}
 use Rattle.session.specs.Step as stream
 use Rattle.session.specs.Feed.{First, nothing, first, feedOf, joined, proceed as feeding}
 use Rattle.session.specs.Feed as pieces
 use Rattle.session.proofs.Cut.{cut}
 use Rattle.session.proofs.Refusals.{refused-word}
-use Rattle.records.specs.State.{WordRefused, Replay}
-use Rattle.records.specs.Step.{refused, Stepped, opening, taking, isKind, kindStep, withByte, numberFrom, noted, notedReply, afterWord, mayBegin, afterMidnight, midnightStep}
+use Rattle.replay.specs.State.{WordRefused, Replay}
+use Rattle.replay.specs.Step.{refused, Stepped, opening, taking, isKind, kindStep, withByte, numberFrom, noted, notedReply, afterWord, mayBegin, afterMidnight, midnightStep}
 use Rattle.log.specs.Bytes.{recordStep, openStep, byteStep}
 use Rattle.log.specs.Feed.{proceed, replayOf}
 use Rattle.log.specs.Words.{wordBy, reported, onTaken, wordsIn}

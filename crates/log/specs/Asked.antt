@@ -4,16 +4,16 @@ use mathlib.Core.Bool.{Bool, true, false}
 use mathlib.Core.List.{List, _++_}
 use Prim.Native.Nat.{ℕ, _*_, _≤_, _<_}
 use lib.ListN.{length, take, drop, getD}
-use Rattle.cells.specs.Asked.{Given}
-use Rattle.cells.specs.Cells.{Sized}
+use Rattle.state.specs.Asked.{Given}
+use Rattle.state.specs.Cells.{Sized}
 use Rattle.session.specs.Answers.{firstOf}
-use Rattle.records.specs.Step.{Reply, taken, Stepped}
-use Rattle.records.specs.Own.{Answered}
+use Rattle.replay.specs.Step.{Reply, taken, Stepped}
+use Rattle.replay.specs.Own.{Answered}
 use Rattle.log.specs.Bytes.{byteStep}
 use Rattle.log.specs.Feed as piece
 use Rattle.log.specs.Feed.{afterWords, wordRecords}
-use Rattle.records.specs.Cells.{replayIn, LogHeld, LogGiven}
-use Rattle.log.specs.declared.replay.Fed.{Fed}
+use Rattle.replay.specs.Cells.{replayIn, LogHeld, LogGiven}
+use Rattle.log.specs.declared.stream.Fed.{Fed}
 
 -- a piece's answer, and arrays that hold the replay after it
 pub record PieceLeft (f : piece.Fed) (r : Fed) (log marks own tallies shared : List ℕ) : Type 0 where

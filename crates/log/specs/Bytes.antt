@@ -2,8 +2,8 @@
 use Prim.Native.Nat.{ℕ}
 use lib.Dec.{eqb, ltb}
 use Rattle.laws.specs.Choice.{pick}
-use Rattle.records.specs.State.{Replay}
-use Rattle.records.specs.Step.{refused, Stepped, opening, taking, kindStep, withByte, numberFrom, afterWord, midnightStep}
+use Rattle.replay.specs.State.{Replay}
+use Rattle.replay.specs.Step.{refused, Stepped, opening, taking, kindStep, withByte, numberFrom, afterWord, midnightStep}
 
 -- a record's last byte
 unfoldable pub recordStep : ℕ → Replay → ℕ → Stepped

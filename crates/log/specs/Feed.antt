@@ -3,8 +3,8 @@
 use mathlib.Core.List.{List, [], _∷_, _++_}
 use Prim.Native.Nat.{ℕ, _+_, _/_, _%_}
 use Rattle.session.specs.Feed.{First, nothing, first, earlier, feedOf}
-use Rattle.records.specs.State.{WordRefused, Replay}
-use Rattle.records.specs.Step.{Reply, taken, refused, noted, withWords}
+use Rattle.replay.specs.State.{WordRefused, Replay}
+use Rattle.replay.specs.Step.{Reply, taken, refused, noted, withWords}
 use Rattle.log.specs.Bytes.{byteStep}
 
 -- the bytes taken, the first refusal, and the replay after them

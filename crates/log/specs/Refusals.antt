@@ -2,8 +2,8 @@
 -- bytes get that number again." Assumes nothing.
 use mathlib.Core.Path.{_≡_}
 use Prim.Native.Nat.{ℕ}
-use Rattle.records.specs.State.{Replay}
-use Rattle.records.specs.Step.{StopNumber, stopped}
+use Rattle.replay.specs.State.{Replay}
+use Rattle.replay.specs.Step.{StopNumber, stopped}
 
 -- the replay after a byte that was refused with a number
 pub data RefusedTo (r : Replay) : ℕ → Replay → Type 0 where

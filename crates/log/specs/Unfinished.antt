@@ -2,8 +2,8 @@
 use mathlib.Core.Path.{_≡_}
 use Prim.Native.Nat.{ℕ, _+_}
 use Rattle.session.specs.Feed.{nothing}
-use Rattle.records.specs.State.{OpenRecord, Replay}
-use Rattle.records.specs.Step.{opening}
+use Rattle.replay.specs.State.{OpenRecord, Replay}
+use Rattle.replay.specs.Step.{opening}
 use Rattle.log.specs.Feed.{Fed}
 
 -- the answer to `n` bytes of a record of which `k` stood before: all are taken, and nothing but the open record has changed

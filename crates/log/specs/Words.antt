@@ -5,8 +5,8 @@ use Prim.Native.Nat.{ℕ}
 use lib.Dec.{eqb, leb}
 use Rattle.laws.specs.Choice.{_and_, pick}
 use Rattle.session.specs.Feed.{First, nothing, first}
-use Rattle.records.specs.State.{Replay}
-use Rattle.records.specs.Step.{Reply, taken, refused, numberFrom}
+use Rattle.replay.specs.State.{Replay}
+use Rattle.replay.specs.Step.{Reply, taken, refused, numberFrom}
 use Rattle.log.specs.Bytes.{byteStep}
 
 -- the word that a byte completes, if it is the last byte of a record of kind 1

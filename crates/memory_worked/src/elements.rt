@@ -8,10 +8,10 @@ use layout::Layout;
 use memory::Answer;
 use memory::Reading;
 use memory::Written;
-use trials::tally::Tally;
-use trials::windows::linear;
-use trials::windows::tiled;
-use trials::windows::window_of;
+use worked::tally::Tally;
+use worked::windows::linear;
+use worked::windows::tiled;
+use worked::windows::window_of;
 
 // Byte k of what these tests write at (x, y).
 fn value(x: u32, y: u32, k: usize) -> u8 {

@@ -4,8 +4,8 @@ use mathlib.Core.List.{List}
 use Prim.Native.Nat.{ℕ, _+_, _*_, _<_, _≤_}
 use lib.ListN.{getD, List·getD-eq-default}
 use Rattle.laws.proofs.Table.{each, _&_}
-use Rattle.cells.specs.State.{unset}
-use Rattle.cells.specs.Cells.{bufferAt, sharedOf}
+use Rattle.state.specs.State.{unset}
+use Rattle.state.specs.Cells.{bufferAt, sharedOf}
 
 module _ (l : List ℕ) (n : ℕ) where
   pub output-seen : n < 4 → bufferAt l (21 + 4 * n) ≡ getD (sharedOf l .outputs) n unset

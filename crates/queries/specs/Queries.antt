@@ -1,6 +1,6 @@
 -- What the queries of a session tell: each setting as it stands. Assumes nothing.
 use lib.Dec.{eqb}
-use Rattle.cells.specs.State.{Buffer, Domain}
+use Rattle.state.specs.State.{Buffer, Domain}
 use Rattle.queries.specs.declared.Setting.{Setting}
 use Rattle.queries.specs.declared.Bounds.{Bounds}
 

@@ -1,14 +1,14 @@
 // Queries of a session's settings and tallies. They read the cells and change nothing, stopped or not.
-use cells::own;
-use cells::own::WordPosition;
-use cells::settings;
+use state::own;
+use state::own::WordPosition;
+use state::settings;
 ghost use mathlib.Core.Path.{_≡_};
 ghost use mathlib.Core.List.{[]};
 ghost use Prim.Native.Nat.{_<_};
 ghost use lib.Dec.{eqb};
 ghost use lib.ListN.{getD};
-ghost use Rattle.cells.specs.State.{unset};
-ghost use Rattle.cells.specs.Cells.{bufferAt, partyOf, sharedOf};
+ghost use Rattle.state.specs.State.{unset};
+ghost use Rattle.state.specs.Cells.{bufferAt, partyOf, sharedOf};
 ghost use Rattle.queries.specs.Queries.{boundsOf, settingOf};
 
 // A format as it was set: base, format word and height; all 0 where it is not set.

@@ -9,11 +9,11 @@ use lib.ListN.{getD}
 use borrow.Author.Tests.{lt-ltb, le-ltb, le-leb, lt-leb, ltb-true, ltb-false, leb-true}
 use Rattle.laws.proofs.Choice.{pick-yes, pick-no, and-intro, and-yes, and-left, and-right, and-no-left}
 use Rattle.laws.proofs.Choice.{Tested, tested, holds, fails}
-use Rattle.cells.specs.State.{Tally}
-use Rattle.cells.specs.Cells.{partyOf}
-use Rattle.records.specs.State.{Replay}
-use Rattle.records.specs.Report.{partOf}
-use Rattle.records.specs.Cells.{viewed, LogValid}
+use Rattle.state.specs.State.{Tally}
+use Rattle.state.specs.Cells.{partyOf}
+use Rattle.replay.specs.State.{Replay}
+use Rattle.replay.specs.Report.{partOf}
+use Rattle.replay.specs.Cells.{viewed, LogValid}
 use Rattle.days.specs.Reported.{midnightsIn, nowIn}
 use Rattle.score.specs.Score.{hasMidnight, partOfDay, claimedOn}
 use Rattle.score.specs.Answers.{replayFor}

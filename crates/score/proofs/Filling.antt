@@ -5,8 +5,8 @@ use Prim.Native.Nat.{ℕ, _+_, _*_, _<_, _≤_, min}
 use native.Mathlib.Numerals.{add-one}
 use native.Mathlib.Omega.{arith}
 use lib.ListN.{length, set, replicate}
-use Rattle.cells.specs.Start.{sumBelow}
-use Rattle.records.specs.State.{Replay}
+use Rattle.state.specs.Start.{sumBelow}
+use Rattle.replay.specs.State.{Replay}
 use Rattle.score.specs.Lease.{Lease}
 use Rattle.score.specs.Score.{claimedAt, servedAt, roomFor}
 use Rattle.score.specs.Answers.{Bounded, Filled}

@@ -10,8 +10,8 @@ use borrow.Author.Tests.{ne-eqb, eqb-true, eqb-false, lt-ltb, le-leb}
 use Rattle.laws.specs.Choice.{_and_, pick}
 use Rattle.laws.specs.Masks.{_or_}
 use Rattle.laws.proofs.Choice.{pick-yes, pick-no, and-right, and-intro, Tested, tested, holds, fails}
-use Rattle.records.specs.State.{Replay, newReplay}
-use Rattle.records.specs.Step.{refused, Stepped, taking, isKind, kindStep, afterWord, mayBegin, afterMidnight, midnightStep}
+use Rattle.replay.specs.State.{Replay, newReplay}
+use Rattle.replay.specs.Step.{refused, Stepped, taking, isKind, kindStep, afterWord, mayBegin, afterMidnight, midnightStep}
 use Rattle.log.specs.Bytes.{recordStep, openStep, byteStep}
 use Rattle.log.specs.Feed.{proceed, replayOf}
 use Rattle.log.specs.Words.{onTaken}

@@ -9,8 +9,8 @@ use lib.Dec.{eqb}
 use borrow.Author.Tests.{eq-eqb, ne-eqb, eqb-true, eqb-false}
 use Rattle.laws.proofs.Choice.{pick-yes, pick-no, Tested, tested, holds, fails}
 use Rattle.session.specs.Feed.{nothing, first, uncut}
-use Rattle.records.specs.State.{Replay, newReplay}
-use Rattle.records.specs.Cells.{LogValid}
+use Rattle.replay.specs.State.{Replay, newReplay}
+use Rattle.replay.specs.Cells.{LogValid}
 use Rattle.log.specs.Feed.{replayOf, replayPieces}
 use Rattle.log.specs.Feed as piece
 use Rattle.log.proofs.Cut.{stopping, cut-anywhere}

@@ -11,8 +11,8 @@ use Rattle.laws.proofs.Choice.{pick-yes, pick-no, Tested, tested, holds, fails}
 use Rattle.refusal.specs.Number.{numberOf}
 use Rattle.refusal.specs.Told.{gives, refuses}
 use Rattle.refusal.specs.declared.Refusal.{Refusal}
-use Rattle.cells.specs.Cells.{partyOf}
-use Rattle.records.specs.Cells.{viewed, replayIn}
+use Rattle.state.specs.Cells.{partyOf}
+use Rattle.replay.specs.Cells.{viewed, replayIn}
 use Rattle.score.specs.Lease.{Lease, isLease, leaseTold, toldJudged}
 use Rattle.score.specs.Score.{Score, scored, claimedOn, servedAt, owedInAll, verdictOf, monthOf, scoreOf}
 use Rattle.score.specs.Answers.{replayFor, Filled, calledBy, Left, Scores}

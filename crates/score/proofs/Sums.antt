@@ -7,7 +7,7 @@ use native.Mathlib.Omega.{arith}
 use lib.Dec.{eqb}
 use borrow.Author.Tests.{eqb-true, eqb-false}
 use Rattle.laws.proofs.Choice.{Tested, tested, holds, fails}
-use Rattle.cells.specs.Start.{sumBelow}
+use Rattle.state.specs.Start.{sumBelow}
 
 module _ (f : ℕ → ℕ) (b : ℕ) where
   pub sum-full : (n : ℕ) → ((k : ℕ) → k < n → f k ≡ b) → sumBelow n f ≡ n * b

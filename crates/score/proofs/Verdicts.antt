@@ -12,7 +12,7 @@ use Rattle.laws.specs.Choice.{_and_}
 use Rattle.laws.specs.Masks.{every}
 use Rattle.laws.proofs.Choice.{pick-yes, pick-no, and-intro, and-left, and-right, Tested, tested, holds, fails}
 use Rattle.laws.proofs.Masks.{every-at, every-same}
-use Rattle.records.specs.State.{Replay}
+use Rattle.replay.specs.State.{Replay}
 use Rattle.score.specs.Lease.{Lease}
 use Rattle.score.specs.Score.{claimedAt, servedAt, servedInAll, owedInAll, servedInFull, verdictOf}
 use Rattle.score.specs.Answers.{calledBy}

@@ -5,8 +5,8 @@ use mathlib.Core.List.{List, []}
 use Prim.Native.Nat.{ℕ, _+_, _≤_}
 use lib.Dec.{eqb}
 use Rattle.laws.specs.Choice.{pick}
-use Rattle.records.specs.State.{Replay}
-use Rattle.records.specs.Cells.{replayIn}
+use Rattle.replay.specs.State.{Replay}
+use Rattle.replay.specs.Cells.{replayIn}
 use Rattle.score.specs.Lease.{Lease}
 use Rattle.score.specs.Score.{Score, scored, refused, claimedAt, servedAt, servedInAll, roomFor, scoreOf}
 use Rattle.score.specs.declared.month.Verdict.{Verdict}

@@ -5,8 +5,8 @@ use Prim.Native.Nat.{ℕ}
 use lib.Dec.{eqb, ltb}
 use Rattle.laws.specs.Choice.{pick}
 use Rattle.laws.specs.Masks.{_or_}
-use Rattle.records.specs.State.{Replay}
-use Rattle.records.specs.Step.{numberFrom, mayBegin}
+use Rattle.replay.specs.State.{Replay}
+use Rattle.replay.specs.Step.{numberFrom, mayBegin}
 use Rattle.log.specs.Bytes.{byteStep}
 use Rattle.log.specs.Words.{onTaken}
 

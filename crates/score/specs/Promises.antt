@@ -3,9 +3,9 @@ use mathlib.Core.Path.{_≡_}
 use mathlib.Core.Bool.{true, false}
 use Prim.Native.Nat.{ℕ, _+_, _<_, _≤_}
 use lib.ListN.{getD}
-use Rattle.records.specs.State.{Replay}
-use Rattle.records.specs.Step.{StopNumber}
-use Rattle.records.specs.Report.{partAt, dayAt}
+use Rattle.replay.specs.State.{Replay}
+use Rattle.replay.specs.Step.{StopNumber}
+use Rattle.replay.specs.Report.{partAt, dayAt}
 use Rattle.score.specs.Lease.{Lease, isLease}
 use Rattle.score.specs.Score.{Month, claimedOn, servedAt, monthOf}
 use Rattle.score.specs.declared.month.Verdict.{Verdict}

@@ -7,9 +7,9 @@ use Prim.Native.Nat.{ℕ, zero, suc, _+_, _-_, _*_, min}
 use lib.Dec.{eqb, leb, ltb}
 use Rattle.laws.specs.Choice.{_and_, pick}
 use Rattle.laws.specs.Masks.{every}
-use Rattle.cells.specs.Start.{sumBelow}
-use Rattle.records.specs.State.{Replay, newReplay}
-use Rattle.records.specs.Report.{partAt}
+use Rattle.state.specs.Start.{sumBelow}
+use Rattle.replay.specs.State.{Replay, newReplay}
+use Rattle.replay.specs.Report.{partAt}
 use Rattle.log.specs.Feed.{replayOf}
 use Rattle.score.specs.Lease.{Lease, isLease}
 use Rattle.score.specs.declared.month.Verdict.{Verdict}

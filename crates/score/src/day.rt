@@ -1,6 +1,6 @@
 // One day of a lease: what was claimed on it, and how much of that is served.
 use days::report;
-use records::own;
+use replay::own;
 ghost use mathlib.Core.Path.{_≡_};
 ghost use Prim.Native.Nat.{min};
 ghost use Rattle.score.specs.Score.{claimedOn, hasMidnight};

@@ -2,7 +2,7 @@
 use crate::day;
 use crate::line;
 use crate::line::Judged;
-use records::own;
+use replay::own;
 ghost use mathlib.Core.Path.{_≡_};
 ghost use Rattle.score.specs.Answers.{Bounded, Filled, Scores, calledBy, leaseLine, replayFor};
 

@@ -8,7 +8,7 @@ use native.Mathlib.Nat.{zero-add, suc-add}
 use lib.Dec.{eqb}
 use Rattle.laws.proofs.Choice.{pick-yes}
 use Rattle.command.specs.declared.commands.Command.{Command}
-use Rattle.cells.specs.State.{Session}
+use Rattle.state.specs.State.{Session}
 use Rattle.session.specs.Step.{Reply, stillOpen, completed, refused, Stepped, stepOf}
 use Rattle.session.specs.Feed.{First, nothing, first, Fed, onward, ended, proceed, feedOf, earlier, joined, fedPieces, uncut}
 use Rattle.session.proofs.Ways.{Way, wasStopped, stops, opens, fills, ends, way}

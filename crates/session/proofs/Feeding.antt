@@ -17,26 +17,26 @@ use Rattle.command.specs.Writer.{judgeCommandOf}
 use Rattle.command.specs.declared.commands.Command.{Command}
 use Rattle.command.proofs.Headers.{count-most}
 use Rattle.command.proofs.WriteBack.{lined}
-use Rattle.cells.specs.State.{Open as Opened, Session, none}
-use Rattle.cells.specs.Effects.{after}
+use Rattle.state.specs.State.{Open as Opened, Session, none}
+use Rattle.state.specs.Effects.{after}
 use Rattle.session.specs.Step.{Reply, stillOpen, completed, refused, Stepped, startRuleOf, stepOf}
-use Rattle.cells.specs.Valid.{Valid}
+use Rattle.state.specs.Valid.{Valid}
 use Rattle.session.specs.Again.{fed, standing}
-use Rattle.whole.specs.Whole.{Ready, Tried, untaken, accepted as takenWhole, Begun, begun, unbegun}
+use Rattle.accept.specs.Whole.{Ready, Tried, untaken, accepted as takenWhole, Begun, begun, unbegun}
 use Rattle.session.specs.Feed.{First, nothing, first, onward, ended, proceed, feedOf, joined}
 use Rattle.session.specs.Feed as piece
 use Rattle.session.specs.Answers.{replyOf, completedBy, PieceLeft}
-use Rattle.cells.specs.Asked.{Given, Held}
+use Rattle.state.specs.Asked.{Given, Held}
 use Rattle.session.specs.Asked.{Left}
-use Rattle.cells.specs.Cells.{Sized, sessionOf}
+use Rattle.state.specs.Cells.{Sized, sessionOf}
 use Rattle.session.specs.declared.stream.Answer.{Answer}
 use Rattle.session.specs.declared.stream.Answer.the-variants.{Open, Done, Refused}
 use Rattle.session.specs.declared.stream.First as firsts
 use Rattle.session.specs.declared.stream.First.the-variants as firstly
 use Rattle.session.specs.declared.stream.Fed.{Fed}
-use Rattle.cells.specs.declared.own.WordPosition.{WordPosition}
+use Rattle.state.specs.declared.own.WordPosition.{WordPosition}
 use Rattle.session.proofs.stream.Answer.{the-type}
-use Rattle.cells.proofs.Cells.{held-view, held-given}
+use Rattle.state.proofs.Cells.{held-view, held-given}
 use Rattle.session.proofs.Cut.{cut}
 use Rattle.session.proofs.Handed.{word-given}
 use Rattle.session.proofs.Kept.{kept}

@@ -2,13 +2,13 @@
 -- again. Assumes nothing.
 use mathlib.Core.List.{List}
 use Prim.Native.Nat.{ℕ}
-use Rattle.cells.specs.State.{newSession}
+use Rattle.state.specs.State.{newSession}
 use Rattle.session.specs.Step.{Reply, stepOf}
 use Rattle.session.specs.Feed.{feedOf}
-use Rattle.cells.specs.Cells.{sessionOf}
-use Rattle.cells.specs.Asked.{Given, Held}
+use Rattle.state.specs.Cells.{sessionOf}
+use Rattle.state.specs.Asked.{Given, Held}
 use Rattle.session.specs.Asked.{Left}
-use Rattle.cells.proofs.Cells.{held-given}
+use Rattle.state.proofs.Cells.{held-given}
 use Rattle.session.proofs.Kept.{new-valid, kept}
 use Rattle.session.proofs.Refusals.{fed-valid}
 

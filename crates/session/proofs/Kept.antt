@@ -24,11 +24,11 @@ use Rattle.command.specs.declared.kinds.Kind.the-variants.{Coordinate}
 use Rattle.command.proofs.Headers.{count-least, count-most}
 use Rattle.command.proofs.Rule.{rule-five}
 use Rattle.command.proofs.WriteBack.{made}
-use Rattle.cells.specs.State.{Buffer, Open, Domain, Tally, Party, Shared, Session, none, newSession}
-use Rattle.cells.specs.Start.{sumBelow, counts, pairsOf, claimOf}
-use Rattle.cells.specs.Effects.{limit, opening, took, stop, withParameter, buffer, ownAfter, sharedAfter, after}
+use Rattle.state.specs.State.{Buffer, Open, Domain, Tally, Party, Shared, Session, none, newSession}
+use Rattle.state.specs.Start.{sumBelow, counts, pairsOf, claimOf}
+use Rattle.state.specs.Effects.{limit, opening, took, stop, withParameter, buffer, ownAfter, sharedAfter, after}
 use Rattle.session.specs.Step.{Reply, stillOpen, completed, refused, Stepped, refusing, startRuleOf, stepOf}
-use Rattle.cells.specs.Valid.{parametersOf, OpenValid, DomainValid, TallyValid, Valid}
+use Rattle.state.specs.Valid.{parametersOf, OpenValid, DomainValid, TallyValid, Valid}
 use Rattle.session.proofs.Ways.{whole, begun, goingOn, Running, Placed, Way, wasStopped, stops, opens, fills, ends, way}
 
 pub new-valid : Valid newSession

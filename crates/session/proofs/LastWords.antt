@@ -12,14 +12,14 @@ use Rattle.command.specs.Writer.{thenTold, judgeCommandOf}
 use Rattle.command.specs.declared.commands.Command.{Command}
 use Rattle.command.proofs.Judging.{then-given}
 use Rattle.command.proofs.Readable.{readable}
-use Rattle.cells.specs.State.{Open, Session, none}
-use Rattle.cells.specs.Effects.{limit, opening, stop, after}
+use Rattle.state.specs.State.{Open, Session, none}
+use Rattle.state.specs.Effects.{limit, opening, stop, after}
 use Rattle.session.specs.Step.{Reply, completed, refused, startRuleOf, completing}
 use Rattle.session.specs.Again.{standing}
-use Rattle.cells.specs.Asked.{Held, OwnAsked, AcceptAsked}
+use Rattle.state.specs.Asked.{Held, OwnAsked, AcceptAsked}
 use Rattle.session.specs.Asked.{Left, CompleteAsked}
-use Rattle.cells.specs.Cells.{partyOf, partyCells, tallyCells, sessionOf}
-use Rattle.whole.specs.Whole.{Roomy, Tried, untaken, accepted, LineTried}
+use Rattle.state.specs.Cells.{partyOf, partyCells, tallyCells, sessionOf}
+use Rattle.accept.specs.Whole.{Roomy, Tried, untaken, accepted, LineTried}
 use Rattle.session.proofs.ReadBack.{after-standing}
 use Rattle.session.proofs.Stepping.{same-rule, whole-numbered, whole-refused, whole-accepted}
 use Rattle.session.proofs.Ways.{whole}

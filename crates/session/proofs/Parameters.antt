@@ -20,8 +20,8 @@ use Rattle.command.specs.declared.commands.Command.{Command}
 use Rattle.command.specs.declared.commands.Command.the-variants as command
 use Rattle.command.proofs.WriteBack.{read-back, lined}
 use Rattle.command.proofs.Headers.{count-most}
-use Rattle.cells.specs.State.{Open, Session, none}
-use Rattle.cells.specs.Effects.{limit, withParameter, after}
+use Rattle.state.specs.State.{Open, Session, none}
+use Rattle.state.specs.Effects.{limit, withParameter, after}
 use Rattle.session.specs.Step.{completed, refused, Stepped, refusing, startRuleOf, judged, completing, placing, parameterStep, stepOf}
 use Rattle.session.specs.Feed.{nothing, first, Fed, onward, ended, proceed, feedOf}
 use Rattle.session.specs.Again.{fed, holding, standing}

@@ -14,12 +14,12 @@ use Rattle.command.specs.declared.commands.Command.{Command}
 use Rattle.command.specs.declared.commands.Command.the-variants as command
 use Rattle.command.proofs.Rule.{Ruled, fine, five, six, ruled}
 use Rattle.command.proofs.Readable.{writable}
-use Rattle.cells.specs.State.{Open, Session, none}
-use Rattle.cells.specs.Start.{readyOf}
-use Rattle.cells.specs.Effects.{limit, ownAfter, sharedAfter, after}
+use Rattle.state.specs.State.{Open, Session, none}
+use Rattle.state.specs.Start.{readyOf}
+use Rattle.state.specs.Effects.{limit, ownAfter, sharedAfter, after}
 use Rattle.session.specs.Step.{stillOpen, completed, refused, Stepped, startRuleOf, stepOf}
 use Rattle.session.specs.Feed.{nothing, Fed, proceed, feedOf, joined, written}
-use Rattle.cells.specs.Valid.{Valid, heldOf}
+use Rattle.state.specs.Valid.{Valid, heldOf}
 use Rattle.session.specs.Again.{Idle, fed, standing, SameSettings, ReadAgain, EachWritable}
 use Rattle.session.proofs.Ways.{Way, wasStopped, stops, opens, fills, ends, way}
 use Rattle.session.proofs.Kept.{each-allowed, kept}

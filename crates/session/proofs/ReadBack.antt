@@ -21,9 +21,9 @@ use Rattle.command.specs.declared.commands.Command.the-variants as command
 use Rattle.command.proofs.WriteBack.{lined}
 use Rattle.command.proofs.Headers.{count-least}
 use Rattle.command.proofs.Readable.{readable}
-use Rattle.cells.specs.State.{Open, Session, none}
-use Rattle.cells.specs.Start.{readyOf}
-use Rattle.cells.specs.Effects.{limit, ownAfter, sharedAfter, after}
+use Rattle.state.specs.State.{Open, Session, none}
+use Rattle.state.specs.Start.{readyOf}
+use Rattle.state.specs.Effects.{limit, ownAfter, sharedAfter, after}
 use Rattle.session.specs.Step.{Stepped, refusing, startRuleOf, judged}
 use Rattle.session.specs.Feed.{nothing, first, onward, proceed, feedOf}
 use Rattle.session.specs.Again.{Idle, fed, holding, standing, ReadAs, readWhole, deniedStart, filledUp}

@@ -17,12 +17,12 @@ use Rattle.command.specs.declared.commands.Command.the-variants as command
 use Rattle.command.proofs.Headers.{Accepted, stands, place-of-line}
 use Rattle.command.proofs.Judging.{Fault, three, four, fault}
 use Rattle.command.proofs.Rule.{Ruled, fine, five, six, ruled}
-use Rattle.cells.specs.State.{Open, Session, none}
-use Rattle.cells.specs.Start.{readyOf}
-use Rattle.cells.specs.Effects.{limit}
+use Rattle.state.specs.State.{Open, Session, none}
+use Rattle.state.specs.Start.{readyOf}
+use Rattle.state.specs.Effects.{limit}
 use Rattle.session.specs.Step.{Reply, stillOpen, completed, refused, Stepped, refusing, startRuleOf, judged, completing, placing, parameterStep, headerStep, stepOf}
 use Rattle.session.specs.Feed.{nothing, first, Fed, ended, proceed, feedOf}
-use Rattle.cells.specs.Valid.{Valid}
+use Rattle.state.specs.Valid.{Valid}
 use Rattle.session.specs.Refusals.{StopNumber, low, full, RefusedTo, unchanged, stopping}
 use Rattle.session.specs.Again.{Idle, holding}
 use Rattle.session.proofs.Ways.{goingOn}

@@ -25,10 +25,10 @@ use Rattle.command.specs.Writer.{spares, allSpare, fieldsSpare, judgeCommandOf}
 use Rattle.command.specs.declared.commands.Stored.the-variants as stored
 use Rattle.command.specs.declared.commands.Command.{Command}
 use Rattle.command.specs.declared.commands.Command.the-variants as command
-use Rattle.cells.specs.State.{Buffer, Domain, Shared, Session, unset, none, newSession}
-use Rattle.cells.specs.Start.{anyBelow, allBelow, sumBelow, output, isSet, unmasked, silent, counts, containsDomain, apart, complete, covered, disjoint, readyOf, pairsOf, claimOf}
-use Rattle.cells.specs.Effects.{limit, buffer, ownAfter, sharedAfter, after}
-use Rattle.cells.specs.Valid.{Valid}
+use Rattle.state.specs.State.{Buffer, Domain, Shared, Session, unset, none, newSession}
+use Rattle.state.specs.Start.{anyBelow, allBelow, sumBelow, output, isSet, unmasked, silent, counts, containsDomain, apart, complete, covered, disjoint, readyOf, pairsOf, claimOf}
+use Rattle.state.specs.Effects.{limit, buffer, ownAfter, sharedAfter, after}
+use Rattle.state.specs.Valid.{Valid}
 use Rattle.session.specs.Step.{Reply, stillOpen, completed, refused, Stepped, startRuleOf, stepOf}
 use Rattle.session.specs.Feed.{nothing, Fed, proceed, feedOf}
 use Rattle.session.specs.Again.{Idle, fed, standing}

@@ -21,17 +21,17 @@ use Rattle.command.specs.declared.commands.Command.the-variants as command
 use Rattle.command.proofs.commands.Command.{the-type}
 use Rattle.command.proofs.Headers.{count-most}
 use Rattle.command.proofs.Judging.{then-refused, then-given}
-use Rattle.cells.specs.State.{Open, Party, Shared, Session, none}
-use Rattle.cells.specs.Start.{readyOf}
-use Rattle.cells.specs.Effects.{Numbered, limit, opening, took, stop, withParameter, after}
+use Rattle.state.specs.State.{Open, Party, Shared, Session, none}
+use Rattle.state.specs.Start.{readyOf}
+use Rattle.state.specs.Effects.{Numbered, limit, opening, took, stop, withParameter, after}
 use Rattle.session.specs.Step.{Reply, stillOpen, completed, refused, Stepped, refusing, startRuleOf, judged, completing, placing, stepOf}
-use Rattle.cells.specs.Valid.{parametersOf, OpenValid, Valid}
-use Rattle.cells.specs.Asked.{Held, OwnAsked, AcceptAsked, Given}
+use Rattle.state.specs.Valid.{parametersOf, OpenValid, Valid}
+use Rattle.state.specs.Asked.{Held, OwnAsked, AcceptAsked, Given}
 use Rattle.session.specs.Asked.{Left, CompleteAsked, ParameterAsked}
-use Rattle.cells.specs.Cells.{Sized, partyOf, partyCells, tallyCells, sharedOf, sharedCells, sessionOf}
-use Rattle.cells.proofs.Cells.{own-canon, tally-canon, shared-canon}
+use Rattle.state.specs.Cells.{Sized, partyOf, partyCells, tallyCells, sharedOf, sharedCells, sessionOf}
+use Rattle.state.proofs.Cells.{own-canon, tally-canon, shared-canon}
 use Rattle.session.proofs.Kept.{whole-allowed, allowed-more}
-use Rattle.whole.proofs.Numbers.{numbered}
+use Rattle.accept.proofs.Numbers.{numbered}
 use Rattle.session.proofs.Ways.{whole}
 
 -- only a start asks anything of the settings

@@ -14,14 +14,14 @@ use Rattle.command.specs.Table.{headers, lineWith}
 use Rattle.command.specs.Kinds.{allowed, faultOf, kindOf}
 use Rattle.command.specs.declared.kinds.Kind.{Kind}
 use Rattle.command.proofs.Headers.{count-most}
-use Rattle.cells.specs.State.{Open, Party, Session, atLine, none, newSession}
-use Rattle.cells.specs.Effects.{limit, opening, took, stop, withParameter}
+use Rattle.state.specs.State.{Open, Party, Session, atLine, none, newSession}
+use Rattle.state.specs.Effects.{limit, opening, took, stop, withParameter}
 use Rattle.session.specs.Step.{Reply, stillOpen, refused, Stepped, refusing, placing, parameterStep, headerStep, stepOf}
-use Rattle.cells.specs.Valid.{Valid}
-use Rattle.cells.specs.Asked.{Held, Given}
+use Rattle.state.specs.Valid.{Valid}
+use Rattle.state.specs.Asked.{Held, Given}
 use Rattle.session.specs.Asked.{Left, OpenAsked, ParameterAsked}
-use Rattle.cells.specs.Cells.{Sized, partyOf, partyCells, tallyCells, sharedOf, sharedCells, sessionOf}
-use Rattle.cells.proofs.Cells.{own-canon, tally-canon, shared-canon}
+use Rattle.state.specs.Cells.{Sized, partyOf, partyCells, tallyCells, sharedOf, sharedCells, sessionOf}
+use Rattle.state.proofs.Cells.{own-canon, tally-canon, shared-canon}
 use Rattle.session.proofs.Stepping.{refusing-left}
 
 told-apart : {v : List ℕ} {n : ℕ} → gives v ≡ refuses n → ⊥

@@ -15,8 +15,8 @@ use Rattle.command.specs.Commands.{commandOf}
 use Rattle.command.specs.Rules.{lastRuleOf}
 use Rattle.command.specs.Writer.{thenTold}
 use Rattle.command.specs.declared.commands.Command.{Command}
-use Rattle.cells.specs.State.{Open, Party, Shared, Session, none}
-use Rattle.cells.specs.Effects.{limit, opening, took, stop, withParameter, after}
+use Rattle.state.specs.State.{Open, Party, Shared, Session, none}
+use Rattle.state.specs.Effects.{limit, opening, took, stop, withParameter, after}
 use Rattle.session.specs.Step.{Reply, stillOpen, completed, refused, Stepped, refusing, startRuleOf, judged, completing, placing, parameterStep, headerStep, stepOf}
 
 -- the command that an open command with all its parameters is

@@ -16,11 +16,11 @@ use Rattle.command.specs.Commands.{wordsOf}
 use Rattle.command.specs.Rules.{lastRuleOf}
 use Rattle.command.specs.declared.commands.Command.{Command}
 use Rattle.command.proofs.Headers.{stands}
-use Rattle.cells.specs.State.{Open, Session, none, newSession}
-use Rattle.cells.specs.Effects.{took, withParameter, after}
+use Rattle.state.specs.State.{Open, Session, none, newSession}
+use Rattle.state.specs.Effects.{took, withParameter, after}
 use Rattle.session.specs.Step.{Reply, stillOpen, completed, refused, Stepped, stepOf}
 use Rattle.session.specs.Feed.{nothing, first, Fed, onward, proceed, feedOf, written, accepts, emitted}
-use Rattle.cells.specs.Valid.{parametersOf, Valid, heldOf}
+use Rattle.state.specs.Valid.{parametersOf, Valid, heldOf}
 use Rattle.session.proofs.Ways.{whole, begun, Placed, Way, wasStopped, stops, opens, fills, ends, way}
 use Rattle.session.proofs.Kept.{new-valid, line-lt, count-lt, all-allowed, whole-words, effects-of, kept}
 

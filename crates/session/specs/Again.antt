@@ -7,12 +7,12 @@ use Rattle.refusal.specs.Told.{gives, refuses}
 use Rattle.command.specs.Commands.{fieldsOf, wordsOf}
 use Rattle.command.specs.Writer.{judgeCommandOf}
 use Rattle.command.specs.declared.commands.Command.{Command}
-use Rattle.cells.specs.State.{Open, Session, none}
-use Rattle.cells.specs.Effects.{limit, after}
+use Rattle.state.specs.State.{Open, Session, none}
+use Rattle.state.specs.Effects.{limit, after}
 use Rattle.session.specs.Step.{refusing, startRuleOf}
 use Rattle.session.specs.Feed.{First, nothing, first, Fed, written}
 -- a running session without an open command, and one at another word: commands taken whole are stated by them too
-pub use Rattle.whole.specs.Standing.{Idle, standing}
+pub use Rattle.accept.specs.Standing.{Idle, standing}
 
 -- the answer to a piece: words taken, commands completed, the first refusal, and the session after it
 abbrev pub fed : ℕ → List Command → First → Session → Fed

@@ -7,7 +7,7 @@ use lib.ListN.{length}
 use Rattle.session.specs.Step.{Reply, stillOpen, completed, refused}
 use Rattle.session.specs.Feed.{nothing, first}
 use Rattle.session.specs.Feed as piece
-use Rattle.cells.specs.Asked.{Held}
+use Rattle.state.specs.Asked.{Held}
 use Rattle.session.specs.declared.stream.First as firsts
 use Rattle.session.specs.declared.stream.First.the-variants as firstly
 use Rattle.session.specs.declared.stream.Fed.{Fed}

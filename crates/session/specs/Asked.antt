@@ -5,11 +5,11 @@ use mathlib.Core.List.{List}
 use Prim.Native.Nat.{ℕ, _<_}
 use Rattle.command.specs.Kinds.{allowed, kindOf}
 use Rattle.command.specs.Commands.{EachAllowed}
-use Rattle.cells.specs.Effects.{limit}
+use Rattle.state.specs.Effects.{limit}
 use Rattle.session.specs.Step.{Reply, Stepped}
-use Rattle.cells.specs.Valid.{parametersOf}
-use Rattle.cells.specs.Cells.{partyOf}
-use Rattle.cells.specs.Asked.{Held, Given, OwnAsked}
+use Rattle.state.specs.Valid.{parametersOf}
+use Rattle.state.specs.Cells.{partyOf}
+use Rattle.state.specs.Asked.{Held, Given, OwnAsked}
 
 -- a step's reply, and cells that hold the session after it
 pub record Left (t : Stepped) (r : Reply) (own tallies shared : List ℕ) : Type 0 where

@@ -5,7 +5,7 @@ use mathlib.Core.List.{List, [], _∷_, _++_}
 use Prim.Native.Nat.{ℕ, zero, suc, _+_}
 use Rattle.command.specs.Commands.{wordsOf}
 use Rattle.command.specs.declared.commands.Command.{Command}
-use Rattle.cells.specs.State.{Session}
+use Rattle.state.specs.State.{Session}
 use Rattle.session.specs.Step.{Reply, stillOpen, completed, refused, Stepped, stepOf}
 
 -- the first refusal of a piece, or none

@@ -1,8 +1,8 @@
 -- Document 01: what a refused word leaves, and the numbers that a session refuses with. Assumes nothing.
 use mathlib.Core.Path.{_≡_}
 use Prim.Native.Nat.{ℕ, _≤_}
-use Rattle.cells.specs.State.{Session}
-use Rattle.cells.specs.Effects.{stop}
+use Rattle.state.specs.State.{Session}
+use Rattle.state.specs.Effects.{stop}
 
 -- "In a session, refusals 2 to 9 and 17 also drop the open command and stop the session for good."
 pub data StopNumber : ℕ → Type 0 where

@@ -9,8 +9,8 @@ use Rattle.refusal.specs.Told.{Told, gives, refuses}
 use Rattle.command.specs.Format.{codeOf}
 use Rattle.command.specs.Commands.{wordsOf}
 use Rattle.command.specs.declared.commands.Command.the-variants as command
-use Rattle.cells.specs.State.{Buffer, Domain, Session}
-use Rattle.cells.specs.Start.{allBelow, sumBelow, output, isSet, silent, containsDomain, apart, complete, readyOf, pairsOf, claimOf}
+use Rattle.state.specs.State.{Buffer, Domain, Session}
+use Rattle.state.specs.Start.{allBelow, sumBelow, output, isSet, silent, containsDomain, apart, complete, readyOf, pairsOf, claimOf}
 use Rattle.session.specs.Feed.{nothing, Fed}
 
 -- every set output is silent

@@ -11,10 +11,10 @@ use Rattle.command.specs.Commands.{commandOf}
 use Rattle.command.specs.Rules.{lastRuleOf}
 use Rattle.command.specs.Writer.{thenTold}
 use Rattle.command.specs.declared.commands.Command.{Command}
-use Rattle.cells.specs.State.{Open, Domain, Session, atLine, none}
-use Rattle.cells.specs.Effects.{limit, opening, took, stop, withParameter, after}
+use Rattle.state.specs.State.{Open, Domain, Session, atLine, none}
+use Rattle.state.specs.Effects.{limit, opening, took, stop, withParameter, after}
 -- what a command asks of the settings, which a routine below this crate is stated by too
-unfoldable pub use Rattle.effects.specs.Rules.{startRuleOf}
+unfoldable pub use Rattle.start.specs.Rules.{startRuleOf}
 
 -- "An accepted word answers "open", or the command that it completes"; a refused one its number
 pub data Reply : Type 0 where

@@ -6,9 +6,9 @@ use Prim.Native.Nat.{ℕ, _+_}
 use lib.ListN.{set}
 use Rattle.command.specs.declared.commands.Command.{Command}
 use Rattle.command.specs.declared.commands.Command.the-variants as command
-use Rattle.cells.specs.State.{Buffer, Domain}
-use Rattle.cells.specs.Start.{claimOf}
-use Rattle.cells.specs.Effects.{buffer}
+use Rattle.state.specs.State.{Buffer, Domain}
+use Rattle.state.specs.Start.{claimOf}
+use Rattle.state.specs.Effects.{buffer}
 
 -- a start is a run, and no other command is
 unfoldable pub runOf : Command → ℕ

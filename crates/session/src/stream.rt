@@ -1,17 +1,17 @@
 // The words of a stream, one by one and in pieces.
-use cells::own;
-use cells::own::WordPosition;
-use cells::settings;
 use command::commands;
 use command::commands::Command;
 use command::kinds;
 use command::kinds::Checked;
 use command::table;
 use command::table::Line;
-use effects::accept;
-use effects::start;
-use judging::rules;
 use refusal::Refusal;
+use rules::rules;
+use start::accept;
+use start::start;
+use state::own;
+use state::own::WordPosition;
+use state::settings;
 ghost use mathlib.Core.Path.{_≡_};
 ghost use mathlib.Core.List.{[]};
 ghost use Prim.Native.Nat.{_<_};
@@ -19,11 +19,11 @@ ghost use lib.ListN.{length};
 ghost use Rattle.command.specs.Kinds.{toldChecked};
 ghost use Rattle.command.specs.Rules.{lastRuleOf};
 ghost use Rattle.command.specs.Writer.{thenTold};
-ghost use Rattle.cells.specs.State.{newSession};
-ghost use Rattle.cells.specs.Effects.{withParameter};
+ghost use Rattle.state.specs.State.{newSession};
+ghost use Rattle.state.specs.Effects.{withParameter};
 ghost use Rattle.session.specs.Step.{completing, parameterStep, placing, startRuleOf, stepOf};
-ghost use Rattle.cells.specs.Cells.{Sized, partyOf, sessionOf};
-ghost use Rattle.cells.specs.Asked.{Given, Held};
+ghost use Rattle.state.specs.Cells.{Sized, partyOf, sessionOf};
+ghost use Rattle.state.specs.Asked.{Given, Held};
 ghost use Rattle.session.specs.Asked.{CompleteAsked, Left, OpenAsked, ParameterAsked};
 ghost use Rattle.session.specs.Answers.{PieceLeft, completedBy, replyOf};
 ghost use Rattle.session.specs.Feed.{feedOf};
@@ -66,7 +66,7 @@ fn complete(own: &mut [u32; 17], tallies: &mut [u64; 2], shared: &mut [u32; 101]
     let p2 = own[own::PARAMETER_2];
     let p3 = own[own::PARAMETER_3];
     let command = commands::build(line, p0, p1, p2, p3);
-    if 0 < whole::take_last(own, tallies, shared, line, p0, p1, p2, p3) {
+    if 0 < accept::take_last(own, tallies, shared, line, p0, p1, p2, p3) {
         own::close(own);
         return Answer::Done(command);
     }
@@ -200,7 +200,7 @@ pub fn feed(
     let mut i: usize = 0;
     let mut commands: u64 = 0;
     while i < words.len() {
-        let whole = whole::take(own, tallies, shared, words, i);
+        let whole = accept::take(own, tallies, shared, words, i);
         if 0 < whole {
             commands = commands + 1;
             i = i + whole as usize;

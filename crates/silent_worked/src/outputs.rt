@@ -2,7 +2,7 @@
 // UINT8_4 whose own nibble is 15 or 0. Then starts with every output silent, with none set, and under masks that change.
 use session::stream;
 use session::stream::First;
-use trials::tally::Tally;
+use worked::tally::Tally;
 
 // Where the two windows and the domain lie: apart with the domain inside both, the domain past the first window alone, or both
 // windows on the same bytes.

@@ -3,8 +3,8 @@
 use session::stream;
 use session::stream::Answer;
 use session::stream::First;
-use trials::streams::whole_stream;
-use trials::tally::Tally;
+use worked::streams::whole_stream;
+use worked::tally::Tally;
 
 // What a stream came to: the words taken, the commands, the first refusal's number and that of one word more (0: none),
 // and the tallies after all of them.

@@ -2,7 +2,7 @@
 use lib.ListN.{length}
 use Prim.Native.Nat.{_-_}
 use borrow.Author.Needs.{needs}
-use Rattle.cells.specs.Asked.{Given}
+use Rattle.state.specs.Asked.{Given}
 use Rattle.session.specs.Step.{stepOf}
 use Rattle.session.proofs.Handed.{begun-given, word-given}
 use Rattle.command_worked.proofs.last_answer.Statement.{statement}

@@ -1,5 +1,5 @@
 -- `queries::conditional` meets its contract: it reads the cells that the view reads. Assumes nothing.
-use Rattle.cells.specs.Cells.{sharedOf}
+use Rattle.state.specs.Cells.{sharedOf}
 use borrow.Author.Needs.{needs}
 use Rattle.queries.proofs.conditional.Statement.{statement}
 use Rattle.queries.proofs.conditional.Tie as tie

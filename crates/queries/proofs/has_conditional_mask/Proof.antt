@@ -1,6 +1,6 @@
 -- `queries::has_conditional_mask` meets its contract: it reads the cell that the view reads. Assumes nothing.
 use mathlib.Core.Path.{refl}
-use Rattle.cells.specs.Cells.{partyOf, sharedOf}
+use Rattle.state.specs.Cells.{partyOf, sharedOf}
 use borrow.Author.Needs.{needs}
 use Rattle.queries.proofs.has_conditional_mask.Statement.{statement}
 use Rattle.queries.proofs.has_conditional_mask.Tie as tie

@@ -1,5 +1,5 @@
 -- `queries::taken` meets its contract: it reads the cell that the view reads. Assumes nothing.
-use Rattle.cells.specs.Cells.{partyOf}
+use Rattle.state.specs.Cells.{partyOf}
 use borrow.Author.Needs.{needs}
 use Rattle.queries.proofs.taken.Statement.{statement}
 use Rattle.queries.proofs.taken.Tie as tie

@@ -1,7 +1,7 @@
 -- `days::report::ended` meets its contract. Assumes nothing.
-use Rattle.cells.specs.Cells.{partyOf}
+use Rattle.state.specs.Cells.{partyOf}
 use mathlib.Core.Path.{sym, _∙_}
-use Rattle.records.proofs.Marks.{ended-past, ended-now}
+use Rattle.replay.proofs.Marks.{ended-past, ended-now}
 use borrow.Author.Needs.{needs}
 use Rattle.days.proofs.report.ended.Statement.{statement}
 use Rattle.days.proofs.report.ended.Tie as tie

@@ -1,5 +1,5 @@
 -- `days::report::part` meets its contract. Assumes nothing.
-use Rattle.records.specs.Cells.{viewed}
+use Rattle.replay.specs.Cells.{viewed}
 use Rattle.days.proofs.Reports.{part-none, part-some}
 use borrow.Author.Needs.{needs}
 use Rattle.days.proofs.report.part.Statement.{statement}

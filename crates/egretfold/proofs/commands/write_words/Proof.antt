@@ -1,7 +1,7 @@
 -- `egretfold::commands::write_words` meets its contract: each answer crosses as it is told. Assumes nothing.
 use mathlib.Core.Path.{sym, ap, _∙_}
 use native.Mathlib.Omega.{arith}
-use Rattle.judging.specs.Written.{toldWritten}
+use Rattle.rules.specs.Written.{toldWritten}
 use Rattle.egretfold.proofs.Crossings.{crosses-gives, crosses-refuses}
 use Rattle.egretfold.proofs.Numbers.{words-few}
 use borrow.Author.Needs.{needs}

@@ -1,6 +1,6 @@
 -- `egretfold::sessions::egretfold_session_status` meets its contract: what the session's own cells say. Assumes nothing.
 use mathlib.Core.Path.{refl}
-use Rattle.cells.specs.Cells.{partyOf}
+use Rattle.state.specs.Cells.{partyOf}
 use Rattle.egretfold.proofs.Formats.{status-shows}
 use borrow.Author.Needs.{needs}
 use Rattle.egretfold.proofs.sessions.egretfold_session_status.Statement.{statement}

@@ -1,7 +1,7 @@
 -- `session::stream::complete` meets its contract. Assumes nothing.
 use mathlib.Core.Path.{ap}
 use Rattle.command.specs.Kinds.{toldChecked}
-use Rattle.cells.specs.Cells.{partyOf}
+use Rattle.state.specs.Cells.{partyOf}
 use Rattle.session.proofs.LastWords.{last-asked, last-length, last-done, last-sized, last-numbered, last-refused, last-accepted}
 use borrow.Author.Needs.{needs}
 use Rattle.session.proofs.stream.complete.Statement.{statement}

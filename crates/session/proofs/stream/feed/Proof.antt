@@ -3,7 +3,7 @@ use Prim.Native.Nat.{_-_}
 use native.Mathlib.Omega.{arith}
 use lib.ListN.{length}
 use borrow.Author.Needs.{needs}
-use Rattle.cells.specs.Cells.{sessionOf}
+use Rattle.state.specs.Cells.{sessionOf}
 use Rattle.session.specs.Answers.{replyOf}
 use Rattle.session.proofs.Feeding.{Fold, fold-begins, fold-whole, fold-same, fold-refused, fold-goes, fold-ends, completed-most}
 use Rattle.session.proofs.stream.feed.Statement.{statement}

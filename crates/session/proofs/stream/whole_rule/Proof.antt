@@ -2,7 +2,7 @@
 use mathlib.Core.Path.{_∙_, sym, ap}
 use mathlib.Core.List.{[]}
 use Rattle.command.specs.Kinds.{toldChecked}
-use Rattle.cells.specs.Cells.{sessionOf}
+use Rattle.state.specs.Cells.{sessionOf}
 use Rattle.session.proofs.Stepping.{rule-refused, rule-passed, start-rule, no-start-rule}
 use borrow.Author.Needs.{needs}
 use Rattle.session.proofs.stream.whole_rule.Statement.{statement}

@@ -1,7 +1,7 @@
 -- `stream_worked::streams::limit` is safe and ends; what it hands on came from the entries. Assumes nothing.
 use borrow.Author.Needs.{needs}
 use Prim.Native.Nat.{_-_}
-use Rattle.cells.specs.Asked.{Given}
+use Rattle.state.specs.Asked.{Given}
 use Rattle.session.proofs.Handed.{begun-given, word-given, piece-given}
 use Rattle.stream_worked.proofs.streams.limit.Statement.{statement}
 use Rattle.stream_worked.proofs.streams.limit.Tie as tie

@@ -1,0 +1,383 @@
+-- A command that is taken whole, cell by cell as the code takes it, is the definition's session after all its words.
+-- Assumes nothing.
+use mathlib.Core.Path.{_≡_, refl, sym, ap, ap₂, _∙_, subst}
+use mathlib.Core.Bool.{Bool, true}
+use mathlib.Core.List.{List, [], _∷_, _++_}
+use Prim.Native.Nat.{ℕ, _+_, _-_, _*_, _<_, _≤_, _^_}
+use native.Mathlib.Numerals.{add-one}
+use native.Mathlib.Omega.{arith}
+use lib.Dec.{eqb}
+use lib.ListN.{length, getD, drop, set}
+use lib.Seq.{drop-cons}
+use borrow.Author.Tests.{eqb-true}
+use Rattle.laws.specs.Choice.{_and_, pick, placeOf}
+use Rattle.laws.proofs.Table.{NoneOf, everyBelow, namedOr, otherwise}
+use Rattle.refusal.specs.Told.{Told, gives}
+use Rattle.command.specs.Table.{headerOf, lineWith}
+use Rattle.command.specs.Commands.{noEffectLine, storedLine, lineOf, fieldsOf, wordsOf, commandOf}
+use Rattle.command.specs.Fits.{WindowFits}
+use Rattle.command.specs.Writer.{judgeCommandOf}
+use Rattle.command.specs.declared.commands.NoEffect.{NoEffect}
+use Rattle.command.specs.declared.commands.NoEffect.the-variants as quiet
+use Rattle.command.specs.declared.commands.Stored.{Stored}
+use Rattle.command.specs.declared.commands.Stored.the-variants as stored
+use Rattle.command.specs.declared.commands.Command.{Command}
+use Rattle.command.specs.declared.commands.Command.the-variants as command
+use Rattle.command.proofs.Fitting.{conditional-fits, store-fits, start-fits, quiet-fits, mask-fits, conditional-mask-fits, test-fits}
+use Rattle.command.proofs.Headers.{accepted-stands}
+use Rattle.command.proofs.Readable.{readable}
+use Rattle.state.specs.State.{Party, Shared, Session}
+use Rattle.state.specs.Start.{readyOf}
+use Rattle.state.specs.Effects.{limit, buffer, domainFrom, withDomain, withInstructions, ownAfter, sharedAfter, after}
+use Rattle.start.specs.Rules.{startRuleOf}
+use Rattle.accept.specs.Standing.{standing}
+use Rattle.state.specs.Asked.{Given, Held, HeldOwn, OwnAsked}
+use Rattle.state.specs.Cells.{Sized, partyOf, partyCells, tallyCells, sharedOf, sharedCells, sessionOf, setBuffer}
+use Rattle.state.specs.Effects.{tookWords}
+use Rattle.accept.specs.Whole.{Ready, Roomy, Tried, accepted, Begun, begun, OwnTried, SharedTried, KeptAt}
+use Rattle.state.proofs.OwnPuts.{
+  stored-cells,
+  own-instructions,
+  own-floats,
+  own-integers,
+  own-booleans,
+  domain-own,
+  start-own,
+  store-own,
+  quiet-own,
+  input-own,
+  output-own,
+  conditional-own,
+  mask-own,
+  conditional-mask-own,
+  test-own,
+}
+use Rattle.state.proofs.SharedPuts.{
+  domain-shared,
+  start-shared,
+  quiet-shared,
+  instructions-shared,
+  floats-shared,
+  integers-shared,
+  booleans-shared,
+  conditional-shared,
+  output-shared,
+  input-shared,
+  mask-shared,
+  conditional-mask-shared,
+  test-shared,
+}
+use Rattle.accept.proofs.Numbers.{numbered}
+
+-- what a command does to the party's own settings, the words counted before or after it
+own-standing : (c : Command) (n : ℕ) (h : Shared) (p : Party) →
+    ownAfter c h (tookWords n p) ≡ standing (after c (record { party = p; shared = h })) (p .taken + n) (p .opened) .party
+unfolding after ownAfter sharedAfter
+own-standing (command.Domain i0 j0 i1 j1) n h p = refl
+own-standing command.Start n h p = refl
+own-standing (command.Quiet what) n h p = refl
+own-standing (command.Store stored.Instructions base format) n h p = refl
+own-standing (command.Store stored.Floats base format) n h p = refl
+own-standing (command.Store stored.Integers base format) n h p = refl
+own-standing (command.Store stored.Booleans base format) n h p = refl
+own-standing (command.Input number base format height) n h p = refl
+own-standing (command.Output number base format height) n h p = refl
+own-standing (command.Conditional base format height) n h p = refl
+own-standing (command.OutputMask mask) n h p = refl
+own-standing (command.ConditionalMask mask) n h p = refl
+own-standing (command.Test test) n h p = refl
+
+module _ (c : Command) (n : ℕ) (l t h l1 : List ℕ) (e1 : l1 ≡ partyCells (tookWords n (partyOf l []))) where
+  is-party : partyOf l1 t ≡ tookWords n (partyOf l t)
+  unfolding partyOf partyCells
+  is-party = ap (λ (x : List ℕ). partyOf x t) e1
+
+  abbrev left : Session
+  left = standing (after c (sessionOf l t h)) (partyOf l t .taken + n) (partyOf l t .opened)
+
+  own-after : ownAfter c (sharedOf h) (partyOf l1 t) ≡ left .party
+  own-after = ap (ownAfter c (sharedOf h)) is-party ∙ own-standing c n (sharedOf h) (partyOf l t)
+
+  module _ (rest ws : List ℕ) (begins : ws ≡ wordsOf c ++ rest) (fine : judgeCommandOf c ≡ gives []) (rule : startRuleOf c (sessionOf l t h) ≡ gives []) where
+    pub tried : (l2 t2 h2 : List ℕ) → HeldOwn (ownAfter c (sharedOf h) (partyOf l1 t)) l2 t2 →
+        h2 ≡ sharedCells (sharedAfter c (sharedOf h)) → Tried c ws n l t h n l2 t2 h2
+    unfolding after
+    tried l2 t2 h2 held e = accepted rest l2 t2 h2 begins fine rule kept
+      where
+        own-held : HeldOwn (left .party) l2 t2
+        own-held = subst (λ (p : Party). HeldOwn p l2 t2) own-after held
+
+        kept : Held left l2 t2 h2
+        kept = record { own-cells = own-held .own-cells; tally-cells = own-held .tally-cells; shared-cells = e }
+
+pub counted-length : (l l1 : List ℕ) (n : ℕ) → l1 ≡ partyCells (tookWords n (partyOf l [])) → length l1 ≡ 17
+unfolding partyCells
+counted-length l l1 n e = ap length e
+
+-- a command that the writer accepts has its number in range
+output-most : (n b f k : ℕ) → judgeCommandOf (command.Output n b f k) ≡ gives [] → n < 4
+output-most n b f k e = numbered (command.Output n b f k) (readable (command.Output n b f k) e .fields-allowed)
+
+input-most : (n b f k : ℕ) → judgeCommandOf (command.Input n b f k) ≡ gives [] → n < 16
+input-most n b f k e = numbered (command.Input n b f k) (readable (command.Input n b f k) e .fields-allowed)
+
+pub output-place : (n b f k : ℕ) → judgeCommandOf (command.Output n b f k) ≡ gives [] → 21 + 4 * n < 98
+output-place n b f k e = omega (arith, output-most n b f k e)
+
+pub input-place : (n b f k : ℕ) → judgeCommandOf (command.Input n b f k) ≡ gives [] → 37 + 4 * n < 98
+input-place n b f k e = omega (arith, input-most n b f k e)
+
+-- the commands by their arms: own cells `l`, and `l1` after `m` words were counted
+module _ (l l1 : List ℕ) (m : ℕ) (e : l1 ≡ partyCells (tookWords m (partyOf l []))) where
+  abbrev sized : length l1 ≡ 17
+  sized = counted-length l l1 m e
+
+  pub domain-tried : (i0 j0 i1 j1 : ℕ) → judgeCommandOf (command.Domain i0 j0 i1 j1) ≡ gives [] →
+      (l2 : List ℕ) → l2 ≡ partyCells (withDomain (domainFrom i0 j0 i1 j1) (partyOf l1 [])) →
+      OwnTried (command.Domain i0 j0 i1 j1) (headerOf 0 ∷ i0 ∷ j0 ∷ i1 ∷ j1 ∷ []) m m l l2
+  unfolding wordsOf lineOf fieldsOf startRuleOf
+  domain-tried i0 j0 i1 j1 fine l2 e2 t h rest z =
+      tried (command.Domain i0 j0 i1 j1) m l t h l1 e rest _ refl fine refl l2 t h
+      (domain-own l1 sized t (z .tallies-length) (sharedOf h) i0 j0 i1 j1 e2)
+      (domain-shared h (z .shared-length) i0 j0 i1 j1)
+
+  pub quiet-tried : (n : ℕ) → n ≡ 0 → (what : NoEffect) →
+      OwnTried (command.Quiet what) (headerOf (noEffectLine what) ∷ n ∷ []) m m l l1
+  unfolding wordsOf lineOf fieldsOf startRuleOf
+  quiet-tried n none what t h rest z =
+      tried (command.Quiet what) m l t h l1 e rest _
+      (ap {B = List ℕ} (λ (x : ℕ). headerOf (noEffectLine what) ∷ x ∷ rest) none) (quiet-fits what) refl l1 t h
+      (quiet-own l1 sized t (z .tallies-length) (sharedOf h) what)
+      (quiet-shared h (z .shared-length) what)
+
+  pub instructions-tried : (b f : ℕ) → WindowFits b f 1 → (l2 : List ℕ) →
+      l2 ≡ partyCells (withInstructions (buffer b f 1) (partyOf l1 [])) →
+      OwnTried (command.Store stored.Instructions b f) (headerOf 3 ∷ b ∷ f ∷ []) m m l l2
+  unfolding wordsOf lineOf storedLine fieldsOf startRuleOf
+  instructions-tried b f w l2 e2 t h rest z =
+      tried (command.Store stored.Instructions b f) m l t h l1 e rest _ refl (store-fits b f w stored.Instructions) refl l2 t h
+      (store-own l1 sized t (z .tallies-length) (sharedOf h) stored.Instructions b f (e2 ∙ own-instructions l1 sized b f))
+      (instructions-shared h (z .shared-length) b f)
+
+  -- commands that change shared cells, `h` to `h1`
+  module _ (h h1 : List ℕ) where
+    pub conditional-tried : (b f k : ℕ) → WindowFits b f k → h1 ≡ setBuffer h 17 (buffer b f k) →
+        SharedTried (command.Conditional b f k) (headerOf 6 ∷ b ∷ f ∷ k ∷ []) m m l h l1 h1
+    unfolding wordsOf lineOf fieldsOf startRuleOf
+    conditional-tried b f k w p t rest z =
+        tried (command.Conditional b f k) m l t h l1 e rest _ refl (conditional-fits b f k w) refl l1 t h1
+        (conditional-own l1 sized t (z .tallies-length) (sharedOf h) b f k)
+        (p ∙ conditional-shared h (z .shared-length) b f k)
+
+    pub output-tried : (n b f k : ℕ) → judgeCommandOf (command.Output n b f k) ≡ gives [] →
+        h1 ≡ setBuffer h (21 + 4 * n) (buffer b f k) →
+        SharedTried (command.Output n b f k) (headerOf 5 ∷ n ∷ b ∷ f ∷ k ∷ []) m m l h l1 h1
+    unfolding wordsOf lineOf fieldsOf startRuleOf
+    output-tried n b f k fine p t rest z =
+        tried (command.Output n b f k) m l t h l1 e rest _ refl fine refl l1 t h1
+        (output-own l1 sized t (z .tallies-length) (sharedOf h) n b f k)
+        (p ∙ output-shared h (z .shared-length) n b f k (output-most n b f k fine))
+
+    pub input-tried : (n b f k : ℕ) → judgeCommandOf (command.Input n b f k) ≡ gives [] →
+        h1 ≡ setBuffer h (37 + 4 * n) (buffer b f k) →
+        SharedTried (command.Input n b f k) (headerOf 4 ∷ n ∷ b ∷ f ∷ k ∷ []) m m l h l1 h1
+    unfolding wordsOf lineOf fieldsOf startRuleOf
+    input-tried n b f k fine p t rest z =
+        tried (command.Input n b f k) m l t h l1 e rest _ refl fine refl l1 t h1
+        (input-own l1 sized t (z .tallies-length) (sharedOf h) n b f k)
+        (p ∙ input-shared h (z .shared-length) n b f k (input-most n b f k fine))
+
+    -- a constants' format, whichever it is
+    constants-shared : (what : Stored) (at b f : ℕ) → KeptAt what at → length h ≡ 101 →
+        setBuffer h at (buffer b f 1) ≡ sharedCells (sharedAfter (command.Store what b f) (sharedOf h))
+    constants-shared stored.Instructions at b f a z = absurd a
+    constants-shared stored.Floats at b f a z = ap (λ (k : ℕ). setBuffer h k (buffer b f 1)) a ∙ floats-shared h z b f
+    constants-shared stored.Integers at b f a z = ap (λ (k : ℕ). setBuffer h k (buffer b f 1)) a ∙ integers-shared h z b f
+    constants-shared stored.Booleans at b f a z = ap (λ (k : ℕ). setBuffer h k (buffer b f 1)) a ∙ booleans-shared h z b f
+
+    constants-own : (what : Stored) (at b f : ℕ) → KeptAt what at → l1 ≡ stored-cells l1 sized what b f
+    constants-own stored.Instructions at b f a = absurd a
+    constants-own stored.Floats at b f a = own-floats l1 sized b f
+    constants-own stored.Integers at b f a = own-integers l1 sized b f
+    constants-own stored.Booleans at b f a = own-booleans l1 sized b f
+
+    pub constants-tried : (at b f : ℕ) → WindowFits b f 1 → h1 ≡ setBuffer h at (buffer b f 1) →
+        (what : Stored) → KeptAt what at →
+        SharedTried (command.Store what b f) (headerOf (storedLine what) ∷ b ∷ f ∷ []) m m l h l1 h1
+    unfolding wordsOf lineOf fieldsOf startRuleOf
+    constants-tried at b f w p what a t rest z =
+        tried (command.Store what b f) m l t h l1 e rest _ refl (store-fits b f w what) refl l1 t h1
+        (store-own l1 sized t (z .tallies-length) (sharedOf h) what b f (constants-own what at b f a))
+        (p ∙ constants-shared what at b f a (z .shared-length))
+
+    pub mask-tried : (n : ℕ) → n < 65536 → h1 ≡ set h 0 n → SharedTried (command.OutputMask n) (headerOf 18 ∷ n ∷ []) m m l h l1 h1
+    unfolding wordsOf lineOf fieldsOf startRuleOf
+    mask-tried n k p t rest z =
+        tried (command.OutputMask n) m l t h l1 e rest _ refl (mask-fits n k) refl l1 t h1
+        (mask-own l1 sized t (z .tallies-length) (sharedOf h) n) (p ∙ mask-shared h (z .shared-length) n)
+
+    pub conditional-mask-tried : (n : ℕ) → n < 2 → h1 ≡ set (set h 1 1) 2 n →
+        SharedTried (command.ConditionalMask n) (headerOf 19 ∷ n ∷ []) m m l h l1 h1
+    unfolding wordsOf lineOf fieldsOf startRuleOf
+    conditional-mask-tried n k p t rest z =
+        tried (command.ConditionalMask n) m l t h l1 e rest _ refl (conditional-mask-fits n k) refl l1 t h1
+        (conditional-mask-own l1 sized t (z .tallies-length) (sharedOf h) n) (p ∙ conditional-mask-shared h (z .shared-length) n)
+
+    pub test-tried : (n : ℕ) → n < 8 → h1 ≡ set (set h 3 1) 4 n → SharedTried (command.Test n) (headerOf 20 ∷ n ∷ []) m m l h l1 h1
+    unfolding wordsOf lineOf fieldsOf startRuleOf
+    test-tried n k p t rest z =
+        tried (command.Test n) m l t h l1 e rest _ refl (test-fits n k) refl l1 t h1
+        (test-own l1 sized t (z .tallies-length) (sharedOf h) n) (p ∙ test-shared h (z .shared-length) n)
+
+  -- a start, where the settings let it pass
+  module _ (t h : List ℕ) (a : OwnAsked l t h) where
+    pub start-asked : OwnAsked l1 t h
+    unfolding partyOf partyCells
+    start-asked =
+        rw e
+        (record {
+          sized =
+              record {
+                own-length = refl;
+                tallies-length = a .sized .tallies-length;
+                shared-length = a .sized .shared-length;
+              };
+          domain = a .domain;
+          runs = a .runs;
+          claims = a .claims;
+        })
+
+    pub start-tried : (n : ℕ) → n ≡ 0 → (r : Told) → r ≡ readyOf (partyOf l [] .domain) (partyOf l [] .instructions) (sharedOf h .mask) (sharedOf h .outputs) →
+        r ≡ gives [] → (t1 : List ℕ) → t1 ≡ tallyCells (ownAfter command.Start (sharedOf h) (partyOf l1 t)) →
+        (rest : List ℕ) → Tried command.Start (headerOf 1 ∷ n ∷ rest) m l t h m l1 t1 h
+    unfolding wordsOf lineOf fieldsOf startRuleOf partyOf
+    start-tried n none r told fine t1 e1 rest =
+        tried command.Start m l t h l1 e rest _ (ap {B = List ℕ} (λ (x : ℕ). headerOf 1 ∷ x ∷ rest) none) start-fits
+        (sym told ∙ fine) l1 t1 h
+        (start-own l1 sized t (a .sized .tallies-length) (sharedOf h) e1)
+        (start-shared h (a .sized .shared-length))
+
+-- by the line of the table
+module _ {l t h : List ℕ} (y : Ready l t h) where
+  pub roomy : (n : ℕ) → n ≤ 5 → Roomy n l
+  unfolding partyOf
+  roomy n k = record { own-length = y .given .sized .own-length; room = omega (arith, y .room, k) }
+
+  pub own-asked : OwnAsked l t h
+  own-asked =
+      record {
+        sized = y .given .sized;
+        domain = y .given .valid .domain;
+        runs = omega (arith, y .given .valid .tally, y .given .valid .full);
+        claims = omega (arith, y .given .valid .tally, y .given .valid .full);
+      }
+
+quiet-command : (what : NoEffect) (p0 p1 p2 p3 : ℕ) → commandOf (noEffectLine what) p0 p1 p2 p3 ≡ command.Quiet what
+unfolding commandOf noEffectLine
+quiet-command quiet.Wait p0 p1 p2 p3 = refl
+quiet-command quiet.InvalidateInstructions p0 p1 p2 p3 = refl
+quiet-command quiet.InvalidateFloats p0 p1 p2 p3 = refl
+quiet-command quiet.InvalidateIntegers p0 p1 p2 p3 = refl
+quiet-command quiet.InvalidateBooleans p0 p1 p2 p3 = refl
+quiet-command quiet.InvalidateConditional p0 p1 p2 p3 = refl
+quiet-command quiet.InvalidateInputs p0 p1 p2 p3 = refl
+quiet-command quiet.FlushOutputs p0 p1 p2 p3 = refl
+quiet-command quiet.FlushConditional p0 p1 p2 p3 = refl
+
+module _ (p0 p1 p2 p3 : ℕ) (rest l t h : List ℕ) (k : ℕ) (l1 t1 h1 : List ℕ) where
+  abbrev Attempt : Command → ℕ → ℕ → Type 0
+  Attempt c line words = Tried c (headerOf line ∷ p0 ∷ p1 ∷ p2 ∷ p3 ∷ rest) words l t h k l1 t1 h1
+
+  abbrev of : ℕ → Command
+  of line = commandOf line p0 p1 p2 p3
+
+  pub at-last : (m n words : ℕ) → m ≡ n → Attempt (of n) n words → Attempt (of m) m words
+  at-last m n words e q = subst (λ (x : ℕ). Attempt (of x) x words) (sym e) q
+
+  pub at-line : (m n : ℕ) → m ≡ n → Attempt (of n) n (length (wordsOf (of n))) → Attempt (of m) m (length (wordsOf (of m)))
+  at-line m n e q = subst (λ (x : ℕ). Attempt (of x) x (length (wordsOf (of x)))) (sym e) q
+
+  pub quiet-last : (what : NoEffect) (words : ℕ) → Attempt (command.Quiet what) (noEffectLine what) words →
+      Attempt (of (noEffectLine what)) (noEffectLine what) words
+  quiet-last what words q = subst (λ (c : Command). Attempt c (noEffectLine what) words) (sym (quiet-command what p0 p1 p2 p3)) q
+
+  pub quiet-whole : (what : NoEffect) → Attempt (command.Quiet what) (noEffectLine what) 2 →
+      Attempt (of (noEffectLine what)) (noEffectLine what) (length (wordsOf (of (noEffectLine what))))
+  unfolding wordsOf fieldsOf
+  quiet-whole what q =
+      subst (λ (c : Command). Attempt c (noEffectLine what) (length (wordsOf c))) (sym (quiet-command what p0 p1 p2 p3)) q
+
+-- the commands without effect, at their lines
+unfoldable pub quietAt : ℕ → NoEffect
+quietAt line =
+    getD
+    (quiet.Wait ∷
+    quiet.Wait ∷
+    quiet.Wait ∷
+    quiet.Wait ∷
+    quiet.Wait ∷
+    quiet.Wait ∷
+    quiet.Wait ∷
+    quiet.Wait ∷
+    quiet.Wait ∷
+    quiet.Wait ∷
+    quiet.InvalidateInstructions ∷
+    quiet.InvalidateFloats ∷
+    quiet.InvalidateIntegers ∷
+    quiet.InvalidateBooleans ∷
+    quiet.InvalidateConditional ∷
+    quiet.InvalidateInputs ∷
+    quiet.FlushOutputs ∷
+    quiet.FlushConditional ∷
+    [])
+    line quiet.Wait
+
+isQuiet : ℕ → Bool
+isQuiet line = eqb line (noEffectLine (quietAt line))
+
+pub quiet-line : (line : ℕ) → line < 21 → NoneOf Unit (0 ∷ 1 ∷ 3 ∷ 4 ∷ 5 ∷ 6 ∷ 7 ∷ 8 ∷ 9 ∷ 18 ∷ 19 ∷ 20 ∷ []) line →
+    line ≡ noEffectLine (quietAt line)
+unfolding isQuiet quietAt noEffectLine everyBelow namedOr placeOf pick _and_
+quiet-line line h r =
+    eqb-true line (noEffectLine (quietAt line))
+    (otherwise isQuiet (0 ∷ 1 ∷ 3 ∷ 4 ∷ 5 ∷ 6 ∷ 7 ∷ 8 ∷ 9 ∷ 18 ∷ 19 ∷ 20 ∷ []) 21 refl line h r)
+
+-- the words of a piece from a place on
+five-words : (ws : List ℕ) (i : ℕ) → i + 5 ≤ length ws →
+    drop i ws ≡ getD ws i 0 ∷ getD ws (i + 1) 0 ∷ getD ws (i + 2) 0 ∷ getD ws (i + 3) 0 ∷ getD ws (i + 4) 0 ∷ drop (i + 5) ws
+five-words ws i h =
+    next i (i + 1) (omega arith) (omega arith) ∙
+    ap {B = List ℕ} (λ (r : List ℕ). getD ws i 0 ∷ r)
+    (next (i + 1) (i + 2) (omega arith) (omega arith) ∙
+    ap {B = List ℕ} (λ (r : List ℕ). getD ws (i + 1) 0 ∷ r)
+    (next (i + 2) (i + 3) (omega arith) (omega arith) ∙
+    ap {B = List ℕ} (λ (r : List ℕ). getD ws (i + 2) 0 ∷ r)
+    (next (i + 3) (i + 4) (omega arith) (omega arith) ∙
+    ap {B = List ℕ} (λ (r : List ℕ). getD ws (i + 3) 0 ∷ r) (next (i + 4) (i + 5) (omega arith) (omega arith)))))
+  where
+    next : (k m : ℕ) → m ≡ k + 1 → k < length ws → drop k ws ≡ getD ws k 0 ∷ drop m ws
+    next k m e less =
+        drop-cons ws k 0 less ∙ ap {B = List ℕ} (λ (n : ℕ). getD ws k 0 ∷ drop n ws) (sym (e ∙ add-one k))
+
+module _ (l t h : List ℕ) (g : Given l t h) where
+  pub ready : (getD l 0 0 ≡ 1 → ⊥) → getD l 2 0 ≡ 21 → getD l 1 0 ≤ 999999995 → Ready l t h
+  unfolding partyOf
+  ready n e k =
+      record {
+        given = g;
+        idle = record { unstopped = omega (arith, n, g .valid .flag); unopened = g .valid .closed e };
+        room = omega (arith, k);
+      }
+
+  pub piece-tried : (ws : List ℕ) (i : ℕ) → 5 ≤ length ws - i → i < length ws → Ready l t h → (line : ℕ) → lineWith (getD ws i 0) ≡ gives (line ∷ []) →
+      (k : ℕ) (l1 t1 h1 : List ℕ) (c : Command) →
+      ((rest : List ℕ) →
+      Tried c (headerOf line ∷ getD ws (i + 1) 0 ∷ getD ws (i + 2) 0 ∷ getD ws (i + 3) 0 ∷ getD ws (i + 4) 0 ∷ rest) (length (wordsOf c)) l t h k l1 t1 h1) →
+      Begun (drop i ws) l t h k l1 t1 h1
+  piece-tried ws i left less y line e k l1 t1 h1 c q =
+      begun c k l1 t1 h1 y
+      (subst (λ (x : List ℕ). Tried c x (length (wordsOf c)) l t h k l1 t1 h1)
+      (ap {B = List ℕ} (λ (w : ℕ). w ∷ getD ws (i + 1) 0 ∷ getD ws (i + 2) 0 ∷ getD ws (i + 3) 0 ∷ getD ws (i + 4) 0 ∷ drop (i + 5) ws)
+      (accepted-stands (getD ws i 0) line e .header) ∙
+      sym (five-words ws i (omega arith)))
+      (q (drop (i + 5) ws)))

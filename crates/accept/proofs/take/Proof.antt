@@ -1,0 +1,129 @@
+-- `accept::take` meets its contract. Assumes nothing.
+use mathlib.Core.Path.{sym, ap, _∙_}
+use Rattle.command.specs.Table.{toldLine}
+use Rattle.command.proofs.Headers.{accepted-stands}
+use Rattle.accept.specs.Whole.{unbegun}
+use Rattle.accept.proofs.WholeCommands.{ready, piece-tried}
+use borrow.Author.Needs.{needs}
+use Rattle.accept.proofs.take.Statement.{statement}
+use Rattle.accept.proofs.take.Tie as tie
+
+sub-if1 : tie.Need-sub-if1
+sub-if1 c = search needs
+
+returns : tie.Need-returns
+returns c = unbegun
+
+element-copy-out-if2 : tie.Need-element-copy-out-if2
+element-copy-out-if2 c = search needs
+
+returns-2 : tie.Need-returns-2
+returns-2 c = unbegun
+
+element-copy-out-if3 : tie.Need-element-copy-out-if3
+element-copy-out-if3 c = search needs
+
+returns-3 : tie.Need-returns-3
+returns-3 c = unbegun
+
+element-copy-out-if4 : tie.Need-element-copy-out-if4
+element-copy-out-if4 c = search needs
+
+returns-4 : tie.Need-returns-4
+returns-4 c = unbegun
+
+mul-line-of : tie.Need-mul-line-of
+mul-line-of c = search needs
+
+shared-slice-read-line-of : tie.Need-shared-slice-read-line-of
+shared-slice-read-line-of c = search needs
+
+line-of-requires : tie.Need-line-of-requires
+line-of-requires c κs = search needs
+
+enum-told : tie.Need-enum-told
+enum-told c = search needs
+
+enum-known-line : tie.Need-enum-known-line
+enum-known-line c = search needs
+
+add-take-line : tie.Need-add-take-line
+add-take-line c = search needs
+
+mul-take-line : tie.Need-mul-take-line
+mul-take-line c = search needs
+
+shared-slice-read-take-line : tie.Need-shared-slice-read-take-line
+shared-slice-read-take-line c = search needs
+
+add-take-line-2 : tie.Need-add-take-line-2
+add-take-line-2 c = search needs
+
+mul-take-line-2 : tie.Need-mul-take-line-2
+mul-take-line-2 c = search needs
+
+shared-slice-read-take-line-2 : tie.Need-shared-slice-read-take-line-2
+shared-slice-read-take-line-2 c = search needs
+
+add-take-line-3 : tie.Need-add-take-line-3
+add-take-line-3 c = search needs
+
+mul-take-line-3 : tie.Need-mul-take-line-3
+mul-take-line-3 c = search needs
+
+shared-slice-read-take-line-3 : tie.Need-shared-slice-read-take-line-3
+shared-slice-read-take-line-3 c = search needs
+
+add-take-line-4 : tie.Need-add-take-line-4
+add-take-line-4 c = search needs
+
+mul-take-line-4 : tie.Need-mul-take-line-4
+mul-take-line-4 c = search needs
+
+shared-slice-read-take-line-4 : tie.Need-shared-slice-read-take-line-4
+shared-slice-read-take-line-4 c = search needs
+
+take-line-requires : tie.Need-take-line-requires
+take-line-requires c κs = (
+  accepted-stands _ _ (sym (c .before .before .before .before .before .before .before .before .before .before .line-of .ensures) ∙ ap toldLine (c .before .before .before .before .before .before .before .before .line .given .1)) .line,
+  ready _ _ _ (c .before .before .before .before .before .before .before .before .before .before .before .before .before .before .before .before .before .before .before .before .pre .0) (c .before .before .before .before .before .before .before .before .before .before .before .before .before .before .before .before .if2 .left) (c .before .before .before .before .before .before .before .before .before .before .before .before .before .before .if3 .left) (c .before .before .before .before .before .before .before .before .before .before .before .before .if4 .left),
+)
+
+returns-5 : tie.Need-returns-5
+returns-5 c = unbegun
+
+returns-6 : tie.Need-returns-6
+returns-6 c = piece-tried (c .before .before .before .before .before .before .before .before .before .before .before .before .before .before .before .before .before .before .before .before .before .args .own .now) (c .before .before .before .before .before .before .before .before .before .before .before .before .before .before .before .before .before .before .before .before .before .args .tallies .now) (c .before .before .before .before .before .before .before .before .before .before .before .before .before .before .before .before .before .before .before .before .before .args .shared .now) (c .before .before .before .before .before .before .before .before .before .before .before .before .before .before .before .before .before .before .before .before .before .pre .0) _ _ (c .before .before .before .before .before .before .before .before .before .before .before .before .before .before .before .before .before .before .before .if1 .left) (c .before .before .before .before .before .before .before .before .before .before .before .before .before .before .before .before .before .before .before .before .before .pre .1) (ready _ _ _ (c .before .before .before .before .before .before .before .before .before .before .before .before .before .before .before .before .before .before .before .before .before .pre .0) (c .before .before .before .before .before .before .before .before .before .before .before .before .before .before .before .before .before .if2 .left) (c .before .before .before .before .before .before .before .before .before .before .before .before .before .before .before .if3 .left) (c .before .before .before .before .before .before .before .before .before .before .before .before .before .if4 .left)) _ (sym (c .before .before .before .before .before .before .before .before .before .before .before .line-of .ensures) ∙ ap toldLine (c .before .before .before .before .before .before .before .before .before .line .given .1)) _ _ _ _ _ (c .take-line .ensures)
+
+pub take-spec : {M : Type 1} → statement M
+take-spec =
+    tie.close
+    (tie.spec
+    sub-if1
+    returns
+    element-copy-out-if2
+    returns-2
+    element-copy-out-if3
+    returns-3
+    element-copy-out-if4
+    returns-4
+    mul-line-of
+    shared-slice-read-line-of
+    line-of-requires
+    enum-told
+    enum-known-line
+    add-take-line
+    mul-take-line
+    shared-slice-read-take-line
+    add-take-line-2
+    mul-take-line-2
+    shared-slice-read-take-line-2
+    add-take-line-3
+    mul-take-line-3
+    shared-slice-read-take-line-3
+    add-take-line-4
+    mul-take-line-4
+    shared-slice-read-take-line-4
+    take-line-requires
+    returns-5
+    returns-6)

@@ -1,0 +1,30 @@
+-- `accept::take_input` meets its contract. Assumes nothing.
+use Rattle.accept.specs.Whole.{untaken}
+use Rattle.accept.proofs.WholeCommands.{input-place, input-tried}
+use borrow.Author.Needs.{needs}
+use Rattle.accept.proofs.take_input.Statement.{statement}
+use Rattle.accept.proofs.take_input.Tie as tie
+
+input-requires : tie.Need-input-requires
+input-requires c κs = search needs
+
+count-words-requires : tie.Need-count-words-requires
+count-words-requires c κs = search needs
+
+mul-put : tie.Need-mul-put
+mul-put c = search needs
+
+add-put : tie.Need-add-put
+add-put c = search needs
+
+put-requires : tie.Need-put-requires
+put-requires c κs = (c .before .before .before .before .before .pre .1, input-place _ _ _ _ (c .before .before .before .before .input .ensures (c .before .before .before .if1 .taken)))
+
+returns : tie.Need-returns
+returns c = input-tried _ _ _ (c .before .before .count-words .ensures) _ _ _ _ _ _ (c .before .before .before .before .before .input .ensures (c .before .before .before .before .if1 .taken)) (c .put .ensures)
+
+returns-2 : tie.Need-returns-2
+returns-2 c t rest z = untaken
+
+pub take-input-spec : {M : Type 1} → statement M
+take-input-spec = tie.close (tie.spec input-requires count-words-requires mul-put add-put put-requires returns returns-2)

@@ -1,0 +1,67 @@
+-- What taking a command whole asks of the cells, and what it leaves in them. Assumes nothing.
+use mathlib.Core.Path.{_≡_}
+use mathlib.Core.List.{List, [], _∷_, _++_}
+use Prim.Native.Nat.{ℕ, _+_, _≤_}
+use lib.ListN.{length}
+use Rattle.refusal.specs.Told.{gives}
+use Rattle.command.specs.Table.{headerOf}
+use Rattle.command.specs.Commands.{wordsOf, commandOf}
+use Rattle.command.specs.Writer.{judgeCommandOf}
+use Rattle.command.specs.declared.commands.Stored.{Stored}
+use Rattle.command.specs.declared.commands.Stored.the-variants as stored
+use Rattle.command.specs.declared.commands.Command.{Command}
+use Rattle.state.specs.Effects.{limit, after}
+use Rattle.start.specs.Rules.{startRuleOf}
+use Rattle.accept.specs.Standing.{Idle, standing}
+use Rattle.state.specs.Asked.{Given, Held}
+use Rattle.state.specs.Cells.{Sized, partyOf, sessionOf}
+
+-- own cells with room for so many words more
+pub record Roomy (words : ℕ) (own : List ℕ) : Type 0 where
+  pub own-length : length own ≡ 17
+  pub room : partyOf own [] .taken + words ≤ limit
+
+-- a valid session that takes words, without an open command, with room for the words of any command
+pub record Ready (own tallies shared : List ℕ) : Type 0 where
+  pub given : Given own tallies shared
+  pub idle : Idle (sessionOf own tallies shared)
+  pub room : partyOf own tallies .taken + 5 ≤ limit
+
+-- an attempt at a command whose words a list begins with: it was accepted and so many words counted, or 0 is told and nothing was
+-- changed
+pub data Tried (c : Command) (ws : List ℕ) (words : ℕ) (own tallies shared : List ℕ) : ℕ → List ℕ → List ℕ → List ℕ → Type 0 where
+  untaken : Tried c ws words own tallies shared 0 own tallies shared
+  accepted :
+      (rest own1 tallies1 shared1 : List ℕ) → ws ≡ wordsOf c ++ rest → judgeCommandOf c ≡ gives [] →
+      startRuleOf c (sessionOf own tallies shared) ≡ gives [] →
+      Held (standing (after c (sessionOf own tallies shared)) (partyOf own tallies .taken + words) (partyOf own tallies .opened)) own1 tallies1 shared1 →
+      Tried c ws words own tallies shared words own1 tallies1 shared1
+
+-- the same of a command that changes own cells alone, and of one that changes own and shared cells
+abbrev pub OwnTried : Command → List ℕ → ℕ → ℕ → List ℕ → List ℕ → Type 0
+OwnTried c ws words n own own1 =
+    (tallies shared rest : List ℕ) → Sized own tallies shared → Tried c (ws ++ rest) words own tallies shared n own1 tallies shared
+
+abbrev pub SharedTried : Command → List ℕ → ℕ → ℕ → List ℕ → List ℕ → List ℕ → List ℕ → Type 0
+SharedTried c ws words n own shared own1 shared1 =
+    (tallies rest : List ℕ) → Sized own tallies shared → Tried c (ws ++ rest) words own tallies shared n own1 tallies shared1
+
+-- an attempt at the command of a line with these parameters
+abbrev pub LineTried : ℕ → ℕ → ℕ → ℕ → ℕ → ℕ → List ℕ → List ℕ → List ℕ → ℕ → List ℕ → List ℕ → List ℕ → Type 0
+LineTried line p0 p1 p2 p3 words own tallies shared n own1 tallies1 shared1 =
+    (rest : List ℕ) →
+    Tried (commandOf line p0 p1 p2 p3) (headerOf line ∷ p0 ∷ p1 ∷ p2 ∷ p3 ∷ rest) words own tallies shared n own1 tallies1 shared1
+
+-- words that begin with a command which was taken whole, with all its words; or 0, and nothing was changed
+pub data Begun (ws own tallies shared : List ℕ) : ℕ → List ℕ → List ℕ → List ℕ → Type 0 where
+  begun :
+      (c : Command) (n : ℕ) (own1 tallies1 shared1 : List ℕ) → Ready own tallies shared →
+      Tried c ws (length (wordsOf c)) own tallies shared n own1 tallies1 shared1 → Begun ws own tallies shared n own1 tallies1 shared1
+  unbegun : Begun ws own tallies shared 0 own tallies shared
+
+-- the place of each constants' format
+abbrev pub KeptAt : Stored → ℕ → Type 0
+KeptAt stored.Instructions at = ⊥
+KeptAt stored.Floats at = at ≡ 5
+KeptAt stored.Integers at = at ≡ 9
+KeptAt stored.Booleans at = at ≡ 13

@@ -1,0 +1,325 @@
+// Commands judged by the tests of their lines alone and taken at once: all the words of one that lies whole inside a piece,
+// or the last word of an open one. A command that isn't accepted so changes nothing here: it is then read the way that finds
+// its refusal. Each routine is told how many words to count, and answers them where it took the command, else 0.
+use command::kinds::Checked;
+use command::table;
+use command::table::Line;
+use rules::fits;
+use start::accept;
+use start::start;
+use state::own;
+use state::settings;
+ghost use mathlib.Core.Path.{_≡_};
+ghost use mathlib.Core.List.{List, [], _∷_};
+ghost use Prim.Native.Nat.{ℕ, _<_};
+ghost use lib.ListN.{length, drop};
+ghost use Rattle.command.specs.Table.{headerOf};
+ghost use Rattle.command.specs.Commands.{commandOf, noEffectLine, storedLine, wordsOf};
+ghost use Rattle.command.specs.declared.commands.NoEffect.{NoEffect};
+ghost use Rattle.command.specs.declared.commands.Stored.{Stored};
+ghost use Rattle.command.specs.declared.commands.Command.{Command};
+ghost use Rattle.state.specs.Asked.{Given, OwnAsked};
+ghost use Rattle.accept.specs.Whole.{Begun, KeptAt, LineTried, OwnTried, Ready, Roomy, SharedTried, Tried};
+
+// The most words that a command has, and the words taken at which there is room for so many.
+const MOST_WORDS: usize = 5;
+
+const LAST_ROOM: u32 = 999999995;
+
+fn take_domain(own: &mut [u32; 17], words: u32, i0: u32, j0: u32, i1: u32, j1: u32) -> u32
+    requires { ⌜ Roomy words (now own) ⌝ }
+    ensures { λ r. ⌜ OwnTried (Command.Domain i0 j0 i1 j1) (headerOf 0 ∷ i0 ∷ j0 ∷ i1 ∷ j1 ∷ []) words r (now (own .entry)) (now (own .exit)) ⌝ }
+{
+    if fits::domain(i0, j0, i1, j1) {
+        own::count_words(own, words);
+        own::set_domain(own, i0, j0, i1, j1);
+        words
+    } else {
+        0
+    }
+}
+
+fn take_start(
+    own: &mut [u32; 17],
+    tallies: &mut [u64; 2],
+    shared: &[u32; 101],
+    words: u32,
+    reserved: u32,
+) -> u32
+    requires { ⌜ Roomy words (now own) × OwnAsked (now own) (now tallies) (now shared) ⌝ }
+    ensures { λ r. ⌜ ((rest : List ℕ) → Tried Command.Start (headerOf 1 ∷ reserved ∷ rest) words (now (own .entry)) (now (tallies .entry)) (now (shared .entry)) r (now (own .exit)) (now (tallies .exit)) (now (shared .entry))) ⌝ }
+{
+    if reserved != 0 {
+        return 0;
+    }
+    let rule = start::ready(own, shared);
+    let Checked::Fine = rule else {
+        return 0;
+    };
+    own::count_words(own, words);
+    accept::count_start(own, tallies, shared);
+    words
+}
+
+fn take_quiet(own: &mut [u32; 17], words: u32, reserved: u32) -> u32
+    requires { ⌜ Roomy words (now own) ⌝ }
+    ensures { λ r. ⌜ ((what : NoEffect) → OwnTried (Command.Quiet what) (headerOf (noEffectLine what) ∷ reserved ∷ []) words r (now (own .entry)) (now (own .exit))) ⌝ }
+{
+    if reserved == 0 {
+        own::count_words(own, words);
+        words
+    } else {
+        0
+    }
+}
+
+fn take_instructions(own: &mut [u32; 17], words: u32, base: u32, format: u32) -> u32
+    requires { ⌜ Roomy words (now own) ⌝ }
+    ensures { λ r. ⌜ OwnTried (Command.Store Stored.Instructions base format) (headerOf 3 ∷ base ∷ format ∷ []) words r (now (own .entry)) (now (own .exit)) ⌝ }
+{
+    if fits::window(base, format, 1) {
+        own::count_words(own, words);
+        own::set_instructions(own, base, format);
+        words
+    } else {
+        0
+    }
+}
+
+// A format of constants, to its place.
+fn take_constants(
+    own: &mut [u32; 17],
+    shared: &mut [u32; 101],
+    words: u32,
+    at: usize,
+    base: u32,
+    format: u32,
+) -> u32
+    requires { ⌜ Roomy words (now own) × ((length (now shared) ≡ 101) × (at < 98)) ⌝ }
+    ensures { λ r. ⌜ ((what : Stored) → KeptAt what at → SharedTried (Command.Store what base format) (headerOf (storedLine what) ∷ base ∷ format ∷ []) words r (now (own .entry)) (now (shared .entry)) (now (own .exit)) (now (shared .exit))) ⌝ }
+{
+    if fits::window(base, format, 1) {
+        own::count_words(own, words);
+        settings::put(shared, at, base, format, 1);
+        words
+    } else {
+        0
+    }
+}
+
+fn take_input(
+    own: &mut [u32; 17],
+    shared: &mut [u32; 101],
+    words: u32,
+    number: u32,
+    base: u32,
+    format: u32,
+    height: u32,
+) -> u32
+    requires { ⌜ Roomy words (now own) × (length (now shared) ≡ 101) ⌝ }
+    ensures { λ r. ⌜ SharedTried (Command.Input number base format height) (headerOf 4 ∷ number ∷ base ∷ format ∷ height ∷ []) words r (now (own .entry)) (now (shared .entry)) (now (own .exit)) (now (shared .exit)) ⌝ }
+{
+    if fits::input(number, base, format, height) {
+        own::count_words(own, words);
+        settings::put(
+            shared,
+            settings::INPUTS + 4 * number as usize,
+            base,
+            format,
+            height,
+        );
+        words
+    } else {
+        0
+    }
+}
+
+fn take_output(
+    own: &mut [u32; 17],
+    shared: &mut [u32; 101],
+    words: u32,
+    number: u32,
+    base: u32,
+    format: u32,
+    height: u32,
+) -> u32
+    requires { ⌜ Roomy words (now own) × (length (now shared) ≡ 101) ⌝ }
+    ensures { λ r. ⌜ SharedTried (Command.Output number base format height) (headerOf 5 ∷ number ∷ base ∷ format ∷ height ∷ []) words r (now (own .entry)) (now (shared .entry)) (now (own .exit)) (now (shared .exit)) ⌝ }
+{
+    if fits::output(number, base, format, height) {
+        own::count_words(own, words);
+        settings::put(
+            shared,
+            settings::OUTPUTS + 4 * number as usize,
+            base,
+            format,
+            height,
+        );
+        words
+    } else {
+        0
+    }
+}
+
+fn take_conditional(
+    own: &mut [u32; 17],
+    shared: &mut [u32; 101],
+    words: u32,
+    base: u32,
+    format: u32,
+    height: u32,
+) -> u32
+    requires { ⌜ Roomy words (now own) × (length (now shared) ≡ 101) ⌝ }
+    ensures { λ r. ⌜ SharedTried (Command.Conditional base format height) (headerOf 6 ∷ base ∷ format ∷ height ∷ []) words r (now (own .entry)) (now (shared .entry)) (now (own .exit)) (now (shared .exit)) ⌝ }
+{
+    if fits::window(base, format, height) {
+        own::count_words(own, words);
+        settings::put(shared, settings::CONDITIONAL, base, format, height);
+        words
+    } else {
+        0
+    }
+}
+
+fn take_mask(own: &mut [u32; 17], shared: &mut [u32; 101], words: u32, mask: u32) -> u32
+    requires { ⌜ Roomy words (now own) × (length (now shared) ≡ 101) ⌝ }
+    ensures { λ r. ⌜ SharedTried (Command.OutputMask mask) (headerOf 18 ∷ mask ∷ []) words r (now (own .entry)) (now (shared .entry)) (now (own .exit)) (now (shared .exit)) ⌝ }
+{
+    if mask < 65536 {
+        own::count_words(own, words);
+        shared[settings::MASK] = mask;
+        words
+    } else {
+        0
+    }
+}
+
+fn take_conditional_mask(own: &mut [u32; 17], shared: &mut [u32; 101], words: u32, mask: u32) -> u32
+    requires { ⌜ Roomy words (now own) × (length (now shared) ≡ 101) ⌝ }
+    ensures { λ r. ⌜ SharedTried (Command.ConditionalMask mask) (headerOf 19 ∷ mask ∷ []) words r (now (own .entry)) (now (shared .entry)) (now (own .exit)) (now (shared .exit)) ⌝ }
+{
+    if mask < 2 {
+        own::count_words(own, words);
+        shared[settings::CONDITIONAL_MASK_SET] = 1;
+        shared[settings::CONDITIONAL_MASK] = mask;
+        words
+    } else {
+        0
+    }
+}
+
+fn take_test(own: &mut [u32; 17], shared: &mut [u32; 101], words: u32, test: u32) -> u32
+    requires { ⌜ Roomy words (now own) × (length (now shared) ≡ 101) ⌝ }
+    ensures { λ r. ⌜ SharedTried (Command.Test test) (headerOf 20 ∷ test ∷ []) words r (now (own .entry)) (now (shared .entry)) (now (own .exit)) (now (shared .exit)) ⌝ }
+{
+    if test < 8 {
+        own::count_words(own, words);
+        shared[settings::TEST_SET] = 1;
+        shared[settings::TEST] = test;
+        words
+    } else {
+        0
+    }
+}
+
+// The command of a line, with its parameters in the first of the four words; the lines that aren't named have no effect.
+fn take_line(
+    own: &mut [u32; 17],
+    tallies: &mut [u64; 2],
+    shared: &mut [u32; 101],
+    line: u32,
+    p0: u32,
+    p1: u32,
+    p2: u32,
+    p3: u32,
+) -> u32
+    requires { ⌜ (line < 21) × Ready (now own) (now tallies) (now shared) ⌝ }
+    ensures { λ r. ⌜ LineTried line p0 p1 p2 p3 (length (wordsOf (commandOf line p0 p1 p2 p3))) (now (own .entry)) (now (tallies .entry)) (now (shared .entry)) r (now (own .exit)) (now (tallies .exit)) (now (shared .exit)) ⌝ }
+{
+    match line {
+        0 => take_domain(own, 5, p0, p1, p2, p3),
+        1 => take_start(own, tallies, shared, 2, p0),
+        3 => take_instructions(own, 3, p0, p1),
+        4 => take_input(own, shared, 5, p0, p1, p2, p3),
+        5 => take_output(own, shared, 5, p0, p1, p2, p3),
+        6 => take_conditional(own, shared, 4, p0, p1, p2),
+        7 => take_constants(own, shared, 3, settings::FLOATS, p0, p1),
+        8 => take_constants(own, shared, 3, settings::INTEGERS, p0, p1),
+        9 => take_constants(own, shared, 3, settings::BOOLEANS, p0, p1),
+        18 => take_mask(own, shared, 2, p0),
+        19 => take_conditional_mask(own, shared, 2, p0),
+        20 => take_test(own, shared, 2, p0),
+        _ => take_quiet(own, 2, p0),
+    }
+}
+
+// The same where all words but the last were counted before. Each of the two has its numbers of words as constants: looked up
+// in a table, they would hold up the next word.
+pub fn take_last(
+    own: &mut [u32; 17],
+    tallies: &mut [u64; 2],
+    shared: &mut [u32; 101],
+    line: u32,
+    p0: u32,
+    p1: u32,
+    p2: u32,
+    p3: u32,
+) -> u32
+    requires { ⌜ (line < 21) × (Roomy 1 (now own) × OwnAsked (now own) (now tallies) (now shared)) ⌝ }
+    ensures { λ r. ⌜ LineTried line p0 p1 p2 p3 1 (now (own .entry)) (now (tallies .entry)) (now (shared .entry)) r (now (own .exit)) (now (tallies .exit)) (now (shared .exit)) ⌝ }
+{
+    match line {
+        0 => take_domain(own, 1, p0, p1, p2, p3),
+        1 => take_start(own, tallies, shared, 1, p0),
+        3 => take_instructions(own, 1, p0, p1),
+        4 => take_input(own, shared, 1, p0, p1, p2, p3),
+        5 => take_output(own, shared, 1, p0, p1, p2, p3),
+        6 => take_conditional(own, shared, 1, p0, p1, p2),
+        7 => take_constants(own, shared, 1, settings::FLOATS, p0, p1),
+        8 => take_constants(own, shared, 1, settings::INTEGERS, p0, p1),
+        9 => take_constants(own, shared, 1, settings::BOOLEANS, p0, p1),
+        18 => take_mask(own, shared, 1, p0),
+        19 => take_conditional_mask(own, shared, 1, p0),
+        20 => take_test(own, shared, 1, p0),
+        _ => take_quiet(own, 1, p0),
+    }
+}
+
+// The command that the words from a place on begin with, where the session can take it whole: no command is open, and the
+// longest command would fit the piece and the session.
+pub fn take(
+    own: &mut [u32; 17],
+    tallies: &mut [u64; 2],
+    shared: &mut [u32; 101],
+    words: &[u32],
+    at: usize,
+) -> u32
+    requires { ⌜ Given (now own) (now tallies) (now shared) × (at < length (now words)) ⌝ }
+    ensures { λ r. ⌜ Begun (drop at (now (words .entry))) (now (own .entry)) (now (tallies .entry)) (now (shared .entry)) r (now (own .exit)) (now (tallies .exit)) (now (shared .exit)) ⌝ }
+{
+    if words.len() - at < MOST_WORDS {
+        return 0;
+    }
+    if own[own::STOPPED] == 1 {
+        return 0;
+    }
+    if own[own::LINE] != own::NO_LINE {
+        return 0;
+    }
+    if LAST_ROOM < own[own::TAKEN] {
+        return 0;
+    }
+    match table::line_of(words[at]) {
+        Line::Unknown => 0,
+        Line::At(line) => take_line(
+            own,
+            tallies,
+            shared,
+            line,
+            words[at + 1],
+            words[at + 2],
+            words[at + 3],
+            words[at + 4],
+        ),
+    }
+}

@@ -1,0 +1,88 @@
+-- `log::stream::feed` meets its contract. Assumes nothing.
+use Rattle.log.proofs.Feeding.{Fold, fold-begins, fold-ends, fold-refused, fold-goes, fold-records, fold-same, asked}
+use Rattle.replay.specs.Cells.{replayIn}
+use Rattle.session.specs.declared.stream.First.the-variants.{Nothing}
+use borrow.Author.Needs.{needs}
+use lib.ListN.{length}
+use native.Mathlib.Omega.{arith}
+use Prim.Native.Nat.{_-_}
+use mathlib.Core.Path.{_≡_, refl}
+use Rattle.log.proofs.stream.feed.Statement.{statement}
+use Rattle.log.proofs.stream.feed.Tie as tie
+
+abbrev Inv-loop : tie.InvT-loop
+Inv-loop log₀ marks₀ own₀ tallies₀ shared₀ bytes i₀ refusal₀ log marks own tallies shared i refusal = Fold (replayIn log₀ marks₀ own₀ tallies₀ shared₀) bytes log marks own tallies shared i × (refusal ≡ Nothing)
+
+abbrev μ-loop : tie.MeasureT-loop
+μ-loop log₀ marks₀ own₀ tallies₀ shared₀ bytes i₀ refusal₀ log marks own tallies shared i refusal = length bytes - i
+
+loop-holds : tie.Need-loop-holds Inv-loop μ-loop
+loop-holds c = (fold-begins _ _ _ _ _ _ (c .before .pre), refl)
+
+take-records-requires : tie.Need-take-records-requires Inv-loop μ-loop
+take-records-requires c κs = (asked _ _ _ _ _ _ _ _ (c .before .before .before .before .before .loop .inv .0), c .before .before .before .before .before .loop .inv .0 .within)
+
+mul-i : tie.Need-mul-i Inv-loop μ-loop
+mul-i c = omega (arith, (fold-records _ _ _ _ _ _ _ _ (c .before .before .before .before .before .before .before .loop .inv .0) _ _ _ _ _ (c .if1 .taken) (c .before .take-records .ensures)) .within)
+
+add-i : tie.Need-add-i Inv-loop μ-loop
+add-i c = omega (arith, (fold-records _ _ _ _ _ _ _ _ (c .before .before .before .before .before .before .before .loop .inv .0) _ _ _ _ _ (c .if1 .taken) (c .before .take-records .ensures)) .within)
+
+loop-less : tie.Need-loop-less Inv-loop μ-loop
+loop-less c = omega (arith, c .if1 .taken, c .before .before .before .before .before .before .loop-test .taken)
+
+loop-again : tie.Need-loop-again Inv-loop μ-loop
+loop-again c = ((fold-records _ _ _ _ _ _ _ _ (c .before .before .before .before .before .before .before .loop .inv .0) _ _ _ _ _ (c .if1 .taken) (c .before .take-records .ensures)), c .before .before .before .before .before .before .before .loop .inv .1)
+
+shared-slice-read-wide : tie.Need-shared-slice-read-wide Inv-loop μ-loop
+shared-slice-read-wide c = search needs
+
+wide-requires : tie.Need-wide-requires Inv-loop μ-loop
+wide-requires c κs = search needs
+
+byte-requires : tie.Need-byte-requires Inv-loop μ-loop
+byte-requires c κs = ((fold-same _ _ _ _ _ _ _ _ (c .before .before .before .before .before .before .before .before .before .before .before .before .before .before .loop .inv .0) _ _ _ _ _ (c .before .before .before .before .before .before .before .if1 .left) (c .before .before .before .before .before .before .before .before .take-records .ensures)) .given, c .wide .ensures .1)
+
+enum-known-answer : tie.Need-enum-known-answer Inv-loop μ-loop
+enum-known-answer c = search needs
+
+enum-told : tie.Need-enum-told Inv-loop μ-loop
+enum-told c = search needs
+
+add-i-2 : tie.Need-add-i-2 Inv-loop μ-loop
+add-i-2 c = search needs
+
+loop-less-2 : tie.Need-loop-less-2 Inv-loop μ-loop
+loop-less-2 c = search needs
+
+loop-again-2 : tie.Need-loop-again-2 Inv-loop μ-loop
+loop-again-2 c = (fold-goes _ _ _ _ _ _ _ _ (fold-same _ _ _ _ _ _ _ _ (c .before .before .before .before .before .before .before .before .before .before .before .before .before .before .before .before .before .loop .inv .0) _ _ _ _ _ (c .before .before .before .before .before .before .before .before .before .before .if1 .left) (c .before .before .before .before .before .before .before .before .before .before .before .take-records .ensures)) (c .before .before .before .before .before .before .before .before .before .before .before .before .before .before .before .before .loop-test .taken) _ _ _ _ _ _ _ (c .before .before .before .wide .ensures .0) (c .before .before .before .wide .ensures .1) (c .enum-told .given .1) (c .before .before .byte .ensures), c .before .before .before .before .before .before .before .before .before .before .before .before .before .before .before .before .before .loop .inv .1)
+
+returns : tie.Need-returns Inv-loop μ-loop
+returns c = fold-ends _ _ _ _ _ _ _ _ (c .before .loop .inv .0) (c .loop-test .left) _ (c .before .loop .inv .1)
+
+returns-2 : tie.Need-returns-2 Inv-loop μ-loop
+returns-2 c = fold-refused _ _ _ _ _ _ _ _ (fold-same _ _ _ _ _ _ _ _ (c .before .before .before .before .before .before .before .before .before .before .before .before .before .before .before .before .before .before .loop .inv .0) _ _ _ _ _ (c .before .before .before .before .before .before .before .before .before .before .before .if1 .left) (c .before .before .before .before .before .before .before .before .before .before .before .before .take-records .ensures)) (c .before .before .before .before .before .before .before .before .before .before .before .before .before .before .before .before .before .loop-test .taken) _ _ _ _ _ _ _ _ (c .before .before .before .before .wide .ensures .0) (c .before .before .before .before .wide .ensures .1) (c .before .answer .given .1) (c .before .before .before .byte .ensures)
+
+pub feed-spec : {M : Type 1} → statement M
+feed-spec =
+    tie.close
+    (tie.spec
+    Inv-loop
+    μ-loop
+    loop-holds
+    take-records-requires
+    mul-i
+    add-i
+    loop-less
+    loop-again
+    shared-slice-read-wide
+    wide-requires
+    byte-requires
+    enum-known-answer
+    enum-told
+    add-i-2
+    loop-less-2
+    loop-again-2
+    returns
+    returns-2)

@@ -1,0 +1,262 @@
+// The bytes of a log, one by one and in pieces.
+use refusal::Refusal;
+use replay::bytes;
+use replay::bytes::Answer;
+use replay::own;
+use session::stream;
+use session::stream::First;
+ghost use mathlib.Core.Path.{_≡_};
+ghost use mathlib.Core.List.{[], _∷_};
+ghost use Prim.Native.Nat.{_<_, _≤_};
+ghost use lib.ListN.{length, drop};
+ghost use Rattle.refusal.specs.Number.{numberOf};
+ghost use Rattle.replay.specs.State.{newReplay};
+ghost use Rattle.log.specs.Bytes.{byteStep, openStep};
+ghost use Rattle.log.specs.Feed.{replayOf};
+ghost use Rattle.replay.specs.Cells.{LogGiven, LogHeld, replayIn};
+ghost use Rattle.replay.specs.Step.{StopNumber};
+ghost use Rattle.log.specs.Asked.{Became, Gathered, Grew, OpenAsked, PieceLeft, RecordsLeft, WordsAsked, WordsLeft};
+ghost use Rattle.replay.specs.Own.{replyOf};
+
+// Words of records that are fed to the session in one piece.
+const BATCH: usize = 128;
+
+// A place in a log, in bytes.
+pub struct BytePosition(pub u64);
+
+// A replay that has read nothing, over a new session.
+pub fn begin(
+    log: &mut [u32; 10],
+    marks: &mut [u64; 800],
+    own: &mut [u32; 17],
+    tallies: &mut [u64; 2],
+    shared: &mut [u32; 101],
+)
+    ensures { λ _. ⌜ LogHeld newReplay (now (log .exit)) (now (marks .exit)) (now (own .exit)) (now (tallies .exit)) (now (shared .exit)) ⌝ }
+{
+    stream::begin(own, tallies, shared);
+    *log = [0; 10];
+    *marks = [0; 800];
+}
+
+// Words of records, fed to the session in one piece. A refused one stops the session, so that later ones add nothing.
+fn take_words(
+    log: &mut [u32; 10],
+    own: &mut [u32; 17],
+    tallies: &mut [u64; 2],
+    shared: &mut [u32; 101],
+    words: &[u32],
+)
+    requires { ⌜ WordsAsked (now log) (now own) (now tallies) (now shared) ⌝ }
+    ensures { λ _. ⌜ WordsLeft (now (words .entry)) (now (log .entry)) (now (own .entry)) (now (tallies .entry)) (now (shared .entry)) (now (log .exit)) (now (own .exit)) (now (tallies .exit)) (now (shared .exit)) ⌝ }
+{
+    let piece = stream::feed(own, tallies, shared, words);
+    own::close(log);
+    let first = piece.refusal;
+    if let First::Refused(why) = first {
+        own::note(log, refusal::number(why))
+    }
+}
+
+// The word of a record that was read byte by byte.
+fn take_word(
+    log: &mut [u32; 10],
+    own: &mut [u32; 17],
+    tallies: &mut [u64; 2],
+    shared: &mut [u32; 101],
+    word: u32,
+)
+    requires { ⌜ WordsAsked (now log) (now own) (now tallies) (now shared) ⌝ }
+    ensures { λ _. ⌜ WordsLeft (word ∷ []) (now (log .entry)) (now (own .entry)) (now (tallies .entry)) (now (shared .entry)) (now (log .exit)) (now (own .exit)) (now (tallies .exit)) (now (shared .exit)) ⌝ }
+{
+    let answer = stream::word(own, tallies, shared, word);
+    own::close(log);
+    if let stream::Answer::Refused(why) = answer {
+        own::note(log, refusal::number(why))
+    }
+}
+
+// A byte of an open record; the fifth completes it.
+fn open_byte(
+    log: &mut [u32; 10],
+    marks: &mut [u64; 800],
+    own: &mut [u32; 17],
+    tallies: &mut [u64; 2],
+    shared: &mut [u32; 101],
+    byte: u32,
+) -> Answer
+    requires { ⌜ OpenAsked (now log) (now marks) (now own) (now tallies) (now shared) byte ⌝ }
+    ensures { λ r. ⌜ Became (openStep (replayIn (now (log .entry)) (now (marks .entry)) (now (own .entry)) (now (tallies .entry)) (now (shared .entry))) byte) (replyOf r) (now (log .exit)) (now (marks .exit)) (now (own .exit)) (now (tallies .exit)) (now (shared .exit)) ⌝ }
+{
+    let count = log[own::COUNT];
+    if count < 4 {
+        own::add(log, count, byte);
+        return Answer::Taken;
+    }
+    let value = bytes::number(log[own::LOW], log[own::SECOND], log[own::THIRD], byte);
+    if log[own::KIND] == 1 {
+        take_word(log, own, tallies, shared, value);
+        return Answer::Taken;
+    }
+    bytes::midnight(log, marks, tallies, value)
+}
+
+// A byte as a wider number.
+pub fn wide(byte: u8) -> u32
+    ensures { λ r. ⌜ (r ≡ byte) × (r < 256) ⌝ }
+{
+    byte as u32
+}
+
+// The refusal that stopped a replay.
+fn stop_cause(number: u32) -> Refusal
+    requires { ⌜ StopNumber number ⌝ }
+    ensures { λ r. ⌜ numberOf r ≡ number ⌝ }
+{
+    if number == own::BY_KIND {
+        Refusal::RecordKind
+    } else {
+        Refusal::MidnightDay
+    }
+}
+
+// One byte. A replay that was stopped answers the same number again.
+pub fn byte(
+    log: &mut [u32; 10],
+    marks: &mut [u64; 800],
+    own: &mut [u32; 17],
+    tallies: &mut [u64; 2],
+    shared: &mut [u32; 101],
+    byte: u32,
+) -> Answer
+    requires { ⌜ LogGiven (now log) (now marks) (now own) (now tallies) (now shared) × (byte < 256) ⌝ }
+    ensures { λ r. ⌜ Became (byteStep (replayIn (now (log .entry)) (now (marks .entry)) (now (own .entry)) (now (tallies .entry)) (now (shared .entry))) byte) (replyOf r) (now (log .exit)) (now (marks .exit)) (now (own .exit)) (now (tallies .exit)) (now (shared .exit)) ⌝ }
+{
+    let by = log[own::STOPPED_BY];
+    if by != 0 {
+        return Answer::Refused(stop_cause(by));
+    }
+    if log[own::COUNT] == 0 {
+        return bytes::kind_byte(log, byte);
+    }
+    open_byte(log, marks, own, tallies, shared, byte)
+}
+
+// The words of the records of kind 1 that lie whole in a piece from a place on, one after the other, as many as there is room
+// for; and how many they are.
+fn gather(bytes: &[u8], at: usize, words: &mut [u32; 128]) -> usize
+    requires { ⌜ (at ≤ length (now bytes)) × (length (now words) ≡ 128) ⌝ }
+    ensures { λ n. ⌜ Gathered (drop at (now (bytes .entry))) n (now (words .exit)) × (length (now (words .exit)) ≡ 128) ⌝ }
+{
+    let mut n: usize = 0;
+    while n < BATCH {
+        let i = at + 5 * n;
+        if bytes.len() - i < 5 {
+            return n;
+        }
+        if bytes[i] != 1 {
+            return n;
+        }
+        words[n] = bytes::number(
+            wide(bytes[i + 1]),
+            wide(bytes[i + 2]),
+            wide(bytes[i + 3]),
+            wide(bytes[i + 4]),
+        );
+        n = n + 1;
+    }
+    n
+}
+
+// Records of words that lie whole in a piece from a place on are read at once; how many they were. None where a record is
+// open or the replay stopped.
+fn take_records(
+    log: &mut [u32; 10],
+    own: &mut [u32; 17],
+    tallies: &mut [u64; 2],
+    shared: &mut [u32; 101],
+    bytes: &[u8],
+    at: usize,
+) -> usize
+    requires { ⌜ WordsAsked (now log) (now own) (now tallies) (now shared) × (at ≤ length (now bytes)) ⌝ }
+    ensures { λ n. ⌜ RecordsLeft (drop at (now (bytes .entry))) (now (log .entry)) (now (own .entry)) (now (tallies .entry)) (now (shared .entry)) n (now (log .exit)) (now (own .exit)) (now (tallies .exit)) (now (shared .exit)) ⌝ }
+{
+    if bytes.len() - at < 5 {
+        return 0;
+    }
+    if log[own::STOPPED_BY] != 0 {
+        return 0;
+    }
+    if log[own::COUNT] != 0 {
+        return 0;
+    }
+    let mut words: [u32; 128] = [0; 128];
+    let n = gather(bytes, at, &mut words);
+    if 0 < n {
+        take_words(log, own, tallies, shared, &words[..n]);
+    }
+    n
+}
+
+// Whether a byte only adds to a record, as its kind or inside its number; then it is added. The session isn't looked at, so that
+// a log that comes byte by byte is soon read.
+pub fn grows(log: &mut [u32; 10], byte: u32) -> bool
+    requires { ⌜ length (now log) ≡ 10 ⌝ }
+    ensures { λ r. ⌜ Grew byte (now (log .entry)) r (now (log .exit)) ⌝ }
+{
+    if log[own::STOPPED_BY] != 0 {
+        return false;
+    }
+    let count = log[own::COUNT];
+    if 3 < count {
+        return false;
+    }
+    if 0 < count {
+        own::add(log, count, byte);
+        return true;
+    }
+    if bytes::is_kind(byte) {
+        own::open(log, byte);
+        return true;
+    }
+    false
+}
+
+// What a piece is answered: the bytes taken, which is also the place of the refused byte if there is one; and the refusal.
+pub struct Fed {
+    pub taken: BytePosition,
+    pub refusal: First,
+}
+
+// A piece of bytes, one after another up to the first refused one; bytes after that aren't looked at.
+pub fn feed(
+    log: &mut [u32; 10],
+    marks: &mut [u64; 800],
+    own: &mut [u32; 17],
+    tallies: &mut [u64; 2],
+    shared: &mut [u32; 101],
+    bytes: &[u8],
+) -> Fed
+    requires { ⌜ LogGiven (now log) (now marks) (now own) (now tallies) (now shared) ⌝ }
+    ensures { λ r. ⌜ PieceLeft (replayOf (replayIn (now (log .entry)) (now (marks .entry)) (now (own .entry)) (now (tallies .entry)) (now (shared .entry))) (now (bytes .entry))) r (now (log .exit)) (now (marks .exit)) (now (own .exit)) (now (tallies .exit)) (now (shared .exit)) ⌝ }
+{
+    let mut i: usize = 0;
+    let mut refusal = First::Nothing;
+    while i < bytes.len() {
+        let records = take_records(log, own, tallies, shared, bytes, i);
+        if 0 < records {
+            i = i + 5 * records;
+            continue;
+        }
+        let answer = byte(log, marks, own, tallies, shared, wide(bytes[i]));
+        if let Answer::Refused(why) = answer {
+            refusal = First::Refused(why);
+            break;
+        }
+        i = i + 1;
+    }
+    Fed {
+        taken: BytePosition(i as u64),
+        refusal,
+    }
+}

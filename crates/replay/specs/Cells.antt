@@ -1,0 +1,71 @@
+-- Where a replay lies in the arrays that a caller lends: ten numbers of its own, the marks of 400 midnights, and its session's
+-- three arrays. Assumes nothing.
+use mathlib.Core.Path.{_≡_}
+use mathlib.Core.List.{List, [], _∷_}
+use Prim.Native.Nat.{ℕ, _+_, _≤_, _<_}
+use lib.ListN.{length, getD}
+use Rattle.state.specs.State.{Session}
+use Rattle.state.specs.Cells.{sessionOf, Sized}
+use Rattle.state.specs.Asked.{Held}
+use Rattle.state.specs.Valid as sessions
+use Rattle.replay.specs.State.{OpenRecord, Replay, noRecord, mostMidnights}
+use Rattle.replay.specs.Step.{StopNumber}
+use Rattle.replay.specs.Report.{beganWith, endedWith}
+
+abbrev pub openOf : List ℕ → OpenRecord
+openOf l = record { count = getD l 5 0; kind = getD l 6 0; low = getD l 7 0; second = getD l 8 0; third = getD l 9 0 }
+
+-- the replay of ten numbers, marks and a session
+unfoldable pub viewed : List ℕ → List ℕ → Session → Replay
+viewed l marks s =
+    record {
+      session = s;
+      opened = openOf l;
+      stoppedBy = getD l 0 0;
+      refused = record { number = getD l 1 0; midnights = getD l 2 0 };
+      midnights = getD l 3 0;
+      lastDay = getD l 4 0;
+      marks = marks;
+    }
+
+abbrev pub replayIn : List ℕ → List ℕ → List ℕ → List ℕ → List ℕ → Replay
+replayIn l marks own tallies shared = viewed l marks (sessionOf own tallies shared)
+
+-- the ten numbers of a replay
+unfoldable pub logCells : Replay → List ℕ
+logCells r =
+    r .stoppedBy ∷ r .refused .number ∷ r .refused .midnights ∷ r .midnights ∷ r .lastDay ∷ r .opened .count ∷
+    r .opened .kind ∷ r .opened .low ∷ r .opened .second ∷ r .opened .third ∷ []
+
+-- arrays that hold a replay whole
+pub record LogHeld (r : Replay) (log marks own tallies shared : List ℕ) : Type 0 where
+  pub log-cells : log ≡ logCells r
+  pub mark-cells : marks ≡ r .marks
+  pub session-cells : Held (r .session) own tallies shared
+
+-- the tallies only grow from one end of a part to the other
+pub record Grows (marks : List ℕ) (midnights runs claims k : ℕ) : Type 0 where
+  pub runs-grow : beganWith marks k .runs ≤ endedWith marks midnights (record { runs = runs; claims = claims }) k .runs
+  pub claims-grow : beganWith marks k .claims ≤ endedWith marks midnights (record { runs = runs; claims = claims }) k .claims
+
+-- what holds of every replay that the entries give out
+pub record LogValid (r : Replay) : Type 0 where
+  pub session : sessions.Valid (r .session)
+  pub stops : (r .stoppedBy ≡ 0 → ⊥) → StopNumber (r .stoppedBy)
+  pub dropped : (r .stoppedBy ≡ 0 → ⊥) → r .opened ≡ noRecord
+  pub count-most : r .opened .count ≤ 4
+  pub closed : r .opened .count ≡ 0 → r .opened ≡ noRecord
+  pub low-byte : r .opened .low < 256
+  pub second-byte : r .opened .second < 256
+  pub third-byte : r .opened .third < 256
+  pub midnights-most : r .midnights ≤ mostMidnights
+  pub days-number : r .midnights ≤ r .lastDay + 1
+  pub marks-length : length (r .marks) ≡ 800
+  pub growing : (k : ℕ) → k ≤ r .midnights → Grows (r .marks) (r .midnights) (r .session .party .tally .runs) (r .session .party .tally .claims) k
+
+-- "A replay state handed in is trusted as a session is": arrays of the right lengths that hold a valid replay
+pub record LogGiven (log marks own tallies shared : List ℕ) : Type 0 where
+  pub log-length : length log ≡ 10
+  pub marks-length : length marks ≡ 800
+  pub session-sized : Sized own tallies shared
+  pub valid : LogValid (replayIn log marks own tallies shared)

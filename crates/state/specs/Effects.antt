@@ -1,0 +1,173 @@
+-- Document 01: what a word that is taken and a command that is accepted do to a session. Assumes nothing.
+use mathlib.Core.List.{List}
+use Prim.Native.Nat.{ℕ, _+_, _<_}
+use lib.Dec.{eqb}
+use lib.ListN.{set}
+use Rattle.laws.specs.Choice.{pick}
+use Rattle.command.specs.declared.commands.Stored.the-variants as stored
+use Rattle.command.specs.declared.commands.Command.{Command}
+use Rattle.command.specs.declared.commands.Command.the-variants as command
+use Rattle.state.specs.State.{Buffer, Open, Domain, Tally, Party, Shared, Session, none}
+use Rattle.state.specs.Start.{claimOf}
+
+-- "17: the session has taken 1,000,000,000 words"
+abbrev pub limit : ℕ
+limit = 1000000000
+
+-- the party with another open command
+abbrev pub opening : Open → Party → Party
+opening o p =
+    record { stopped = p .stopped; taken = p .taken; opened = o; domain = p .domain; instructions = p .instructions; tally = p .tally }
+
+-- one more word taken
+abbrev pub took : Party → Party
+took p =
+    record {
+      stopped = p .stopped;
+      taken = p .taken + 1;
+      opened = p .opened;
+      domain = p .domain;
+      instructions = p .instructions;
+      tally = p .tally;
+    }
+
+-- so many words more taken
+abbrev pub tookWords : ℕ → Party → Party
+tookWords n p =
+    record {
+      stopped = p .stopped;
+      taken = p .taken + n;
+      opened = p .opened;
+      domain = p .domain;
+      instructions = p .instructions;
+      tally = p .tally;
+    }
+
+-- "drop the open command and stop the session for good"
+abbrev pub stop : Party → Party
+stop p =
+    record { stopped = 1; taken = p .taken; opened = none; domain = p .domain; instructions = p .instructions; tally = p .tally }
+
+-- the open command with its next parameter
+abbrev pub withParameter : Open → ℕ → Open
+withParameter o w =
+    record {
+      line = o .line;
+      count = o .count + 1;
+      p0 = pick (eqb (o .count) 0) w (o .p0);
+      p1 = pick (eqb (o .count) 1) w (o .p1);
+      p2 = pick (eqb (o .count) 2) w (o .p2);
+      p3 = pick (eqb (o .count) 3) w (o .p3);
+    }
+
+-- a buffer that is set
+abbrev pub buffer : ℕ → ℕ → ℕ → Buffer
+buffer base format height = record { isSet = 1; base = base; format = format; height = height }
+
+-- a domain that is set
+abbrev pub domainFrom : ℕ → ℕ → ℕ → ℕ → Domain
+domainFrom i0 j0 i1 j1 = record { isSet = 1; i0 = i0; j0 = j0; i1 = i1; j1 = j1 }
+
+-- settings with one of them replaced
+abbrev pub withDomain : Domain → Party → Party
+withDomain d p =
+    record { stopped = p .stopped; taken = p .taken; opened = p .opened; domain = d; instructions = p .instructions; tally = p .tally }
+
+abbrev pub withInstructions : Buffer → Party → Party
+withInstructions b p =
+    record { stopped = p .stopped; taken = p .taken; opened = p .opened; domain = p .domain; instructions = b; tally = p .tally }
+
+abbrev pub withTally : Tally → Party → Party
+withTally t p =
+    record { stopped = p .stopped; taken = p .taken; opened = p .opened; domain = p .domain; instructions = p .instructions; tally = t }
+
+abbrev pub withShared :
+    ℕ → ℕ → ℕ → ℕ → ℕ → Buffer → Buffer → Buffer → Buffer → List Buffer → List Buffer → Shared
+withShared m cs cm ts t f i b c o n =
+    record {
+      mask = m;
+      conditionalMaskSet = cs;
+      conditionalMask = cm;
+      testSet = ts;
+      test = t;
+      floats = f;
+      integers = i;
+      booleans = b;
+      conditional = c;
+      outputs = o;
+      inputs = n;
+    }
+
+-- what a command without its session's open part does to the party's own settings; "A start that passes adds one to the runs,
+-- and to the claimed elements the number of pairs in the domain times the number of set outputs." The silent ones claim nothing,
+-- by the mask that stands at the start's last word.
+unfoldable pub ownAfter : Command → Shared → Party → Party
+ownAfter (command.Domain i0 j0 i1 j1) h p = withDomain (domainFrom i0 j0 i1 j1) p
+ownAfter command.Start h p =
+    withTally (record { runs = p .tally .runs + 1; claims = p .tally .claims + claimOf (p .domain) (h .mask) (h .outputs) }) p
+ownAfter (command.Quiet what) h p = p
+ownAfter (command.Store stored.Instructions base format) h p = withInstructions (buffer base format 1) p
+ownAfter (command.Store stored.Floats base format) h p = p
+ownAfter (command.Store stored.Integers base format) h p = p
+ownAfter (command.Store stored.Booleans base format) h p = p
+ownAfter (command.Input number base format height) h p = p
+ownAfter (command.Output number base format height) h p = p
+ownAfter (command.Conditional base format height) h p = p
+ownAfter (command.OutputMask mask) h p = p
+ownAfter (command.ConditionalMask mask) h p = p
+ownAfter (command.Test test) h p = p
+
+-- and to the shared ones
+unfoldable pub sharedAfter : Command → Shared → Shared
+sharedAfter (command.Domain i0 j0 i1 j1) h = h
+sharedAfter command.Start h = h
+sharedAfter (command.Quiet what) h = h
+sharedAfter (command.Store stored.Instructions base format) h = h
+sharedAfter (command.Store stored.Floats base format) h =
+    withShared (h .mask) (h .conditionalMaskSet) (h .conditionalMask) (h .testSet) (h .test) (buffer base format 1) (h .integers)
+    (h .booleans) (h .conditional) (h .outputs) (h .inputs)
+sharedAfter (command.Store stored.Integers base format) h =
+    withShared (h .mask) (h .conditionalMaskSet) (h .conditionalMask) (h .testSet) (h .test) (h .floats) (buffer base format 1)
+    (h .booleans) (h .conditional) (h .outputs) (h .inputs)
+sharedAfter (command.Store stored.Booleans base format) h =
+    withShared (h .mask) (h .conditionalMaskSet) (h .conditionalMask) (h .testSet) (h .test) (h .floats) (h .integers)
+    (buffer base format 1) (h .conditional) (h .outputs) (h .inputs)
+sharedAfter (command.Input number base format height) h =
+    withShared (h .mask) (h .conditionalMaskSet) (h .conditionalMask) (h .testSet) (h .test) (h .floats) (h .integers)
+    (h .booleans) (h .conditional) (h .outputs) (set (h .inputs) number (buffer base format height))
+sharedAfter (command.Output number base format height) h =
+    withShared (h .mask) (h .conditionalMaskSet) (h .conditionalMask) (h .testSet) (h .test) (h .floats) (h .integers)
+    (h .booleans) (h .conditional) (set (h .outputs) number (buffer base format height)) (h .inputs)
+sharedAfter (command.Conditional base format height) h =
+    withShared (h .mask) (h .conditionalMaskSet) (h .conditionalMask) (h .testSet) (h .test) (h .floats) (h .integers)
+    (h .booleans) (buffer base format height) (h .outputs) (h .inputs)
+sharedAfter (command.OutputMask mask) h =
+    withShared mask (h .conditionalMaskSet) (h .conditionalMask) (h .testSet) (h .test) (h .floats) (h .integers) (h .booleans)
+    (h .conditional) (h .outputs) (h .inputs)
+sharedAfter (command.ConditionalMask mask) h =
+    withShared (h .mask) 1 mask (h .testSet) (h .test) (h .floats) (h .integers) (h .booleans) (h .conditional) (h .outputs)
+    (h .inputs)
+sharedAfter (command.Test test) h =
+    withShared (h .mask) (h .conditionalMaskSet) (h .conditionalMask) 1 test (h .floats) (h .integers) (h .booleans)
+    (h .conditional) (h .outputs) (h .inputs)
+
+-- an input's or output's number is below 16 or 4
+abbrev pub Numbered : Command → Type 0
+Numbered (command.Domain i0 j0 i1 j1) = Unit {0}
+Numbered command.Start = Unit {0}
+Numbered (command.Quiet what) = Unit {0}
+Numbered (command.Store what base format) = Unit {0}
+Numbered (command.Input number base format height) = number < 16
+Numbered (command.Output number base format height) = number < 4
+Numbered (command.Conditional base format height) = Unit {0}
+Numbered (command.OutputMask mask) = Unit {0}
+Numbered (command.ConditionalMask mask) = Unit {0}
+Numbered (command.Test test) = Unit {0}
+
+-- the session after a command that was accepted, its last word taken
+unfoldable pub after : Command → Session → Session
+after c s =
+    record {
+      party = ownAfter c (s .shared) (opening none (took (s .party)));
+      shared = sharedAfter c (s .shared);
+    }

@@ -1,0 +1,48 @@
+-- What holds of every session that the entries give out. Assumes nothing.
+use mathlib.Core.Path.{_≡_}
+use mathlib.Core.Bool.{true}
+use mathlib.Core.List.{List, [], _∷_}
+use Prim.Native.Nat.{ℕ, _*_, _<_, _≤_}
+use lib.ListN.{length, getD, take}
+use lib.Dec.{eqb}
+use Rattle.laws.specs.Choice.{pick}
+use Rattle.command.specs.Table.{headerOf, countOf}
+use Rattle.command.specs.Kinds.{allowed, kindOf}
+use Rattle.state.specs.State.{Buffer, Open, Domain, Tally, Party, Shared, Session, none}
+use Rattle.state.specs.Effects.{limit}
+
+-- the parameters of an open command, in order
+abbrev pub parametersOf : Open → List ℕ
+parametersOf o = o .p0 ∷ o .p1 ∷ o .p2 ∷ o .p3 ∷ []
+
+-- an open command: fewer parameters than its line has, each allowed by its kind
+pub record OpenValid (o : Open) : Type 0 where
+  pub fewer : o .count < countOf (o .line)
+  pub passed : (k : ℕ) → k < o .count → allowed (kindOf (o .line) k) (getD (parametersOf o) k 0) ≡ true
+
+pub record DomainValid (d : Domain) : Type 0 where
+  pub columns : d .i0 ≤ d .i1
+  pub column-most : d .i1 < 4096
+  pub rows : d .j0 ≤ d .j1
+  pub row-most : d .j1 < 4096
+
+-- a start takes two words and claims at most 4,096 · 4,096 · 4 elements, so 64 bits hold the tallies
+pub record TallyValid (t : Tally) (taken : ℕ) : Type 0 where
+  pub runs-most : t .runs ≤ taken
+  pub claims-most : t .claims ≤ taken * 67108864
+
+pub record Valid (s : Session) : Type 0 where
+  pub flag : s .party .stopped ≤ 1
+  pub full : s .party .taken ≤ limit
+  pub line-most : s .party .opened .line ≤ 21
+  pub closed : s .party .opened .line ≡ 21 → s .party .opened ≡ none
+  pub dropped : s .party .stopped ≡ 1 → s .party .opened ≡ none
+  pub opened : s .party .opened .line < 21 → OpenValid (s .party .opened)
+  pub domain : DomainValid (s .party .domain)
+  pub tally : TallyValid (s .party .tally) (s .party .taken)
+  pub outputs : length (s .shared .outputs) ≡ 4
+  pub inputs : length (s .shared .inputs) ≡ 16
+
+-- the words of the open command: "the open command's words are part of the session"
+unfoldable pub heldOf : Open → List ℕ
+heldOf o = pick (eqb (o .line) 21) [] (headerOf (o .line) ∷ take (o .count) (parametersOf o))
