@@ -26,7 +26,14 @@ const MOST_WORDS: usize = 5;
 
 const LAST_ROOM: u32 = 999999995;
 
-fn take_domain(own: &mut [u32; 17], words: u32, i0: u32, j0: u32, i1: u32, j1: u32) -> u32
+fn take_domain(
+    own: &mut [u32; state::OWN_CELLS],
+    words: u32,
+    i0: u32,
+    j0: u32,
+    i1: u32,
+    j1: u32,
+) -> u32
     requires { ⌜ Roomy words (now own) ⌝ }
     ensures { λ r. ⌜ OwnTried (Command.Domain i0 j0 i1 j1) (headerOf 0 ∷ i0 ∷ j0 ∷ i1 ∷ j1 ∷ []) words r (now (own .entry)) (now (own .exit)) ⌝ }
 {
@@ -40,9 +47,9 @@ fn take_domain(own: &mut [u32; 17], words: u32, i0: u32, j0: u32, i1: u32, j1: u
 }
 
 fn take_start(
-    own: &mut [u32; 17],
-    tallies: &mut [u64; 2],
-    shared: &[u32; 101],
+    own: &mut [u32; state::OWN_CELLS],
+    tallies: &mut [u64; state::TALLIES],
+    shared: &[u32; state::SHARED_CELLS],
     words: u32,
     reserved: u32,
 ) -> u32
@@ -61,7 +68,7 @@ fn take_start(
     words
 }
 
-fn take_quiet(own: &mut [u32; 17], words: u32, reserved: u32) -> u32
+fn take_quiet(own: &mut [u32; state::OWN_CELLS], words: u32, reserved: u32) -> u32
     requires { ⌜ Roomy words (now own) ⌝ }
     ensures { λ r. ⌜ ((what : NoEffect) → OwnTried (Command.Quiet what) (headerOf (noEffectLine what) ∷ reserved ∷ []) words r (now (own .entry)) (now (own .exit))) ⌝ }
 {
@@ -73,7 +80,7 @@ fn take_quiet(own: &mut [u32; 17], words: u32, reserved: u32) -> u32
     }
 }
 
-fn take_instructions(own: &mut [u32; 17], words: u32, base: u32, format: u32) -> u32
+fn take_instructions(own: &mut [u32; state::OWN_CELLS], words: u32, base: u32, format: u32) -> u32
     requires { ⌜ Roomy words (now own) ⌝ }
     ensures { λ r. ⌜ OwnTried (Command.Store Stored.Instructions base format) (headerOf 3 ∷ base ∷ format ∷ []) words r (now (own .entry)) (now (own .exit)) ⌝ }
 {
@@ -88,8 +95,8 @@ fn take_instructions(own: &mut [u32; 17], words: u32, base: u32, format: u32) ->
 
 // A format of constants, to its place.
 fn take_constants(
-    own: &mut [u32; 17],
-    shared: &mut [u32; 101],
+    own: &mut [u32; state::OWN_CELLS],
+    shared: &mut [u32; state::SHARED_CELLS],
     words: u32,
     at: usize,
     base: u32,
@@ -108,8 +115,8 @@ fn take_constants(
 }
 
 fn take_input(
-    own: &mut [u32; 17],
-    shared: &mut [u32; 101],
+    own: &mut [u32; state::OWN_CELLS],
+    shared: &mut [u32; state::SHARED_CELLS],
     words: u32,
     number: u32,
     base: u32,
@@ -135,8 +142,8 @@ fn take_input(
 }
 
 fn take_output(
-    own: &mut [u32; 17],
-    shared: &mut [u32; 101],
+    own: &mut [u32; state::OWN_CELLS],
+    shared: &mut [u32; state::SHARED_CELLS],
     words: u32,
     number: u32,
     base: u32,
@@ -162,8 +169,8 @@ fn take_output(
 }
 
 fn take_conditional(
-    own: &mut [u32; 17],
-    shared: &mut [u32; 101],
+    own: &mut [u32; state::OWN_CELLS],
+    shared: &mut [u32; state::SHARED_CELLS],
     words: u32,
     base: u32,
     format: u32,
@@ -181,7 +188,12 @@ fn take_conditional(
     }
 }
 
-fn take_mask(own: &mut [u32; 17], shared: &mut [u32; 101], words: u32, mask: u32) -> u32
+fn take_mask(
+    own: &mut [u32; state::OWN_CELLS],
+    shared: &mut [u32; state::SHARED_CELLS],
+    words: u32,
+    mask: u32,
+) -> u32
     requires { ⌜ Roomy words (now own) × (length (now shared) ≡ 101) ⌝ }
     ensures { λ r. ⌜ SharedTried (Command.OutputMask mask) (headerOf 18 ∷ mask ∷ []) words r (now (own .entry)) (now (shared .entry)) (now (own .exit)) (now (shared .exit)) ⌝ }
 {
@@ -194,7 +206,12 @@ fn take_mask(own: &mut [u32; 17], shared: &mut [u32; 101], words: u32, mask: u32
     }
 }
 
-fn take_conditional_mask(own: &mut [u32; 17], shared: &mut [u32; 101], words: u32, mask: u32) -> u32
+fn take_conditional_mask(
+    own: &mut [u32; state::OWN_CELLS],
+    shared: &mut [u32; state::SHARED_CELLS],
+    words: u32,
+    mask: u32,
+) -> u32
     requires { ⌜ Roomy words (now own) × (length (now shared) ≡ 101) ⌝ }
     ensures { λ r. ⌜ SharedTried (Command.ConditionalMask mask) (headerOf 19 ∷ mask ∷ []) words r (now (own .entry)) (now (shared .entry)) (now (own .exit)) (now (shared .exit)) ⌝ }
 {
@@ -208,7 +225,12 @@ fn take_conditional_mask(own: &mut [u32; 17], shared: &mut [u32; 101], words: u3
     }
 }
 
-fn take_test(own: &mut [u32; 17], shared: &mut [u32; 101], words: u32, test: u32) -> u32
+fn take_test(
+    own: &mut [u32; state::OWN_CELLS],
+    shared: &mut [u32; state::SHARED_CELLS],
+    words: u32,
+    test: u32,
+) -> u32
     requires { ⌜ Roomy words (now own) × (length (now shared) ≡ 101) ⌝ }
     ensures { λ r. ⌜ SharedTried (Command.Test test) (headerOf 20 ∷ test ∷ []) words r (now (own .entry)) (now (shared .entry)) (now (own .exit)) (now (shared .exit)) ⌝ }
 {
@@ -224,9 +246,9 @@ fn take_test(own: &mut [u32; 17], shared: &mut [u32; 101], words: u32, test: u32
 
 // The command of a line, with its parameters in the first of the four words; the lines that aren't named have no effect.
 fn take_line(
-    own: &mut [u32; 17],
-    tallies: &mut [u64; 2],
-    shared: &mut [u32; 101],
+    own: &mut [u32; state::OWN_CELLS],
+    tallies: &mut [u64; state::TALLIES],
+    shared: &mut [u32; state::SHARED_CELLS],
     line: u32,
     p0: u32,
     p1: u32,
@@ -256,9 +278,9 @@ fn take_line(
 // The same where all words but the last were counted before. Each of the two has its numbers of words as constants: looked up
 // in a table, they would hold up the next word.
 pub fn take_last(
-    own: &mut [u32; 17],
-    tallies: &mut [u64; 2],
-    shared: &mut [u32; 101],
+    own: &mut [u32; state::OWN_CELLS],
+    tallies: &mut [u64; state::TALLIES],
+    shared: &mut [u32; state::SHARED_CELLS],
     line: u32,
     p0: u32,
     p1: u32,
@@ -288,9 +310,9 @@ pub fn take_last(
 // The command that the words from a place on begin with, where the session can take it whole: no command is open, and the
 // longest command would fit the piece and the session.
 pub fn take(
-    own: &mut [u32; 17],
-    tallies: &mut [u64; 2],
-    shared: &mut [u32; 101],
+    own: &mut [u32; state::OWN_CELLS],
+    tallies: &mut [u64; state::TALLIES],
+    shared: &mut [u32; state::SHARED_CELLS],
     words: &[u32],
     at: usize,
 ) -> u32

@@ -12,9 +12,9 @@ use worked::tally::Tally;
 
 // The last word's answer.
 fn last_answer(words: &[u32]) -> Answer {
-    let mut own: [u32; 17] = [0; 17];
-    let mut tallies: [u64; 2] = [0; 2];
-    let mut shared: [u32; 101] = [0; 101];
+    let mut own: [u32; state::OWN_CELLS] = [0; state::OWN_CELLS];
+    let mut tallies: [u64; state::TALLIES] = [0; state::TALLIES];
+    let mut shared: [u32; state::SHARED_CELLS] = [0; state::SHARED_CELLS];
     stream::begin(&mut own, &mut tallies, &mut shared);
     let mut answer = Answer::Open;
     let mut i: usize = 0;

@@ -34,7 +34,7 @@ fn number_at(numbers: &[u64], place: usize) -> u64
 }
 
 // The marks of midnight `k`, counted from 0; 0 and 0 past the room.
-fn mark(marks: &[u64; 800], k: u32) -> Counts
+fn mark(marks: &[u64; replay::MARKS], k: u32) -> Counts
     ensures { λ r. ⌜ tallyOf r ≡ markAt (now (marks .entry)) k ⌝ }
 {
     let at = 2 * k as usize;
@@ -45,7 +45,7 @@ fn mark(marks: &[u64; 800], k: u32) -> Counts
 }
 
 // The tallies when part `k` began.
-fn began(marks: &[u64; 800], k: u32) -> Counts
+fn began(marks: &[u64; replay::MARKS], k: u32) -> Counts
     ensures { λ r. ⌜ tallyOf r ≡ beganWith (now (marks .entry)) k ⌝ }
 {
     if k == 0 {
@@ -56,7 +56,12 @@ fn began(marks: &[u64; 800], k: u32) -> Counts
 }
 
 // The tallies when part `k` ended; of the last part those of now.
-fn ended(marks: &[u64; 800], midnights: u32, tallies: &[u64; 2], k: u32) -> Counts
+fn ended(
+    marks: &[u64; replay::MARKS],
+    midnights: u32,
+    tallies: &[u64; state::TALLIES],
+    k: u32,
+) -> Counts
     ensures { λ r. ⌜ tallyOf r ≡ endedWith (now (marks .entry)) midnights (nowIn (now (tallies .entry))) k ⌝ }
 {
     if k < midnights {
@@ -70,7 +75,12 @@ fn ended(marks: &[u64; 800], midnights: u32, tallies: &[u64; 2], k: u32) -> Coun
 }
 
 // The runs and claims that ended in part `k`: part 0 is before the first midnight, part `k` the k-th day; none past the last.
-pub fn part(log: &[u32; 10], marks: &[u64; 800], tallies: &[u64; 2], k: u32) -> Counts
+pub fn part(
+    log: &[u32; replay::LOG_CELLS],
+    marks: &[u64; replay::MARKS],
+    tallies: &[u64; state::TALLIES],
+    k: u32,
+) -> Counts
     ensures { λ r. ⌜ tallyOf r ≡ partOf (now (marks .entry)) (midnightsIn (now (log .entry))) (nowIn (now (tallies .entry))) k ⌝ }
 {
     let midnights = log[own::MIDNIGHTS];
@@ -108,7 +118,7 @@ fn first_day(midnights: u32, last: u32) -> u32
     if last < before { 0 } else { last - before }
 }
 
-pub fn status(log: &[u32; 10]) -> Standing
+pub fn status(log: &[u32; replay::LOG_CELLS]) -> Standing
     ensures { λ r. ⌜ r ≡ statusOf (viewed (now (log .entry)) [] newSession) ⌝ }
 {
     let midnights = log[own::MIDNIGHTS];

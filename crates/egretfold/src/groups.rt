@@ -12,8 +12,8 @@ ghost use Rattle.egretfold.specs.Groups.{BeginCrosses, LoadCrosses, RunC
 #[no_mangle]
 pub extern "C" fn egretfold_program_load(
     words: &[u32],
-    firsts: &mut [u32; 512],
-    seconds: &mut [u32; 512],
+    firsts: &mut [u32; group::SLOTS],
+    seconds: &mut [u32; group::SLOTS],
     slots: &mut [u32; 1],
 ) -> u32
     ensures { λ r. ⌜ LoadCrosses (now (words .entry)) r (now (firsts .entry)) (now (firsts .exit)) (now (seconds .entry)) (now (seconds .exit)) (now (slots .entry)) (now (slots .exit)) ⌝ }
@@ -29,7 +29,7 @@ pub extern "C" fn egretfold_program_load(
 
 // A fresh group of 1 to 32 processors; 13.
 #[no_mangle]
-pub extern "C" fn egretfold_group_begin(size: u32, cells: &mut [u32; 20]) -> u32
+pub extern "C" fn egretfold_group_begin(size: u32, cells: &mut [u32; group::CELLS]) -> u32
     ensures { λ r. ⌜ BeginCrosses size r (now (cells .entry)) (now (cells .exit)) ⌝ }
 {
     match flow::begin(size, cells) {
@@ -41,10 +41,10 @@ pub extern "C" fn egretfold_group_begin(size: u32, cells: &mut [u32; 20]) -> u32
 // One step: 1 for a jump or 0 for a stay, and the next position; 13 to 16.
 #[no_mangle]
 pub extern "C" fn egretfold_group_step(
-    firsts: &[u32; 512],
-    seconds: &[u32; 512],
+    firsts: &[u32; group::SLOTS],
+    seconds: &[u32; group::SLOTS],
     slots: u32,
-    cells: &mut [u32; 20],
+    cells: &mut [u32; group::CELLS],
     alu: u32,
     predicate: u32,
     booleans: u32,
@@ -69,10 +69,10 @@ pub extern "C" fn egretfold_group_step(
 // A run over a list of masks: the steps made, the first active processor and how many are active; 13 to 16.
 #[no_mangle]
 pub extern "C" fn egretfold_group_run(
-    firsts: &[u32; 512],
-    seconds: &[u32; 512],
+    firsts: &[u32; group::SLOTS],
+    seconds: &[u32; group::SLOTS],
     slots: u32,
-    cells: &mut [u32; 20],
+    cells: &mut [u32; group::CELLS],
     masks: &[u32],
     booleans: u32,
     report: &mut [u64; 3],

@@ -16,11 +16,11 @@ ghost use Rattle.egretfold.specs.Logs.{ByteCrosses, LogBegins, LogCrosse
 // A replay that has read nothing, over a new session.
 #[no_mangle]
 pub extern "C" fn egretfold_log_begin(
-    log: &mut [u32; 10],
-    marks: &mut [u64; 800],
-    own: &mut [u32; 17],
-    tallies: &mut [u64; 2],
-    shared: &mut [u32; 101],
+    log: &mut [u32; replay::LOG_CELLS],
+    marks: &mut [u64; replay::MARKS],
+    own: &mut [u32; state::OWN_CELLS],
+    tallies: &mut [u64; state::TALLIES],
+    shared: &mut [u32; state::SHARED_CELLS],
 ) -> u32
     ensures { λ r. ⌜ LogBegins r (now (log .exit)) (now (marks .exit)) (now (own .exit)) (now (tallies .exit)) (now (shared .exit)) ⌝ }
 {
@@ -31,11 +31,11 @@ pub extern "C" fn egretfold_log_begin(
 // One byte: 0 where it was taken, else 18 or 19.
 #[no_mangle]
 pub extern "C" fn egretfold_log_byte(
-    log: &mut [u32; 10],
-    marks: &mut [u64; 800],
-    own: &mut [u32; 17],
-    tallies: &mut [u64; 2],
-    shared: &mut [u32; 101],
+    log: &mut [u32; replay::LOG_CELLS],
+    marks: &mut [u64; replay::MARKS],
+    own: &mut [u32; state::OWN_CELLS],
+    tallies: &mut [u64; state::TALLIES],
+    shared: &mut [u32; state::SHARED_CELLS],
     byte: u8,
 ) -> u32
     requires { ⌜ LogGiven (now log) (now marks) (now own) (now tallies) (now shared) ⌝ }
@@ -55,11 +55,11 @@ pub extern "C" fn egretfold_log_byte(
 // A piece of bytes: how many were taken, and 18 or 19 for the first that wasn't, if any.
 #[no_mangle]
 pub extern "C" fn egretfold_log_feed(
-    log: &mut [u32; 10],
-    marks: &mut [u64; 800],
-    own: &mut [u32; 17],
-    tallies: &mut [u64; 2],
-    shared: &mut [u32; 101],
+    log: &mut [u32; replay::LOG_CELLS],
+    marks: &mut [u64; replay::MARKS],
+    own: &mut [u32; state::OWN_CELLS],
+    tallies: &mut [u64; state::TALLIES],
+    shared: &mut [u32; state::SHARED_CELLS],
     bytes: &[u8],
     taken: &mut [u64; 1],
 ) -> u32
@@ -78,7 +78,7 @@ pub extern "C" fn egretfold_log_feed(
 // Where a replay stands: the number that stopped it; the first refused word's number and the midnights before it; the
 // midnights so far, the first and the last day; how many bytes of an unfinished record stand. What isn't there is 0.
 #[no_mangle]
-pub extern "C" fn egretfold_log_status(log: &[u32; 10], status: &mut [u32; 7]) -> u32
+pub extern "C" fn egretfold_log_status(log: &[u32; replay::LOG_CELLS], status: &mut [u32; 7]) -> u32
     ensures { λ r. ⌜ Shows (standingOf (statusOf (viewed (now (log .entry)) [] newSession))) r (now (status .exit)) ⌝ }
 {
     let standing = report::status(log);
@@ -97,9 +97,9 @@ pub extern "C" fn egretfold_log_status(log: &[u32; 10], status: &mut [u32; 7]) -
 // Runs and claimed elements of a part: 0 is what ended before the first midnight, k the k-th day; none past the last.
 #[no_mangle]
 pub extern "C" fn egretfold_log_part(
-    log: &[u32; 10],
-    marks: &[u64; 800],
-    tallies: &[u64; 2],
+    log: &[u32; replay::LOG_CELLS],
+    marks: &[u64; replay::MARKS],
+    tallies: &[u64; state::TALLIES],
     part: u32,
     counts: &mut [u64; 2],
 ) -> u32

@@ -35,14 +35,14 @@ fn verdict_number(verdict: Verdict) -> u64
 // served and owed numbers and its verdict. 21 for the lease line, then 18 or 19 where it stopped the replay.
 #[no_mangle]
 pub extern "C" fn egretfold_score_month(
-    log: &[u32; 10],
-    marks: &[u64; 800],
-    tallies: &[u64; 2],
+    log: &[u32; replay::LOG_CELLS],
+    marks: &[u64; replay::MARKS],
+    tallies: &[u64; state::TALLIES],
     first_day: u32,
     days: u32,
     owed: u32,
-    claimed: &mut [u64; 31],
-    served: &mut [u64; 31],
+    claimed: &mut [u64; score::DAYS],
+    served: &mut [u64; score::DAYS],
     month: &mut [u64; 3],
 ) -> u32
     ensures { λ r. ⌜ ScoreCrosses (leaseLine «first_day» days owed) (now (log .entry)) (now (marks .entry)) (now (tallies .entry)) r (now (claimed .entry)) (now (served .entry)) (now (month .entry)) (now (claimed .exit)) (now (served .exit)) (now (month .exit)) ⌝ }

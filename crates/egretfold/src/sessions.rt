@@ -21,9 +21,9 @@ ghost use Rattle.egretfold.specs.Sessions.{BeginCrosses, FeedCrosses, Sh
 // A new session: nothing set, mask 65535.
 #[no_mangle]
 pub extern "C" fn egretfold_session_begin(
-    own: &mut [u32; 17],
-    tallies: &mut [u64; 2],
-    shared: &mut [u32; 101],
+    own: &mut [u32; state::OWN_CELLS],
+    tallies: &mut [u64; state::TALLIES],
+    shared: &mut [u32; state::SHARED_CELLS],
 ) -> u32
     ensures { λ r. ⌜ BeginCrosses r (now (own .exit)) (now (tallies .exit)) (now (shared .exit)) ⌝ }
 {
@@ -34,9 +34,9 @@ pub extern "C" fn egretfold_session_begin(
 // One word: whether it completed a command, and that command's header and parameters; 1 to 9 or 17.
 #[no_mangle]
 pub extern "C" fn egretfold_session_word(
-    own: &mut [u32; 17],
-    tallies: &mut [u64; 2],
-    shared: &mut [u32; 101],
+    own: &mut [u32; state::OWN_CELLS],
+    tallies: &mut [u64; state::TALLIES],
+    shared: &mut [u32; state::SHARED_CELLS],
     word: u32,
     command: &mut [u32; 6],
 ) -> u32
@@ -61,9 +61,9 @@ pub extern "C" fn egretfold_session_word(
 // A piece of words: the words taken and the commands that they completed, and the first refusal, if any.
 #[no_mangle]
 pub extern "C" fn egretfold_session_feed(
-    own: &mut [u32; 17],
-    tallies: &mut [u64; 2],
-    shared: &mut [u32; 101],
+    own: &mut [u32; state::OWN_CELLS],
+    tallies: &mut [u64; state::TALLIES],
+    shared: &mut [u32; state::SHARED_CELLS],
     words: &[u32],
     fed: &mut [u64; 2],
 ) -> u32
@@ -94,7 +94,10 @@ fn open_header(line: u32) -> u32
 
 // Words taken, stopped or not, the open command's header and how many of its parameters were taken.
 #[no_mangle]
-pub extern "C" fn egretfold_session_status(own: &[u32; 17], status: &mut [u32; 4]) -> u32
+pub extern "C" fn egretfold_session_status(
+    own: &[u32; state::OWN_CELLS],
+    status: &mut [u32; 4],
+) -> u32
     ensures { λ r. ⌜ Shows (statusOf (partyOf (now (own .entry)) [])) r (now (status .exit)) ⌝ }
 {
     let stopped = flag_of(queries::is_stopped(own));
@@ -105,7 +108,10 @@ pub extern "C" fn egretfold_session_status(own: &[u32; 17], status: &mut [u32; 4
 
 // Runs and claimed elements.
 #[no_mangle]
-pub extern "C" fn egretfold_session_tallies(tallies: &[u64; 2], counts: &mut [u64; 2]) -> u32
+pub extern "C" fn egretfold_session_tallies(
+    tallies: &[u64; state::TALLIES],
+    counts: &mut [u64; 2],
+) -> u32
     ensures { λ r. ⌜ Shows (countsOf (partyOf [] (now (tallies .entry)))) r (now (counts .exit)) ⌝ }
 {
     *counts = [queries::runs(tallies), queries::claims(tallies)];
@@ -114,7 +120,10 @@ pub extern "C" fn egretfold_session_tallies(tallies: &[u64; 2], counts: &mut [u6
 
 // Whether the domain is set, and its bounds.
 #[no_mangle]
-pub extern "C" fn egretfold_session_domain(own: &[u32; 17], domain: &mut [u32; 5]) -> u32
+pub extern "C" fn egretfold_session_domain(
+    own: &[u32; state::OWN_CELLS],
+    domain: &mut [u32; 5],
+) -> u32
     ensures { λ r. ⌜ Shows (domainOf (partyOf (now (own .entry)) [])) r (now (domain .exit)) ⌝ }
 {
     let bounds = queries::domain(own);
@@ -125,7 +134,10 @@ pub extern "C" fn egretfold_session_domain(own: &[u32; 17], domain: &mut [u32; 5
 
 // The output mask, whether the conditional mask is set and the mask, whether the test is set and the test.
 #[no_mangle]
-pub extern "C" fn egretfold_session_masks(shared: &[u32; 101], masks: &mut [u32; 5]) -> u32
+pub extern "C" fn egretfold_session_masks(
+    shared: &[u32; state::SHARED_CELLS],
+    masks: &mut [u32; 5],
+) -> u32
     ensures { λ r. ⌜ Shows (masksOf (sharedOf (now (shared .entry)))) r (now (masks .exit)) ⌝ }
 {
     let conditional = flag_of(queries::has_conditional_mask(shared));
@@ -147,7 +159,12 @@ enum Found {
 }
 
 // The format that a line of the command table sets.
-fn at_line(own: &[u32; 17], shared: &[u32; 101], line: u32, number: u32) -> Found
+fn at_line(
+    own: &[u32; state::OWN_CELLS],
+    shared: &[u32; state::SHARED_CELLS],
+    line: u32,
+    number: u32,
+) -> Found
     ensures { λ r. ⌜ toldFound r ≡ formatAt (partyOf (now (own .entry)) []) (sharedOf (now (shared .entry))) line number ⌝ }
 {
     match line {
@@ -177,8 +194,8 @@ fn at_line(own: &[u32; 17], shared: &[u32; 101], line: u32, number: u32) -> Foun
 // The format that the command with a header sets, of inputs and outputs the one with the number; 2 or 4.
 #[no_mangle]
 pub extern "C" fn egretfold_session_format(
-    own: &[u32; 17],
-    shared: &[u32; 101],
+    own: &[u32; state::OWN_CELLS],
+    shared: &[u32; state::SHARED_CELLS],
     header: u32,
     number: u32,
     format: &mut [u32; 4],

@@ -72,10 +72,10 @@ fn answer(number: u32, at: u32) -> Stepped
 // has ended, 13 for a word that isn't allowed, 14 for a branch counter or the return stack at its limit, 15 for a jump past
 // the program's end (and where more than 512 slots are to run).
 pub fn step(
-    firsts: &[u32; 512],
-    seconds: &[u32; 512],
+    firsts: &[u32; group::SLOTS],
+    seconds: &[u32; group::SLOTS],
     slots: u32,
-    cells: &mut [u32; 20],
+    cells: &mut [u32; group::CELLS],
     alu: u32,
     predicate: u32,
     booleans: u32,
@@ -88,7 +88,7 @@ pub fn step(
 }
 
 // A fresh group: all its processors active, position 0, no returns. 13 unless the size is from 1 to 32.
-pub fn begin(size: u32, cells: &mut [u32; 20]) -> Begun
+pub fn begin(size: u32, cells: &mut [u32; group::CELLS]) -> Begun
     ensures { λ r. ⌜ BeginDone (now (cells .entry)) (now (cells .exit)) r size ⌝ }
 {
     if size < 1 {
@@ -126,7 +126,11 @@ pub fn begin(size: u32, cells: &mut [u32; 20]) -> Begun
 
 // Loads a program into the store, two words a slot, and answers how many slots it has. 15 for no slot, more than 512 or an
 // odd number of words. Any words are taken: they are judged when stepped.
-pub fn load(words: &[u32], firsts: &mut [u32; 512], seconds: &mut [u32; 512]) -> Loaded
+pub fn load(
+    words: &[u32],
+    firsts: &mut [u32; group::SLOTS],
+    seconds: &mut [u32; group::SLOTS],
+) -> Loaded
     ensures { λ r. ⌜ LoadDone (now (words .entry)) (now (firsts .entry)) (now (firsts .exit)) (now (seconds .entry)) (now (seconds .exit)) r ⌝ }
 {
     let n = words.len() / 2;
@@ -139,8 +143,8 @@ pub fn load(words: &[u32], firsts: &mut [u32; 512], seconds: &mut [u32; 512]) ->
     if 512 < n {
         return Loaded::Refused(Refusal::PastEnd);
     }
-    *firsts = [PLAIN_FIRST; 512];
-    *seconds = [PLAIN_SECOND; 512];
+    *firsts = [PLAIN_FIRST; group::SLOTS];
+    *seconds = [PLAIN_SECOND; group::SLOTS];
     let mut k = 0;
     while k < n {
         firsts[k] = words[k * 2];
@@ -175,10 +179,10 @@ pub fn number_active(active: u32) -> u32
 
 // One step, as a run of its own.
 fn one_step(
-    firsts: &[u32; 512],
-    seconds: &[u32; 512],
+    firsts: &[u32; group::SLOTS],
+    seconds: &[u32; group::SLOTS],
     slots: u32,
-    cells: &mut [u32; 20],
+    cells: &mut [u32; group::CELLS],
     alu: u32,
     predicate: u32,
     booleans: u32,
@@ -195,10 +199,10 @@ fn one_step(
 
 // Steps with two masks each, up to the end of the list or of the program. A last mask without its partner isn't read.
 fn walk(
-    firsts: &[u32; 512],
-    seconds: &[u32; 512],
+    firsts: &[u32; group::SLOTS],
+    seconds: &[u32; group::SLOTS],
     slots: u32,
-    cells: &mut [u32; 20],
+    cells: &mut [u32; group::CELLS],
     masks: &[u32],
     booleans: u32,
 ) -> Walked
@@ -232,10 +236,10 @@ fn walk(
 // program. 16 where the program had ended before, whatever the list; where a step is refused, the run gets that number and
 // the state is as before the run.
 pub fn run(
-    firsts: &[u32; 512],
-    seconds: &[u32; 512],
+    firsts: &[u32; group::SLOTS],
+    seconds: &[u32; group::SLOTS],
     slots: u32,
-    cells: &mut [u32; 20],
+    cells: &mut [u32; group::CELLS],
     masks: &[u32],
     booleans: u32,
 ) -> Ran

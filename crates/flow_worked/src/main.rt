@@ -48,7 +48,7 @@ fn more(good: u32, right: u32) -> u32
 }
 
 // A fresh group of a size that is allowed.
-fn fresh(size: u32, cells: &mut [u32; 20])
+fn fresh(size: u32, cells: &mut [u32; group::CELLS])
     requires { ⌜ (1 ≤ size) × (size ≤ 32) ⌝ }
     ensures { λ r. ⌜ Made (now (cells .exit)) ⌝ }
 {
@@ -59,7 +59,7 @@ fn fresh(size: u32, cells: &mut [u32; 20])
 fn one(
     first: u32,
     second: u32,
-    cells: &mut [u32; 20],
+    cells: &mut [u32; group::CELLS],
     alu: u32,
     predicate: u32,
     booleans: u32,
@@ -67,8 +67,8 @@ fn one(
     requires { ⌜ Made (now cells) ⌝ }
     ensures { λ r. ⌜ Made (now (cells .exit)) ⌝ }
 {
-    let firsts = [first; 512];
-    let seconds = [second; 512];
+    let firsts = [first; group::SLOTS];
+    let seconds = [second; group::SLOTS];
     told(flow::step(&firsts, &seconds, 4, cells, alu, predicate, booleans))
 }
 
@@ -77,7 +77,7 @@ fn one(
 fn script(size: u32, rows: &[u32]) -> u32
     requires { ⌜ (1 ≤ size) × (size ≤ 32) ⌝ }
 {
-    let mut cells = [0u32; 20];
+    let mut cells = [0u32; group::CELLS];
     fresh(size, &mut cells);
     let mut good: u32 = 0;
     let mut at: usize = 0;
@@ -100,7 +100,7 @@ fn script(size: u32, rows: &[u32]) -> u32
 
 // A step on a fresh group with one word that isn't 0, the first or the second.
 fn one_word(word: u32, in_first: bool) -> u32 {
-    let mut cells = [0u32; 20];
+    let mut cells = [0u32; group::CELLS];
     fresh(4, &mut cells);
     if in_first {
         return one(word, 0, &mut cells, 0, 0, 0);
@@ -121,7 +121,7 @@ fn reserved(in_first: bool) -> u32 {
 
 // How often a branch may nest: two processors leave, and then each further branch adds 1 to their counters.
 fn nested() -> u32 {
-    let mut cells = [0u32; 20];
+    let mut cells = [0u32; group::CELLS];
     fresh(4, &mut cells);
     one(0x02000F00, 0, &mut cells, 3, 0, 0);
     let mut deeper: u32 = 0;
@@ -138,7 +138,7 @@ fn nested() -> u32 {
 
 // The mask of a fresh group, or 0 where the size gets 13.
 fn mask_of(size: u32) -> u32 {
-    let mut cells = [0u32; 20];
+    let mut cells = [0u32; group::CELLS];
     let begun = flow::begin(size, &mut cells);
     match begun {
         Begun::Ready => cells[1],
@@ -148,8 +148,8 @@ fn mask_of(size: u32) -> u32 {
 
 // The slots of a program of so many plain words, or 1000 where it gets 15.
 fn slots_of(words: &[u32]) -> u32 {
-    let mut firsts = [0u32; 512];
-    let mut seconds = [0u32; 512];
+    let mut firsts = [0u32; group::SLOTS];
+    let mut seconds = [0u32; group::SLOTS];
     let loaded = flow::load(words, &mut firsts, &mut seconds);
     match loaded {
         Loaded::Slots(n) => n,
@@ -171,13 +171,13 @@ fn played(
     requires { ⌜ (1 ≤ size) × (size ≤ 32) ⌝ }
     ensures { λ r. ⌜ r < 2 ⌝ }
 {
-    let mut firsts = [0u32; 512];
-    let mut seconds = [0u32; 512];
+    let mut firsts = [0u32; group::SLOTS];
+    let mut seconds = [0u32; group::SLOTS];
     let slots = match flow::load(words, &mut firsts, &mut seconds) {
         Loaded::Slots(n) => n,
         Loaded::Refused(_) => 0,
     };
-    let mut cells = [0u32; 20];
+    let mut cells = [0u32; group::CELLS];
     fresh(size, &mut cells);
     let ran = flow::run(&firsts, &seconds, slots, &mut cells, masks, 0);
     if cells[7] != position {
@@ -205,11 +205,11 @@ fn played(
 
 // A run that ends its program of one plain slot, and then another one with no masks at all, which must get 16.
 fn again() -> u32 {
-    let mut firsts = [0u32; 512];
-    let mut seconds = [0u32; 512];
+    let mut firsts = [0u32; group::SLOTS];
+    let mut seconds = [0u32; group::SLOTS];
     let words = [0x20, 0];
     flow::load(&words, &mut firsts, &mut seconds);
-    let mut cells = [0u32; 20];
+    let mut cells = [0u32; group::CELLS];
     fresh(4, &mut cells);
     let masks = [0, 0];
     flow::run(&firsts, &seconds, 1, &mut cells, &masks, 0);

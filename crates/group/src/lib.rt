@@ -5,3 +5,8 @@
 // branch counters, bit i of cell 2 + k being bit k of processor i's counter; 7 the position; 8 to 11 the stored returns, the
 // last one first, 0 for none. 12 to 19 are 0: room for the mode, the killed processors, the open loops and aL.
 pub mod planes;
+
+// How many numbers a group lies in, and how many slots a program store has.
+pub const CELLS: usize = 20;
+
+pub const SLOTS: usize = 512;

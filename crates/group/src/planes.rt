@@ -80,7 +80,7 @@ pub fn upper_bits(p3: u32, p4: u32) -> bool
 
 // Whether the operation is an increment that a counter of 31 forbids. Few groups have a counter with both upper bits, so that
 // test is first: the processor can predict it, which it often can't the operation.
-pub fn over_limit(op: u32, cells: &[u32; 20]) -> bool
+pub fn over_limit(op: u32, cells: &[u32; crate::CELLS]) -> bool
     requires { ⌜ length (now cells) ≡ 20 ⌝ }
     ensures { λ r. ⌜ r ≡ (eqb op 2 and some 32 (λ i. eqb (counterOf (on i (getD (now (cells .entry)) 2 0)) (on i (getD (now (cells .entry)) 3 0)) (on i (getD (now (cells .entry)) 4 0)) (on i (getD (now (cells .entry)) 5 0)) (on i (getD (now (cells .entry)) 6 0))) 31)) ⌝ }
 {
@@ -94,7 +94,7 @@ pub fn over_limit(op: u32, cells: &[u32; 20]) -> bool
 }
 
 // The active processors as the wishes see them: turned by B_ELSE where the slot has it. The planes are read for that alone.
-pub fn turn_if(otherwise: bool, active: u32, cells: &[u32; 20]) -> u32
+pub fn turn_if(otherwise: bool, active: u32, cells: &[u32; crate::CELLS]) -> u32
     requires { ⌜ (length (now cells) ≡ 20) × MarksIn (now cells) active ⌝ }
     ensures { λ r. ⌜ r ≡ activeMask (turnedIf otherwise (withActive (now (cells .entry)) active)) ⌝ }
 {

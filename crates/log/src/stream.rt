@@ -26,25 +26,25 @@ pub struct BytePosition(pub u64);
 
 // A replay that has read nothing, over a new session.
 pub fn begin(
-    log: &mut [u32; 10],
-    marks: &mut [u64; 800],
-    own: &mut [u32; 17],
-    tallies: &mut [u64; 2],
-    shared: &mut [u32; 101],
+    log: &mut [u32; replay::LOG_CELLS],
+    marks: &mut [u64; replay::MARKS],
+    own: &mut [u32; state::OWN_CELLS],
+    tallies: &mut [u64; state::TALLIES],
+    shared: &mut [u32; state::SHARED_CELLS],
 )
     ensures { λ _. ⌜ LogHeld newReplay (now (log .exit)) (now (marks .exit)) (now (own .exit)) (now (tallies .exit)) (now (shared .exit)) ⌝ }
 {
     stream::begin(own, tallies, shared);
-    *log = [0; 10];
-    *marks = [0; 800];
+    *log = [0; replay::LOG_CELLS];
+    *marks = [0; replay::MARKS];
 }
 
 // Words of records, fed to the session in one piece. A refused one stops the session, so that later ones add nothing.
 fn take_words(
-    log: &mut [u32; 10],
-    own: &mut [u32; 17],
-    tallies: &mut [u64; 2],
-    shared: &mut [u32; 101],
+    log: &mut [u32; replay::LOG_CELLS],
+    own: &mut [u32; state::OWN_CELLS],
+    tallies: &mut [u64; state::TALLIES],
+    shared: &mut [u32; state::SHARED_CELLS],
     words: &[u32],
 )
     requires { ⌜ WordsAsked (now log) (now own) (now tallies) (now shared) ⌝ }
@@ -60,10 +60,10 @@ fn take_words(
 
 // The word of a record that was read byte by byte.
 fn take_word(
-    log: &mut [u32; 10],
-    own: &mut [u32; 17],
-    tallies: &mut [u64; 2],
-    shared: &mut [u32; 101],
+    log: &mut [u32; replay::LOG_CELLS],
+    own: &mut [u32; state::OWN_CELLS],
+    tallies: &mut [u64; state::TALLIES],
+    shared: &mut [u32; state::SHARED_CELLS],
     word: u32,
 )
     requires { ⌜ WordsAsked (now log) (now own) (now tallies) (now shared) ⌝ }
@@ -78,11 +78,11 @@ fn take_word(
 
 // A byte of an open record; the fifth completes it.
 fn open_byte(
-    log: &mut [u32; 10],
-    marks: &mut [u64; 800],
-    own: &mut [u32; 17],
-    tallies: &mut [u64; 2],
-    shared: &mut [u32; 101],
+    log: &mut [u32; replay::LOG_CELLS],
+    marks: &mut [u64; replay::MARKS],
+    own: &mut [u32; state::OWN_CELLS],
+    tallies: &mut [u64; state::TALLIES],
+    shared: &mut [u32; state::SHARED_CELLS],
     byte: u32,
 ) -> Answer
     requires { ⌜ OpenAsked (now log) (now marks) (now own) (now tallies) (now shared) byte ⌝ }
@@ -122,11 +122,11 @@ fn stop_cause(number: u32) -> Refusal
 
 // One byte. A replay that was stopped answers the same number again.
 pub fn byte(
-    log: &mut [u32; 10],
-    marks: &mut [u64; 800],
-    own: &mut [u32; 17],
-    tallies: &mut [u64; 2],
-    shared: &mut [u32; 101],
+    log: &mut [u32; replay::LOG_CELLS],
+    marks: &mut [u64; replay::MARKS],
+    own: &mut [u32; state::OWN_CELLS],
+    tallies: &mut [u64; state::TALLIES],
+    shared: &mut [u32; state::SHARED_CELLS],
     byte: u32,
 ) -> Answer
     requires { ⌜ LogGiven (now log) (now marks) (now own) (now tallies) (now shared) × (byte < 256) ⌝ }
@@ -171,10 +171,10 @@ fn gather(bytes: &[u8], at: usize, words: &mut [u32; 128]) -> usize
 // Records of words that lie whole in a piece from a place on are read at once; how many they were. None where a record is
 // open or the replay stopped.
 fn take_records(
-    log: &mut [u32; 10],
-    own: &mut [u32; 17],
-    tallies: &mut [u64; 2],
-    shared: &mut [u32; 101],
+    log: &mut [u32; replay::LOG_CELLS],
+    own: &mut [u32; state::OWN_CELLS],
+    tallies: &mut [u64; state::TALLIES],
+    shared: &mut [u32; state::SHARED_CELLS],
     bytes: &[u8],
     at: usize,
 ) -> usize
@@ -200,7 +200,7 @@ fn take_records(
 
 // Whether a byte only adds to a record, as its kind or inside its number; then it is added. The session isn't looked at, so that
 // a log that comes byte by byte is soon read.
-pub fn grows(log: &mut [u32; 10], byte: u32) -> bool
+pub fn grows(log: &mut [u32; replay::LOG_CELLS], byte: u32) -> bool
     requires { ⌜ length (now log) ≡ 10 ⌝ }
     ensures { λ r. ⌜ Grew byte (now (log .entry)) r (now (log .exit)) ⌝ }
 {
@@ -230,11 +230,11 @@ pub struct Fed {
 
 // A piece of bytes, one after another up to the first refused one; bytes after that aren't looked at.
 pub fn feed(
-    log: &mut [u32; 10],
-    marks: &mut [u64; 800],
-    own: &mut [u32; 17],
-    tallies: &mut [u64; 2],
-    shared: &mut [u32; 101],
+    log: &mut [u32; replay::LOG_CELLS],
+    marks: &mut [u64; replay::MARKS],
+    own: &mut [u32; state::OWN_CELLS],
+    tallies: &mut [u64; state::TALLIES],
+    shared: &mut [u32; state::SHARED_CELLS],
     bytes: &[u8],
 ) -> Fed
     requires { ⌜ LogGiven (now log) (now marks) (now own) (now tallies) (now shared) ⌝ }

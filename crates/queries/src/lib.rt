@@ -35,32 +35,32 @@ fn wide(n: u32) -> u64
 }
 
 // Words taken since the session began.
-pub fn taken(own: &[u32; 17]) -> WordPosition
+pub fn taken(own: &[u32; state::OWN_CELLS]) -> WordPosition
     ensures { λ r. ⌜ r .0 ≡ partyOf (now (own .entry)) [] .taken ⌝ }
 {
     WordPosition(wide(own[own::TAKEN]))
 }
 
-pub fn is_stopped(own: &[u32; 17]) -> bool
+pub fn is_stopped(own: &[u32; state::OWN_CELLS]) -> bool
     ensures { λ r. ⌜ r ≡ eqb (partyOf (now (own .entry)) [] .stopped) 1 ⌝ }
 {
     own[own::STOPPED] == 1
 }
 
 // The line of the open command in the command table, 21 where none is open, and how many parameters were taken.
-pub fn open_line(own: &[u32; 17]) -> u32
+pub fn open_line(own: &[u32; state::OWN_CELLS]) -> u32
     ensures { λ r. ⌜ r ≡ partyOf (now (own .entry)) [] .opened .line ⌝ }
 {
     own[own::LINE]
 }
 
-pub fn open_count(own: &[u32; 17]) -> u32
+pub fn open_count(own: &[u32; state::OWN_CELLS]) -> u32
     ensures { λ r. ⌜ r ≡ partyOf (now (own .entry)) [] .opened .count ⌝ }
 {
     own[own::COUNT]
 }
 
-pub fn domain(own: &[u32; 17]) -> Bounds
+pub fn domain(own: &[u32; state::OWN_CELLS]) -> Bounds
     ensures { λ r. ⌜ r ≡ boundsOf (partyOf (now (own .entry)) [] .domain) ⌝ }
 {
     let present = own[own::DOMAIN] == 1;
@@ -73,7 +73,7 @@ pub fn domain(own: &[u32; 17]) -> Bounds
     }
 }
 
-pub fn instructions(own: &[u32; 17]) -> Setting
+pub fn instructions(own: &[u32; state::OWN_CELLS]) -> Setting
     ensures { λ r. ⌜ r ≡ settingOf (partyOf (now (own .entry)) [] .instructions) ⌝ }
 {
     let present = own[own::INSTRUCTIONS] == 1;
@@ -86,52 +86,52 @@ pub fn instructions(own: &[u32; 17]) -> Setting
 }
 
 // Starts that passed, and the elements that they claimed.
-pub fn runs(tallies: &[u64; 2]) -> u64
+pub fn runs(tallies: &[u64; state::TALLIES]) -> u64
     ensures { λ r. ⌜ r ≡ partyOf [] (now (tallies .entry)) .tally .runs ⌝ }
 {
     tallies[0]
 }
 
-pub fn claims(tallies: &[u64; 2]) -> u64
+pub fn claims(tallies: &[u64; state::TALLIES]) -> u64
     ensures { λ r. ⌜ r ≡ partyOf [] (now (tallies .entry)) .tally .claims ⌝ }
 {
     tallies[1]
 }
 
 // The output mask: bit 4n + c for channel c of output n.
-pub fn mask(shared: &[u32; 101]) -> u32
+pub fn mask(shared: &[u32; state::SHARED_CELLS]) -> u32
     ensures { λ r. ⌜ r ≡ sharedOf (now (shared .entry)) .mask ⌝ }
 {
     shared[settings::MASK]
 }
 
 // Whether the conditional mask and the test are set, and their values.
-pub fn has_conditional_mask(shared: &[u32; 101]) -> bool
+pub fn has_conditional_mask(shared: &[u32; state::SHARED_CELLS]) -> bool
     ensures { λ r. ⌜ r ≡ eqb (sharedOf (now (shared .entry)) .conditionalMaskSet) 1 ⌝ }
 {
     shared[settings::CONDITIONAL_MASK_SET] == 1
 }
 
-pub fn conditional_mask(shared: &[u32; 101]) -> u32
+pub fn conditional_mask(shared: &[u32; state::SHARED_CELLS]) -> u32
     ensures { λ r. ⌜ r ≡ sharedOf (now (shared .entry)) .conditionalMask ⌝ }
 {
     shared[settings::CONDITIONAL_MASK]
 }
 
-pub fn has_test(shared: &[u32; 101]) -> bool
+pub fn has_test(shared: &[u32; state::SHARED_CELLS]) -> bool
     ensures { λ r. ⌜ r ≡ eqb (sharedOf (now (shared .entry)) .testSet) 1 ⌝ }
 {
     shared[settings::TEST_SET] == 1
 }
 
-pub fn test(shared: &[u32; 101]) -> u32
+pub fn test(shared: &[u32; state::SHARED_CELLS]) -> u32
     ensures { λ r. ⌜ r ≡ sharedOf (now (shared .entry)) .test ⌝ }
 {
     shared[settings::TEST]
 }
 
 // The buffer whose cells begin at a place.
-fn setting_at(shared: &[u32; 101], at: usize) -> Setting
+fn setting_at(shared: &[u32; state::SHARED_CELLS], at: usize) -> Setting
     requires { ⌜ at < 98 ⌝ }
     ensures { λ r. ⌜ r ≡ settingOf (bufferAt (now (shared .entry)) at) ⌝ }
 {
@@ -144,25 +144,25 @@ fn setting_at(shared: &[u32; 101], at: usize) -> Setting
     }
 }
 
-pub fn floats(shared: &[u32; 101]) -> Setting
+pub fn floats(shared: &[u32; state::SHARED_CELLS]) -> Setting
     ensures { λ r. ⌜ r ≡ settingOf (sharedOf (now (shared .entry)) .floats) ⌝ }
 {
     setting_at(shared, settings::FLOATS)
 }
 
-pub fn integers(shared: &[u32; 101]) -> Setting
+pub fn integers(shared: &[u32; state::SHARED_CELLS]) -> Setting
     ensures { λ r. ⌜ r ≡ settingOf (sharedOf (now (shared .entry)) .integers) ⌝ }
 {
     setting_at(shared, settings::INTEGERS)
 }
 
-pub fn booleans(shared: &[u32; 101]) -> Setting
+pub fn booleans(shared: &[u32; state::SHARED_CELLS]) -> Setting
     ensures { λ r. ⌜ r ≡ settingOf (sharedOf (now (shared .entry)) .booleans) ⌝ }
 {
     setting_at(shared, settings::BOOLEANS)
 }
 
-pub fn conditional(shared: &[u32; 101]) -> Setting
+pub fn conditional(shared: &[u32; state::SHARED_CELLS]) -> Setting
     ensures { λ r. ⌜ r ≡ settingOf (sharedOf (now (shared .entry)) .conditional) ⌝ }
 {
     setting_at(shared, settings::CONDITIONAL)
@@ -181,7 +181,7 @@ fn not_set() -> Setting
 }
 
 // Output `number`, 0 to 3.
-pub fn output(shared: &[u32; 101], number: u32) -> Setting
+pub fn output(shared: &[u32; state::SHARED_CELLS], number: u32) -> Setting
     ensures { λ r. ⌜ r ≡ settingOf (getD (sharedOf (now (shared .entry)) .outputs) number unset) ⌝ }
 {
     if number < 4 {
@@ -192,7 +192,7 @@ pub fn output(shared: &[u32; 101], number: u32) -> Setting
 }
 
 // Input `number`, 0 to 15.
-pub fn input(shared: &[u32; 101], number: u32) -> Setting
+pub fn input(shared: &[u32; state::SHARED_CELLS], number: u32) -> Setting
     ensures { λ r. ⌜ r ≡ settingOf (getD (sharedOf (now (shared .entry)) .inputs) number unset) ⌝ }
 {
     if number < 16 {

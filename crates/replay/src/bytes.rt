@@ -31,7 +31,7 @@ pub fn is_kind(byte: u32) -> bool
 }
 
 // A record's first byte: 18 where it is no kind.
-pub fn kind_byte(log: &mut [u32; 10], byte: u32) -> Answer
+pub fn kind_byte(log: &mut [u32; crate::LOG_CELLS], byte: u32) -> Answer
     requires { ⌜ length (now log) ≡ 10 ⌝ }
     ensures { λ r. ⌜ Answered (λ s. kindStep s byte) (replyOf r) (now (log .entry)) (now (log .exit)) ⌝ }
 {
@@ -59,7 +59,12 @@ fn may_begin(midnights: u32, last: u32, day: u32) -> bool
 }
 
 // A midnight: the session's tallies are marked, and a day begins; 19 where it may not.
-pub fn midnight(log: &mut [u32; 10], marks: &mut [u64; 800], tallies: &[u64; 2], day: u32) -> Answer
+pub fn midnight(
+    log: &mut [u32; crate::LOG_CELLS],
+    marks: &mut [u64; crate::MARKS],
+    tallies: &[u64; state::TALLIES],
+    day: u32,
+) -> Answer
     requires { ⌜ MidnightAsked (now log) (now marks) (now tallies) ⌝ }
     ensures { λ r. ⌜ MidnightLeft (λ s. midnightStep s day) (replyOf r) (now (log .entry)) (now (marks .entry)) (now (tallies .entry)) (now (log .exit)) (now (marks .exit)) ⌝ }
 {

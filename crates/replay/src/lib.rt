@@ -2,3 +2,8 @@
 // ten numbers of a replay's own, and what a midnight does: 18 for a kind byte that is none, 19 for a day that may not begin.
 pub mod bytes;
 pub mod own;
+
+// How many numbers a replay lies in beside its session's: its own, and two marks for each of 400 midnights.
+pub const LOG_CELLS: usize = 10;
+
+pub const MARKS: usize = 800;

@@ -33,7 +33,7 @@ pub const BY_KIND: u32 = 18;
 pub const BY_DAY: u32 = 19;
 
 // Stores the open record: how many bytes stand, its kind and its number's first bytes, 0 for those that haven't come.
-fn put_record(log: &mut [u32; 10], count: u32, kind: u32)
+fn put_record(log: &mut [u32; crate::LOG_CELLS], count: u32, kind: u32)
     requires { ⌜ length (now log) ≡ 10 ⌝ }
     ensures { λ _. ⌜ Changed (opening (record { count = count; kind = kind; low = 0; second = 0; third = 0 })) (now (log .entry)) (now (log .exit)) ⌝ }
 {
@@ -45,7 +45,7 @@ fn put_record(log: &mut [u32; 10], count: u32, kind: u32)
 }
 
 // No record is open.
-pub fn close(log: &mut [u32; 10])
+pub fn close(log: &mut [u32; crate::LOG_CELLS])
     requires { ⌜ length (now log) ≡ 10 ⌝ }
     ensures { λ _. ⌜ Changed (opening noRecord) (now (log .entry)) (now (log .exit)) ⌝ }
 {
@@ -53,7 +53,7 @@ pub fn close(log: &mut [u32; 10])
 }
 
 // A record is open, of which the kind byte stands.
-pub fn open(log: &mut [u32; 10], kind: u32)
+pub fn open(log: &mut [u32; crate::LOG_CELLS], kind: u32)
     requires { ⌜ length (now log) ≡ 10 ⌝ }
     ensures { λ _. ⌜ Changed (opening (ofKind kind)) (now (log .entry)) (now (log .exit)) ⌝ }
 {
@@ -61,7 +61,7 @@ pub fn open(log: &mut [u32; 10], kind: u32)
 }
 
 // One more byte of the open record's number stands.
-pub fn add(log: &mut [u32; 10], count: u32, byte: u32)
+pub fn add(log: &mut [u32; crate::LOG_CELLS], count: u32, byte: u32)
     requires { ⌜ AddAsked (now log) count ⌝ }
     ensures { λ _. ⌜ Changed (λ r. opening (withByte (r .opened) byte) r) (now (log .entry)) (now (log .exit)) ⌝ }
 {
@@ -70,7 +70,7 @@ pub fn add(log: &mut [u32; 10], count: u32, byte: u32)
 }
 
 // The replay is stopped by 18 or 19, and the open record dropped.
-pub fn stop(log: &mut [u32; 10], number: u32)
+pub fn stop(log: &mut [u32; crate::LOG_CELLS], number: u32)
     requires { ⌜ length (now log) ≡ 10 ⌝ }
     ensures { λ _. ⌜ Changed (stopped number) (now (log .entry)) (now (log .exit)) ⌝ }
 {
@@ -79,7 +79,7 @@ pub fn stop(log: &mut [u32; 10], number: u32)
 }
 
 // A refused word's number is kept, with the midnights before it, unless one was kept before.
-pub fn note(log: &mut [u32; 10], number: u32)
+pub fn note(log: &mut [u32; crate::LOG_CELLS], number: u32)
     requires { ⌜ length (now log) ≡ 10 ⌝ }
     ensures { λ _. ⌜ Changed (noting number) (now (log .entry)) (now (log .exit)) ⌝ }
 {
@@ -90,7 +90,7 @@ pub fn note(log: &mut [u32; 10], number: u32)
 }
 
 // One more midnight, at which a day begins.
-pub fn begin_day(log: &mut [u32; 10], midnights: u32, day: u32)
+pub fn begin_day(log: &mut [u32; crate::LOG_CELLS], midnights: u32, day: u32)
     requires { ⌜ length (now log) ≡ 10 ⌝ }
     ensures { λ _. ⌜ Changed (dayBegun midnights day) (now (log .entry)) (now (log .exit)) ⌝ }
 {

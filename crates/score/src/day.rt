@@ -19,7 +19,12 @@ fn has_midnight(midnights: u32, last: u32, day: u32) -> bool
 
 // The elements claimed on the day with this number; 0 where the log has no midnight record of it. What ended before the first
 // midnight is of no day, and the last day goes on to the log's end.
-pub fn claimed_on(log: &[u32; 10], marks: &[u64; 800], tallies: &[u64; 2], day: u32) -> u64
+pub fn claimed_on(
+    log: &[u32; replay::LOG_CELLS],
+    marks: &[u64; replay::MARKS],
+    tallies: &[u64; state::TALLIES],
+    day: u32,
+) -> u64
     ensures { λ r. ⌜ r ≡ claimedOn (replayFor (now (log .entry)) (now (marks .entry)) (now (tallies .entry))) day ⌝ }
 {
     let midnights = log[own::MIDNIGHTS];

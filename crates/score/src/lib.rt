@@ -3,3 +3,6 @@
 pub mod day;
 pub mod line;
 pub mod month;
+
+// The most days of a lease line, and so the length of the rooms of a month.
+pub const DAYS: usize = 31;

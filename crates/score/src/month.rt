@@ -28,20 +28,20 @@ pub enum Scored {
 
 // Writes the claimed and the served number of each day of a lease line, 0 past its last day, and gives what was served in all.
 fn fill(
-    log: &[u32; 10],
-    marks: &[u64; 800],
-    tallies: &[u64; 2],
+    log: &[u32; replay::LOG_CELLS],
+    marks: &[u64; replay::MARKS],
+    tallies: &[u64; state::TALLIES],
     first_day: u32,
     days: u32,
     owed: u32,
-    claimed: &mut [u64; 31],
-    served: &mut [u64; 31],
+    claimed: &mut [u64; crate::DAYS],
+    served: &mut [u64; crate::DAYS],
 ) -> u64
     requires { ⌜ Bounded (leaseLine «first_day» days owed) ⌝ }
     ensures { λ r. ⌜ Filled (leaseLine «first_day» days owed) (replayFor (now (log .entry)) (now (marks .entry)) (now (tallies .entry))) r (now (claimed .exit)) (now (served .exit)) ⌝ }
 {
-    *claimed = [0; 31];
-    *served = [0; 31];
+    *claimed = [0; crate::DAYS];
+    *served = [0; crate::DAYS];
     let mut total = 0u64;
     let mut k = 0u32;
     while k < days {
@@ -72,14 +72,14 @@ fn called(served: u64, owed: u64) -> Verdict
 // The score of a replay under a lease line. The rooms hold a number for each day of the lease, 0 past its last day; a refusal
 // writes nothing.
 pub fn score(
-    log: &[u32; 10],
-    marks: &[u64; 800],
-    tallies: &[u64; 2],
+    log: &[u32; replay::LOG_CELLS],
+    marks: &[u64; replay::MARKS],
+    tallies: &[u64; state::TALLIES],
     first_day: u32,
     days: u32,
     owed: u32,
-    claimed: &mut [u64; 31],
-    served: &mut [u64; 31],
+    claimed: &mut [u64; crate::DAYS],
+    served: &mut [u64; crate::DAYS],
 ) -> Scored
     ensures { λ r. ⌜ Scores (leaseLine «first_day» days owed) (now (log .entry)) (now (marks .entry)) (now (tallies .entry)) r (now (claimed .entry)) (now (served .entry)) (now (claimed .exit)) (now (served .exit)) ⌝ }
 {

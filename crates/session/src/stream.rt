@@ -39,7 +39,11 @@ pub enum Answer {
 }
 
 // The rules on a whole command: 5 and 6 of its fields, and of a start 7, 8 and 9 of the settings.
-fn whole_rule(own: &[u32; 17], shared: &[u32; 101], command: Command) -> Checked
+fn whole_rule(
+    own: &[u32; state::OWN_CELLS],
+    shared: &[u32; state::SHARED_CELLS],
+    command: Command,
+) -> Checked
     requires { ⌜ (length (now own) ≡ 17) × (length (now shared) ≡ 101) ⌝ }
     ensures { λ r. ⌜ toldChecked r ≡ thenTold (lastRuleOf command) (startRuleOf command (sessionOf (now (own .entry)) [] (now (shared .entry)))) ⌝ }
 {
@@ -56,7 +60,11 @@ fn whole_rule(own: &[u32; 17], shared: &[u32; 101], command: Command) -> Checked
 
 // All parameters are there: the command is judged as a whole, and accepted or refused. Where the tests of its line accept
 // it, nothing more is asked.
-fn complete(own: &mut [u32; 17], tallies: &mut [u64; 2], shared: &mut [u32; 101]) -> Answer
+fn complete(
+    own: &mut [u32; state::OWN_CELLS],
+    tallies: &mut [u64; state::TALLIES],
+    shared: &mut [u32; state::SHARED_CELLS],
+) -> Answer
     requires { ⌜ CompleteAsked (now own) (now tallies) (now shared) ⌝ }
     ensures { λ r. ⌜ Left (completing (partyOf (now (own .entry)) [] .opened) (sessionOf (now (own .entry)) (now (tallies .entry)) (now (shared .entry)))) (replyOf r) (now (own .exit)) (now (tallies .exit)) (now (shared .exit)) ⌝ }
 {
@@ -84,7 +92,12 @@ fn complete(own: &mut [u32; 17], tallies: &mut [u64; 2], shared: &mut [u32; 101]
 }
 
 // A parameter that its kind allows.
-fn placed(own: &mut [u32; 17], tallies: &mut [u64; 2], shared: &mut [u32; 101], word: u32) -> Answer
+fn placed(
+    own: &mut [u32; state::OWN_CELLS],
+    tallies: &mut [u64; state::TALLIES],
+    shared: &mut [u32; state::SHARED_CELLS],
+    word: u32,
+) -> Answer
     requires { ⌜ ParameterAsked (now own) (now tallies) (now shared) word ⌝ }
     ensures { λ r. ⌜ Left (placing (withParameter (partyOf (now (own .entry)) [] .opened) word) (sessionOf (now (own .entry)) (now (tallies .entry)) (now (shared .entry)))) (replyOf r) (now (own .exit)) (now (tallies .exit)) (now (shared .exit)) ⌝ }
 {
@@ -100,9 +113,9 @@ fn placed(own: &mut [u32; 17], tallies: &mut [u64; 2], shared: &mut [u32; 101], 
 
 // A word where a command is open: judged by the kind of the parameter that it is.
 fn parameter(
-    own: &mut [u32; 17],
-    tallies: &mut [u64; 2],
-    shared: &mut [u32; 101],
+    own: &mut [u32; state::OWN_CELLS],
+    tallies: &mut [u64; state::TALLIES],
+    shared: &mut [u32; state::SHARED_CELLS],
     word: u32,
 ) -> Answer
     requires { ⌜ OpenAsked (now own) (now tallies) (now shared) ⌝ }
@@ -120,9 +133,9 @@ fn parameter(
 
 // One word. 1 comes before 17, and 17 before the word is looked at.
 pub fn word(
-    own: &mut [u32; 17],
-    tallies: &mut [u64; 2],
-    shared: &mut [u32; 101],
+    own: &mut [u32; state::OWN_CELLS],
+    tallies: &mut [u64; state::TALLIES],
+    shared: &mut [u32; state::SHARED_CELLS],
     word: u32,
 ) -> Answer
     requires { ⌜ Given (now own) (now tallies) (now shared) ⌝ }
@@ -151,13 +164,17 @@ pub fn word(
 }
 
 // A new session: nothing set, mask 65535.
-pub fn begin(own: &mut [u32; 17], tallies: &mut [u64; 2], shared: &mut [u32; 101])
+pub fn begin(
+    own: &mut [u32; state::OWN_CELLS],
+    tallies: &mut [u64; state::TALLIES],
+    shared: &mut [u32; state::SHARED_CELLS],
+)
     ensures { λ _. ⌜ Held newSession (now (own .exit)) (now (tallies .exit)) (now (shared .exit)) ⌝ }
 {
-    *own = [0; 17];
+    *own = [0; state::OWN_CELLS];
     own[own::LINE] = own::NO_LINE;
-    *tallies = [0; 2];
-    *shared = [0; 101];
+    *tallies = [0; state::TALLIES];
+    *shared = [0; state::SHARED_CELLS];
     shared[settings::MASK] = 65535;
 }
 
@@ -189,9 +206,9 @@ fn completed_by(answer: Answer) -> u64
 // A piece of words, one after another up to the first refused one; words after that aren't looked at. A command that lies
 // whole in the piece and is accepted is taken at once.
 pub fn feed(
-    own: &mut [u32; 17],
-    tallies: &mut [u64; 2],
-    shared: &mut [u32; 101],
+    own: &mut [u32; state::OWN_CELLS],
+    tallies: &mut [u64; state::TALLIES],
+    shared: &mut [u32; state::SHARED_CELLS],
     words: &[u32],
 ) -> Fed
     requires { ⌜ Given (now own) (now tallies) (now shared) ⌝ }

@@ -28,9 +28,9 @@ fn first_number(answer: First) -> u32 {
 
 // A stream in one piece from a new session.
 fn come(words: &[u32]) -> Came {
-    let mut own: [u32; 17] = [0; 17];
-    let mut tallies: [u64; 2] = [0; 2];
-    let mut shared: [u32; 101] = [0; 101];
+    let mut own: [u32; state::OWN_CELLS] = [0; state::OWN_CELLS];
+    let mut tallies: [u64; state::TALLIES] = [0; state::TALLIES];
+    let mut shared: [u32; state::SHARED_CELLS] = [0; state::SHARED_CELLS];
     stream::begin(&mut own, &mut tallies, &mut shared);
     let fed = stream::feed(&mut own, &mut tallies, &mut shared, words);
     let refused = fed.refusal;

@@ -15,7 +15,7 @@ ghost use Rattle.state.specs.Cells.{Sized, partyCells, partyOf, sessionOf, shar
 ghost use Rattle.state.specs.Asked.{AcceptAsked, OwnAsked, Held, HeldOwn};
 
 // The instructions' format is a party's own; the other formats of height 1 are shared.
-fn store_own(own: &mut [u32; 17], what: Stored, base: u32, format: u32)
+fn store_own(own: &mut [u32; state::OWN_CELLS], what: Stored, base: u32, format: u32)
     requires { ⌜ length (now own) ≡ 17 ⌝ }
     ensures { λ _. ⌜ now (own .exit) ≡ partyCells (ownAfter (Command.Store what base format) newShared (partyOf (now (own .entry)) [])) ⌝ }
 {
@@ -28,7 +28,11 @@ fn store_own(own: &mut [u32; 17], what: Stored, base: u32, format: u32)
 }
 
 // A start that passes: one run more, and the elements that it claims.
-pub fn count_start(own: &[u32; 17], tallies: &mut [u64; 2], shared: &[u32; 101])
+pub fn count_start(
+    own: &[u32; state::OWN_CELLS],
+    tallies: &mut [u64; state::TALLIES],
+    shared: &[u32; state::SHARED_CELLS],
+)
     requires { ⌜ OwnAsked (now own) (now tallies) (now shared) ⌝ }
     ensures { λ _. ⌜ now (tallies .exit) ≡ tallyCells (ownAfter Command.Start (sharedOf (now (shared .entry))) (partyOf (now (own .entry)) (now (tallies .entry)))) ⌝ }
 {
@@ -38,7 +42,12 @@ pub fn count_start(own: &[u32; 17], tallies: &mut [u64; 2], shared: &[u32; 101])
 }
 
 // What a command sets of a party's own.
-fn apply_own(own: &mut [u32; 17], tallies: &mut [u64; 2], shared: &[u32; 101], command: Command)
+fn apply_own(
+    own: &mut [u32; state::OWN_CELLS],
+    tallies: &mut [u64; state::TALLIES],
+    shared: &[u32; state::SHARED_CELLS],
+    command: Command,
+)
     requires { ⌜ OwnAsked (now own) (now tallies) (now shared) ⌝ }
     ensures { λ _. ⌜ HeldOwn (ownAfter command (sharedOf (now (shared .entry))) (partyOf (now (own .entry)) (now (tallies .entry)))) (now (own .exit)) (now (tallies .exit)) ⌝ }
 {
@@ -58,9 +67,9 @@ fn apply_own(own: &mut [u32; 17], tallies: &mut [u64; 2], shared: &[u32; 101], c
 
 // The command's effect on the whole session, its last word taken.
 pub fn accept(
-    own: &mut [u32; 17],
-    tallies: &mut [u64; 2],
-    shared: &mut [u32; 101],
+    own: &mut [u32; state::OWN_CELLS],
+    tallies: &mut [u64; state::TALLIES],
+    shared: &mut [u32; state::SHARED_CELLS],
     command: Command,
 )
     requires { ⌜ AcceptAsked command (now own) (now tallies) (now shared) ⌝ }

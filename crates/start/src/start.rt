@@ -115,7 +115,7 @@ fn output_of(bits: u32, flag: u32, base: u32, format: u32, height: u32) -> Outpu
 }
 
 // The output whose cells begin at a place.
-pub fn output_at(bits: u32, shared: &[u32; 101], at: usize) -> Output
+pub fn output_at(bits: u32, shared: &[u32; state::SHARED_CELLS], at: usize) -> Output
     requires { ⌜ (length (now shared) ≡ 101) × (at < 98) ⌝ }
     ensures { λ r. ⌜ r ≡ outputOf bits (bufferAt (now (shared .entry)) at) ⌝ }
 {
@@ -218,7 +218,7 @@ fn verdict(complete: bool, covered: bool, disjoint: bool) -> Checked
 }
 
 // Whether the settings alone let a start pass: fine, 7, 8 or 9.
-pub fn ready(own: &[u32; 17], shared: &[u32; 101]) -> Checked
+pub fn ready(own: &[u32; state::OWN_CELLS], shared: &[u32; state::SHARED_CELLS]) -> Checked
     requires { ⌜ (length (now own) ≡ 17) × (length (now shared) ≡ 101) ⌝ }
     ensures { λ r. ⌜ toldChecked r ≡ readyOf (partyOf (now (own .entry)) [] .domain) (partyOf (now (own .entry)) [] .instructions) (sharedOf (now (shared .entry)) .mask) (sharedOf (now (shared .entry)) .outputs) ⌝ }
 {
@@ -246,7 +246,7 @@ fn pairs(i0: u32, j0: u32, i1: u32, j1: u32) -> u64
 }
 
 // 1 for an output that counts, its cells from a place on.
-fn one_at(bits: u32, shared: &[u32; 101], at: usize) -> u64
+fn one_at(bits: u32, shared: &[u32; state::SHARED_CELLS], at: usize) -> u64
     requires { ⌜ (length (now shared) ≡ 101) × (at < 98) ⌝ }
     ensures { λ r. ⌜ (r ≡ pick (countsBy bits (bufferAt (now (shared .entry)) at .isSet) (bufferAt (now (shared .entry)) at .format)) 1 0) × (r ≤ 1) ⌝ }
 {
@@ -258,7 +258,7 @@ fn one_at(bits: u32, shared: &[u32; 101], at: usize) -> u64
 }
 
 // The number of outputs that count.
-fn counted_outputs(shared: &[u32; 101]) -> u64
+fn counted_outputs(shared: &[u32; state::SHARED_CELLS]) -> u64
     requires { ⌜ length (now shared) ≡ 101 ⌝ }
     ensures { λ r. ⌜ (r ≡ sumBelow 4 (λ n. pick (counts (sharedOf (now (shared .entry)) .mask) (sharedOf (now (shared .entry)) .outputs) n) 1 0)) × (r ≤ 4) ⌝ }
 {
@@ -270,7 +270,7 @@ fn counted_outputs(shared: &[u32; 101]) -> u64
 }
 
 // The elements that a start claims: the domain's pairs, for each output that counts.
-pub fn claim(own: &[u32; 17], shared: &[u32; 101]) -> u64
+pub fn claim(own: &[u32; state::OWN_CELLS], shared: &[u32; state::SHARED_CELLS]) -> u64
     requires { ⌜ ((length (now own) ≡ 17) × (length (now shared) ≡ 101)) × DomainValid (partyOf (now own) [] .domain) ⌝ }
     ensures { λ r. ⌜ (r ≡ claimOf (partyOf (now (own .entry)) [] .domain) (sharedOf (now (shared .entry)) .mask) (sharedOf (now (shared .entry)) .outputs)) × (r ≤ 67108864) ⌝ }
 {

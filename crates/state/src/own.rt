@@ -51,7 +51,7 @@ pub const INSTRUCTIONS_HEIGHT: usize = 16;
 pub const NO_LINE: u32 = 21;
 
 // No command is open.
-pub fn close(own: &mut [u32; 17])
+pub fn close(own: &mut [u32; crate::OWN_CELLS])
     requires { ⌜ length (now own) ≡ 17 ⌝ }
     ensures { λ _. ⌜ now (own .exit) ≡ partyCells (opening none (partyOf (now (own .entry)) [])) ⌝ }
 {
@@ -64,7 +64,7 @@ pub fn close(own: &mut [u32; 17])
 }
 
 // The session is stopped and its open command dropped.
-pub fn stop(own: &mut [u32; 17])
+pub fn stop(own: &mut [u32; crate::OWN_CELLS])
     requires { ⌜ length (now own) ≡ 17 ⌝ }
     ensures { λ _. ⌜ now (own .exit) ≡ partyCells (stopped (partyOf (now (own .entry)) [])) ⌝ }
 {
@@ -73,7 +73,7 @@ pub fn stop(own: &mut [u32; 17])
 }
 
 // One more word is taken.
-pub fn count_word(own: &mut [u32; 17])
+pub fn count_word(own: &mut [u32; crate::OWN_CELLS])
     requires { ⌜ (length (now own) ≡ 17) × (partyOf (now own) [] .taken < 1000000000) ⌝ }
     ensures { λ _. ⌜ now (own .exit) ≡ partyCells (took (partyOf (now (own .entry)) [])) ⌝ }
 {
@@ -81,7 +81,7 @@ pub fn count_word(own: &mut [u32; 17])
 }
 
 // So many words more are taken.
-pub fn count_words(own: &mut [u32; 17], words: u32)
+pub fn count_words(own: &mut [u32; crate::OWN_CELLS], words: u32)
     requires { ⌜ (length (now own) ≡ 17) × (partyOf (now own) [] .taken + words ≤ 1000000000) ⌝ }
     ensures { λ _. ⌜ now (own .exit) ≡ partyCells (tookWords words (partyOf (now (own .entry)) [])) ⌝ }
 {
@@ -89,7 +89,7 @@ pub fn count_words(own: &mut [u32; 17], words: u32)
 }
 
 // A header is taken: the command of this line is open.
-pub fn open_line(own: &mut [u32; 17], line: u32)
+pub fn open_line(own: &mut [u32; crate::OWN_CELLS], line: u32)
     requires { ⌜ (length (now own) ≡ 17) × ((partyOf (now own) [] .taken < 1000000000) × (partyOf (now own) [] .opened ≡ none)) ⌝ }
     ensures { λ _. ⌜ now (own .exit) ≡ partyCells (took (opening (atLine line) (partyOf (now (own .entry)) []))) ⌝ }
 {
@@ -98,7 +98,7 @@ pub fn open_line(own: &mut [u32; 17], line: u32)
 }
 
 // The next parameter of the open command, of which `count` were there.
-pub fn place(own: &mut [u32; 17], count: u32, word: u32)
+pub fn place(own: &mut [u32; crate::OWN_CELLS], count: u32, word: u32)
     requires { ⌜ (length (now own) ≡ 17) × ((count < 4) × (partyOf (now own) [] .opened .count ≡ count)) ⌝ }
     ensures { λ _. ⌜ now (own .exit) ≡ partyCells (opening (withParameter (partyOf (now (own .entry)) [] .opened) word) (partyOf (now (own .entry)) [])) ⌝ }
 {
@@ -107,7 +107,7 @@ pub fn place(own: &mut [u32; 17], count: u32, word: u32)
     own[COUNT] = count + 1;
 }
 
-pub fn set_domain(own: &mut [u32; 17], i0: u32, j0: u32, i1: u32, j1: u32)
+pub fn set_domain(own: &mut [u32; crate::OWN_CELLS], i0: u32, j0: u32, i1: u32, j1: u32)
     requires { ⌜ length (now own) ≡ 17 ⌝ }
     ensures { λ _. ⌜ now (own .exit) ≡ partyCells (withDomain (domainFrom i0 j0 i1 j1) (partyOf (now (own .entry)) [])) ⌝ }
 {
@@ -118,7 +118,7 @@ pub fn set_domain(own: &mut [u32; 17], i0: u32, j0: u32, i1: u32, j1: u32)
     own[DOMAIN_J1] = j1;
 }
 
-pub fn set_instructions(own: &mut [u32; 17], base: u32, format: u32)
+pub fn set_instructions(own: &mut [u32; crate::OWN_CELLS], base: u32, format: u32)
     requires { ⌜ length (now own) ≡ 17 ⌝ }
     ensures { λ _. ⌜ now (own .exit) ≡ partyCells (withInstructions (buffer base format 1) (partyOf (now (own .entry)) [])) ⌝ }
 {

@@ -40,7 +40,7 @@ pub const OUTPUTS: usize = 21;
 pub const INPUTS: usize = 37;
 
 // Stores a buffer from a place on.
-pub fn put(shared: &mut [u32; 101], at: usize, base: u32, format: u32, height: u32)
+pub fn put(shared: &mut [u32; crate::SHARED_CELLS], at: usize, base: u32, format: u32, height: u32)
     requires { ⌜ (length (now shared) ≡ 101) × (at < 98) ⌝ }
     ensures { λ _. ⌜ now (shared .exit) ≡ setBuffer (now (shared .entry)) at (buffer base format height) ⌝ }
 {
@@ -51,7 +51,7 @@ pub fn put(shared: &mut [u32; 101], at: usize, base: u32, format: u32, height: u
 }
 
 // Stores a format of height 1; the instructions' is a party's own.
-fn store(shared: &mut [u32; 101], what: Stored, base: u32, format: u32)
+fn store(shared: &mut [u32; crate::SHARED_CELLS], what: Stored, base: u32, format: u32)
     requires { ⌜ length (now shared) ≡ 101 ⌝ }
     ensures { λ _. ⌜ now (shared .exit) ≡ sharedCells (sharedAfter (Command.Store what base format) (sharedOf (now (shared .entry)))) ⌝ }
 {
@@ -64,7 +64,7 @@ fn store(shared: &mut [u32; 101], what: Stored, base: u32, format: u32)
 }
 
 // What a command sets of the shared settings.
-pub fn apply(shared: &mut [u32; 101], command: Command)
+pub fn apply(shared: &mut [u32; crate::SHARED_CELLS], command: Command)
     requires { ⌜ (length (now shared) ≡ 101) × Numbered command ⌝ }
     ensures { λ _. ⌜ now (shared .exit) ≡ sharedCells (sharedAfter command (sharedOf (now (shared .entry)))) ⌝ }
 {

@@ -26,7 +26,7 @@ pub enum Stepped {
 }
 
 // Stores the active processors and the planes of the branch counters.
-fn put(cells: &mut [u32; 20], w: Worked)
+fn put(cells: &mut [u32; group::CELLS], w: Worked)
     requires { ⌜ Spelled (now cells) ⌝ }
     ensures { λ r. ⌜ now (cells .exit) ≡ withMarks (now (cells .entry)) w ⌝ }
 {
@@ -39,7 +39,7 @@ fn put(cells: &mut [u32; 20], w: Worked)
 }
 
 // The branch operation on the cells: 1 decrement, 2 increment, else none, where the planes are neither read nor stored.
-fn mark(op: u32, count: u32, jump: bool, active: u32, wish: u32, cells: &mut [u32; 20])
+fn mark(op: u32, count: u32, jump: bool, active: u32, wish: u32, cells: &mut [u32; group::CELLS])
     requires { ⌜ (Spelled (now cells)) × (count < 32) × (MarksIn (now cells) active) ⌝ }
     ensures { λ r. ⌜ now (cells .exit) ≡ withMarks (now (cells .entry)) (shownAs (λ i. worked op count jump (on i wish) (withActive (now (cells .entry)) active i))) ⌝ }
 {
@@ -81,7 +81,7 @@ fn settle(
     first: u32,
     second: u32,
     slots: u32,
-    cells: &mut [u32; 20],
+    cells: &mut [u32; group::CELLS],
     active: u32,
     wish: u32,
     jump: bool,
@@ -106,7 +106,7 @@ fn step_slot(
     first: u32,
     second: u32,
     slots: u32,
-    cells: &mut [u32; 20],
+    cells: &mut [u32; group::CELLS],
     alu: u32,
     predicate: u32,
     booleans: u32,
@@ -128,10 +128,10 @@ fn step_slot(
 // A step, as `step` and `run` share it. It answers in one number, which stays in a register: 1 for a jump and 0 for a stay,
 // whose next position is then in the cells, or the refusal's number.
 pub fn step_number(
-    firsts: &[u32; 512],
-    seconds: &[u32; 512],
+    firsts: &[u32; group::SLOTS],
+    seconds: &[u32; group::SLOTS],
     slots: u32,
-    cells: &mut [u32; 20],
+    cells: &mut [u32; group::CELLS],
     alu: u32,
     predicate: u32,
     booleans: u32,

@@ -11,7 +11,7 @@ ghost use Rattle.group.specs.Cells.{groupOf, placedAt, Made, Spelled};
 ghost use Rattle.stepper.specs.Answers.{GoDone};
 
 // Stores a place: the position and the returns.
-fn stand(cells: &mut [u32; 20], at: u32, r0: u32, r1: u32, r2: u32, r3: u32)
+fn stand(cells: &mut [u32; group::CELLS], at: u32, r0: u32, r1: u32, r2: u32, r3: u32)
     requires { ⌜ Spelled (now cells) ⌝ }
     ensures { λ r. ⌜ now (cells .exit) ≡ placedAt (now (cells .entry)) at r0 r1 r2 r3 ⌝ }
 {
@@ -23,7 +23,7 @@ fn stand(cells: &mut [u32; 20], at: u32, r0: u32, r1: u32, r2: u32, r3: u32)
 }
 
 // A pop goes to the last return and moves the others down by one; there is none when the first cell is 0.
-fn pop(slots: u32, cells: &mut [u32; 20]) -> u32
+fn pop(slots: u32, cells: &mut [u32; group::CELLS]) -> u32
     requires { ⌜ Made (now cells) ⌝ }
     ensures { λ r. ⌜ GoDone (now (cells .entry)) (now (cells .exit)) r slots true (popped (groupOf (now (cells .entry)) .returns)) ⌝ }
 {
@@ -42,7 +42,7 @@ fn pop(slots: u32, cells: &mut [u32; 20]) -> u32
 }
 
 // A push jumps to the address and moves the returns up by one; there is no room when the fourth cell is taken.
-fn push(address: u32, slots: u32, cells: &mut [u32; 20]) -> u32
+fn push(address: u32, slots: u32, cells: &mut [u32; group::CELLS]) -> u32
     requires { ⌜ (Made (now cells)) × (getD (now cells) 7 0 < 512) ⌝ }
     ensures { λ r. ⌜ GoDone (now (cells .entry)) (now (cells .exit)) r slots true (pushed (getD (now (cells .entry)) 7 0) address (groupOf (now (cells .entry)) .returns)) ⌝ }
 {
@@ -61,7 +61,7 @@ fn push(address: u32, slots: u32, cells: &mut [u32; 20]) -> u32
 }
 
 // A jump that leaves the returns as they are.
-fn leap(address: u32, slots: u32, cells: &mut [u32; 20]) -> u32
+fn leap(address: u32, slots: u32, cells: &mut [u32; group::CELLS]) -> u32
     requires { ⌜ Made (now cells) ⌝ }
     ensures { λ r. ⌜ GoDone (now (cells .entry)) (now (cells .exit)) r slots true (Goes address (groupOf (now (cells .entry)) .returns)) ⌝ }
 {
@@ -73,7 +73,7 @@ fn leap(address: u32, slots: u32, cells: &mut [u32; 20]) -> u32
 }
 
 // Goes on: 1 pops and 2 pushes on a jump; a stay goes on to the next slot, which is never past the end.
-pub fn go(op: u32, jump: bool, address: u32, slots: u32, cells: &mut [u32; 20]) -> u32
+pub fn go(op: u32, jump: bool, address: u32, slots: u32, cells: &mut [u32; group::CELLS]) -> u32
     requires { ⌜ (Made (now cells)) × (getD (now cells) 7 0 < slots) × (slots ≤ 512) ⌝ }
     ensures { λ r. ⌜ GoDone (now (cells .entry)) (now (cells .exit)) r slots jump (wayOf op jump (getD (now (cells .entry)) 7 0) address (groupOf (now (cells .entry)) .returns)) ⌝ }
 {

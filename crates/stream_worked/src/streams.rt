@@ -48,9 +48,9 @@ fn earlier(first: u32, then: u32) -> u32 {
 
 // A stream word by word from a new session, and a wait_for_idle after it.
 fn by_word(words: &[u32]) -> Came {
-    let mut own: [u32; 17] = [0; 17];
-    let mut tallies: [u64; 2] = [0; 2];
-    let mut shared: [u32; 101] = [0; 101];
+    let mut own: [u32; state::OWN_CELLS] = [0; state::OWN_CELLS];
+    let mut tallies: [u64; state::TALLIES] = [0; state::TALLIES];
+    let mut shared: [u32; state::SHARED_CELLS] = [0; state::SHARED_CELLS];
     stream::begin(&mut own, &mut tallies, &mut shared);
     let mut first: u32 = 0;
     let mut commands: u64 = 0;
@@ -78,9 +78,9 @@ fn in_two(words: &[u32], cut: usize) -> Came {
     if cut > words.len() {
         return by_word(words);
     }
-    let mut own: [u32; 17] = [0; 17];
-    let mut tallies: [u64; 2] = [0; 2];
-    let mut shared: [u32; 101] = [0; 101];
+    let mut own: [u32; state::OWN_CELLS] = [0; state::OWN_CELLS];
+    let mut tallies: [u64; state::TALLIES] = [0; state::TALLIES];
+    let mut shared: [u32; state::SHARED_CELLS] = [0; state::SHARED_CELLS];
     stream::begin(&mut own, &mut tallies, &mut shared);
     let a = stream::feed(&mut own, &mut tallies, &mut shared, &words[..cut]);
     let b = stream::feed(&mut own, &mut tallies, &mut shared, &words[cut..]);
@@ -419,9 +419,9 @@ fn flips(number: u32) -> Tally {
 // one after that 1.
 fn limit() -> Tally {
     let words: [u32; 8] = [0xC0000900, 0, 0xC0000900, 0, 0xC0000900, 0, 0xC0000900, 0];
-    let mut own: [u32; 17] = [0; 17];
-    let mut tallies: [u64; 2] = [0; 2];
-    let mut shared: [u32; 101] = [0; 101];
+    let mut own: [u32; state::OWN_CELLS] = [0; state::OWN_CELLS];
+    let mut tallies: [u64; state::TALLIES] = [0; state::TALLIES];
+    let mut shared: [u32; state::SHARED_CELLS] = [0; state::SHARED_CELLS];
     stream::begin(&mut own, &mut tallies, &mut shared);
     let mut taken: u64 = 0;
     let mut commands: u64 = 0;
