@@ -14,11 +14,11 @@ returns c =
     run-ended (now (s .args .cells)) (now (s .args .firsts)) (now (s .args .seconds)) (s .args .slots)
     (s .args .booleans) (now (s .args .masks)) (c .if1 .taken)
 
-walk-requires : tie.Need-walk-requires
-walk-requires c κs = search needs
+make-steps-requires : tie.Need-make-steps-requires
+make-steps-requires c κs = search needs
 
-enum-known-walked : tie.Need-enum-known-walked
-enum-known-walked c = search needs
+enum-known-made : tie.Need-enum-known-made
+enum-known-made c = search needs
 
 array-read-active : tie.Need-array-read-active
 array-read-active c = search needs
@@ -29,8 +29,8 @@ first-active-requires c κs = search needs
 number-active-requires : tie.Need-number-active-requires
 number-active-requires c κs = search needs
 
-enum-known-walked-2 : tie.Need-enum-known-walked-2
-enum-known-walked-2 c = search needs
+enum-known-made-2 : tie.Need-enum-known-made-2
+enum-known-made-2 c = search needs
 
 returns-2 : tie.Need-returns-2
 returns-2 c =
@@ -38,7 +38,7 @@ returns-2 c =
     run-made (now (s .args .cells)) (now (s .args .firsts)) (now (s .args .seconds)) (s .args .slots)
     (s .args .booleans) (now (s .args .masks))
     (c .before .before .before .before .before .before .before .before .if1 .left)
-    (c .before .before .before .before .before .walk .ensures) (c .before .before .before .walked .given .1)
+    (c .before .before .before .before .before .make-steps .ensures) (c .before .before .before .made .given .1)
     (c .before .first-active .ensures) (c .number-active .ensures)
 
 returns-3 : tie.Need-returns-3
@@ -46,7 +46,7 @@ returns-3 c =
     let s = c .before .before .before .before .before .before .before .before .before in
     run-refused (now (s .args .cells)) (now (s .args .firsts)) (now (s .args .seconds)) (s .args .slots)
     (s .args .booleans) (now (s .args .masks)) (c .before .before .before .before .before .before .if1 .left)
-    (c .before .before .before .walk .ensures) (c .before .walked2 .given .1)
+    (c .before .before .before .make-steps .ensures) (c .before .made2 .given .1)
 
 pub run-spec : {M : Type 1} → statement M
 run-spec =
@@ -54,11 +54,11 @@ run-spec =
     (tie.spec
     element-copy-out-if1
     returns
-    walk-requires
-    enum-known-walked
+    make-steps-requires
+    enum-known-made
     array-read-active
     first-active-requires
     number-active-requires
-    enum-known-walked-2
+    enum-known-made-2
     returns-2
     returns-3)

@@ -1,8 +1,8 @@
--- `flow_worked::one` meets its contract: a step gives out what may be handed in. Assumes nothing.
+-- `flow_worked::steps::one` meets its contract: a step gives out what may be handed in. Assumes nothing.
 use Rattle.flow.proofs.Given.{step-gives}
 use borrow.Author.Needs.{needs}
-use Rattle.flow_worked.proofs.one.Statement.{statement}
-use Rattle.flow_worked.proofs.one.Tie as tie
+use Rattle.flow_worked.proofs.steps.one.Statement.{statement}
+use Rattle.flow_worked.proofs.steps.one.Tie as tie
 
 step-requires : tie.Need-step-requires
 step-requires c κs = search needs

@@ -1,8 +1,8 @@
--- `flow_worked::again` meets its contract: a run gives out what may be handed in. Assumes nothing.
+-- `flow_worked::programs::again` meets its contract: a run gives out what may be handed in. Assumes nothing.
 use Rattle.flow.proofs.Given.{run-gives}
 use borrow.Author.Needs.{needs}
-use Rattle.flow_worked.proofs.again.Statement.{statement}
-use Rattle.flow_worked.proofs.again.Tie as tie
+use Rattle.flow_worked.proofs.programs.again.Statement.{statement}
+use Rattle.flow_worked.proofs.programs.again.Tie as tie
 
 slice-aggregate-load : tie.Need-slice-aggregate-load
 slice-aggregate-load c = search needs

@@ -1,8 +1,8 @@
--- `flow_worked::fresh` meets its contract: the size is allowed, so what is begun is a group. Assumes nothing.
+-- `flow_worked::steps::fresh` meets its contract: the size is allowed, so what is begun is a group. Assumes nothing.
 use Rattle.flow.proofs.Given.{begin-gives}
 use borrow.Author.Needs.{needs}
-use Rattle.flow_worked.proofs.fresh.Statement.{statement}
-use Rattle.flow_worked.proofs.fresh.Tie as tie
+use Rattle.flow_worked.proofs.steps.fresh.Statement.{statement}
+use Rattle.flow_worked.proofs.steps.fresh.Tie as tie
 
 begin-requires : tie.Need-begin-requires
 begin-requires c κs = search needs

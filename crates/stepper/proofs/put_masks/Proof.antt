@@ -1,9 +1,9 @@
--- `stepper::put` meets its contract: six cells written, the others as they were. Assumes nothing.
+-- `stepper::put_masks` meets its contract: six cells written, the others as they were. Assumes nothing.
 use denote.Ref.{now}
-use Rattle.stepper.proofs.Going.{put-cells}
+use Rattle.stepper.proofs.Going.{masks-cells}
 use borrow.Author.Needs.{needs}
-use Rattle.stepper.proofs.put.Statement.{statement}
-use Rattle.stepper.proofs.put.Tie as tie
+use Rattle.stepper.proofs.put_masks.Statement.{statement}
+use Rattle.stepper.proofs.put_masks.Tie as tie
 
 element-write-cells : tie.Need-element-write-cells
 element-write-cells c = search needs
@@ -24,10 +24,10 @@ element-write-cells-6 : tie.Need-element-write-cells-6
 element-write-cells-6 c = search needs
 
 returns : tie.Need-returns
-returns c = put-cells (now (c .args .cells)) (c .pre) (c .args .w)
+returns c = masks-cells (now (c .args .cells)) (c .pre) (c .args .w)
 
-pub put-spec : {M : Type 1} → statement M
-put-spec =
+pub put-masks-spec : {M : Type 1} → statement M
+put-masks-spec =
     tie.close
     (tie.spec
     element-write-cells

@@ -1,14 +1,14 @@
--- `flow_worked::nested` meets its contract. Loop: the cells are made, and at most 100 turns. Assumes nothing.
+-- `flow_worked::steps::nested` meets its contract. Loop: the cells are given out, and at most 100 turns. Assumes nothing.
 use native.Mathlib.Omega.{arith}
 use Prim.Native.Nat.{_-_, _≤_}
-use Rattle.group.specs.Cells.{Made}
+use Rattle.group.specs.Cells.{GroupGiven}
 use borrow.Author.Needs.{needs}
-use Rattle.flow_worked.proofs.nested.Statement.{statement}
-use Rattle.flow_worked.proofs.nested.Tie as tie
+use Rattle.flow_worked.proofs.steps.nested.Statement.{statement}
+use Rattle.flow_worked.proofs.steps.nested.Tie as tie
 
 abbrev Inv-loop : tie.InvT-loop
 Inv-loop cells₀ deeper₀ cells deeper =
-    (Made cells) × (deeper ≤ 100)
+    (GroupGiven cells) × (deeper ≤ 100)
 
 abbrev μ-loop : tie.MeasureT-loop
 μ-loop cells₀ deeper₀ cells deeper = 100 - deeper
