@@ -18,8 +18,8 @@ use Rattle.layout.specs.Layout.{wellFormed, rowStep, spanOf, windowRule, judgeO
 use Rattle.layout.proofs.Window.{judged-malformed, judged-broken, judged-accepted}
 use Rattle.command.specs.Format.{pitchOf, tiledOf, codeOf, sizeOf, windowOf}
 use Rattle.command.proofs.Windows.{window-read}
-use Rattle.start.specs.declared.start.Output.{Output}
-use Rattle.start.specs.declared.start.Window.{Window}
+use Rattle.start.specs.declared.ready.Output.{Output}
+use Rattle.start.specs.declared.ready.Window.{Window}
 use Rattle.state.specs.State.{Buffer, Domain}
 use Rattle.state.specs.Cells.{bufferAt, partyOf, sharedOf}
 use Rattle.state.specs.Start.{
