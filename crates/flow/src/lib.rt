@@ -7,7 +7,8 @@ use stepper::Stepped;
 ghost use mathlib.Core.Path.{_≡_};
 ghost use Prim.Native.Nat.{_/_};
 ghost use lib.ListN.{length};
-ghost use Rattle.laws.specs.Masks.{on, count, least};
+ghost use Rattle.laws.specs.Below.{count, least};
+ghost use Rattle.laws.specs.Masks.{on};
 ghost use Rattle.group.specs.Proc.{mostProcessors, counterLimit};
 ghost use Rattle.group.specs.Group.{Makes, goOn, groupSteps};
 ghost use Rattle.group.specs.Cells.{groupOf, GroupGiven};
@@ -232,7 +233,8 @@ pub fn run(
     requires { ⌜ GroupGiven (now cells) ⌝ }
     ensures { λ r. ⌜ RunDone (now (cells .entry)) (now (cells .exit)) r (runIn (now (firsts .entry)) (now (seconds .entry)) slots (now (cells .entry)) (now (masks .entry)) booleans) ⌝ }
 {
-    if slots <= cells[group::POSITION] {
+    let position = cells[group::POSITION];
+    if slots <= position {
         return Ran::Refused(Refusal::Ended);
     }
     let mut trial = *cells;
