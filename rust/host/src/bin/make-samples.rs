@@ -7,7 +7,7 @@
 
 #![forbid(unsafe_code)]
 
-#[path = "../station.rs"]
+#[path = "../score/station.rs"]
 #[allow(dead_code)] // what it owes and its dates are for the score
 mod station;
 
