@@ -18,6 +18,7 @@
 mod command;
 mod element;
 mod flow;
+pub mod headers;
 mod layout;
 pub mod lent;
 mod log;

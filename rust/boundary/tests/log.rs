@@ -1,17 +1,15 @@
 //! A station's log over midnight, asked through the safe functions. Also a first
 //! look at how a replay is used.
 
+use boundary::headers::{SET_DOMAIN, SET_INST_FMT, SET_OUT_FMT, START_PROGRAM};
 use boundary::{lent, BytesFed, Day, LogStatus, Part, RefusedWord, Replay, Session};
-
-const SET_OUT: u32 = 0xC003_0C00;
-const START: u32 = 0xC000_0800;
 
 /// Document 01's whole stream up to its start, which claims 1,728 elements.
 #[rustfmt::skip]
 const SETTINGS: [u32; 13] = [
-    0xC001_0A00, 0x1000, 0x400_0010,
-    SET_OUT, 0, 0x800, 0x201_0064, 0x12,
-    0xC003_0700, 0, 0, 0x5F, 0x11,
+    SET_INST_FMT, 0x1000, 0x400_0010,
+    SET_OUT_FMT, 0, 0x800, 0x201_0064, 0x12,
+    SET_DOMAIN, 0, 0, 0x5F, 0x11,
 ];
 
 fn record(kind: u8, number: u32) -> Vec<u8> {
@@ -52,11 +50,11 @@ fn days(replay: &Replay) -> Vec<Day> {
 fn three_days() -> Vec<u8> {
     [
         words(&SETTINGS),
-        words(&[START, 0, START]),
+        words(&[START_PROGRAM, 0, START_PROGRAM]),
         midnight(100),
         words(&[0]),
         midnight(101),
-        words(&[START, 0, START, 0]),
+        words(&[START_PROGRAM, 0, START_PROGRAM, 0]),
         midnight(102),
     ]
     .concat()
@@ -146,7 +144,7 @@ fn bytes_one_by_one_are_a_piece() {
 #[test]
 fn a_wrong_kind_byte_is_18() {
     let mut replay = Replay::new();
-    let bytes = [three_days(), vec![3], words(&[START, 0])].concat();
+    let bytes = [three_days(), vec![3], words(&[START_PROGRAM, 0])].concat();
     assert_eq!(replay.feed(&bytes), fed(bytes.len() - 11, Some(18)));
     let stopped = replay.clone();
     assert_eq!(stopped.status().stopped, Some(18));
@@ -178,7 +176,7 @@ fn four_hundred_midnights_come_and_no_more() {
     let mut replay = Replay::new();
     assert_eq!(replay.feed(&words(&SETTINGS)), fed(65, None));
     assert_eq!(replay.feed(&all), fed(2_000, None));
-    assert_eq!(replay.feed(&words(&[START, 0])), fed(10, None));
+    assert_eq!(replay.feed(&words(&[START_PROGRAM, 0])), fed(10, None));
     assert_eq!(replay.status().days, Some((first, u32::MAX)));
     assert_eq!(replay.days().count(), 400);
     assert_eq!(replay.days().last(), Some(day(u32::MAX, 1)));
@@ -191,7 +189,12 @@ fn four_hundred_midnights_come_and_no_more() {
 
 #[test]
 fn the_days_go_on_after_a_refused_word() {
-    let bytes = [three_days(), words(&[SET_OUT, 4, START, 0]), midnight(103)].concat();
+    let bytes = [
+        three_days(),
+        words(&[SET_OUT_FMT, 4, START_PROGRAM, 0]),
+        midnight(103),
+    ]
+    .concat();
     let mut replay = Replay::new();
     assert_eq!(replay.feed(&bytes), fed(bytes.len(), None));
     let status = replay.status();

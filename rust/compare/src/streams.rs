@@ -8,6 +8,7 @@ use crate::settings::{of_product, of_second, Both};
 use crate::starts;
 use crate::words;
 use crate::writer::for_product;
+use boundary::headers::START_PROGRAM;
 use boundary::lent;
 use second::command::{write, Command};
 use second::session::{Fed, Reply};
@@ -48,7 +49,7 @@ pub fn word_by_word(case: &mut Case, mut both: Both, words: &[u32]) -> Agreed<Bo
             Ok(Reply::Done(command)) => {
                 case.tally.mark("commands completed");
                 case.tally.mark(commands::name(command.header));
-                if command.header == commands::START {
+                if command.header == START_PROGRAM {
                     starts::count(case.tally, &both.second);
                 }
                 written_back(case, &command, &words[header_at..=place])?;

@@ -6,7 +6,7 @@
 //! One test for each kind, and two for the long ones, so that two processors
 //! have work.
 
-use compare::commands::TABLE;
+use compare::commands::{self, HEADERS};
 use compare::layouts::SHAPES;
 use compare::tally::{Tally, REFUSALS};
 use compare::{run_cases, Kind};
@@ -108,8 +108,8 @@ fn streams(numbers: Range<u64>) {
     marks(&tally, &[("streams refused", 30_000)]);
     marks(&tally, &[("questions refused", 50_000)]);
     masked_starts(&tally, 6_000);
-    for (_, command) in TABLE {
-        marks(&tally, &[(command, 5_000)]);
+    for header in HEADERS {
+        marks(&tally, &[(commands::name(header), 5_000)]);
     }
     let words_at_fault = [(2, 10_000), (3, 10_000), (4, 1_000)];
     let last_parameters = [(5, 500), (6, 500), (7, 1_000), (8, 1_000), (9, 1_000)];
@@ -133,8 +133,8 @@ fn streams_second_half() {
 fn writer() {
     let tally = agree(Kind::Writer, 0..1_000_000);
     assert!(tally.accepted >= 1_000_000, "accepted: {}", tally.accepted);
-    for (_, command) in TABLE {
-        marks(&tally, &[(command, 5_000)]);
+    for header in HEADERS {
+        marks(&tally, &[(commands::name(header), 5_000)]);
     }
     let fields = [(3, 100_000), (4, 5_000), (5, 2_000), (6, 10_000)];
     let mut expected = vec![(2, 50_000), (11, 100_000)];

@@ -1,11 +1,11 @@
 //! The options that describe a layout, for `address` and `locate`.
 
 use crate::common::failure::{Failure, Outcome};
-use crate::common::names::{Kind, SET_COND_OUT};
+use crate::common::names::Kind;
 use crate::common::text;
 use crate::explain::cause;
 use crate::input::numbers;
-use boundary::{Command, Layout};
+use boundary::{headers, Command, Layout};
 use clap::Args;
 
 #[derive(Args)]
@@ -69,7 +69,7 @@ impl LayoutOptions {
 /// Has the product judge a format word, in a command that takes any.
 fn judge_format(word: u32) -> Outcome {
     let command = Command {
-        header: SET_COND_OUT,
+        header: headers::SET_COND_OUT_FMT,
         fields: [0, word, 1, 0],
     };
     match boundary::write_command(&command, &mut [0; 5]) {

@@ -2,6 +2,8 @@
 //! element formats. What a word means is asked of the product; this table only
 //! gives it a name.
 
+use boundary::headers;
+
 /// What a parameter word is.
 #[derive(Clone, Copy, Debug, PartialEq, Eq)]
 pub enum Kind {
@@ -28,16 +30,6 @@ pub struct Line {
     pub parameters: &'static [Kind],
 }
 
-pub const SET_INST: u32 = 0xC001_0A00;
-pub const SET_INP: u32 = 0xC003_0B00;
-pub const SET_OUT: u32 = 0xC003_0C00;
-pub const SET_COND_OUT: u32 = 0xC002_0D00;
-pub const SET_CONSTF: u32 = 0xC001_0E00;
-pub const SET_CONSTI: u32 = 0xC001_0F00;
-pub const SET_CONSTB: u32 = 0xC001_1000;
-pub const SET_DOMAIN: u32 = 0xC003_0700;
-pub const START: u32 = 0xC000_0800;
-
 pub const INPUTS: u32 = 16;
 pub const OUTPUTS: u32 = 4;
 
@@ -48,7 +40,11 @@ const OUTPUT: &[Kind] = &[Kind::Output, Kind::Base, Kind::Format, Kind::Height];
 const CONDITIONAL: &[Kind] = &[Kind::Base, Kind::Format, Kind::Height];
 const DOMAIN: &[Kind] = &[Kind::I0, Kind::J0, Kind::I1, Kind::J1];
 
-const fn line(header: u32, name: &'static str, parameters: &'static [Kind]) -> Line {
+const fn line(header: u32, parameters: &'static [Kind]) -> Line {
+    let name = match headers::name(header) {
+        Some(name) => name,
+        None => panic!("every header here has a name"),
+    };
     Line {
         header,
         name,
@@ -56,29 +52,29 @@ const fn line(header: u32, name: &'static str, parameters: &'static [Kind]) -> L
     }
 }
 
-/// The commands by the guide's names, in the order of their operations.
+/// The commands in the order of their operations.
 pub const COMMANDS: [Line; 21] = [
-    line(SET_DOMAIN, "set_domain", DOMAIN),
-    line(START, "start_program", QUIET),
-    line(0xC000_0900, "wait_for_idle", QUIET),
-    line(SET_INST, "set_inst_fmt", STORE),
-    line(SET_INP, "set_inp_fmt", INPUT),
-    line(SET_OUT, "set_out_fmt", OUTPUT),
-    line(SET_COND_OUT, "set_cond_out_fmt", CONDITIONAL),
-    line(SET_CONSTF, "set_constf_fmt", STORE),
-    line(SET_CONSTI, "set_consti_fmt", STORE),
-    line(SET_CONSTB, "set_constb_fmt", STORE),
-    line(0xC000_1100, "inv_inst_cache", QUIET),
-    line(0xC000_1200, "inv_constf_cache", QUIET),
-    line(0xC000_1300, "inv_consti_cache", QUIET),
-    line(0xC000_1400, "inv_constb_cache", QUIET),
-    line(0xC000_1500, "inv_cond_out_cache", QUIET),
-    line(0xC000_1600, "inv_inp_cache", QUIET),
-    line(0xC000_1700, "flush_out_cache", QUIET),
-    line(0xC000_1800, "flush_cond_out_cache", QUIET),
-    line(0xC000_1900, "set_out_mask", &[Kind::OutputMask]),
-    line(0xC000_1A00, "set_cond_out_mask", &[Kind::ConditionalMask]),
-    line(0xC000_1B00, "set_cond_test", &[Kind::Test]),
+    line(headers::SET_DOMAIN, DOMAIN),
+    line(headers::START_PROGRAM, QUIET),
+    line(headers::WAIT_FOR_IDLE, QUIET),
+    line(headers::SET_INST_FMT, STORE),
+    line(headers::SET_INP_FMT, INPUT),
+    line(headers::SET_OUT_FMT, OUTPUT),
+    line(headers::SET_COND_OUT_FMT, CONDITIONAL),
+    line(headers::SET_CONSTF_FMT, STORE),
+    line(headers::SET_CONSTI_FMT, STORE),
+    line(headers::SET_CONSTB_FMT, STORE),
+    line(headers::INV_INST_CACHE, QUIET),
+    line(headers::INV_CONSTF_CACHE, QUIET),
+    line(headers::INV_CONSTI_CACHE, QUIET),
+    line(headers::INV_CONSTB_CACHE, QUIET),
+    line(headers::INV_COND_OUT_CACHE, QUIET),
+    line(headers::INV_INP_CACHE, QUIET),
+    line(headers::FLUSH_OUT_CACHE, QUIET),
+    line(headers::FLUSH_COND_OUT_CACHE, QUIET),
+    line(headers::SET_OUT_MASK, &[Kind::OutputMask]),
+    line(headers::SET_COND_OUT_MASK, &[Kind::ConditionalMask]),
+    line(headers::SET_COND_TEST, &[Kind::Test]),
 ];
 
 /// The line with this header.
@@ -187,6 +183,7 @@ impl FormatWord {
 #[cfg(test)]
 mod tests {
     use super::{command, command_named, COMMANDS};
+    use boundary::headers::NAMES;
 
     #[test]
     fn the_table_is_the_products() {
@@ -199,11 +196,10 @@ mod tests {
                 line.name
             );
         }
-        // Every header that the product knows: operations of one to four
-        // parameters, with all else as document 01 has it.
-        let known = |header: &u32| boundary::parameters(*header).is_ok();
-        let headers = (0..4).flat_map(|n| (0..256).map(move |op| 3 << 30 | n << 16 | op << 8));
-        assert_eq!(headers.filter(known).count(), COMMANDS.len());
+        // The boundary names every header that the product knows.
+        for (header, name) in NAMES {
+            assert!(command(header).is_some(), "{name}");
+        }
     }
 
     #[test]

@@ -4,7 +4,7 @@
 use crate::common::kinds::Address;
 use crate::common::names::{self, FormatWord, Kind, Line};
 use crate::common::text;
-use boundary::{Format, Layout, Session};
+use boundary::{headers, Format, Layout, Session};
 
 #[derive(Clone, Debug, PartialEq, Eq)]
 pub enum Value {
@@ -32,10 +32,10 @@ pub struct Setting {
 
 /// The formats that have no number, by their commands.
 const SINGLE: [(u32, &str); 4] = [
-    (names::SET_INST, "instructions"),
-    (names::SET_CONSTF, "float constants"),
-    (names::SET_CONSTI, "integer constants"),
-    (names::SET_CONSTB, "boolean constants"),
+    (headers::SET_INST_FMT, "instructions"),
+    (headers::SET_CONSTF_FMT, "float constants"),
+    (headers::SET_CONSTI_FMT, "integer constants"),
+    (headers::SET_CONSTB_FMT, "boolean constants"),
 ];
 
 /// All that is set, in an order of its own: formats, domain, masks, test.
@@ -48,7 +48,7 @@ pub fn all(session: &Session) -> Vec<Setting> {
     let array = |header, number| set_format(session, header, number).map(Value::Array);
     let mask = session.output_mask();
     let output = |number| {
-        let format = set_format(session, names::SET_OUT, number)?;
+        let format = set_format(session, headers::SET_OUT_FMT, number)?;
         let silent = is_silent(mask, number, &format);
         Some(Value::Output { format, silent })
     };
@@ -56,12 +56,18 @@ pub fn all(session: &Session) -> Vec<Setting> {
         put(name.into(), store(header));
     }
     for number in 0..names::INPUTS {
-        put(format!("input {number}"), array(names::SET_INP, number));
+        put(
+            format!("input {number}"),
+            array(headers::SET_INP_FMT, number),
+        );
     }
     for number in 0..names::OUTPUTS {
         put(format!("output {number}"), output(number));
     }
-    put("conditional output".into(), array(names::SET_COND_OUT, 0));
+    put(
+        "conditional output".into(),
+        array(headers::SET_COND_OUT_FMT, 0),
+    );
     put("domain".into(), session.domain().map(Value::Domain));
     put("output mask".into(), Some(Value::OutputMask(mask)));
     put(
@@ -78,7 +84,7 @@ fn set_format(session: &Session, header: u32, number: u32) -> Option<Format> {
 
 /// The outputs that are set, silent ones too, with their numbers.
 pub fn outputs(session: &Session) -> Vec<(u32, Format)> {
-    let output = |n| set_format(session, names::SET_OUT, n).map(|format| (n, format));
+    let output = |n| set_format(session, headers::SET_OUT_FMT, n).map(|format| (n, format));
     (0..names::OUTPUTS).filter_map(output).collect()
 }
 

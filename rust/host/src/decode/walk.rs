@@ -7,7 +7,7 @@ use crate::common::names::{self, Kind, Line};
 use crate::common::settings::{self, Setting};
 use crate::explain::cause::{self, Refused};
 use crate::input::words::Words;
-use boundary::{Command, Reply, Session};
+use boundary::{headers, Command, Reply, Session};
 
 /// What a word came to.
 pub enum Came {
@@ -170,7 +170,8 @@ impl Walk {
         self.position += 1;
         let claims = self.session.claims();
         let came = self.take(position, word);
-        let start = matches!(&came, Came::Done(command) if command.header == names::START);
+        let start =
+            matches!(&came, Came::Done(command) if command.header == headers::START_PROGRAM);
         let ends = !matches!(came, Came::Open);
         let seen = Seen {
             position,

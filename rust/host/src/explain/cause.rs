@@ -9,7 +9,7 @@ use crate::common::settings;
 use crate::common::text;
 use crate::explain::refusals;
 use crate::score::LeaseLine;
-use boundary::{Layout, Session};
+use boundary::{headers, Layout, Session};
 use std::fmt;
 
 const MEMORY_END: u64 = 1 << 32;
@@ -225,7 +225,7 @@ pub fn reserved(kind: Kind, word: u32) -> String {
 fn superfine_channels(header: u32, kind: Kind, word: u32) -> Option<String> {
     let format = FormatWord(word);
     let element = format.element()?;
-    let rule = header == names::SET_INP && kind == Kind::Format;
+    let rule = header == headers::SET_INP_FMT && kind == Kind::Format;
     (rule && format.superfine() && element.channels > 1).then(|| {
         let (name, channels) = (element.name, element.channels);
         format!("superfine on an input of {name}, which has {channels} channels, not 1")
@@ -249,7 +249,7 @@ fn missing(session: &Session) -> String {
     if session.domain().is_none() {
         missing.push("a domain");
     }
-    if !matches!(session.format(names::SET_INST, 0), Ok(Some(_))) {
+    if !matches!(session.format(headers::SET_INST_FMT, 0), Ok(Some(_))) {
         missing.push("an instruction format");
     }
     if outputs == 0 {
