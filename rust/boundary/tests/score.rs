@@ -2,6 +2,7 @@
 //! first look at how a score is used.
 
 use boundary::headers::{SET_DOMAIN, SET_INST_FMT, SET_OUT_FMT, START_PROGRAM};
+use boundary::lengths::DAYS;
 use boundary::{lent, Lease, Month, Replay, ScoredDay, Verdict};
 
 /// Document 01's whole stream up to its start, which claims 1,728 elements.
@@ -170,14 +171,14 @@ fn cutting_the_log_changes_nothing() {
 /// Rooms that were filled before the call.
 #[derive(Clone, Copy, Debug, PartialEq, Eq)]
 struct Rooms {
-    claimed: [u64; 31],
-    served: [u64; 31],
+    claimed: [u64; DAYS],
+    served: [u64; DAYS],
     month: [u64; 3],
 }
 
 const FILLED: Rooms = Rooms {
-    claimed: [9; 31],
-    served: [9; 31],
+    claimed: [9; DAYS],
+    served: [9; DAYS],
     month: [9; 3],
 };
 
@@ -216,7 +217,7 @@ fn a_refusal_writes_nothing_to_the_rooms() {
 #[test]
 fn the_rooms_past_the_last_day_are_0() {
     let replay = replayed(&three_days());
-    for days in 1..=31 {
+    for days in 1..=DAYS as u32 {
         let (number, rooms) = asked(&replay, (100, days, 1));
         assert_eq!(number, 0);
         let days = days as usize;
