@@ -246,6 +246,9 @@ fn count(case: &mut Case, lease: &Lease, log: &Second, expected: &Result<Month, 
     if month.verdict == Verdict::Short && claimed >= month.owed {
         tally.mark("short months that a surplus would fill");
     }
+    if month.days.iter().any(|day| day.claimed >= 1 << 32) {
+        tally.mark("months with a day of 2^32 elements or more");
+    }
     if let Some(name) = lie(lease, log) {
         tally.mark(name);
     }

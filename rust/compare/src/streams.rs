@@ -26,6 +26,9 @@ pub fn run(case: &mut Case) -> Agreement {
         case.agree(asked, &of_second(&both.second), &seen)?;
     }
     case.tally.add("starts passed", seen.runs);
+    if seen.claims > u64::from(u32::MAX) {
+        case.tally.mark("streams that claim 2^32 elements or more");
+    }
     case.tally.mark(match seen.stopped {
         true => "streams refused",
         false => "streams accepted",

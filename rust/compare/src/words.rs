@@ -14,6 +14,11 @@ use second::layout::{judge, Window};
 /// from the next output's: more than most windows' spans.
 const PART: u32 = 1 << 23;
 
+/// The largest window has this many columns and rows, and as many bytes at most
+/// from its base on as lie between these bases.
+const LARGEST: u32 = 4_096;
+const LARGEST_PART: u32 = 1 << 28;
+
 /// An output that was set, with its window.
 #[derive(Clone, Copy)]
 struct Output {
@@ -59,6 +64,11 @@ fn good(random: &mut Random) -> Vec<u32> {
         domain: false,
         careful: random.one_of(&[50, 200, 2_000]),
     };
+    if random.once_in(32) {
+        plan.careful = 10_000;
+        large(random, &mut plan);
+        return plan.words;
+    }
     if !random.once_in(8) {
         preamble(random, &mut plan);
     }
@@ -67,6 +77,26 @@ fn good(random: &mut Random) -> Vec<u32> {
         command(random, &mut plan);
     }
     plan.words
+}
+
+/// Outputs of the largest window, the largest domain, and starts that claim 2^24
+/// elements with each output that isn't silent: 65 of them with four outputs come to
+/// more than 2^32.
+fn large(random: &mut Random, plan: &mut Plan) {
+    set_low_format(random, plan, SET_INST_FMT);
+    for number in 0..random.one_of(&[1, 3, 4, 4, 4, 4]) {
+        let format = random.below(5) << 24 | random.below(2) << 16 | LARGEST;
+        let base = number * LARGEST_PART;
+        put(random, plan, SET_OUT_FMT, [number, base, format, LARGEST]);
+    }
+    if random.once_in(4) {
+        set_mask(random, plan);
+    }
+    let last = LARGEST - 1;
+    put(random, plan, SET_DOMAIN, [0, 0, last, last]);
+    for _ in 0..random.one_of(&[64, 65, 65, 66, 130]) {
+        put(random, plan, START_PROGRAM, [0; 4]);
+    }
 }
 
 /// An instruction format and an output or more in any order, some under a mask
