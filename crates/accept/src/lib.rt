@@ -5,8 +5,8 @@ use command::kinds::Checked;
 use command::table;
 use command::table::Line;
 use rules::fits;
-use start::accept;
-use start::start;
+use start::effect;
+use start::ready;
 use state::own;
 use state::settings;
 ghost use mathlib.Core.Path.{_≡_};
@@ -59,12 +59,12 @@ fn take_start(
     if reserved != 0 {
         return 0;
     }
-    let rule = start::ready(own, shared);
+    let rule = ready::ready(own, shared);
     let Checked::Fine = rule else {
         return 0;
     };
     own::count_words(own, words);
-    accept::count_start(own, tallies, shared);
+    effect::count_start(own, tallies, shared);
     words
 }
 

@@ -1,6 +1,6 @@
 // Whether the fields of a command are accepted, all at once and by constant tests: a command that lies whole in a piece is
 // judged here. A no says only that the refusal is still to be found.
-use crate::rules::is_window;
+use crate::last::is_window;
 use command::kinds::format_allowed;
 use command::kinds::superfine_allowed;
 ghost use mathlib.Core.Path.{_≡_};

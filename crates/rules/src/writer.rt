@@ -1,5 +1,5 @@
 // The writer: a command's words into lent room, or the refusal that its fields cause. It asks for no session.
-use crate::rules::last_rule;
+use crate::last::last_rule;
 use command::commands::Command;
 use command::commands::fields;
 use command::commands::line;

@@ -6,9 +6,9 @@ use command::kinds::Checked;
 use command::table;
 use command::table::Line;
 use refusal::Refusal;
-use rules::rules;
-use start::accept;
-use start::start;
+use rules::last;
+use start::effect;
+use start::ready;
 use state::own;
 use state::own::WordPosition;
 use state::settings;
@@ -47,12 +47,12 @@ fn whole_rule(
     requires { ⌜ (length (now own) ≡ 17) × (length (now shared) ≡ 101) ⌝ }
     ensures { λ r. ⌜ toldChecked r ≡ thenTold (lastRuleOf command) (startRuleOf command (sessionOf (now (own .entry)) [] (now (shared .entry)))) ⌝ }
 {
-    let rule = rules::last_rule(command);
+    let rule = last::last_rule(command);
     let Checked::Fine = rule else {
         return rule;
     };
     if let Command::Start = command {
-        start::ready(own, shared)
+        ready::ready(own, shared)
     } else {
         Checked::Fine
     }
@@ -85,7 +85,7 @@ fn complete(
             Answer::Refused(why)
         }
         Checked::Fine => {
-            accept::accept(own, tallies, shared, command);
+            effect::accept(own, tallies, shared, command);
             Answer::Done(command)
         }
     }

@@ -5,8 +5,8 @@ use Prim.Native.Nat.{ℕ, _+_}
 use lib.Dec.{eqb, leb, ltb}
 use Rattle.laws.specs.Choice.{_and_, pick}
 use Rattle.refusal.specs.Told.{Told, gives, refuses}
-use Rattle.start.specs.declared.start.Output.{Output}
-use Rattle.start.specs.declared.start.Window.{Window}
+use Rattle.start.specs.declared.ready.Output.{Output}
+use Rattle.start.specs.declared.ready.Window.{Window}
 use Rattle.state.specs.State.{Buffer}
 use Rattle.state.specs.Start.{valueOf, stepOfBuffer, spanOfBuffer, unmasked}
 

@@ -1,0 +1,285 @@
+// What a start asks of the settings alone, 7, 8 and 9, and how many elements it claims. Nothing here changes a cell.
+use command::format;
+use command::kinds::Checked;
+use layout;
+use refusal::Refusal;
+use state::own;
+use state::settings;
+ghost use mathlib.Core.Path.{_≡_};
+ghost use mathlib.Core.Bool.{true};
+ghost use mathlib.Core.List.{[]};
+ghost use Prim.Native.Nat.{_+_, _-_, _*_, _%_, _^_, _<_, _≤_};
+ghost use lib.ListN.{length};
+ghost use Rattle.laws.specs.Choice.{_and_, pick};
+ghost use Rattle.command.specs.Format.{channelsOf, windowOf};
+ghost use Rattle.command.specs.Kinds.{toldChecked};
+ghost use Rattle.state.specs.Cells.{bufferAt, partyOf, sharedOf};
+ghost use Rattle.laws.specs.Below.{count};
+ghost use Rattle.state.specs.Start.{claimOf, counts, readyOf, unmasked};
+ghost use Rattle.state.specs.Valid.{DomainValid};
+ghost use Rattle.start.specs.Windows.{cellsBuffer, countsBy, eachApart, eachHolds, holdsPair, keepsApart, outputOf, someSet, spansApart, verdictOf, windowSeen};
+
+// An output as a start sees it: whether it is set, whether it counts, and its window. A window that is refused has row step
+// and span 0.
+pub struct Output {
+    pub set: bool,
+    pub counts: bool,
+    pub base: u32,
+    pub step: u32,
+    pub height: u32,
+    pub span: u32,
+}
+
+// The mask's bits for the channels that a format code has. `bits` are the mask's from the output's own on, so those of later
+// outputs stand above. The codes 5 to 7 have no channel.
+fn channel_bits(bits: u32, code: u32) -> u32
+    ensures { λ r. ⌜ r ≡ bits % 2 ^ channelsOf code ⌝ }
+{
+    match code {
+        0 => bits % 2,
+        1 => bits % 16,
+        2 => bits % 2,
+        3 => bits % 4,
+        4 => bits % 16,
+        _ => 0,
+    }
+}
+
+// Whether the mask has a bit set for a channel of the format: the output isn't silent.
+fn is_unmasked(bits: u32, format: u32) -> bool
+    ensures { λ r. ⌜ r ≡ unmasked bits 0 format ⌝ }
+{
+    channel_bits(bits, format::code(format)) != 0
+}
+
+// Whether the output counts: it is set and isn't silent.
+fn is_counted(bits: u32, flag: u32, format: u32) -> bool
+    ensures { λ r. ⌜ r ≡ countsBy bits flag format ⌝ }
+{
+    if flag == 1 {
+        is_unmasked(bits, format)
+    } else {
+        false
+    }
+}
+
+// A window's row step and span; 0 and 0 where it is refused.
+pub struct Window {
+    pub step: u32,
+    pub span: u32,
+}
+
+// The window that base, format and height describe. It is asked by numbers, so that nothing goes through memory.
+fn window_of(base: u32, format: u32, height: u32) -> Window
+    ensures { λ r. ⌜ r ≡ windowSeen (windowOf base format height) ⌝ }
+{
+    let pitch = format::pitch(format);
+    let size = format::size(format::code(format));
+    let tiled = format::tiled(format);
+    if !layout::well_formed(base, pitch, size) {
+        return Window { step: 0, span: 0 };
+    }
+    let row = layout::stream_row(base, pitch, height, size, tiled);
+    if row < 1 {
+        return Window { step: 0, span: 0 };
+    }
+    Window {
+        step: layout::row_step(pitch, size, tiled),
+        span: layout::rows_taken(height, size, tiled) * row,
+    }
+}
+
+// The output that four cells describe. The window of one that isn't set or is silent is asked for nothing, so it isn't judged.
+fn output_of(bits: u32, flag: u32, base: u32, format: u32, height: u32) -> Output
+    ensures { λ r. ⌜ r ≡ outputOf bits (cellsBuffer flag base format height) ⌝ }
+{
+    let counts = is_counted(bits, flag, format);
+    if !counts {
+        return Output {
+            set: flag == 1,
+            counts: false,
+            base: 0,
+            step: 0,
+            height: 0,
+            span: 0,
+        };
+    }
+    let window = window_of(base, format, height);
+    Output {
+        set: true,
+        counts: true,
+        base,
+        step: window.step,
+        height,
+        span: window.span,
+    }
+}
+
+// The output whose cells begin at a place.
+pub fn output_at(bits: u32, shared: &[u32; state::SHARED_CELLS], at: usize) -> Output
+    requires { ⌜ (length (now shared) ≡ 101) × (at < 98) ⌝ }
+    ensures { λ r. ⌜ r ≡ outputOf bits (bufferAt (now (shared .entry)) at) ⌝ }
+{
+    output_of(
+        bits,
+        shared[at],
+        shared[at + 1],
+        shared[at + 2],
+        shared[at + 3],
+    )
+}
+
+// Two tests, by a call each: a chain of them is one equation, where a chain of `&&` is a join for each of its ways.
+fn both(a: bool, b: bool) -> bool
+    ensures { λ r. ⌜ r ≡ (a and b) ⌝ }
+{
+    if a { b } else { false }
+}
+
+fn either(a: bool, b: bool) -> bool
+    ensures { λ r. ⌜ r ≡ pick a true b ⌝ }
+{
+    if a { true } else { b }
+}
+
+// Whether the output doesn't count, or has the pair in its window.
+fn holds_pair(a: Output, i: u32, j: u32) -> bool
+    ensures { λ r. ⌜ r ≡ holdsPair i j a ⌝ }
+{
+    if a.counts {
+        both(i < a.step, j < a.height)
+    } else {
+        true
+    }
+}
+
+// Whether two spans share no byte. A span may end where 32 bits do, so the ends are in 64.
+fn spans_apart(base: u32, span: u32, other: u32, reach: u32) -> bool
+    ensures { λ r. ⌜ r ≡ spansApart base span other reach ⌝ }
+{
+    let end = base as u64 + span as u64;
+    let other_end = other as u64 + reach as u64;
+    either(end <= other as u64, other_end <= base as u64)
+}
+
+// Whether one of two outputs doesn't count, or their spans share no byte.
+fn keeps_apart(a: Output, b: Output) -> bool
+    ensures { λ r. ⌜ r ≡ keepsApart a b ⌝ }
+{
+    if both(a.counts, b.counts) {
+        spans_apart(a.base, a.span, b.base, b.span)
+    } else {
+        true
+    }
+}
+
+// Whether some output is set: silent ones too.
+fn some_set(a: Output, b: Output, c: Output, d: Output) -> bool
+    ensures { λ r. ⌜ r ≡ someSet a b c d ⌝ }
+{
+    either(either(either(a.set, b.set), c.set), d.set)
+}
+
+// Whether each output that counts has the pair: the domain's last, so that its others are inside too.
+fn each_holds(a: Output, b: Output, c: Output, d: Output, i: u32, j: u32) -> bool
+    ensures { λ r. ⌜ r ≡ eachHolds a b c d i j ⌝ }
+{
+    let pair = both(holds_pair(a, i, j), holds_pair(b, i, j));
+    both(both(pair, holds_pair(c, i, j)), holds_pair(d, i, j))
+}
+
+// Whether no two outputs that count share a byte.
+fn each_apart(a: Output, b: Output, c: Output, d: Output) -> bool
+    ensures { λ r. ⌜ r ≡ eachApart a b c d ⌝ }
+{
+    let second = keeps_apart(b, a);
+    let third = both(keeps_apart(c, a), keeps_apart(c, b));
+    let fourth = both(
+        both(keeps_apart(d, a), keeps_apart(d, b)),
+        keeps_apart(d, c),
+    );
+    both(both(second, third), fourth)
+}
+
+// 7 before 8 before 9.
+fn verdict(complete: bool, covered: bool, disjoint: bool) -> Checked
+    ensures { λ r. ⌜ toldChecked r ≡ verdictOf complete covered disjoint ⌝ }
+{
+    if !complete {
+        return Checked::Refused(Refusal::StartUnset);
+    }
+    if !covered {
+        return Checked::Refused(Refusal::DomainOutside);
+    }
+    if disjoint {
+        Checked::Fine
+    } else {
+        Checked::Refused(Refusal::SpansShared)
+    }
+}
+
+// Whether the settings alone let a start pass: fine, 7, 8 or 9.
+pub fn ready(own: &[u32; state::OWN_CELLS], shared: &[u32; state::SHARED_CELLS]) -> Checked
+    requires { ⌜ (length (now own) ≡ 17) × (length (now shared) ≡ 101) ⌝ }
+    ensures { λ r. ⌜ toldChecked r ≡ readyOf (partyOf (now (own .entry)) [] .domain) (partyOf (now (own .entry)) [] .instructions) (sharedOf (now (shared .entry)) .mask) (sharedOf (now (shared .entry)) .outputs) ⌝ }
+{
+    let mask = shared[settings::MASK];
+    let a = output_at(mask, shared, settings::OUTPUT_0);
+    let b = output_at(mask / 16, shared, settings::OUTPUT_1);
+    let c = output_at(mask / 256, shared, settings::OUTPUT_2);
+    let d = output_at(mask / 4096, shared, settings::OUTPUT_3);
+    let complete = both(
+        own[own::DOMAIN] == 1,
+        both(own[own::INSTRUCTIONS] == 1, some_set(a, b, c, d)),
+    );
+    let covered = each_holds(a, b, c, d, own[own::DOMAIN_I1], own[own::DOMAIN_J1]);
+    verdict(complete, covered, each_apart(a, b, c, d))
+}
+
+// The number of pairs of a domain.
+fn pairs(i0: u32, j0: u32, i1: u32, j1: u32) -> u64
+    requires { ⌜ ((i0 ≤ i1) × (i1 < 4096)) × ((j0 ≤ j1) × (j1 < 4096)) ⌝ }
+    ensures { λ r. ⌜ (r ≡ (i1 - i0 + 1) * (j1 - j0 + 1)) × (r ≤ 16777216) ⌝ }
+{
+    let columns = (i1 - i0 + 1) as u64;
+    let rows = (j1 - j0 + 1) as u64;
+    columns * rows
+}
+
+// 1 for an output that counts, its cells from a place on.
+fn one_at(bits: u32, shared: &[u32; state::SHARED_CELLS], at: usize) -> u64
+    requires { ⌜ (length (now shared) ≡ 101) × (at < 98) ⌝ }
+    ensures { λ r. ⌜ (r ≡ pick (countsBy bits (bufferAt (now (shared .entry)) at .isSet) (bufferAt (now (shared .entry)) at .format)) 1 0) × (r ≤ 1) ⌝ }
+{
+    if is_counted(bits, shared[at], shared[at + 2]) {
+        1
+    } else {
+        0
+    }
+}
+
+// The number of outputs that count.
+fn counted_outputs(shared: &[u32; state::SHARED_CELLS]) -> u64
+    requires { ⌜ length (now shared) ≡ 101 ⌝ }
+    ensures { λ r. ⌜ (r ≡ count 4 (counts (sharedOf (now (shared .entry)) .mask) (sharedOf (now (shared .entry)) .outputs))) × (r ≤ 4) ⌝ }
+{
+    let mask = shared[settings::MASK];
+    one_at(mask, shared, settings::OUTPUT_0)
+        + one_at(mask / 16, shared, settings::OUTPUT_1)
+        + one_at(mask / 256, shared, settings::OUTPUT_2)
+        + one_at(mask / 4096, shared, settings::OUTPUT_3)
+}
+
+// The elements that a start claims: the domain's pairs, for each output that counts.
+pub fn claim(own: &[u32; state::OWN_CELLS], shared: &[u32; state::SHARED_CELLS]) -> u64
+    requires { ⌜ ((length (now own) ≡ 17) × (length (now shared) ≡ 101)) × DomainValid (partyOf (now own) [] .domain) ⌝ }
+    ensures { λ r. ⌜ (r ≡ claimOf (partyOf (now (own .entry)) [] .domain) (sharedOf (now (shared .entry)) .mask) (sharedOf (now (shared .entry)) .outputs)) × (r ≤ 67108864) ⌝ }
+{
+    pairs(
+        own[own::DOMAIN_I0],
+        own[own::DOMAIN_J0],
+        own[own::DOMAIN_I1],
+        own[own::DOMAIN_J1],
+    )
+        * counted_outputs(shared)
+}
