@@ -17,7 +17,7 @@ pub extern "C" fn egretfold_command_parameters(header: u32, count: &mut [u32; 1]
     match table::line_of(header) {
         Line::Unknown => refusal::number(Refusal::UnknownHeader),
         Line::At(line) => {
-            *count = [table::parameters(line)];
+            *count = [table::count(line)];
             0
         }
     }

@@ -21,14 +21,14 @@ number-requires c κs = search needs
 enum-known-line : tie.Need-enum-known-line
 enum-known-line c = search needs
 
-parameters-requires : tie.Need-parameters-requires
-parameters-requires c κs = search needs
+count-requires : tie.Need-count-requires
+count-requires c κs = search needs
 
 returns : tie.Need-returns
 returns c = crosses-refuses _ _ _ _ (c .number .ensures) (off-line _ _ _ (sym (c .before .before .before .line-of .ensures) ∙ ap toldLine (c .before .enum-told .given .1)))
 
 returns-2 : tie.Need-returns-2
-returns-2 c = crosses-gives _ _ _ (on-line _ _ _ _ (sym (c .before .before .before .before .before .line-of .ensures) ∙ ap toldLine (c .before .before .before .line .given .1)) ∙ ap (λ (n : ℕ). gives (n ∷ [])) (sym (c .before .parameters .ensures)))
+returns-2 c = crosses-gives _ _ _ (on-line _ _ _ _ (sym (c .before .before .before .before .before .line-of .ensures) ∙ ap toldLine (c .before .before .before .line .given .1)) ∙ ap (λ (n : ℕ). gives (n ∷ [])) (sym (c .before .count .ensures)))
 
 pub egretfold-command-parameters-spec : {M : Type 1} → statement M
 egretfold-command-parameters-spec =
@@ -38,6 +38,6 @@ egretfold-command-parameters-spec =
     enum-told
     number-requires
     enum-known-line
-    parameters-requires
+    count-requires
     returns
     returns-2)

@@ -1,7 +1,7 @@
 -- `egretfold::commands::egretfold_command_write` meets its contract: each answer crosses as it is told. Assumes nothing.
 use mathlib.Core.Path.{sym, ap, _∙_}
 use Rattle.command.specs.Table.{toldLine}
-use Rattle.command.proofs.Headers.{accepted-stands}
+use Rattle.command.proofs.Headers.{accepted-listed}
 use Rattle.egretfold.proofs.Crossings.{crosses-refuses, off-line}
 use Rattle.egretfold.proofs.Known.{write-known}
 use borrow.Author.Needs.{needs}
@@ -33,7 +33,7 @@ element-copy-out-build-4 : tie.Need-element-copy-out-build-4
 element-copy-out-build-4 c = search needs
 
 build-requires : tie.Need-build-requires
-build-requires c κs = accepted-stands _ _ (sym (c .before .before .before .before .before .before .before .line-of .ensures) ∙ ap toldLine (c .before .before .before .before .before .line .given .1)) .line
+build-requires c κs = accepted-listed _ _ (sym (c .before .before .before .before .before .before .before .line-of .ensures) ∙ ap toldLine (c .before .before .before .before .before .line .given .1)) .line
 
 write-words-requires : tie.Need-write-words-requires
 write-words-requires c κs = search needs

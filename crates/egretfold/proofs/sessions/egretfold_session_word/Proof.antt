@@ -30,8 +30,8 @@ fields-requires c κs = search needs
 line-requires : tie.Need-line-requires
 line-requires c κs = search needs
 
-header-requires : tie.Need-header-requires
-header-requires c κs = rw (c .line .ensures) (lined _ .line-most)
+made-header-requires : tie.Need-made-header-requires
+made-header-requires c κs = rw (c .line .ensures) (lined _ .line-most)
 
 returns : tie.Need-returns
 returns c = record { answer = crosses-refuses _ _ _ _ (c .number .ensures) (ap replyTold (sym (c .before .before .before .before .word .ensures .reply) ∙ ap replyOf (c .before .before .why .given .1))); held = c .before .before .before .before .word .ensures .held }
@@ -40,7 +40,7 @@ returns-2 : tie.Need-returns-2
 returns-2 c = record { answer = crosses-gives _ _ _ (ap replyTold (sym (c .before .before .before .word .ensures .reply) ∙ ap replyOf (c .before .enum-told .given .1))); held = c .before .before .before .word .ensures .held }
 
 returns-3 : tie.Need-returns-3
-returns-3 c = record { answer = crosses-gives _ _ _ (ap replyTold (sym (c .before .before .before .before .before .before .before .word .ensures .reply) ∙ ap replyOf (c .before .before .before .before .before .done .given .1)) ∙ done-told _ _ _ _ (c .before .header .ensures) (c .before .before .line .ensures) (c .before .before .before .fields .ensures)); held = c .before .before .before .before .before .before .before .word .ensures .held }
+returns-3 c = record { answer = crosses-gives _ _ _ (ap replyTold (sym (c .before .before .before .before .before .before .before .word .ensures .reply) ∙ ap replyOf (c .before .before .before .before .before .done .given .1)) ∙ done-told _ _ _ _ (c .before .made-header .ensures) (c .before .before .line .ensures) (c .before .before .before .fields .ensures)); held = c .before .before .before .before .before .before .before .word .ensures .held }
 
 pub egretfold-session-word-spec : {M : Type 1} → statement M
 egretfold-session-word-spec =
@@ -53,7 +53,7 @@ egretfold-session-word-spec =
     enum-known-done
     fields-requires
     line-requires
-    header-requires
+    made-header-requires
     returns
     returns-2
     returns-3)
