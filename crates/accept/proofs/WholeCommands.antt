@@ -16,16 +16,16 @@ use Rattle.refusal.specs.Told.{Told, gives}
 use Rattle.command.specs.Table.{headerOf, lineWith}
 use Rattle.command.specs.Commands.{noEffectLine, storedLine, lineOf, fieldsOf, wordsOf, commandOf}
 use Rattle.command.specs.Fits.{WindowFits}
-use Rattle.command.specs.Writer.{judgeCommandOf}
+use Rattle.rules.specs.Writer.{judgeCommandOf}
 use Rattle.command.specs.declared.commands.NoEffect.{NoEffect}
 use Rattle.command.specs.declared.commands.NoEffect.the-variants as quiet
 use Rattle.command.specs.declared.commands.Stored.{Stored}
 use Rattle.command.specs.declared.commands.Stored.the-variants as stored
 use Rattle.command.specs.declared.commands.Command.{Command}
 use Rattle.command.specs.declared.commands.Command.the-variants as command
-use Rattle.command.proofs.Fitting.{conditional-fits, store-fits, start-fits, quiet-fits, mask-fits, conditional-mask-fits, test-fits}
+use Rattle.rules.proofs.Fitting.{conditional-fits, store-fits, start-fits, quiet-fits, mask-fits, conditional-mask-fits, test-fits}
 use Rattle.command.proofs.Headers.{accepted-stands}
-use Rattle.command.proofs.Readable.{readable}
+use Rattle.rules.proofs.Readable.{readable}
 use Rattle.state.specs.State.{Party, Shared, Session}
 use Rattle.state.specs.Start.{readyOf}
 use Rattle.state.specs.Effects.{limit, buffer, domainFrom, withDomain, withInstructions, ownAfter, sharedAfter, after}

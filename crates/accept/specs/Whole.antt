@@ -6,7 +6,7 @@ use lib.ListN.{length}
 use Rattle.refusal.specs.Told.{gives}
 use Rattle.command.specs.Table.{headerOf}
 use Rattle.command.specs.Commands.{wordsOf, commandOf}
-use Rattle.command.specs.Writer.{judgeCommandOf}
+use Rattle.rules.specs.Writer.{judgeCommandOf}
 use Rattle.command.specs.declared.commands.Stored.{Stored}
 use Rattle.command.specs.declared.commands.Stored.the-variants as stored
 use Rattle.command.specs.declared.commands.Command.{Command}

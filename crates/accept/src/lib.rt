@@ -1,7 +1,6 @@
 // Commands judged by the tests of their lines alone and taken at once: all the words of one that lies whole inside a piece,
 // or the last word of an open one. A command that isn't accepted so changes nothing here: it is then read the way that finds
 // its refusal. Each routine is told how many words to count, and answers them where it took the command, else 0.
-use command::kinds::Checked;
 use command::table;
 use command::table::Line;
 use rules::fits;
@@ -59,10 +58,9 @@ fn take_start(
     if reserved != 0 {
         return 0;
     }
-    let rule = ready::ready(own, shared);
-    let Checked::Fine = rule else {
+    if ready::readiness(own, shared) != 0 {
         return 0;
-    };
+    }
     own::count_words(own, words);
     effect::count_start(own, tallies, shared);
     words

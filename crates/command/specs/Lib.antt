@@ -1,7 +1,4 @@
 pub mod Commands
-pub mod Fits
 pub mod Format
 pub mod Kinds
-pub mod Rules
 pub mod Table
-pub mod Writer

@@ -8,10 +8,10 @@ use native.Mathlib.Omega.{arith}
 use lib.Dec.{leb}
 use lib.ListN.{length, take, length-take}
 use Rattle.laws.specs.Choice.{pick}
-use Rattle.refusal.specs.Told.{Told, gives, refuses}
+use Rattle.refusal.specs.Told.{Told, gives, refuses, thenTold}
 use Rattle.command.specs.Commands.{lineOf, wordsOf, fieldsOf}
 use Rattle.command.specs.Table.{countOf}
-use Rattle.command.specs.Writer.{judgeCommandOf, thenTold, writeOf}
+use Rattle.rules.specs.Writer.{judgeCommandOf, writeOf}
 use Rattle.command.specs.declared.commands.Command.{Command}
 use Rattle.command.proofs.Headers.{count-most}
 use Rattle.command.proofs.WriteBack.{lined}

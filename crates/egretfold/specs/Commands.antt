@@ -6,7 +6,7 @@ use lib.ListN.{length, getD}
 use Rattle.refusal.specs.Told.{Told, gives, refuses}
 use Rattle.command.specs.Table.{lineWith, countOf}
 use Rattle.command.specs.Commands.{commandOf}
-use Rattle.command.specs.Writer.{writeOf, roomAfter}
+use Rattle.rules.specs.Writer.{writeOf, roomAfter}
 use Rattle.command.specs.declared.commands.Command.{Command}
 use Rattle.egretfold.specs.Crossing.{Crosses}
 

@@ -13,7 +13,7 @@ use Rattle.refusal.specs.Number.{numberOf}
 use Rattle.refusal.specs.declared.Refusal.{Refusal}
 use Rattle.refusal.specs.Told.{gives}
 use Rattle.command.specs.Commands.{wordsOf}
-use Rattle.command.specs.Writer.{judgeCommandOf}
+use Rattle.rules.specs.Writer.{judgeCommandOf}
 use Rattle.command.specs.declared.commands.Command.{Command}
 use Rattle.command.proofs.Headers.{count-most}
 use Rattle.command.proofs.WriteBack.{lined}

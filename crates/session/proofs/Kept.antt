@@ -16,13 +16,13 @@ use Rattle.refusal.specs.Told.{Told, gives, refuses}
 use Rattle.command.specs.Table.{headers, headerOf, countOf}
 use Rattle.command.specs.Kinds.{allowed, kindOf}
 use Rattle.command.specs.Commands.{commandOf, lineOf, fieldsOf, wordsOf, EachAllowed}
-use Rattle.command.specs.Rules.{domainKept, lastRuleOf}
+use Rattle.rules.specs.Rules.{domainKept, lastRuleOf}
 use Rattle.command.specs.declared.commands.Stored.the-variants as stored
 use Rattle.command.specs.declared.commands.Command.{Command}
 use Rattle.command.specs.declared.commands.Command.the-variants as command
 use Rattle.command.specs.declared.kinds.Kind.the-variants.{Coordinate}
 use Rattle.command.proofs.Headers.{count-least, count-most}
-use Rattle.command.proofs.Rule.{rule-five}
+use Rattle.rules.proofs.Rule.{rule-five}
 use Rattle.command.proofs.WriteBack.{made}
 use Rattle.state.specs.State.{Buffer, Open, Domain, Tally, Party, Shared, Session, none, newSession}
 use Rattle.state.specs.Start.{sumBelow, counts, pairsOf, claimOf}

@@ -4,14 +4,14 @@ use mathlib.Core.List.{List, [], _∷_}
 use Prim.Native.Nat.{ℕ, _+_, _<_, _≤_}
 use native.Mathlib.Omega.{arith}
 use lib.ListN.{length, getD}
-use Rattle.refusal.specs.Told.{Told, gives, refuses}
+use Rattle.refusal.specs.Told.{Told, gives, refuses, thenTold}
 use Rattle.command.specs.Table.{headerOf}
 use Rattle.command.specs.Commands.{wordsOf, commandOf}
-use Rattle.command.specs.Rules.{lastRuleOf}
-use Rattle.command.specs.Writer.{thenTold, judgeCommandOf}
+use Rattle.rules.specs.Rules.{lastRuleOf}
+use Rattle.rules.specs.Writer.{judgeCommandOf}
 use Rattle.command.specs.declared.commands.Command.{Command}
-use Rattle.command.proofs.Judging.{then-given}
-use Rattle.command.proofs.Readable.{readable}
+use Rattle.rules.proofs.Judging.{then-given}
+use Rattle.rules.proofs.Readable.{readable}
 use Rattle.state.specs.State.{Open, Session, none}
 use Rattle.state.specs.Effects.{limit, opening, stop, after}
 use Rattle.session.specs.Step.{Reply, completed, refused, startRuleOf, completing}

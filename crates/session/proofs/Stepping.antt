@@ -11,16 +11,15 @@ use denote.Enum.Declared.{tagOf}
 use types.Run.{OneOf, miss}
 use Rattle.laws.specs.Choice.{pick}
 use Rattle.laws.proofs.Choice.{pick-yes, pick-no}
-use Rattle.refusal.specs.Told.{Told, gives, refuses}
+use Rattle.refusal.specs.Told.{Told, gives, refuses, thenTold}
 use Rattle.command.specs.Table.{countOf}
 use Rattle.command.specs.Commands.{EachAllowed}
-use Rattle.command.specs.Rules.{lastRuleOf}
-use Rattle.command.specs.Writer.{thenTold}
+use Rattle.rules.specs.Rules.{lastRuleOf}
 use Rattle.command.specs.declared.commands.Command.{Command}
 use Rattle.command.specs.declared.commands.Command.the-variants as command
 use Rattle.command.proofs.commands.Command.{the-type}
 use Rattle.command.proofs.Headers.{count-most}
-use Rattle.command.proofs.Judging.{then-refused, then-given}
+use Rattle.rules.proofs.Judging.{then-refused, then-given}
 use Rattle.state.specs.State.{Open, Party, Shared, Session, none}
 use Rattle.state.specs.Start.{readyOf}
 use Rattle.state.specs.Effects.{Numbered, limit, opening, took, stop, withParameter, after}

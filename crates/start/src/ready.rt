@@ -1,8 +1,6 @@
 // What a start asks of the settings alone, 7, 8 and 9, and how many elements it claims. Nothing here changes a cell.
 use command::format;
-use command::kinds::Checked;
 use layout;
-use refusal::Refusal;
 use state::own;
 use state::settings;
 ghost use mathlib.Core.Path.{_≡_};
@@ -200,25 +198,21 @@ fn each_apart(a: Output, b: Output, c: Output, d: Output) -> bool
     both(both(second, third), fourth)
 }
 
-// 7 before 8 before 9.
-fn verdict(complete: bool, covered: bool, disjoint: bool) -> Checked
-    ensures { λ r. ⌜ toldChecked r ≡ verdictOf complete covered disjoint ⌝ }
+// 7 before 8 before 9; 0 where none of them is given.
+fn number(complete: bool, covered: bool, disjoint: bool) -> u32
+    ensures { λ r. ⌜ r ≡ readinessBy complete covered disjoint ⌝ }
 {
     if !complete {
-        return Checked::Refused(Refusal::StartUnset);
+        return 7;
     }
     if !covered {
-        return Checked::Refused(Refusal::DomainOutside);
+        return 8;
     }
-    if disjoint {
-        Checked::Fine
-    } else {
-        Checked::Refused(Refusal::SpansShared)
-    }
+    if disjoint { 0 } else { 9 }
 }
 
-// Whether the settings alone let a start pass: fine, 7, 8 or 9.
-pub fn ready(own: &[u32; state::OWN_CELLS], shared: &[u32; state::SHARED_CELLS]) -> Checked
+// Which of 7, 8 and 9 the settings alone give a start, 0 where they let it pass.
+pub fn readiness(own: &[u32; state::OWN_CELLS], shared: &[u32; state::SHARED_CELLS]) -> u32
     requires { ⌜ (length (now own) ≡ 17) × (length (now shared) ≡ 101) ⌝ }
     ensures { λ r. ⌜ toldChecked r ≡ readyOf (partyOf (now (own .entry)) [] .domain) (partyOf (now (own .entry)) [] .instructions) (sharedOf (now (shared .entry)) .mask) (sharedOf (now (shared .entry)) .outputs) ⌝ }
 {
@@ -232,7 +226,7 @@ pub fn ready(own: &[u32; state::OWN_CELLS], shared: &[u32; state::SHARED_CELLS])
         both(own[own::INSTRUCTIONS] == 1, some_set(a, b, c, d)),
     );
     let covered = each_holds(a, b, c, d, own[own::DOMAIN_I1], own[own::DOMAIN_J1]);
-    verdict(complete, covered, each_apart(a, b, c, d))
+    number(complete, covered, each_apart(a, b, c, d))
 }
 
 // The number of pairs of a domain.

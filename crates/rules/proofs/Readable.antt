@@ -13,14 +13,14 @@ use Rattle.laws.specs.Choice.{_and_, pick}
 use Rattle.laws.proofs.Choice.{Tested, holds, fails, tested, pick-yes, pick-no, and-intro, and-left, and-right}
 use Rattle.laws.proofs.Table.{everyBelow, every}
 use Rattle.refusal.specs.Told.{Told, gives, refuses}
 use Rattle.command.specs.Table.{headerOf, countOf, lineWith}
 use Rattle.command.specs.Kinds.{superfineAllowed, formatAllowed, allowed, faultOf, kinds, kindOf}
 use Rattle.command.specs.Format.{superfineOf, codeOf}
 use Rattle.command.specs.Commands.{lineOf, fieldsOf, EachAllowed}
-use Rattle.command.specs.Rules.{lastRuleOf}
-use Rattle.command.specs.Writer.{spares, allSpare, fieldsSpare, judgeCommandOf}
+use Rattle.rules.specs.Rules.{lastRuleOf}
+use Rattle.rules.specs.Writer.{unrefused, allUnrefused, fieldsUnrefused, judgeCommandOf}
 use Rattle.command.specs.declared.kinds.Kind.{Kind}
 use Rattle.command.specs.declared.kinds.Kind.the-variants.{
   Reserved,
   InputNumber,
   OutputNumber,
@@ -33,10 +33,10 @@ use Rattle.command.specs.declared.kinds.Kind.the-variants.{
   ConditionalMaskBit,
   TestBits,
 }
 use Rattle.command.specs.declared.commands.Command.{Command}
 use Rattle.command.proofs.Headers.{found}
-use Rattle.command.proofs.Judging.{Fault, three, four, fault}
+use Rattle.rules.proofs.Judging.{Fault, three, four, fault}
 use Rattle.command.proofs.WriteBack.{again, read-back, lined}
 
 -- 0 is allowed everywhere
 pub zero-allowed : (k : Kind) → allowed k 0 ≡ true
@@ -62,41 +62,41 @@ unfolding kindsCounted countOf everyBelow _and_
 kinds-count l h = eqb-true _ _ (every kindsCounted 21 refl l h)
 
 -- a word that causes neither 3 nor 4 is allowed, and an allowed word causes no refusal
-spared : (k : Kind) (w : ℕ) → spares 3 k w ≡ true → spares 4 k w ≡ true → allowed k w ≡ true
-unfolding spares pick
-spared k w = go (fault k)
+is-allowed : (k : Kind) (w : ℕ) → unrefused 3 k w ≡ true → unrefused 4 k w ≡ true → allowed k w ≡ true
+unfolding unrefused pick
+is-allowed k w = go (fault k)
   where
-    go : Fault (faultOf k) → spares 3 k w ≡ true → spares 4 k w ≡ true → allowed k w ≡ true
+    go : Fault (faultOf k) → unrefused 3 k w ≡ true → unrefused 4 k w ≡ true → allowed k w ≡ true
     go (three f) a b = rw f at a
     go (four f) a b = rw f at b
 
-sparing : (n : ℕ) (k : Kind) (w : ℕ) → allowed k w ≡ true → spares n k w ≡ true
-unfolding spares
-sparing n k w a = go (tested (eqb (faultOf k) n))
+word-unrefused : (n : ℕ) (k : Kind) (w : ℕ) → allowed k w ≡ true → unrefused n k w ≡ true
+unfolding unrefused
+word-unrefused n k w a = go (tested (eqb (faultOf k) n))
   where
     go : Tested (eqb (faultOf k) n) → pick (eqb (faultOf k) n) (allowed k w) true ≡ true
     go (holds e) = pick-yes (allowed k w) true e ∙ a
     go (fails e) = pick-no (allowed k w) true e
 
-all-spared :
-    (ks : List Kind) (ws : List ℕ) → allSpare 3 ks ws ≡ true → allSpare 4 ks ws ≡ true →
+all-allowed :
+    (ks : List Kind) (ws : List ℕ) → allUnrefused 3 ks ws ≡ true → allUnrefused 4 ks ws ≡ true →
     (i : ℕ) → i < length ks → i < length ws → allowed (getD ks i Reserved) (getD ws i 0) ≡ true
-unfolding allSpare
-all-spared [] ws a b i h g = absurd (not-suc-le-zero h)
-all-spared (k ∷ ks) [] a b i h g = absurd (not-suc-le-zero g)
-all-spared (k ∷ ks) (w ∷ ws) a b zero h g =
-    spared k w (and-left (spares 3 k w) (allSpare 3 ks ws) a) (and-left (spares 4 k w) (allSpare 4 ks ws) b)
-all-spared (k ∷ ks) (w ∷ ws) a b (suc i) h g =
-    all-spared ks ws (and-right (spares 3 k w) (allSpare 3 ks ws) a) (and-right (spares 4 k w) (allSpare 4 ks ws) b) i (le-of-suc-le-suc h) (le-of-suc-le-suc g)
+unfolding allUnrefused
+all-allowed [] ws a b i h g = absurd (not-suc-le-zero h)
+all-allowed (k ∷ ks) [] a b i h g = absurd (not-suc-le-zero g)
+all-allowed (k ∷ ks) (w ∷ ws) a b zero h g =
+    is-allowed k w (and-left (unrefused 3 k w) (allUnrefused 3 ks ws) a) (and-left (unrefused 4 k w) (allUnrefused 4 ks ws) b)
+all-allowed (k ∷ ks) (w ∷ ws) a b (suc i) h g =
+    all-allowed ks ws (and-right (unrefused 3 k w) (allUnrefused 3 ks ws) a) (and-right (unrefused 4 k w) (allUnrefused 4 ks ws) b) i (le-of-suc-le-suc h) (le-of-suc-le-suc g)
 
-all-sparing :
+allowed-unrefused :
     (n : ℕ) (ks : List Kind) (ws : List ℕ) →
-    ((i : ℕ) → i < length ks → allowed (getD ks i Reserved) (getD ws i 0) ≡ true) → allSpare n ks ws ≡ true
-unfolding allSpare
-all-sparing n [] ws a = refl
-all-sparing n (k ∷ ks) [] a = refl
-all-sparing n (k ∷ ks) (w ∷ ws) a =
-    and-intro (sparing n k w (a 0 (suc-le-suc zero-le))) (all-sparing n ks ws (λ i h. a (suc i) (suc-le-suc h)))
+    ((i : ℕ) → i < length ks → allowed (getD ks i Reserved) (getD ws i 0) ≡ true) → allUnrefused n ks ws ≡ true
+unfolding allUnrefused
+allowed-unrefused n [] ws a = refl
+allowed-unrefused n (k ∷ ks) [] a = refl
+allowed-unrefused n (k ∷ ks) (w ∷ ws) a =
+    and-intro (word-unrefused n k w (a 0 (suc-le-suc zero-le))) (allowed-unrefused n ks ws (λ i h. a (suc i) (suc-le-suc h)))
 
 -- a choice against a refusal that gives
 data Given (t : Bool) (a : Told) : Type 0 where
@@ -115,8 +115,8 @@ pub record Readable (c : Command) : Type 0 where
   pub read-again : again c ≡ c
 
 pub readable : (c : Command) → judgeCommandOf c ≡ gives [] → Readable c
-unfolding judgeCommandOf fieldsSpare kindOf
-readable c e = first (chosen (fieldsSpare 3 c) (pick (fieldsSpare 4 c) (lastRuleOf c) (refuses 4)) 3 e)
+unfolding judgeCommandOf fieldsUnrefused kindOf
+readable c e = first (chosen (fieldsUnrefused 3 c) (pick (fieldsUnrefused 4 c) (lastRuleOf c) (refuses 4)) 3 e)
   where
     count : (k : ℕ) → k < countOf (lineOf c) → k < length (getD kinds (lineOf c) [])
     count k h = rw (kinds-count (lineOf c) (lined c .line-most)) h
@@ -124,25 +124,25 @@ readable c e = first (chosen (fieldsSpare 3 c) (pick (fieldsSpare 4 c) (lastRule
     size : (k : ℕ) → k < countOf (lineOf c) → k < length (fieldsOf c)
     size k h = rw (lined c .fields-count) h
 
-    both : fieldsSpare 3 c ≡ true → Given (fieldsSpare 4 c) (lastRuleOf c) → Readable c
+    both : fieldsUnrefused 3 c ≡ true → Given (fieldsUnrefused 4 c) (lastRuleOf c) → Readable c
     both a (given b r) =
         record {
           header-known = found (headerOf (lineOf c)) (lineOf c) (lined c .line-most) refl;
-          fields-allowed = λ k h. all-spared (getD kinds (lineOf c) []) (fieldsOf c) a b k (count k h) (size k h);
+          fields-allowed = λ k h. all-allowed (getD kinds (lineOf c) []) (fieldsOf c) a b k (count k h) (size k h);
           rules-kept = r;
           read-again = read-back c;
         }
 
-    first : Given (fieldsSpare 3 c) (pick (fieldsSpare 4 c) (lastRuleOf c) (refuses 4)) → Readable c
-    first (given a r) = both a (chosen (fieldsSpare 4 c) (lastRuleOf c) 4 r)
+    first : Given (fieldsUnrefused 3 c) (pick (fieldsUnrefused 4 c) (lastRuleOf c) (refuses 4)) → Readable c
+    first (given a r) = both a (chosen (fieldsUnrefused 4 c) (lastRuleOf c) 4 r)
 
 -- and every command with allowed fields and kept rules is judged fine
 pub writable : (c : Command) → EachAllowed (lineOf c) (fieldsOf c) → lastRuleOf c ≡ gives [] → judgeCommandOf c ≡ gives []
-unfolding judgeCommandOf fieldsSpare kindOf
+unfolding judgeCommandOf fieldsUnrefused kindOf
 writable c a r =
-    pick-yes _ _ (spare 3) ∙ pick-yes _ _ (spare 4) ∙ r
+    pick-yes _ _ (none-refused 3) ∙ pick-yes _ _ (none-refused 4) ∙ r
   where
-    spare : (n : ℕ) → allSpare n (getD kinds (lineOf c) []) (fieldsOf c) ≡ true
-    spare n =
-        all-sparing n (getD kinds (lineOf c) []) (fieldsOf c)
+    none-refused : (n : ℕ) → allUnrefused n (getD kinds (lineOf c) []) (fieldsOf c) ≡ true
+    none-refused n =
+        allowed-unrefused n (getD kinds (lineOf c) []) (fieldsOf c)
         (λ k h. a k (rw (kinds-count (lineOf c) (lined c .line-most)) at h))

@@ -9,14 +9,14 @@ use borrow.Author.Tests.{eqb-true}
 use Rattle.laws.specs.Choice.{_and_, pick}
 use Rattle.laws.proofs.Choice.{and-left, and-right}
 use Rattle.laws.proofs.Table.{everyBelow, every}
-use Rattle.refusal.specs.Told.{Told, gives, refuses}
+use Rattle.refusal.specs.Told.{Told, gives, refuses, thenTold}
 use Rattle.command.specs.Kinds.{allowed, faultOf, checkOf, kindOf}
 use Rattle.command.specs.Commands.{noEffectLine, storedLine, lineOf, fieldsOf, placesOf}
-use Rattle.command.specs.Rules.{lastRuleOf}
-use Rattle.command.specs.Writer.{spares, allSpare, fieldsSpare, thenTold, placesJudgedOf, judgeCommandOf}
+use Rattle.rules.specs.Rules.{lastRuleOf}
+use Rattle.rules.specs.Writer.{unrefused, allUnrefused, fieldsUnrefused, placesJudgedOf, judgeCommandOf}
 use Rattle.command.proofs.WriteBack.{lined}
 use Rattle.command.specs.declared.kinds.Kind.{Kind}
 use Rattle.command.specs.declared.kinds.Kind.the-variants.{
   Reserved,
   InputNumber,
   OutputNumber,
@@ -90,14 +90,14 @@ module _ (l p0 p1 p2 p3 : ℕ) (second : Told) (asked1 : second ≡ checkOf (kin
 -- a command's fields, by the four places of its line
 pub record Spread (c : Command) : Type 0 where
   pub three :
-      fieldsSpare 3 c ≡
-      (spares 3 (kindOf (lineOf c) 0) (placesOf c .0) and spares 3 (kindOf (lineOf c) 1) (placesOf c .1) and spares 3 (kindOf (lineOf c) 2) (placesOf c .2) and spares 3 (kindOf (lineOf c) 3) (placesOf c .3) and true)
+      fieldsUnrefused 3 c ≡
+      (unrefused 3 (kindOf (lineOf c) 0) (placesOf c .0) and unrefused 3 (kindOf (lineOf c) 1) (placesOf c .1) and unrefused 3 (kindOf (lineOf c) 2) (placesOf c .2) and unrefused 3 (kindOf (lineOf c) 3) (placesOf c .3) and true)
   pub four :
-      fieldsSpare 4 c ≡
-      (spares 4 (kindOf (lineOf c) 0) (placesOf c .0) and spares 4 (kindOf (lineOf c) 1) (placesOf c .1) and spares 4 (kindOf (lineOf c) 2) (placesOf c .2) and spares 4 (kindOf (lineOf c) 3) (placesOf c .3) and true)
+      fieldsUnrefused 4 c ≡
+      (unrefused 4 (kindOf (lineOf c) 0) (placesOf c .0) and unrefused 4 (kindOf (lineOf c) 1) (placesOf c .1) and unrefused 4 (kindOf (lineOf c) 2) (placesOf c .2) and unrefused 4 (kindOf (lineOf c) 3) (placesOf c .3) and true)
 
 spread : (c : Command) → Spread c
-unfolding fieldsSpare allSpare spares kindOf lineOf placesOf fieldsOf noEffectLine storedLine faultOf allowed pick _and_
+unfolding fieldsUnrefused allUnrefused unrefused kindOf lineOf placesOf fieldsOf noEffectLine storedLine faultOf allowed pick _and_
 spread (Domain i0 j0 i1 j1) = record { three = refl; four = refl }
 spread Start = record { three = refl; four = refl }
 spread (Quiet Wait) = record { three = refl; four = refl }
@@ -181,10 +181,10 @@ module _ (k0 k1 k2 k3 : Kind) (p0 p1 p2 p3 : ℕ) (last : Told) where
   ordered :
       Fault (faultOf k0) → faultOf k1 ≡ 3 → faultOf k2 ≡ 3 → faultOf k3 ≡ 3 →
       thenTold (thenTold (checkOf k1 p1) (thenTold (checkOf k2 p2) (thenTold (checkOf k3 p3) (checkOf k0 p0)))) last ≡
-      pick (spares 3 k0 p0 and spares 3 k1 p1 and spares 3 k2 p2 and spares 3 k3 p3 and true)
-      (pick (spares 4 k0 p0 and spares 4 k1 p1 and spares 4 k2 p2 and spares 4 k3 p3 and true) last (refuses 4))
+      pick (unrefused 3 k0 p0 and unrefused 3 k1 p1 and unrefused 3 k2 p2 and unrefused 3 k3 p3 and true)
+      (pick (unrefused 4 k0 p0 and unrefused 4 k1 p1 and unrefused 4 k2 p2 and unrefused 4 k3 p3 and true) last (refuses 4))
       (refuses 3)
-  unfolding checkOf spares passed pick
+  unfolding checkOf unrefused passed pick
   ordered (three f0) f1 f2 f3 =
       rw (f0, f1, f2, f3) (all-three (allowed k0 p0) (allowed k1 p1) (allowed k2 p2) (allowed k3 p3) last)
   ordered (four f0) f1 f2 f3 =

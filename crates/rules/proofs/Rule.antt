@@ -10,9 +10,9 @@ use types.Run.{OneOf, miss}
 use Rattle.laws.specs.Choice.{pick}
 use Rattle.laws.proofs.Choice.{pick-yes, pick-no, and-yes, and-no-left}
 use Rattle.refusal.specs.Told.{Told, gives, refuses}
-use Rattle.command.specs.Rules.{domainKept, windowKept, lastRuleOf}
+use Rattle.rules.specs.Rules.{domainKept, windowKept, lastRuleOf}
 use Rattle.command.specs.declared.commands.Command.{Command}
 use Rattle.command.specs.declared.commands.Command.the-variants.{
   Domain,
   Start,
   Quiet,

@@ -3,10 +3,10 @@ use mathlib.Core.Bool.{Bool, true, false}
 use mathlib.Core.List.{[]}
 use lib.Dec.{leb}
 use Rattle.laws.specs.Choice.{_and_, pick}
-use Rattle.refusal.specs.Told.{Told, gives, refuses}
+use Rattle.refusal.specs.Told.{Told, gives, refuses, isGiven}
 use Rattle.command.specs.Format.{windowOf}
 use Rattle.command.specs.declared.commands.Command.{Command}
 use Rattle.command.specs.declared.commands.Command.the-variants.{
   Domain,
   Start,
   Quiet,
@@ -18,11 +18,6 @@ use Rattle.command.specs.declared.commands.Command.the-variants.{
   ConditionalMask,
   Test,
 }
-
--- an answer that is no refusal
-unfoldable pub isGiven : Told → Bool
-isGiven (gives values) = true
-isGiven (refuses number) = false
 
 -- no "i0 > i1 or j0 > j1"
 unfoldable pub domainKept : Command → Bool

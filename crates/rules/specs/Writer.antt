@@ -7,31 +7,26 @@ use Prim.Native.Nat.{ℕ}
 use lib.Dec.{eqb, leb}
 use lib.ListN.{length, getD, drop}
 use Rattle.laws.specs.Choice.{_and_, pick}
-use Rattle.refusal.specs.Told.{Told, gives, refuses}
+use Rattle.refusal.specs.Told.{Told, gives, refuses, thenTold}
 use Rattle.command.specs.Kinds.{allowed, faultOf, kinds, kindOf, checkOf}
 use Rattle.command.specs.Commands.{lineOf, fieldsOf, wordsOf}
-use Rattle.command.specs.Rules.{lastRuleOf}
+use Rattle.rules.specs.Rules.{lastRuleOf}
 use Rattle.command.specs.declared.kinds.Kind.{Kind}
 use Rattle.command.specs.declared.commands.Command.{Command}
 
 -- a word of a kind doesn't cause refusal `n`
-unfoldable pub spares : ℕ → Kind → ℕ → Bool
-spares n kind w = pick (eqb (faultOf kind) n) (allowed kind w) true
+unfoldable pub unrefused : ℕ → Kind → ℕ → Bool
+unrefused n kind w = pick (eqb (faultOf kind) n) (allowed kind w) true
 
 -- no word of a list causes refusal `n`, each by its kind
-unfoldable pub allSpare : ℕ → List Kind → List ℕ → Bool
-allSpare n [] ws = true
-allSpare n (kind ∷ ks) [] = true
-allSpare n (kind ∷ ks) (w ∷ ws) = spares n kind w and allSpare n ks ws
+unfoldable pub allUnrefused : ℕ → List Kind → List ℕ → Bool
+allUnrefused n [] ws = true
+allUnrefused n (kind ∷ ks) [] = true
+allUnrefused n (kind ∷ ks) (w ∷ ws) = unrefused n kind w and allUnrefused n ks ws
 
 -- no field of a command causes refusal `n`
-unfoldable pub fieldsSpare : ℕ → Command → Bool
-fieldsSpare n command = allSpare n (getD kinds (lineOf command) []) (fieldsOf command)
-
--- a refusal stands; else what comes next is told
-unfoldable pub thenTold : Told → Told → Told
-thenTold (gives values) next = next
-thenTold (refuses number) next = refuses number
+unfoldable pub fieldsUnrefused : ℕ → Command → Bool
+fieldsUnrefused n command = allUnrefused n (getD kinds (lineOf command) []) (fieldsOf command)
 
 -- the parameters of a line, asked in the order that puts 3 before 4: an input or output number stands first in its command and
 -- nowhere else, so it is asked last
@@ -41,7 +36,7 @@ placesJudgedOf line p0 p1 p2 p3 =
 
 -- what the fields cause: 3 before 4, whichever field comes first, then 5 and 6
 unfoldable pub judgeCommandOf : Command → Told
-judgeCommandOf command = pick (fieldsSpare 3 command) (pick (fieldsSpare 4 command) (lastRuleOf command) (refuses 4)) (refuses 3)
+judgeCommandOf command = pick (fieldsUnrefused 3 command) (pick (fieldsUnrefused 4 command) (lastRuleOf command) (refuses 4)) (refuses 3)
 
 -- the number of words, or the refusal; `room` is the room's length
 unfoldable pub writeOf : Command → ℕ → Told
