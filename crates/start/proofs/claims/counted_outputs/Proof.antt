@@ -1,8 +1,8 @@
--- `start::ready::counted_outputs` meets its contract: a sum of four ones and zeros. Assumes nothing.
+-- `start::claims::counted_outputs` meets its contract: a sum of four ones and zeros. Assumes nothing.
 use Rattle.start.proofs.Readiness.{counted-outputs}
 use borrow.Author.Needs.{needs}
-use Rattle.start.proofs.ready.counted_outputs.Statement.{statement}
-use Rattle.start.proofs.ready.counted_outputs.Tie as tie
+use Rattle.start.proofs.claims.counted_outputs.Statement.{statement}
+use Rattle.start.proofs.claims.counted_outputs.Tie as tie
 
 element-copy-out-mask : tie.Need-element-copy-out-mask
 element-copy-out-mask c = search needs

@@ -1,12 +1,12 @@
--- `start::effect::count_start` meets its contract. Assumes nothing.
+-- `start::claims::count_start` meets its contract. Assumes nothing.
 use Prim.Native.Nat.{_+_}
 use native.Mathlib.Omega.{arith}
 use lib.ListN.{getD}
 use Rattle.state.specs.Cells.{partyOf, sharedOf}
 use Rattle.state.proofs.OwnPuts.{second-tally, start-tallies}
 use borrow.Author.Needs.{needs}
-use Rattle.start.proofs.effect.count_start.Statement.{statement}
-use Rattle.start.proofs.effect.count_start.Tie as tie
+use Rattle.start.proofs.claims.count_start.Statement.{statement}
+use Rattle.start.proofs.claims.count_start.Tie as tie
 
 claim-requires : tie.Need-claim-requires
 unfolding partyOf

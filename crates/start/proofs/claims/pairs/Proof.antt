@@ -1,10 +1,10 @@
--- `start::ready::pairs` meets its contract: at most 4,096 columns by 4,096 rows. Assumes nothing.
+-- `start::claims::pairs` meets its contract: at most 4,096 columns by 4,096 rows. Assumes nothing.
 use mathlib.Core.Path.{refl}
 use native.Mathlib.Omega.{arith}
 use Rattle.start.proofs.Readiness.{pairs-most}
 use borrow.Author.Needs.{needs}
-use Rattle.start.proofs.ready.pairs.Statement.{statement}
-use Rattle.start.proofs.ready.pairs.Tie as tie
+use Rattle.start.proofs.claims.pairs.Statement.{statement}
+use Rattle.start.proofs.claims.pairs.Tie as tie
 
 sub-columns : tie.Need-sub-columns
 sub-columns c = search needs

@@ -1,8 +1,8 @@
--- `start::ready::ready` meets its contract: what it finds of the four outputs is what the definition asks of them. Assumes nothing.
+-- `start::ready::readiness` meets its contract: what it finds of the four outputs is what the definition asks of them. Assumes nothing.
 use Rattle.start.proofs.Readiness.{ready-told}
 use borrow.Author.Needs.{needs}
-use Rattle.start.proofs.ready.ready.Statement.{statement}
-use Rattle.start.proofs.ready.ready.Tie as tie
+use Rattle.start.proofs.ready.readiness.Statement.{statement}
+use Rattle.start.proofs.ready.readiness.Tie as tie
 
 element-copy-out-mask : tie.Need-element-copy-out-mask
 element-copy-out-mask c = search needs
@@ -46,8 +46,8 @@ each-holds-requires c κs = search needs
 each-apart-requires : tie.Need-each-apart-requires
 each-apart-requires c κs = search needs
 
-verdict-requires : tie.Need-verdict-requires
-verdict-requires c κs = search needs
+first-of-requires : tie.Need-first-of-requires
+first-of-requires c κs = search needs
 
 returns : tie.Need-returns
 returns c =
@@ -63,10 +63,10 @@ returns c =
     (c .before .before .before .before .before .both2 .ensures)
     (c .before .before .each-holds .ensures)
     (c .before .each-apart .ensures)
-    (c .verdict .ensures)
+    (c .first-of .ensures)
 
-pub ready-spec : {M : Type 1} → statement M
-ready-spec =
+pub readiness-spec : {M : Type 1} → statement M
+readiness-spec =
     tie.close
     (tie.spec
     element-copy-out-mask
@@ -83,5 +83,5 @@ ready-spec =
     element-copy-out-each-holds-2
     each-holds-requires
     each-apart-requires
-    verdict-requires
+    first-of-requires
     returns)

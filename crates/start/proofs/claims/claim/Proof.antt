@@ -1,9 +1,9 @@
--- `start::ready::claim` meets its contract: pairs times outputs, at most 67,108,864. Assumes nothing.
+-- `start::claims::claim` meets its contract: pairs times outputs, at most 67,108,864. Assumes nothing.
 use native.Mathlib.Omega.{arith}
 use Rattle.start.proofs.Readiness.{claim-fits, claim-told, domain-places}
 use borrow.Author.Needs.{needs}
-use Rattle.start.proofs.ready.claim.Statement.{statement}
-use Rattle.start.proofs.ready.claim.Tie as tie
+use Rattle.start.proofs.claims.claim.Statement.{statement}
+use Rattle.start.proofs.claims.claim.Tie as tie
 
 element-copy-out-pairs : tie.Need-element-copy-out-pairs
 element-copy-out-pairs c = search needs

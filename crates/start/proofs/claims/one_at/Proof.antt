@@ -1,8 +1,8 @@
--- `start::ready::one_at` meets its contract: 1 where the output counts, 0 where it doesn't. Assumes nothing.
+-- `start::claims::one_at` meets its contract: 1 where the output counts, 0 where it doesn't. Assumes nothing.
 use Rattle.start.proofs.Readiness.{one-counted, one-uncounted}
 use borrow.Author.Needs.{needs}
-use Rattle.start.proofs.ready.one_at.Statement.{statement}
-use Rattle.start.proofs.ready.one_at.Tie as tie
+use Rattle.start.proofs.claims.one_at.Statement.{statement}
+use Rattle.start.proofs.claims.one_at.Tie as tie
 
 mul-is-counted : tie.Need-mul-is-counted
 mul-is-counted c = search needs
