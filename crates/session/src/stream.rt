@@ -2,29 +2,23 @@
 use command::commands;
 use command::commands::Command;
 use command::kinds;
-use command::kinds::Checked;
 use command::table;
 use command::table::Line;
+use refusal;
 use refusal::Refusal;
-use rules::last;
-use start::effect;
 use start::ready;
 use state::own;
 use state::own::WordPosition;
 use state::settings;
 ghost use mathlib.Core.Path.{_≡_};
 ghost use mathlib.Core.List.{[]};
-ghost use Prim.Native.Nat.{_<_};
-ghost use lib.ListN.{length};
-ghost use Rattle.refusal.specs.Told.{thenTold};
-ghost use Rattle.command.specs.Kinds.{toldChecked};
-ghost use Rattle.rules.specs.Rules.{lastRuleOf};
+ghost use Rattle.refusal.specs.Number.{numberOf};
 ghost use Rattle.state.specs.State.{newSession};
 ghost use Rattle.state.specs.Effects.{withParameter};
-ghost use Rattle.session.specs.Step.{completing, parameterStep, placing, startRuleOf, stepOf};
+ghost use Rattle.session.specs.Step.{completing, parameterStep, placing, stepOf};
 ghost use Rattle.state.specs.Cells.{Sized, partyOf, sessionOf};
 ghost use Rattle.state.specs.Asked.{Given, Held};
-ghost use Rattle.session.specs.Asked.{CompleteAsked, Left, OpenAsked, ParameterAsked};
+ghost use Rattle.session.specs.Asked.{CompleteAsked, Left, OpenAsked, ParameterAsked, RefusalAsked, readinessIn, refusalAt};
 ghost use Rattle.session.specs.Answers.{PieceLeft, completedBy, replyOf};
 ghost use Rattle.session.specs.Feed.{feedOf};
 
@@ -38,13 +32,15 @@ pub enum Answer {
     Refused(Refusal),
 }
 
-// The refusal of a command whose parameters are all there, each allowed by its kind, and which isn't accepted: of a domain 5, of
-// a start the number that the settings give it, and 6 of a command that describes a window.
+// The refusal of a command that isn't accepted though each of its parameters is allowed: of a domain 5, of a start the number that
+// the settings give it, and 6 of a command that describes a window.
 fn refusal_of(
     own: &[u32; state::OWN_CELLS],
     shared: &[u32; state::SHARED_CELLS],
     line: u32,
 ) -> Refusal
+    requires { ⌜ RefusalAsked (now own) (now shared) line ⌝ }
+    ensures { λ r. ⌜ numberOf r ≡ refusalAt line (readinessIn (now (own .entry)) (now (shared .entry))) ⌝ }
 {
     match line {
         0 => Refusal::DomainCrossed,

@@ -11,7 +11,9 @@ use lib.ListN.{getD}
 use borrow.Author.Tests.{eq-eqb, ne-eqb}
 use Rattle.laws.specs.Choice.{_and_, pick}
 use Rattle.laws.proofs.Choice.{pick-yes, pick-no, and-left, and-yes, and-no-left}
+use Rattle.refusal.specs.Number.{IsNumber}
 use Rattle.refusal.specs.Told.{Told, gives, refuses}
+use Rattle.refusal.specs.declared.Refusal.the-variants.{StartUnset, DomainOutside, SpansShared}
 use Rattle.layout.specs.Layout.{wellFormed, rowStep, spanOf, windowRule, judgeOf}
 use Rattle.layout.proofs.Window.{judged-malformed, judged-broken, judged-accepted}
 use Rattle.command.specs.Format.{pitchOf, tiledOf, codeOf, sizeOf, windowOf}
@@ -328,6 +330,13 @@ first-refused true true false n = refl
 first-refused true false z n = refl
 first-refused false y z n = refl
 
+first-number : (x y z : Bool) → (numberTold (toldFirst x y z) ≡ 0 → ⊥) → IsNumber (numberTold (toldFirst x y z))
+unfolding numberTold pick
+first-number true true true n = absurd (n refl)
+first-number true true false n = record { refusal = SpansShared; number = refl }
+first-number true false z n = record { refusal = DomainOutside; number = refl }
+first-number false y z n = record { refusal = StartUnset; number = refl }
+
 module _ (d : Domain) (i : Buffer) (m : ℕ) (o : List Buffer) where
   pub number-given : readinessOf d i m o ≡ 0 → readyOf d i m o ≡ gives []
   unfolding readinessOf readyOf
@@ -336,6 +345,11 @@ module _ (d : Domain) (i : Buffer) (m : ℕ) (o : List Buffer) where
   pub number-refused : (readinessOf d i m o ≡ 0 → ⊥) → readyOf d i m o ≡ refuses (readinessOf d i m o)
   unfolding readinessOf readyOf
   number-refused n = first-refused _ _ _ n
+
+  -- so it is the number of a refusal where it isn't 0
+  pub readiness-number : (readinessOf d i m o ≡ 0 → ⊥) → IsNumber (readinessOf d i m o)
+  unfolding readinessOf readyOf
+  readiness-number n = first-number _ _ _ n
 
 -- what a start claims
 module _ (bits flag format : ℕ) {t : Bool} (c : t ≡ countsBy bits flag format) where
