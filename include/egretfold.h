@@ -43,7 +43,7 @@ extern "C" {
 #endif
 
 /* A session's state: its own numbers, its tallies, and the settings. */
-enum { EGRETFOLD_OWN = 17, EGRETFOLD_TALLIES = 2, EGRETFOLD_SHARED = 101 };
+enum { EGRETFOLD_OWN = 33, EGRETFOLD_TALLIES = 2, EGRETFOLD_SHARED = 101 };
 
 /* A replay's state besides its session's arrays: its own numbers, and what the tallies were at each midnight. */
 enum { EGRETFOLD_LOG = 10, EGRETFOLD_MARKS = 800 };
@@ -60,21 +60,21 @@ enum { EGRETFOLD_SLOTS = 512, EGRETFOLD_CELLS = 20 };
 /* ---- Sessions ---- */
 
 /* A new session: nothing set, mask 65535. Returns 0. */
-uint32_t egretfold_session_begin(uint32_t own[17], uint64_t tallies[2], uint32_t shared[101]);
+uint32_t egretfold_session_begin(uint32_t own[33], uint64_t tallies[2], uint32_t shared[101]);
 
 /* One word. command: 0 where a command is still open, else 1; then the completed command's header and its four parameters,
  * 0 past its last (and all 0 where a command is open). 1 to 9 or 17; all but 1 stop the session and drop the open command. */
-uint32_t egretfold_session_word(uint32_t own[17], uint64_t tallies[2], uint32_t shared[101], uint32_t word,
+uint32_t egretfold_session_word(uint32_t own[33], uint64_t tallies[2], uint32_t shared[101], uint32_t word,
                                 uint32_t command[6]);
 
 /* A piece of words, one after another up to the first refused one. Returns that word's refusal, or 0. fed, written in any
  * case: the words taken (where a word is refused, its place in the piece) and the commands that they completed. */
-uint32_t egretfold_session_feed(uint32_t own[17], uint64_t tallies[2], uint32_t shared[101], const uint32_t *words,
+uint32_t egretfold_session_feed(uint32_t own[33], uint64_t tallies[2], uint32_t shared[101], const uint32_t *words,
                                 size_t length, uint64_t fed[2]);
 
 /* status: the words taken since the session began; 1 if it is stopped, else 0; the open command's header, 0 if none is open;
  * and how many of its parameters were taken. Returns 0. */
-uint32_t egretfold_session_status(const uint32_t own[17], uint32_t status[4]);
+uint32_t egretfold_session_status(const uint32_t own[33], uint32_t status[4]);
 
 /* counts: runs (starts that passed) and the elements that they claimed: the pairs of the domain, times the set outputs that
  * are not silent at the start. An output is silent when no mask bit is set for a channel that its format has: bit 4n + c is
@@ -82,12 +82,12 @@ uint32_t egretfold_session_status(const uint32_t own[17], uint32_t status[4]);
 uint32_t egretfold_session_tallies(const uint64_t tallies[2], uint64_t counts[2]);
 
 /* domain: 1 if it is set, else 0; then i0, j0, i1, j1, both ends included. Returns 0. */
-uint32_t egretfold_session_domain(const uint32_t own[17], uint32_t domain[5]);
+uint32_t egretfold_session_domain(const uint32_t own[33], uint32_t domain[5]);
 
 /* The format that the command with this header set (set_inst_fmt, set_inp_fmt, set_out_fmt, set_cond_out_fmt,
  * set_constf_fmt, set_consti_fmt or set_constb_fmt; for inputs and outputs the one with this number, else the number is not
  * looked at). format: 1 if it is set, else 0; then base, format word and height. 2 for any other header; 4. */
-uint32_t egretfold_session_format(const uint32_t own[17], const uint32_t shared[101], uint32_t header, uint32_t number,
+uint32_t egretfold_session_format(const uint32_t own[33], const uint32_t shared[101], uint32_t header, uint32_t number,
                                   uint32_t format[4]);
 
 /* masks: the output mask; 1 if the conditional mask is set, else 0, and the mask; 1 if the test is set, else 0, and the
@@ -100,18 +100,18 @@ uint32_t egretfold_session_masks(const uint32_t shared[101], uint32_t masks[5]);
  * midnights, which lies in own, tallies and shared: the functions above that change nothing may be asked about it. */
 
 /* A new replay, with a new session. Returns 0. */
-uint32_t egretfold_log_begin(uint32_t log[10], uint64_t marks[800], uint32_t own[17], uint64_t tallies[2],
+uint32_t egretfold_log_begin(uint32_t log[10], uint64_t marks[800], uint32_t own[33], uint64_t tallies[2],
                              uint32_t shared[101]);
 
 /* A piece of bytes, one after another up to the first refused one; it may be cut inside a record. Returns that byte's
  * refusal, or 0. taken, written in any case: the bytes taken (where a byte is refused, its place in the piece). 18 for a
  * record's first byte, 19 for a midnight's last one; both stop the replay and drop the open record, and every later byte
  * gets the same number. What came before stands. The bytes of a word that the session refuses are taken. */
-uint32_t egretfold_log_feed(uint32_t log[10], uint64_t marks[800], uint32_t own[17], uint64_t tallies[2],
+uint32_t egretfold_log_feed(uint32_t log[10], uint64_t marks[800], uint32_t own[33], uint64_t tallies[2],
                             uint32_t shared[101], const uint8_t *bytes, size_t length, uint64_t taken[1]);
 
 /* The same for one byte, and faster than a piece of one. Returns its refusal, or 0 where it was taken. */
-uint32_t egretfold_log_byte(uint32_t log[10], uint64_t marks[800], uint32_t own[17], uint64_t tallies[2],
+uint32_t egretfold_log_byte(uint32_t log[10], uint64_t marks[800], uint32_t own[33], uint64_t tallies[2],
                             uint32_t shared[101], uint8_t byte);
 
 /* status: 18 or 19 if it stopped the replay, else 0; the first refused word's refusal, 0 if none was refused; how many

@@ -32,7 +32,7 @@ use Rattle.start.specs.Rules.{startRuleOf}
 use Rattle.start.proofs.Readiness.{number-given, number-refused}
 use Rattle.accept.specs.Standing.{standing}
 use Rattle.state.specs.Asked.{Given, Held, HeldOwn, OwnAsked}
-use Rattle.state.specs.Cells.{Sized, partyOf, partyCells, tallyCells, sharedOf, sharedCells, sessionOf, setBuffer}
+use Rattle.state.specs.Cells.{Sized, partyOf, partyCells, tallyCells, sharedOf, sharedCells, sessionOf, setBuffer, ownLength, sharedLength}
 use Rattle.state.specs.Effects.{tookWords}
 use Rattle.accept.specs.Whole.{Ready, RoomFor, Denied, byWords, byFields, bySettings, Tried, untaken, accepted, Begun, begun, unbegun, OwnTried, SharedTried, KeptAt, everyWord}
 use Rattle.state.proofs.OwnPuts.{
@@ -110,7 +110,7 @@ module _ (c : Command) (n : ℕ) (l t h l1 : List ℕ) (e1 : l1 ≡ partyCells (
         kept : Held left l2 t2 h2
         kept = record { own-cells = own-held .own-cells; tally-cells = own-held .tally-cells; shared-cells = e }
 
-pub counted-length : (l l1 : List ℕ) (n : ℕ) → l1 ≡ partyCells (tookWords n (partyOf l [])) → length l1 ≡ 17
+pub counted-length : (l l1 : List ℕ) (n : ℕ) → l1 ≡ partyCells (tookWords n (partyOf l [])) → length l1 ≡ ownLength
 unfolding partyCells
 counted-length l l1 n e = ap length e
 
@@ -129,7 +129,7 @@ input-place n b f k e = omega (arith, input-most n b f k e)
 
 -- the commands by their arms: own cells `l`, and `l1` after `m` words were counted
 module _ (l l1 : List ℕ) (m : ℕ) (e : l1 ≡ partyCells (tookWords m (partyOf l []))) where
-  abbrev sized : length l1 ≡ 17
+  abbrev sized : length l1 ≡ ownLength
   sized = counted-length l l1 m e
 
   pub domain-tried : (i0 j0 i1 j1 : ℕ) → judgeCommandOf (command.Domain i0 j0 i1 j1) ≡ gives [] →
@@ -188,7 +188,7 @@ module _ (l l1 : List ℕ) (m : ℕ) (e : l1 ≡ partyCells (tookWords m (partyO
         (p ∙ input-shared h (z .shared-length) n b f k (input-most n b f k fine))
 
     -- a constants' format, whichever it is
-    constants-shared : (what : Stored) (at b f : ℕ) → KeptAt what at → length h ≡ 101 →
+    constants-shared : (what : Stored) (at b f : ℕ) → KeptAt what at → length h ≡ sharedLength →
         setBuffer h at (buffer b f 1) ≡ sharedCells (sharedAfter (command.Store what b f) (sharedOf h))
     constants-shared stored.Instructions at b f a z = absurd a
     constants-shared stored.Floats at b f a z = ap (λ (k : ℕ). setBuffer h k (buffer b f 1)) a ∙ floats-shared h z b f
@@ -320,10 +320,10 @@ module _ {l t h : List ℕ} {m : ℕ} (a : RoomFor m l × OwnAsked l t h) where
   pub room-for : (n : ℕ) → n ≤ m → RoomFor n l
   room-for n k = record { own-length = a .0 .own-length; room = omega (arith, a .0 .room, k) }
 
-  pub room-shared : (n : ℕ) → n ≤ m → RoomFor n l × (length h ≡ 101)
+  pub room-shared : (n : ℕ) → n ≤ m → RoomFor n l × (length h ≡ sharedLength)
   room-shared n k = (room-for n k, a .1 .sized .shared-length)
 
-  pub room-constants : (n at : ℕ) → n ≤ m → at < 98 → RoomFor n l × ((length h ≡ 101) × (at < 98))
+  pub room-constants : (n at : ℕ) → n ≤ m → at < 98 → RoomFor n l × ((length h ≡ sharedLength) × (at < 98))
   room-constants n at k j = (room-for n k, (a .1 .sized .shared-length, j))
 
   pub room-start : (n : ℕ) → n ≤ m → RoomFor n l × OwnAsked l t h
@@ -331,16 +331,15 @@ module _ {l t h : List ℕ} {m : ℕ} (a : RoomFor m l × OwnAsked l t h) where
 
 pub own-asked : {l t h : List ℕ} → Ready l t h → RoomFor 5 l × OwnAsked l t h
 unfolding partyOf
-own-asked y =
-    (
-      record { own-length = y .given .sized .own-length; room = y .room },
-      record {
-        sized = y .given .sized;
-        domain = y .given .valid .domain;
-        runs = omega (arith, y .given .valid .tally, y .given .valid .full);
-        claims = omega (arith, y .given .valid .tally, y .given .valid .full);
-      }
-    )
+own-asked y = (
+  record { own-length = y .given .sized .own-length; room = y .room },
+  record {
+    sized = y .given .sized;
+    domain = y .given .valid .domain;
+    runs = omega (arith, y .given .valid .tally, y .given .valid .full);
+    claims = omega (arith, y .given .valid .tally, y .given .valid .full);
+  },
+)
 
 quiet-command : (what : NoEffect) (p0 p1 p2 p3 : ℕ) → commandOf (noEffectLine what) p0 p1 p2 p3 ≡ command.Quiet what
 unfolding commandOf noEffectLine

@@ -16,11 +16,11 @@ use Rattle.state.specs.State.{Session}
 use Rattle.start.specs.Rules.{startRuleOf}
 use Rattle.accept.specs.Standing.{Idle, standing}
 use Rattle.state.specs.Asked.{Given, Held}
-use Rattle.state.specs.Cells.{Sized, partyOf, sessionOf}
+use Rattle.state.specs.Cells.{Sized, partyOf, sessionOf, ownLength}
 
 -- own cells with room for so many words more
 pub record RoomFor (words : ℕ) (own : List ℕ) : Type 0 where
-  pub own-length : length own ≡ 17
+  pub own-length : length own ≡ ownLength
   pub room : partyOf own [] .taken + words ≤ limit
 
 -- a valid session that takes words, without an open command, with room for the words of any command

@@ -12,6 +12,7 @@ ghost use mathlib.Core.Path.{_≡_};
 ghost use mathlib.Core.List.{List, [], _∷_};
 ghost use Prim.Native.Nat.{ℕ, _<_};
 ghost use lib.ListN.{length, drop};
+ghost use Rattle.state.specs.Cells.{sharedLength};
 ghost use Rattle.command.specs.Table.{headerOf};
 ghost use Rattle.command.specs.Commands.{noEffectLine, storedLine};
 ghost use Rattle.command.specs.declared.commands.NoEffect.{NoEffect};
@@ -100,7 +101,7 @@ fn take_constants(
     base: u32,
     format: u32,
 ) -> u32
-    requires { ⌜ RoomFor words (now own) × ((length (now shared) ≡ 101) × (at < 98)) ⌝ }
+    requires { ⌜ RoomFor words (now own) × ((length (now shared) ≡ sharedLength) × (at < 98)) ⌝ }
     ensures { λ r. ⌜ ((what : Stored) → KeptAt what at → SharedTried (Command.Store what base format) (headerOf (storedLine what) ∷ base ∷ format ∷ []) words r (now (own .entry)) (now (shared .entry)) (now (own .exit)) (now (shared .exit))) ⌝ }
 {
     if fits::window(base, format, 1) {
@@ -121,7 +122,7 @@ fn take_input(
     format: u32,
     height: u32,
 ) -> u32
-    requires { ⌜ RoomFor words (now own) × (length (now shared) ≡ 101) ⌝ }
+    requires { ⌜ RoomFor words (now own) × (length (now shared) ≡ sharedLength) ⌝ }
     ensures { λ r. ⌜ SharedTried (Command.Input number base format height) (headerOf 4 ∷ number ∷ base ∷ format ∷ height ∷ []) words r (now (own .entry)) (now (shared .entry)) (now (own .exit)) (now (shared .exit)) ⌝ }
 {
     if fits::input(number, base, format, height) {
@@ -148,7 +149,7 @@ fn take_output(
     format: u32,
     height: u32,
 ) -> u32
-    requires { ⌜ RoomFor words (now own) × (length (now shared) ≡ 101) ⌝ }
+    requires { ⌜ RoomFor words (now own) × (length (now shared) ≡ sharedLength) ⌝ }
     ensures { λ r. ⌜ SharedTried (Command.Output number base format height) (headerOf 5 ∷ number ∷ base ∷ format ∷ height ∷ []) words r (now (own .entry)) (now (shared .entry)) (now (own .exit)) (now (shared .exit)) ⌝ }
 {
     if fits::output(number, base, format, height) {
@@ -174,7 +175,7 @@ fn take_conditional(
     format: u32,
     height: u32,
 ) -> u32
-    requires { ⌜ RoomFor words (now own) × (length (now shared) ≡ 101) ⌝ }
+    requires { ⌜ RoomFor words (now own) × (length (now shared) ≡ sharedLength) ⌝ }
     ensures { λ r. ⌜ SharedTried (Command.Conditional base format height) (headerOf 6 ∷ base ∷ format ∷ height ∷ []) words r (now (own .entry)) (now (shared .entry)) (now (own .exit)) (now (shared .exit)) ⌝ }
 {
     if fits::window(base, format, height) {
@@ -192,7 +193,7 @@ fn take_mask(
     words: u32,
     mask: u32,
 ) -> u32
-    requires { ⌜ RoomFor words (now own) × (length (now shared) ≡ 101) ⌝ }
+    requires { ⌜ RoomFor words (now own) × (length (now shared) ≡ sharedLength) ⌝ }
     ensures { λ r. ⌜ SharedTried (Command.OutputMask mask) (headerOf 18 ∷ mask ∷ []) words r (now (own .entry)) (now (shared .entry)) (now (own .exit)) (now (shared .exit)) ⌝ }
 {
     if mask < 65536 {
@@ -210,7 +211,7 @@ fn take_conditional_mask(
     words: u32,
     mask: u32,
 ) -> u32
-    requires { ⌜ RoomFor words (now own) × (length (now shared) ≡ 101) ⌝ }
+    requires { ⌜ RoomFor words (now own) × (length (now shared) ≡ sharedLength) ⌝ }
     ensures { λ r. ⌜ SharedTried (Command.ConditionalMask mask) (headerOf 19 ∷ mask ∷ []) words r (now (own .entry)) (now (shared .entry)) (now (own .exit)) (now (shared .exit)) ⌝ }
 {
     if mask < 2 {
@@ -229,7 +230,7 @@ fn take_test(
     words: u32,
     test: u32,
 ) -> u32
-    requires { ⌜ RoomFor words (now own) × (length (now shared) ≡ 101) ⌝ }
+    requires { ⌜ RoomFor words (now own) × (length (now shared) ≡ sharedLength) ⌝ }
     ensures { λ r. ⌜ SharedTried (Command.Test test) (headerOf 20 ∷ test ∷ []) words r (now (own .entry)) (now (shared .entry)) (now (own .exit)) (now (shared .exit)) ⌝ }
 {
     if test < 8 {

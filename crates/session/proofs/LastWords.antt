@@ -29,7 +29,7 @@ use Rattle.state.specs.State.{Buffer, Domain, Open, Session, none}
 use Rattle.state.specs.Start.{readyOf, readinessOf}
 use Rattle.state.specs.Effects.{limit, opening, stop, after}
 use Rattle.state.specs.Asked.{Held, OwnAsked}
-use Rattle.state.specs.Cells.{partyOf, partyCells, tallyCells, sharedOf, sessionOf}
+use Rattle.state.specs.Cells.{partyOf, partyCells, tallyCells, sharedOf, sessionOf, ownLength}
 use Rattle.state.specs.Valid.{parametersOf}
 use Rattle.start.proofs.Readiness.{number-given, number-refused, readiness-number}
 use Rattle.accept.specs.Whole.{RoomFor, Denied, byWords, byFields, bySettings, Tried, untaken, accepted, LineTried, lastWord}
@@ -209,7 +209,7 @@ module _ (l t s : List ℕ) (a : CompleteAsked l t s) where
   left-closed : after c ss ≡ standing (after c ss) (partyOf l t .taken + 1) none
   left-closed = after-standing c ss (partyOf l t .taken) (partyOf l t .opened)
 
-  held-length : (l1 t1 s1 : List ℕ) → Held left l1 t1 s1 → length l1 ≡ 17
+  held-length : (l1 t1 s1 : List ℕ) → Held left l1 t1 s1 → length l1 ≡ ownLength
   unfolding partyCells
   held-length l1 t1 s1 h = ap length (h .own-cells)
 
@@ -232,12 +232,12 @@ module _ (l t s : List ℕ) (a : CompleteAsked l t s) where
       whole-accepted l t s a [] (then-given (startRuleOf c ss) (readable c judged .rules-kept) ∙ rule) d e l2 t3 s3
       (closed l3 t3 s3 held l2 f)
 
-  length-of : (ws : List ℕ) (m : ℕ) (l1 t1 s1 : List ℕ) → Tried c ws 1 l t s m l1 t1 s1 → length l1 ≡ 17
+  length-of : (ws : List ℕ) (m : ℕ) (l1 t1 s1 : List ℕ) → Tried c ws 1 l t s m l1 t1 s1 → length l1 ≡ ownLength
   length-of ws m l1 t1 s1 (untaken w) = a .asked .sized .own-length
   length-of ws m l1 t1 s1 (accepted rest l2 t2 s2 begins judged rule held) = held-length l2 t2 s2 held
 
   module _ (m : ℕ) (l1 t1 s1 : List ℕ) (tried : Last m l1 t1 s1) where
-    pub last-length : length l1 ≡ 17
+    pub last-length : length l1 ≡ ownLength
     last-length = length-of _ m l1 t1 s1 (tried [])
 
     pub last-done : 0 < m → (d : Command) → d ≡ whole o → (l2 : List ℕ) → l2 ≡ partyCells (opening none (partyOf l1 [])) →

@@ -23,7 +23,7 @@ use Rattle.session.specs.Step.{Reply, stillOpen, completed, refused, Ste
 use Rattle.state.specs.Valid.{parametersOf, OpenValid, Valid}
 use Rattle.state.specs.Asked.{Held, OwnAsked, Given}
 use Rattle.session.specs.Asked.{Left, CompleteAsked, ParameterAsked}
-use Rattle.state.specs.Cells.{Sized, partyOf, partyCells, tallyCells, sharedOf, sharedCells, sessionOf}
+use Rattle.state.specs.Cells.{Sized, partyOf, partyCells, tallyCells, sharedOf, sharedCells, sessionOf, ownLength}
 use Rattle.state.proofs.Cells.{own-canon, tally-canon, shared-canon}
 use Rattle.session.proofs.Kept.{allowed-more}
 use Rattle.session.proofs.Ways.{whole}
@@ -115,7 +115,7 @@ module _ (l t s : List ℕ) (w : ℕ) (a : ParameterAsked l t s w) where
   count-lt : partyOf l t .opened .count < 4
   count-lt = omega (arith, open-valid .fewer, count-most (partyOf l t .opened .line) (a .line))
 
-  pub place-asked : (length l ≡ 17) × ((getD l 3 0 < 4) × (partyOf l [] .opened .count ≡ getD l 3 0))
+  pub place-asked : (length l ≡ ownLength) × ((getD l 3 0 < 4) × (partyOf l [] .opened .count ≡ getD l 3 0))
   unfolding partyOf
   place-asked = (a .given .sized .own-length, (count-lt, refl))
 
@@ -124,7 +124,7 @@ module _ (l t s : List ℕ) (w : ℕ) (a : ParameterAsked l t s w) where
   count-fits = omega (arith, count-lt)
 
   module _ (l1 : List ℕ) (e1 : l1 ≡ partyCells (opening next (partyOf l []))) where
-    pub placed-asked : (length l1 ≡ 17) × (partyOf l1 [] .taken < limit)
+    pub placed-asked : (length l1 ≡ ownLength) × (partyOf l1 [] .taken < limit)
     unfolding partyOf partyCells
     placed-asked = rw e1 (refl, a .taken)
 

@@ -12,7 +12,7 @@ use Rattle.state.specs.Effects.{limit}
 use Rattle.session.specs.Step.{Reply, Stepped}
 use Rattle.state.specs.Valid.{parametersOf}
 use Rattle.state.specs.Start.{readinessOf}
-use Rattle.state.specs.Cells.{partyOf, sharedOf}
+use Rattle.state.specs.Cells.{partyOf, sharedOf, ownLength, sharedLength}
 use Rattle.state.specs.Asked.{Held, Given, OwnAsked}
 
 -- a step's reply, and cells that hold the session after it
@@ -32,8 +32,8 @@ readinessIn own shared =
 
 -- the line of a command that isn't accepted: where it is a start, the settings refuse it
 pub record RefusalAsked (own shared : List ℕ) (line : ℕ) : Type 0 where
-  pub own-length : length own ≡ 17
-  pub shared-length : length shared ≡ 101
+  pub own-length : length own ≡ ownLength
+  pub shared-length : length shared ≡ sharedLength
   pub unready : line ≡ 1 → readinessIn own shared ≡ 0 → ⊥
 
 -- an open command with all its parameters, in a session that takes words

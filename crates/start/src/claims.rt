@@ -9,7 +9,7 @@ ghost use lib.ListN.{length};
 ghost use Rattle.laws.specs.Choice.{pick};
 ghost use Rattle.command.specs.declared.commands.Command.{Command};
 ghost use Rattle.state.specs.Asked.{OwnAsked};
-ghost use Rattle.state.specs.Cells.{bufferAt, partyOf, sharedOf, tallyCells};
+ghost use Rattle.state.specs.Cells.{bufferAt, partyOf, sharedOf, tallyCells, ownLength, sharedLength};
 ghost use Rattle.state.specs.Effects.{ownAfter};
 ghost use Rattle.state.specs.Start.{claimOf, counts, sumBelow};
 ghost use Rattle.state.specs.Valid.{DomainValid};
@@ -27,7 +27,7 @@ fn pairs(i0: u32, j0: u32, i1: u32, j1: u32) -> u64
 
 // 1 for an output that counts, its cells from a place on.
 fn one_at(bits: u32, shared: &[u32; state::SHARED_CELLS], at: usize) -> u64
-    requires { ⌜ (length (now shared) ≡ 101) × (at < 98) ⌝ }
+    requires { ⌜ (length (now shared) ≡ sharedLength) × (at < 98) ⌝ }
     ensures { λ r. ⌜ (r ≡ pick (countsBy bits (bufferAt (now (shared .entry)) at .isSet) (bufferAt (now (shared .entry)) at .format)) 1 0) × (r ≤ 1) ⌝ }
 {
     if ready::is_counted(bits, shared[at], shared[at + 2]) {
@@ -39,7 +39,7 @@ fn one_at(bits: u32, shared: &[u32; state::SHARED_CELLS], at: usize) -> u64
 
 // The number of outputs that count.
 fn counted_outputs(shared: &[u32; state::SHARED_CELLS]) -> u64
-    requires { ⌜ length (now shared) ≡ 101 ⌝ }
+    requires { ⌜ length (now shared) ≡ sharedLength ⌝ }
     ensures { λ r. ⌜ (r ≡ sumBelow 4 (λ n. pick (counts (sharedOf (now (shared .entry)) .mask) (sharedOf (now (shared .entry)) .outputs) n) 1 0)) × (r ≤ 4) ⌝ }
 {
     let mask = shared[settings::MASK];
@@ -51,7 +51,7 @@ fn counted_outputs(shared: &[u32; state::SHARED_CELLS]) -> u64
 
 // The elements that a start claims: the domain's pairs, for each output that counts.
 fn claim(own: &[u32; state::OWN_CELLS], shared: &[u32; state::SHARED_CELLS]) -> u64
-    requires { ⌜ ((length (now own) ≡ 17) × (length (now shared) ≡ 101)) × DomainValid (partyOf (now own) [] .domain) ⌝ }
+    requires { ⌜ ((length (now own) ≡ ownLength) × (length (now shared) ≡ sharedLength)) × DomainValid (partyOf (now own) [] .domain) ⌝ }
     ensures { λ r. ⌜ (r ≡ claimOf (partyOf (now (own .entry)) [] .domain) (sharedOf (now (shared .entry)) .mask) (sharedOf (now (shared .entry)) .outputs)) × (r ≤ 67108864) ⌝ }
 {
     pairs(

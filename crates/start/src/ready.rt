@@ -10,7 +10,7 @@ ghost use Prim.Native.Nat.{_%_, _^_, _<_};
 ghost use lib.ListN.{length};
 ghost use Rattle.laws.specs.Choice.{_and_, pick};
 ghost use Rattle.command.specs.Format.{channelsOf, windowOf};
-ghost use Rattle.state.specs.Cells.{bufferAt, partyOf, sharedOf};
+ghost use Rattle.state.specs.Cells.{bufferAt, partyOf, sharedOf, ownLength, sharedLength};
 ghost use Rattle.state.specs.Start.{readinessOf, unmasked};
 ghost use Rattle.start.specs.Windows.{cellsBuffer, countsBy, eachApart, eachHolds, holdsPair, keepsApart, outputOf, firstOf, someSet, spansApart, windowSeen};
 
@@ -112,7 +112,7 @@ fn output_of(bits: u32, flag: u32, base: u32, format: u32, height: u32) -> Outpu
 
 // The output whose cells begin at a place.
 pub fn output_at(bits: u32, shared: &[u32; state::SHARED_CELLS], at: usize) -> Output
-    requires { ⌜ (length (now shared) ≡ 101) × (at < 98) ⌝ }
+    requires { ⌜ (length (now shared) ≡ sharedLength) × (at < 98) ⌝ }
     ensures { λ r. ⌜ r ≡ outputOf bits (bufferAt (now (shared .entry)) at) ⌝ }
 {
     output_of(
@@ -211,7 +211,7 @@ fn first_of(complete: bool, covered: bool, disjoint: bool) -> u32
 
 // Which of 7, 8 and 9 the settings alone give a start, 0 where they let it pass.
 pub fn readiness(own: &[u32; state::OWN_CELLS], shared: &[u32; state::SHARED_CELLS]) -> u32
-    requires { ⌜ (length (now own) ≡ 17) × (length (now shared) ≡ 101) ⌝ }
+    requires { ⌜ (length (now own) ≡ ownLength) × (length (now shared) ≡ sharedLength) ⌝ }
     ensures { λ r. ⌜ r ≡ readinessOf (partyOf (now (own .entry)) [] .domain) (partyOf (now (own .entry)) [] .instructions) (sharedOf (now (shared .entry)) .mask) (sharedOf (now (shared .entry)) .outputs) ⌝ }
 {
     let mask = shared[settings::MASK];

@@ -14,10 +14,10 @@ use Rattle.state.specs.State.{Buffer, Party, Shared, newShared}
 use Rattle.state.specs.Start.{claimOf}
 use Rattle.state.specs.Effects.{domainFrom, buffer, withDomain, withInstructions, ownAfter}
 use Rattle.state.specs.Asked.{HeldOwn}
-use Rattle.state.specs.Cells.{partyOf, partyCells, tallyCells, sharedOf}
+use Rattle.state.specs.Cells.{partyOf, partyCells, tallyCells, sharedOf, ownLength}
 use Rattle.state.proofs.Cells.{own-canon, tally-canon}
 
-module _ (l : List ℕ) (h : length l ≡ 17) where
+module _ (l : List ℕ) (h : length l ≡ ownLength) where
   abbrev pub stored-cells : Stored → ℕ → ℕ → List ℕ
   stored-cells what b f = partyCells (ownAfter (command.Store what b f) newShared (partyOf l []))
 

@@ -10,10 +10,10 @@ use Rattle.command.specs.declared.commands.Command.{Command}
 use Rattle.command.specs.declared.commands.Command.the-variants as command
 use Rattle.state.specs.State.{Buffer, Shared}
 use Rattle.state.specs.Effects.{buffer, sharedAfter}
-use Rattle.state.specs.Cells.{setBuffer, sharedOf, sharedCells}
+use Rattle.state.specs.Cells.{setBuffer, sharedOf, sharedCells, sharedLength}
 use Rattle.state.proofs.Cells.{shared-canon}
 
-module _ (l : List ℕ) (h : length l ≡ 101) where
+module _ (l : List ℕ) (h : length l ≡ sharedLength) where
   -- the shared cells after a command
   abbrev pub cellsAfter : Command → List ℕ
   cellsAfter c = sharedCells (sharedAfter c (sharedOf l))

@@ -3,7 +3,7 @@ ghost use mathlib.Core.Path.{_≡_};
 ghost use Prim.Native.Nat.{_<_};
 ghost use lib.ListN.{length};
 ghost use Rattle.state.specs.Effects.{buffer};
-ghost use Rattle.state.specs.Cells.{setBuffer};
+ghost use Rattle.state.specs.Cells.{setBuffer, sharedLength};
 
 // Places of the cells. A buffer takes four: whether it is set, base, format and height.
 pub const MASK: usize = 0;
@@ -38,7 +38,7 @@ pub const INPUTS: usize = 37;
 
 // Stores a buffer from a place on.
 pub fn put(shared: &mut [u32; crate::SHARED_CELLS], at: usize, base: u32, format: u32, height: u32)
-    requires { ⌜ (length (now shared) ≡ 101) × (at < 98) ⌝ }
+    requires { ⌜ (length (now shared) ≡ sharedLength) × (at < 98) ⌝ }
     ensures { λ _. ⌜ now (shared .exit) ≡ setBuffer (now (shared .entry)) at (buffer base format height) ⌝ }
 {
     shared[at] = 1;

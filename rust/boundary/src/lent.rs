@@ -23,7 +23,7 @@ use crate::session::Session;
 
 /// Arrays that no begin has filled yet.
 const UNFILLED: Session = Session {
-    own: [0; 17],
+    own: [0; 33],
     tallies: [0; 2],
     shared: [0; 101],
 };
@@ -113,7 +113,7 @@ pub fn session_masks(session: &Session, masks: &mut [u32; 5]) -> u32 {
 type Arrays<'a> = (
     &'a mut [u32; 10],
     &'a mut [u64; 800],
-    &'a mut [u32; 17],
+    &'a mut [u32; 33],
     &'a mut [u64; 2],
     &'a mut [u32; 101],
 );

@@ -4,13 +4,13 @@
 
 extern "C" {
     pub fn egretfold_session_begin(
-        own: &mut [u32; 17],
+        own: &mut [u32; 33],
         tallies: &mut [u64; 2],
         shared: &mut [u32; 101],
     ) -> u32;
 
     pub fn egretfold_session_word(
-        own: &mut [u32; 17],
+        own: &mut [u32; 33],
         tallies: &mut [u64; 2],
         shared: &mut [u32; 101],
         word: u32,
@@ -18,7 +18,7 @@ extern "C" {
     ) -> u32;
 
     pub fn egretfold_session_feed(
-        own: &mut [u32; 17],
+        own: &mut [u32; 33],
         tallies: &mut [u64; 2],
         shared: &mut [u32; 101],
         words: *const u32,
@@ -26,14 +26,14 @@ extern "C" {
         fed: &mut [u64; 2],
     ) -> u32;
 
-    pub fn egretfold_session_status(own: &[u32; 17], status: &mut [u32; 4]) -> u32;
+    pub fn egretfold_session_status(own: &[u32; 33], status: &mut [u32; 4]) -> u32;
 
     pub fn egretfold_session_tallies(tallies: &[u64; 2], counts: &mut [u64; 2]) -> u32;
 
-    pub fn egretfold_session_domain(own: &[u32; 17], domain: &mut [u32; 5]) -> u32;
+    pub fn egretfold_session_domain(own: &[u32; 33], domain: &mut [u32; 5]) -> u32;
 
     pub fn egretfold_session_format(
-        own: &[u32; 17],
+        own: &[u32; 33],
         shared: &[u32; 101],
         header: u32,
         number: u32,
@@ -45,7 +45,7 @@ extern "C" {
     pub fn egretfold_log_begin(
         log: &mut [u32; 10],
         marks: &mut [u64; 800],
-        own: &mut [u32; 17],
+        own: &mut [u32; 33],
         tallies: &mut [u64; 2],
         shared: &mut [u32; 101],
     ) -> u32;
@@ -53,7 +53,7 @@ extern "C" {
     pub fn egretfold_log_feed(
         log: &mut [u32; 10],
         marks: &mut [u64; 800],
-        own: &mut [u32; 17],
+        own: &mut [u32; 33],
         tallies: &mut [u64; 2],
         shared: &mut [u32; 101],
         bytes: *const u8,
@@ -64,7 +64,7 @@ extern "C" {
     pub fn egretfold_log_byte(
         log: &mut [u32; 10],
         marks: &mut [u64; 800],
-        own: &mut [u32; 17],
+        own: &mut [u32; 33],
         tallies: &mut [u64; 2],
         shared: &mut [u32; 101],
         byte: u8,

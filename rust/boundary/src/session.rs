@@ -7,7 +7,7 @@ use crate::{answer, lent, Answer, Command};
 /// library gave out. It may be cloned and both copies used.
 #[derive(Clone, Debug, PartialEq, Eq)]
 pub struct Session {
-    pub(crate) own: [u32; 17],
+    pub(crate) own: [u32; 33],
     pub(crate) tallies: [u64; 2],
     pub(crate) shared: [u32; 101],
 }
