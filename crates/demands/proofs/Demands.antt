@@ -12,7 +12,7 @@ use Rattle.laws.specs.Masks.{_or_, differ, digit, on, pack}
 use Rattle.layout.specs.Sizes.{isSize, widthOf, heightOf}
 use Rattle.layout.specs.Layout.{wellFormed, unitOf, rowStep, tileRows, spanOf, inBounds, windowRule, judgeOf}
 use Rattle.layout.specs.declared.Layout.{Layout}
-use Rattle.address.specs.Offset.{cellWidth, cellHeight, codeOf, insideOf, tiledOffset, linearOffset, offsetOf}
+use Rattle.address.specs.Offset.{blockWidth, blockHeight, codeOf, insideOf, tiledOffset, linearOffset, offsetOf}
 use Rattle.address.specs.Address.{ifAccepted, inside, addressOf, translateOf}
 use Rattle.address.specs.Inverse.{Accepted, Inverse}
 use Rattle.address.proofs.Inverse.{inverse}
@@ -57,8 +57,8 @@ use Rattle.score.proofs.Lines.{bounds}
 use Rattle.score.proofs.Midnights.{midnight-records}
 use Rattle.score.proofs.Promises.{line-first, dark-day, refused-with, scored-as, log-refused, log-scored, in-pieces}
 use Rattle.score.proofs.Verdicts.{full-if, full-only-if, calling}
-use Rattle.group.specs.Proc.{wants, decided, worked}
-use Rattle.group.specs.Group.{allowed, fresh, turnedIf, wishOf, overLimit, wayOf, settled, slotStep, ended, stepOf as flowStep}
+use Rattle.group.specs.Proc.{wants, decided, branched}
+use Rattle.group.specs.Group.{allowed, fresh, turnedIf, wishOf, overLimit, wayOf, settled, slotStep, ended, groupStep}
 use Rattle.flow.specs.Cases.{oneWord, c9, c10, c11, c12}
 use Rattle.demands.specs.Cases.{Agree, cases}
 
@@ -184,8 +184,8 @@ full-mask = as-before
 -- The worked cases C1 to C12 of document 01, all together.
 pub worked-cases : Agree cases
 unfolding
-    _and_ pick placeOf isSize widthOf heightOf wellFormed unitOf rowStep tileRows spanOf inBounds windowRule judgeOf xor cellWidth
-    cellHeight codeOf insideOf tiledOffset linearOffset offsetOf ifAccepted inside addressOf translateOf _or_ differ digit on pack
-    some every wants decided worked allowed fresh turnedIf wishOf overLimit wayOf settled slotStep ended flowStep oneWord c9 c10 c11 c12
+    _and_ pick placeOf isSize widthOf heightOf wellFormed unitOf rowStep tileRows spanOf inBounds windowRule judgeOf xor blockWidth
+    blockHeight codeOf insideOf tiledOffset linearOffset offsetOf ifAccepted inside addressOf translateOf _or_ differ digit on pack
+    some every wants decided branched allowed fresh turnedIf wishOf overLimit wayOf settled slotStep ended groupStep oneWord c9 c10 c11 c12
 worked-cases =
     (refl, (refl, (refl, (refl, (refl, (refl, (refl, (refl, (refl, (refl, (refl, (refl, (refl, (refl, (refl, tt)))))))))))))))
