@@ -1,6 +1,7 @@
 pub mod Cut
 pub mod Days
 pub mod Feeding
+pub mod Handed
 pub mod Kept
 pub mod Records
 pub mod Singles
