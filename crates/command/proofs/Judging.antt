@@ -91,10 +91,12 @@ module _ (l p0 p1 p2 p3 : ℕ) (second : Told) (asked1 : second ≡ checkOf (kin
 pub record Spread (c : Command) : Type 0 where
   pub three :
       fieldsSpare 3 c ≡
-      (spares 3 (kindOf (lineOf c) 0) (placesOf c .0) and spares 3 (kindOf (lineOf c) 1) (placesOf c .1) and spares 3 (kindOf (lineOf c) 2) (placesOf c .2) and spares 3 (kindOf (lineOf c) 3) (placesOf c .3) and true)
+      (spares 3 (kindOf (lineOf c) 0) (placesOf c .0) and spares 3 (kindOf (lineOf c) 1) (placesOf c .1)
+      and spares 3 (kindOf (lineOf c) 2) (placesOf c .2) and spares 3 (kindOf (lineOf c) 3) (placesOf c .3) and true)
   pub four :
       fieldsSpare 4 c ≡
-      (spares 4 (kindOf (lineOf c) 0) (placesOf c .0) and spares 4 (kindOf (lineOf c) 1) (placesOf c .1) and spares 4 (kindOf (lineOf c) 2) (placesOf c .2) and spares 4 (kindOf (lineOf c) 3) (placesOf c .3) and true)
+      (spares 4 (kindOf (lineOf c) 0) (placesOf c .0) and spares 4 (kindOf (lineOf c) 1) (placesOf c .1)
+      and spares 4 (kindOf (lineOf c) 2) (placesOf c .2) and spares 4 (kindOf (lineOf c) 3) (placesOf c .3) and true)
 
 spread : (c : Command) → Spread c
 unfolding fieldsSpare allSpare spares kindOf lineOf placesOf fieldsOf noEffectLine storedLine faultOf allowed pick _and_
@@ -199,7 +201,8 @@ places-judged c =
     let l = lineOf c in
     let t = later-three l (lined c .line-most) in
     rw (spread c .three, spread c .four)
-    (ordered (kindOf l 0) (kindOf l 1) (kindOf l 2) (kindOf l 3) (placesOf c .0) (placesOf c .1) (placesOf c .2) (placesOf c .3) (lastRuleOf c) (fault (kindOf l 0)) (eqb-true _ _ (and-left _ _ t)) (eqb-true _ _ (and-left _ _ (and-right _ _ t)))
+    (ordered (kindOf l 0) (kindOf l 1) (kindOf l 2) (kindOf l 3) (placesOf c .0) (placesOf c .1) (placesOf c .2) (placesOf c .3)
+    (lastRuleOf c) (fault (kindOf l 0)) (eqb-true _ _ (and-left _ _ t)) (eqb-true _ _ (and-left _ _ (and-right _ _ t)))
     (eqb-true _ _ (and-right _ _ (and-right _ _ t))))
 
 -- the same from the line and the places as the code has them
