@@ -24,7 +24,7 @@ pub extern "C" fn egretfold_log_begin(
 ) -> u32
     ensures { λ r. ⌜ LogBegins r (now (log .exit)) (now (marks .exit)) (now (own .exit)) (now (tallies .exit)) (now (shared .exit)) ⌝ }
 {
-    replay::begin(log, marks, own, tallies, shared);
+    stream::begin(log, marks, own, tallies, shared);
     0
 }
 
@@ -41,11 +41,11 @@ pub extern "C" fn egretfold_log_byte(
     requires { ⌜ LogGiven (now log) (now marks) (now own) (now tallies) (now shared) ⌝ }
     ensures { λ r. ⌜ ByteCrosses (replayOf (replayIn (now (log .entry)) (now (marks .entry)) (now (own .entry)) (now (tallies .entry)) (now (shared .entry))) (byte ∷ [])) r (now (log .exit)) (now (marks .exit)) (now (own .exit)) (now (tallies .exit)) (now (shared .exit)) ⌝ }
 {
-    let byte = replay::wide(byte);
-    if replay::grows(log, byte) {
+    let byte = stream::wide(byte);
+    if stream::grows(log, byte) {
         return 0;
     }
-    let answer = replay::byte(log, marks, own, tallies, shared, byte);
+    let answer = stream::byte(log, marks, own, tallies, shared, byte);
     match answer {
         Answer::Taken => 0,
         Answer::Refused(why) => refusal::number(why),
@@ -66,7 +66,7 @@ pub extern "C" fn egretfold_log_feed(
     requires { ⌜ LogGiven (now log) (now marks) (now own) (now tallies) (now shared) ⌝ }
     ensures { λ r. ⌜ LogCrosses (replayOf (replayIn (now (log .entry)) (now (marks .entry)) (now (own .entry)) (now (tallies .entry)) (now (shared .entry))) (now (bytes .entry))) r (now (log .exit)) (now (marks .exit)) (now (own .exit)) (now (tallies .exit)) (now (shared .exit)) (now (taken .exit)) ⌝ }
 {
-    let piece = replay::feed(log, marks, own, tallies, shared, bytes);
+    let piece = stream::feed(log, marks, own, tallies, shared, bytes);
     *taken = [piece.taken.0];
     let refusal = piece.refusal;
     match refusal {
