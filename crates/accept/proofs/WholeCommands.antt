@@ -10,8 +10,9 @@ use lib.Dec.{eqb}
 use lib.ListN.{length, getD, drop, set}
 use lib.Seq.{drop-cons}
 use borrow.Author.Tests.{eqb-true}
+use Rattle.laws.specs.Below.{every}
 use Rattle.laws.specs.Choice.{_and_, pick, placeOf}
-use Rattle.laws.proofs.Table.{NoneOf, everyBelow, namedOr, otherwise}
+use Rattle.laws.proofs.Table.{NoneOf, namedOr, otherwise}
 use Rattle.refusal.specs.Told.{Told, gives}
 use Rattle.command.specs.Table.{headerOf, lineWith}
 use Rattle.command.specs.Commands.{noEffectLine, storedLine, lineOf, fieldsOf, wordsOf, commandOf}
@@ -337,7 +338,7 @@ isQuiet line = eqb line (noEffectLine (quietAt line))
 
 pub quiet-line : (line : ℕ) → line < 21 → NoneOf Unit (0 ∷ 1 ∷ 3 ∷ 4 ∷ 5 ∷ 6 ∷ 7 ∷ 8 ∷ 9 ∷ 18 ∷ 19 ∷ 20 ∷ []) line →
     line ≡ noEffectLine (quietAt line)
-unfolding isQuiet quietAt noEffectLine everyBelow namedOr placeOf pick _and_
+unfolding isQuiet quietAt noEffectLine every namedOr placeOf pick _and_
 quiet-line line h r =
     eqb-true line (noEffectLine (quietAt line))
     (otherwise isQuiet (0 ∷ 1 ∷ 3 ∷ 4 ∷ 5 ∷ 6 ∷ 7 ∷ 8 ∷ 9 ∷ 18 ∷ 19 ∷ 20 ∷ []) 21 refl line h r)

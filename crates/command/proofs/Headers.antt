@@ -8,9 +8,11 @@ use native.Mathlib.Omega.{arith}
 use lib.Dec.{eqb, leb, ltb}
 use lib.ListN.{List·getD-eq-default}
 use borrow.Author.Tests.{eqb-true, leb-true, ltb-true, lt-ltb, le-ltb}
+use Rattle.laws.specs.Below.{every}
 use Rattle.laws.specs.Choice.{_and_, pick, placeOf}
+use Rattle.laws.proofs.Below.{every-at}
 use Rattle.laws.proofs.Choice.{Tested, holds, fails, tested, pick-yes, pick-no, place-found, and-left, and-right}
-use Rattle.laws.proofs.Table.{everyBelow, every, NoneOf, namedOr, otherwise}
+use Rattle.laws.proofs.Table.{NoneOf, namedOr, otherwise}
 use Rattle.refusal.specs.Told.{gives, refuses}
 use Rattle.command.specs.Table.{headers, counts, headerOf, countOf, lineWith}
 
@@ -20,8 +22,8 @@ headerRight : ℕ → Bool
 headerRight l = eqb (headerOf l) (3 * 2 ^ 30 + (countOf l - 1) * 2 ^ 16 + (l + 7) * 2 ^ 8) and eqb (placeOf (headerOf l) headers) l and leb 1 (countOf l) and leb (countOf l) 4
 
 all-right : (l : ℕ) → l < 21 → headerRight l ≡ true
-unfolding headerRight headerOf countOf placeOf pick everyBelow _and_
-all-right = every headerRight 21 refl
+unfolding headerRight headerOf countOf placeOf pick every _and_
+all-right = every-at 21 headerRight refl
 
 -- "A header is 3 in bits 31:30, parameters minus one in 29:16, operation in 15:8, zero in 7:0"
 pub header-rule : (l : ℕ) → l < 21 → headerOf l ≡ 3 * 2 ^ 30 + (countOf l - 1) * 2 ^ 16 + (l + 7) * 2 ^ 8
@@ -57,7 +59,7 @@ oneParameter : ℕ → Bool
 oneParameter l = eqb (countOf l) 1
 
 pub one-parameter : (l : ℕ) → l < 21 → NoneOf Unit (0 ∷ 3 ∷ 4 ∷ 5 ∷ 6 ∷ 7 ∷ 8 ∷ 9 ∷ []) l → countOf l ≡ 1
-unfolding oneParameter countOf everyBelow namedOr placeOf pick _and_
+unfolding oneParameter countOf every namedOr placeOf pick _and_
 one-parameter l h r = eqb-true (countOf l) 1 (otherwise oneParameter (0 ∷ 3 ∷ 4 ∷ 5 ∷ 6 ∷ 7 ∷ 8 ∷ 9 ∷ []) 21 refl l h r)
 
 -- a line of the table that is none of the lines before the last is the last
@@ -68,7 +70,7 @@ abbrev pub beforeLast : List ℕ
 beforeLast = 0 ∷ 1 ∷ 2 ∷ 3 ∷ 4 ∷ 5 ∷ 6 ∷ 7 ∷ 8 ∷ 9 ∷ 10 ∷ 11 ∷ 12 ∷ 13 ∷ 14 ∷ 15 ∷ 16 ∷ 17 ∷ 18 ∷ 19 ∷ []
 
 pub last-line : (l : ℕ) → l < 21 → NoneOf Unit beforeLast l → l ≡ 20
-unfolding isLast everyBelow namedOr placeOf pick _and_
+unfolding isLast every namedOr placeOf pick _and_
 last-line l h r = eqb-true l 20 (otherwise isLast beforeLast 21 refl l h r)
 
 module _ (w : ℕ) where

@@ -6,9 +6,10 @@ use mathlib.Core.List.{List, []}
 use Prim.Native.Nat.{ℕ, _<_}
 use lib.Dec.{eqb}
 use borrow.Author.Tests.{eqb-true}
+use Rattle.laws.specs.Below.{every}
 use Rattle.laws.specs.Choice.{_and_, pick}
+use Rattle.laws.proofs.Below.{every-at}
 use Rattle.laws.proofs.Choice.{and-left, and-right}
-use Rattle.laws.proofs.Table.{everyBelow, every}
 use Rattle.refusal.specs.Told.{Told, gives, refuses}
 use Rattle.command.specs.Kinds.{allowed, faultOf, checkOf, kindOf}
 use Rattle.command.specs.Commands.{noEffectLine, storedLine, lineOf, fieldsOf, placesOf}
@@ -125,8 +126,8 @@ laterThree : ℕ → Bool
 laterThree l = eqb (faultOf (kindOf l 1)) 3 and eqb (faultOf (kindOf l 2)) 3 and eqb (faultOf (kindOf l 3)) 3
 
 later-three : (l : ℕ) → l < 21 → laterThree l ≡ true
-unfolding laterThree faultOf kindOf everyBelow _and_
-later-three = every laterThree 21 refl
+unfolding laterThree faultOf kindOf every _and_
+later-three = every-at 21 laterThree refl
 
 -- a word's fault is 3 or 4
 pub data Fault (n : ℕ) : Type 0 where

@@ -7,7 +7,8 @@ use Prim.Native.Nat.{ℕ, _+_, _≤_}
 use lib.ListN.{length}
 use Rattle.laws.specs.Bits.{xor}
 use Rattle.laws.specs.Choice.{_and_, pick, placeOf}
-use Rattle.laws.specs.Masks.{_or_, differ, digit, on, pack, some, every}
+use Rattle.laws.specs.Below.{some, every, sum}
+use Rattle.laws.specs.Masks.{_or_, differ, digit, on, pack}
 use Rattle.layout.specs.Sizes.{isSize, widthOf, heightOf}
 use Rattle.layout.specs.Layout.{wellFormed, unitOf, rowStep, tileRows, spanOf, inBounds, windowRule, judgeOf}
 use Rattle.layout.specs.declared.Layout.{Layout}
@@ -33,7 +34,6 @@ use Rattle.session.proofs.WriteBack.{fed-back}
 use Rattle.session.proofs.ReadAgain.{read-again}
 use Rattle.session.proofs.Refusals.{refused-word}
 use Rattle.session.proofs.Tallies.{Tallied, tallied}
-use Rattle.state.specs.Start.{sumBelow}
 use Rattle.replay.specs.State.{Replay, newReplay}
 use Rattle.replay.specs.Step.{refused as byteRefused}
 use Rattle.log.specs.Bytes.{byteStep}
@@ -102,10 +102,10 @@ pub log-session : (r : Replay) (bs : List ℕ) → replayOf r bs .replay .sessio
 log-session = one-session
 
 -- Request 1: what ended before the first midnight and on each day adds up to the session's runs and claims.
-pub log-runs : (r : Replay) → LogValid r → sumBelow (r .midnights + 1) (λ k. partAt r k .runs) ≡ r .session .party .tally .runs
+pub log-runs : (r : Replay) → LogValid r → sum (r .midnights + 1) (λ k. partAt r k .runs) ≡ r .session .party .tally .runs
 log-runs = all-runs
 
-pub log-claims : (r : Replay) → LogValid r → sumBelow (r .midnights + 1) (λ k. partAt r k .claims) ≡ r .session .party .tally .claims
+pub log-claims : (r : Replay) → LogValid r → sum (r .midnights + 1) (λ k. partAt r k .claims) ≡ r .session .party .tally .claims
 log-claims = all-claims
 
 -- Request 5: a lease line that is refused gives 21, whatever the log: it comes before 18 and 19, and reads no log.

@@ -2,7 +2,8 @@
 -- Assumes nothing.
 use mathlib.Core.Path.{_≡_, refl}
 use Rattle.laws.specs.Choice.{pick, _and_}
-use Rattle.laws.specs.Masks.{_or_, differ, digit, on, pack, some, every}
+use Rattle.laws.specs.Below.{some, every}
+use Rattle.laws.specs.Masks.{_or_, differ, digit, on, pack}
 use Rattle.group.specs.Proc.{wants, decided, worked}
 use Rattle.group.specs.Group.{allowed, fresh, turnedIf, wishOf, overLimit, wayOf, settled, slotStep, ended, stepOf}
 use Rattle.flow.specs.Cases.{oneWord, c9, c10, c11, c12, stepsSeen, stepsWritten}

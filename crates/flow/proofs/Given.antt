@@ -7,8 +7,7 @@ use Prim.Native.Nat.{ℕ, _<_, _≤_}
 use lib.ListN.{getD}
 use borrow.Author.Tests.{le-leb}
 use Rattle.laws.specs.Masks.{on, pack}
-use Rattle.laws.proofs.Choice.{pick-yes, and-intro}
-use Rattle.laws.proofs.Split.{by-test}
+use Rattle.laws.proofs.Choice.{pick-yes, and-intro, by-pick}
 use Rattle.laws.proofs.Masks.{on-pack}
 use Rattle.flow.specs.declared.Begun.{Begun}
 use Rattle.stepper.specs.declared.Stepped.{Stepped}
@@ -47,7 +46,7 @@ unfolding runOf
 run-gives {l} program booleans masks m d =
     subst Made (sym (d .left))
     (run-made-left l (runOf 31 program booleans masks (groupOf l)) m
-    (by-test (SoundRun 31) (ended program (groupOf l)) (λ e. tt)
+    (by-pick (SoundRun 31) (ended program (groupOf l)) _ _ (λ e. tt)
     (λ e. steps-sound 31 program booleans masks (groupOf l) (m .sound))))
 
 -- of the cells: an active processor is in the group; a bit of a counter is an idle processor's, so that an active one's counter

@@ -9,10 +9,11 @@ use lib.Dec.{eqb, leb, ltb}
 use lib.ListN.{length, getD}
 use borrow.Author.Tests.{leb-true, leb-false, ltb-true, ltb-false, le-leb, le-ltb, eq-eqb, ne-eqb, eqb-true}
 use Rattle.laws.specs.Choice.{_and_, pick}
-use Rattle.laws.specs.Masks.{differ, digit, on, pack, some, every}
-use Rattle.laws.proofs.Choice.{Tested, holds, fails, tested, pick-no, and-left, and-right, and-intro, and-yes}
-use Rattle.laws.proofs.Split.{by-test, pick-same}
-use Rattle.laws.proofs.Masks.{on-pack, on-above, none-at, every-at}
+use Rattle.laws.specs.Below.{some, every}
+use Rattle.laws.specs.Masks.{differ, digit, on, pack}
+use Rattle.laws.proofs.Choice.{Tested, holds, fails, tested, pick-no, and-left, and-right, and-intro, and-yes, by-pick, pick-same}
+use Rattle.laws.proofs.Below.{none-at, every-at}
+use Rattle.laws.proofs.Masks.{on-pack, on-above}
 use Rattle.group.specs.Proc.{Proc, Active, Idle, Absent, isLive, isActive, counterBit, within, turned, lowered, raised, atLimit, worked}
 use Rattle.group.specs.Group.{Group, Outcome, Steps, Fails, Program, Way, Goes, Stuck, field, turnedIf, overLimit, popped, wayOf, arrived, settled, slotStep, ended, stepOf, allowed, fresh}
 use Rattle.group.specs.Cells.{liveMask, activeMask, plane, counterOf, procOf, procAt, stored, groupOf, cellsOf, aReturn, areReturns, Sound, Made, stepLeaves}
@@ -172,14 +173,14 @@ lowered-within : (limit k : ℕ) (p : Proc) → within limit p ≡ true → with
 lowered-within limit k Active w = refl
 lowered-within limit k (Idle n) w =
     let h : n ≤ limit = leb-true n limit w in
-    by-test (λ (p : Proc). within limit p ≡ true) (ltb n k) (λ e. refl) (λ e. le-leb (n - k) limit (omega arith))
+    by-pick (λ (p : Proc). within limit p ≡ true) (ltb n k) _ _ (λ e. refl) (λ e. le-leb (n - k) limit (omega arith))
 lowered-within limit k Absent w = refl
 
 raised-within :
     (limit : ℕ) (jump wish : Bool) (p : Proc) → within limit p ≡ true → atLimit limit p ≡ false →
     within limit (raised jump wish p) ≡ true
 raised-within limit jump wish Active w f =
-    by-test (λ (p : Proc). within limit p ≡ true) (differ wish jump) (λ e. le-leb 0 limit zero-le) (λ e. refl)
+    by-pick (λ (p : Proc). within limit p ≡ true) (differ wish jump) _ _ (λ e. le-leb 0 limit zero-le) (λ e. refl)
 raised-within limit jump wish (Idle n) w f =
     let h : n < limit = leb-false limit n f in
     le-leb (n + 1) limit (omega arith)
@@ -190,10 +191,10 @@ worked-within :
     within limit (worked op k jump wish p) ≡ true
 unfolding worked
 worked-within limit op k jump wish p w f =
-    by-test (λ (q : Proc). within limit q ≡ true) (eqb op 1)
+    by-pick (λ (q : Proc). within limit q ≡ true) (eqb op 1) _ _
     (λ e. lowered-within limit k p w)
     (λ e.
-    by-test (λ (q : Proc). within limit q ≡ true) (eqb op 2)
+    by-pick (λ (q : Proc). within limit q ≡ true) (eqb op 2) _ _
     (λ t. raised-within limit jump wish p w (f (eqb-true op 2 t)))
     (λ t. w))
 
@@ -215,13 +216,13 @@ way-sound :
     SoundWay (wayOf aop jump position address rs)
 unfolding wayOf areReturns
 way-sound aop jump position address rs p h e =
-    by-test SoundWay jump
+    by-pick SoundWay jump _ _
     (λ j.
-    by-test SoundWay (eqb aop 1) (λ a. popped-sound rs h e)
+    by-pick SoundWay (eqb aop 1) _ _ (λ a. popped-sound rs h e)
     (λ a.
-    by-test SoundWay (eqb aop 2)
+    by-pick SoundWay (eqb aop 2) _ _
     (λ b.
-    by-test SoundWay (ltb (length rs) 4)
+    by-pick SoundWay (ltb (length rs) 4) _ _
     (λ t.
     let low : length rs < 4 = ltb-true (length rs) 4 t in
     let fits : aReturn (position + 1) ≡ true = and-intro (le-leb 1 (position + 1) (omega arith)) (le-leb (position + 1) 512 (omega arith)) in
@@ -240,7 +241,7 @@ arrived-sound :
     SoundAfter limit (arrived slots jump procs way)
 arrived-sound limit slots jump procs Stuck h out low w = tt
 arrived-sound limit slots jump procs (Goes next rs) h out low w =
-    by-test (SoundAfter limit) (leb next slots)
+    by-pick (SoundAfter limit) (leb next slots) _ _
     (λ e.
     let n : next ≤ slots = leb-true next slots e in
     record { outside = out; counters = low; place = omega arith; depth = w .0; slots = w .1 })
@@ -268,7 +269,7 @@ settled-sound :
 unfolding settled
 settled-sound limit slots first second jump wish procs g hs hp hr he out low =
     let op = pick jump (field 27 26 first) (field 25 24 first) in
-    by-test (SoundAfter limit) (overLimit limit op procs) (λ e. tt)
+    by-pick (SoundAfter limit) (overLimit limit op procs) _ _ (λ e. tt)
     (λ e.
     arrived-sound limit slots jump (λ i. worked op (field 20 16 first) jump (wish i) (procs i))
     (wayOf (field 7 6 first) jump (g .position) (field 24 16 second) (g .returns)) hs
@@ -282,20 +283,20 @@ pub step-sound :
     SoundAfter limit (stepOf limit program alu predicate booleans g)
 unfolding stepOf slotStep turnedIf ended
 step-sound limit program alu predicate booleans g s =
-    by-test (SoundAfter limit) (leb (program .slots) (g .position)) (λ e. tt)
+    by-pick (SoundAfter limit) (leb (program .slots) (g .position)) _ _ (λ e. tt)
     (λ e.
     let before : g .position < program .slots = leb-false (program .slots) (g .position) e in
-    by-test (SoundAfter limit) (leb (program .slots) 512)
+    by-pick (SoundAfter limit) (leb (program .slots) 512) _ _
     (λ t.
     let most : program .slots ≤ 512 = leb-true (program .slots) 512 t in
-    by-test (SoundAfter limit)
-    (allowed (getD (program .firsts) (g .position) 0) (getD (program .seconds) (g .position) 0))
+    by-pick (SoundAfter limit)
+    (allowed (getD (program .firsts) (g .position) 0) (getD (program .seconds) (g .position) 0)) _ _
     (λ a.
     settled-sound limit (program .slots) (getD (program .firsts) (g .position) 0) (getD (program .seconds) (g .position) 0) _ _ _ g most
     (omega arith) (s .depth) (s .slots)
     (λ i h. turned-absent (on 4 (getD (program .firsts) (g .position) 0)) (s .outside i h))
     (λ i.
-    by-test (λ (p : Proc). within limit p ≡ true) (on 4 (getD (program .firsts) (g .position) 0))
+    by-pick (λ (p : Proc). within limit p ≡ true) (on 4 (getD (program .firsts) (g .position) 0)) _ _
     (λ u. turned-within limit (g .procs i) (s .counters i)) (λ u. s .counters i)))
     (λ a. tt))
     (λ t. tt))
@@ -312,7 +313,7 @@ unfolding fresh areReturns
 fresh-sound limit size h =
     record {
       outside = λ i k. pick-no _ _ (le-ltb i size (omega arith));
-      counters = λ i. by-test (λ (p : Proc). within limit p ≡ true) (ltb i size) (λ e. refl) (λ e. refl);
+      counters = λ i. by-pick (λ (p : Proc). within limit p ≡ true) (ltb i size) _ _ (λ e. refl) (λ e. refl);
       place = zero-le;
       depth = zero-le;
       slots = refl;

@@ -9,10 +9,11 @@ use native.Mathlib.Omega.{arith}
 use lib.Dec.{eqb}
 use lib.ListN.{length, getD}
 use borrow.Author.Tests.{ltb-true, eqb-true, ne-eqb}
+use Rattle.laws.specs.Below.{every}
 use Rattle.laws.specs.Bits.{bit}
 use Rattle.laws.specs.Choice.{_and_, pick, placeOf}
+use Rattle.laws.proofs.Below.{every-at}
 use Rattle.laws.proofs.Choice.{place-found, pick-yes, pick-no, Tested, tested, holds, fails}
-use Rattle.laws.proofs.Table.{everyBelow, every}
 use Rattle.layout.specs.Sizes.{sizes, isSize, widthOf, heightOf}
 
 -- what holds of each of the five sizes holds of every size
@@ -69,8 +70,8 @@ bitRight : ℕ → Bool
 bitRight s = pick (isSize s) (eqb (bit s 65814) 1) (eqb (bit s 65814) 0)
 
 bits-right : (s : ℕ) → s < 17 → bitRight s ≡ true
-unfolding bitRight isSize placeOf everyBelow pick _and_
-bits-right = every bitRight 17 refl
+unfolding bitRight isSize placeOf every pick _and_
+bits-right = every-at 17 bitRight refl
 
 pub size-bit : (s : ℕ) → s ≤ 16 → eqb (bit s 65814) 1 ≡ isSize s
 unfolding bitRight

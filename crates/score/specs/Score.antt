@@ -6,8 +6,7 @@ use mathlib.Core.List.{List, [], _∷_}
 use Prim.Native.Nat.{ℕ, zero, suc, _+_, _-_, _*_, min}
 use lib.Dec.{eqb, leb, ltb}
 use Rattle.laws.specs.Choice.{_and_, pick}
-use Rattle.laws.specs.Masks.{every}
-use Rattle.state.specs.Start.{sumBelow}
+use Rattle.laws.specs.Below.{every, sum}
 use Rattle.replay.specs.State.{Replay, newReplay}
 use Rattle.replay.specs.Report.{partAt}
 use Rattle.log.specs.Feed.{replayOf}
@@ -38,7 +37,7 @@ servedAt l r k = min (claimedAt l r k) (l .owed)
 
 -- "for the month two whole numbers: served and owed"
 abbrev pub servedInAll : Lease → Replay → ℕ
-servedInAll l r = sumBelow (l .days) (servedAt l r)
+servedInAll l r = sum (l .days) (servedAt l r)
 
 abbrev pub owedInAll : Lease → ℕ
 owedInAll l = l .days * l .owed

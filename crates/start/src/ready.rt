@@ -14,7 +14,8 @@ ghost use Rattle.laws.specs.Choice.{_and_, pick};
 ghost use Rattle.command.specs.Format.{channelsOf, windowOf};
 ghost use Rattle.command.specs.Kinds.{toldChecked};
 ghost use Rattle.state.specs.Cells.{bufferAt, partyOf, sharedOf};
-ghost use Rattle.state.specs.Start.{claimOf, counts, readyOf, sumBelow, unmasked};
+ghost use Rattle.laws.specs.Below.{count};
+ghost use Rattle.state.specs.Start.{claimOf, counts, readyOf, unmasked};
 ghost use Rattle.state.specs.Valid.{DomainValid};
 ghost use Rattle.start.specs.Windows.{cellsBuffer, countsBy, eachApart, eachHolds, holdsPair, keepsApart, outputOf, someSet, spansApart, verdictOf, windowSeen};
 
@@ -260,7 +261,7 @@ fn one_at(bits: u32, shared: &[u32; state::SHARED_CELLS], at: usize) -> u64
 // The number of outputs that count.
 fn counted_outputs(shared: &[u32; state::SHARED_CELLS]) -> u64
     requires { ⌜ length (now shared) ≡ 101 ⌝ }
-    ensures { λ r. ⌜ (r ≡ sumBelow 4 (λ n. pick (counts (sharedOf (now (shared .entry)) .mask) (sharedOf (now (shared .entry)) .outputs) n) 1 0)) × (r ≤ 4) ⌝ }
+    ensures { λ r. ⌜ (r ≡ count 4 (counts (sharedOf (now (shared .entry)) .mask) (sharedOf (now (shared .entry)) .outputs))) × (r ≤ 4) ⌝ }
 {
     let mask = shared[settings::MASK];
     one_at(mask, shared, settings::OUTPUT_0)
