@@ -103,10 +103,10 @@ count-none (suc k) f h =
     (count-none k (λ i. f (suc i)) (λ i p. h (suc i) (suc-le-suc p)))
 
 -- a count is at most the number of places
-pub count-most : (k : ℕ) (f : ℕ → Bool) → count k f ≤ k
+pub count-bounded : (k : ℕ) (f : ℕ → Bool) → count k f ≤ k
 unfolding count sum digit
-count-most zero f = omega arith
-count-most (suc k) f = go (f zero) (count-most k (λ i. f (suc i)))
+count-bounded zero f = omega arith
+count-bounded (suc k) f = go (f zero) (count-bounded k (λ i. f (suc i)))
   where
     go : (b : Bool) {n : ℕ} → n ≤ k → digit b + n ≤ suc k
     go true h = omega arith

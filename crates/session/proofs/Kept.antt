@@ -10,7 +10,7 @@ use lib.ListN.{length, getD, take, set, length-set}
 use lib.Seq.{getD-take}
 use borrow.Author.Tests.{eqb-true, eqb-false, ltb-true, ltb-false, leb-true, leb-false, ne-eqb, eq-eqb}
 use Rattle.laws.specs.Choice.{_and_, pick, placeOf}
-use Rattle.laws.proofs.Below.{count-most}
+use Rattle.laws.proofs.Below.{count-bounded}
 use Rattle.laws.proofs.Choice.{pick-yes, pick-no, by-pick, and-left, and-right, Tested, tested, holds, fails}
 use Rattle.laws.proofs.Table.{each, _&_}
 use Rattle.refusal.specs.Told.{Told, gives, refuses}
@@ -101,7 +101,7 @@ claim-most : (d : Domain) (mask : ℕ) (outputs : List Buffer) → DomainValid d
 unfolding claimOf pairsOf
 claim-most d mask outputs v =
     mul-le-mul {n₂ = 16777216} {m₂ = 4} (mul-le-mul {n₂ = 4096} {m₂ = 4096} (omega (arith, v)) (omega (arith, v)))
-    (count-most 4 (counts mask outputs))
+    (count-bounded 4 (counts mask outputs))
 
 -- what a whole command leaves of a session: the open command, the count and the flag stand; what it sets is valid
 pub record Effects (c : Command) (h : Shared) (p : Party) (n : ℕ) : Type 0 where
