@@ -1,0 +1,291 @@
+-- A step that is made does to each processor, the return stack and the position what document 01 says, one that is refused has its
+-- cause, and a run is its steps; mask bits above the group change nothing; the cells given out are those taken. Assumes nothing.
+use mathlib.Core.Path.{_≡_, refl, sym, ap, ap₂, _∙_, subst}
+use mathlib.Core.Bool.{Bool, true, false, not}
+use mathlib.Core.List.{List, [], _∷_}
+use Prim.Native.Nat.{ℕ, zero, suc, _+_, _<_, _≤_}
+use native.Mathlib.Omega.{arith}
+use lib.Dec.{eqb, leb}
+use lib.ListN.{getD}
+use borrow.Author.Tests.{leb-true, leb-false}
+use Rattle.laws.specs.Choice.{_and_, pick}
+use Rattle.laws.specs.Masks.{_or_, digit, on}
+use Rattle.laws.specs.Below.{some, every}
+use Rattle.laws.proofs.Choice.{Tested, tested, holds, fails, pick-yes, pick-no, by-pick}
+use Rattle.laws.proofs.Below.{some-same, every-same}
+use Rattle.refusal.specs.Told.{gives, refuses}
+use Rattle.group.specs.Proc.{Proc, Active, Idle, Absent, isLive, isActive, turned, wants, decided, lowered, raised, worked}
+use Rattle.group.specs.Group.{
+  Program,
+  Group,
+  Outcome,
+  Steps,
+  Fails,
+  Way,
+  Goes,
+  Stuck,
+  Run,
+  Makes,
+  Breaks,
+  onceMore,
+  goOn,
+  allowed,
+  aOp,
+  jumpFunc,
+  popCount,
+  branchOp,
+  booleanNumber,
+  jumpAddress,
+  turnedIf,
+  wishOf,
+  overLimit,
+  wayOf,
+  arrived,
+  settled,
+  slotStep,
+  ended,
+  stepOf,
+  stepsOf,
+  runOf,
+  isGroupSize,
+  beginTold,
+}
+use Rattle.group.specs.Cells.{groupOf, cellsOf, runLeaves, beginLeaves}
+use Rattle.group.specs.Cells as cells
+use Rattle.group.proofs.State.{made-of, left-made, step-sound}
+use Rattle.flow.proofs.Beginning.{begin-made}
+use Rattle.flow.proofs.Running.{SoundRun, steps-sound}
+use Rattle.egretfold.specs.Crossing.{statusOf}
+use Rattle.demands.specs.Flow.{firstAt, secondAt, elsed, wishes, decision, next, Made, Refused, hasEnded, tooMany, badField, counterAtLimit, stackAtLimit, pastEnd, Walk, listOut, halfPair, programOut, oneMore, stepFails, Ran, over, walked, Agree, AllAgree, Handed, begun, stepped, ran}
+use Rattle.demands.specs.Flow as flow
+
+-- what an outcome shows
+module _ (limit : ℕ) (p : Program) (alu predicate booleans : ℕ) (g : Group) where
+  abbrev Shown : Outcome → Type 0
+  Shown (Steps jump g') = Made limit p alu predicate booleans g jump g'
+  Shown (Fails why) = Refused limit p alu predicate booleans g why
+
+  abbrev jump : Bool
+  jump = decision limit p alu predicate booleans g
+
+  abbrev op : ℕ
+  op = branchOp jump (firstAt p g)
+
+  abbrev procs : ℕ → Proc
+  procs i = worked op (popCount (firstAt p g)) jump (wishes limit p alu predicate booleans g i) (elsed p g i)
+
+  module _ (running : g .position < p .slots) (fields : allowed (firstAt p g) (secondAt p g) ≡ true) (counters : overLimit limit op (elsed p g) ≡ false) where
+    shown-way : (w : Way) → next limit p alu predicate booleans g ≡ w → Shown (arrived (p .slots) jump procs w)
+    shown-way Stuck e = stackAtLimit running fields counters e
+    shown-way (Goes at returns) e =
+        by-pick Shown (leb at (p .slots)) _ _
+        (λ t.
+        record {
+          running = running;
+          fields = fields;
+          decides = refl;
+          counters = counters;
+          each-processor = λ i. refl;
+          stack = e;
+          place = leb-true at (p .slots) t;
+        })
+        (λ t. pastEnd running fields counters at returns e (leb-false at (p .slots) t))
+
+  pub shown : Shown (stepOf limit p alu predicate booleans g)
+  unfolding stepOf ended slotStep settled
+  shown =
+      by-pick Shown (leb (p .slots) (g .position)) _ _ (λ t. hasEnded (leb-true (p .slots) (g .position) t))
+      (λ t.
+      let running = leb-false (p .slots) (g .position) t in
+      by-pick Shown (leb (p .slots) 512) _ _
+      (λ u.
+      by-pick Shown (allowed (firstAt p g) (secondAt p g)) _ _
+      (λ f.
+      by-pick Shown (overLimit limit op (elsed p g)) _ _ (λ o. counterAtLimit running f o)
+      (λ o. shown-way running f o (next limit p alu predicate booleans g) refl))
+      (λ f. badField running f))
+      (λ u. tooMany running (leb-false (p .slots) 512 u)))
+
+  pub step-made : (j : Bool) (g' : Group) → stepOf limit p alu predicate booleans g ≡ Steps j g' → Made limit p alu predicate booleans g j g'
+  step-made j g' e = subst Shown e shown
+
+  pub step-refused : (n : ℕ) → stepOf limit p alu predicate booleans g ≡ Fails n → Refused limit p alu predicate booleans g n
+  step-refused n e = subst Shown e shown
+
+-- a run
+module _ (limit : ℕ) (p : Program) (booleans : ℕ) where
+  outcome : (alu predicate : ℕ) (masks : List ℕ) (g : Group) (o : Outcome) → ended p g ≡ false → stepOf limit p alu predicate booleans g ≡ o →
+      ((g' : Group) → Walk limit p booleans masks g' (stepsOf limit p booleans masks g')) →
+      Walk limit p booleans (alu ∷ (predicate ∷ masks)) g (goOn o (λ g'. stepsOf limit p booleans masks g'))
+  outcome alu predicate masks g (Steps jump g') t e rest =
+      oneMore alu predicate masks g g' jump (stepsOf limit p booleans masks g') t e (rest g')
+  outcome alu predicate masks g (Fails why) t e rest = stepFails alu predicate masks g why t e
+
+  walk : (masks : List ℕ) (g : Group) → Walk limit p booleans masks g (stepsOf limit p booleans masks g)
+  unfolding stepsOf
+  walk [] g = listOut g
+  walk (alu ∷ []) g = halfPair alu g
+  walk (alu ∷ (predicate ∷ masks)) g =
+      by-pick (Walk limit p booleans (alu ∷ (predicate ∷ masks)) g) (ended p g) _ _ (λ t. programOut alu predicate masks g t)
+      (λ t. outcome alu predicate masks g (stepOf limit p alu predicate booleans g) t refl (walk masks))
+
+  pub run-walks : (masks : List ℕ) (g : Group) → Ran limit p booleans masks g (runOf limit p booleans masks g)
+  unfolding runOf
+  run-walks masks g =
+      by-pick (Ran limit p booleans masks g) (ended p g) _ _ (λ t. over t) (λ t. walked (stepsOf limit p booleans masks g) t (walk masks g))
+
+-- the cells given out are those taken
+begin-size : (size : ℕ) → 0 ≡ statusOf (beginTold size) → isGroupSize size ≡ true
+unfolding beginTold
+begin-size size e = go (tested (isGroupSize size))
+  where
+    go : Tested (isGroupSize size) → isGroupSize size ≡ true
+    go (holds t) = t
+    go (fails t) = absurd (let z : 0 ≡ 13 = e ∙ ap statusOf (pick-no (gives []) (refuses 13) t) in omega arith)
+
+run-left : (l : List ℕ) (o : Run) → cells.Made l → SoundRun 31 o → cells.Made (runLeaves l o)
+run-left l (Makes n g) m s = made-of g s
+run-left l (Breaks why) m s = m
+
+pub handed-made : {l : List ℕ} → Handed l → cells.Made l
+unfolding beginLeaves isGroupSize runOf
+handed-made (begun size c c' k) =
+    let t = begin-size size (k .status) in
+    subst cells.Made (sym (k .left ∙ pick-yes _ _ t)) (begin-made size (leb-true size 32 (Rattle.laws.proofs.Choice.and-right _ _ t)))
+handed-made (stepped {cells = l} h p alu predicate booleans r c' a a' k) =
+    subst cells.Made (sym (k .left))
+    (left-made l (stepOf 31 p alu predicate booleans (groupOf l)) (handed-made h)
+    (step-sound 31 p alu predicate booleans (groupOf l) (handed-made h .sound)))
+handed-made (ran {cells = l} h p booleans masks r c' a a' k) =
+    subst cells.Made (sym (k .left))
+    (run-left l (runOf 31 p booleans masks (groupOf l)) (handed-made h)
+    (by-pick (SoundRun 31) (ended p (groupOf l)) _ _ (λ e. tt) (λ e. steps-sound 31 p booleans masks (groupOf l) (handed-made h .sound))))
+
+-- a processor is in the group after a step where it was before
+turned-live : (else : Bool) (q : Proc) → isLive (pick else (turned q) q) ≡ isLive q
+unfolding pick
+turned-live true Active = refl
+turned-live true (Idle zero) = refl
+turned-live true (Idle (suc n)) = refl
+turned-live true Absent = refl
+turned-live false q = refl
+
+pick-live : (t : Bool) (a b : Proc) → isLive a ≡ true → isLive b ≡ true → isLive (pick t a b) ≡ true
+pick-live t a b ha hb = by-pick (λ (q : Proc). isLive q ≡ true) t a b (λ e. ha) (λ e. hb)
+
+worked-live : (op k : ℕ) (jump wish : Bool) (q : Proc) → isLive (worked op k jump wish q) ≡ isLive q
+unfolding worked
+worked-live op k jump wish Active = pick-live _ _ _ refl (pick-live _ _ _ (pick-live _ _ _ refl refl) refl)
+worked-live op k jump wish (Idle n) = pick-live _ _ _ (pick-live _ _ _ refl refl) (pick-live _ _ _ refl refl)
+worked-live op k jump wish Absent = gone (eqb op 1) (eqb op 2)
+  where
+    gone : (a b : Bool) → isLive (pick a Absent (pick b Absent Absent)) ≡ false
+    gone a b = by-pick (λ (q : Proc). isLive q ≡ false) a _ _ (λ e. refl) (λ e. by-pick (λ (q : Proc). isLive q ≡ false) b _ _ (λ f. refl) (λ f. refl))
+
+-- wishes that are the same for every processor in the group
+module _ (q : Proc) (w w' : Bool) (h : isLive q ≡ true → w ≡ w') where
+  active-and : (isActive q and w) ≡ (isActive q and w')
+  unfolding _and_
+  active-and = go q h
+    where
+      go : (q : Proc) → (isLive q ≡ true → w ≡ w') → (isActive q and w) ≡ (isActive q and w')
+      go Active k = k refl
+      go (Idle n) k = refl
+      go Absent k = refl
+
+  idle-or : (not (isActive q) or w) ≡ (not (isActive q) or w')
+  unfolding _or_
+  idle-or = go q h
+    where
+      go : (q : Proc) → (isLive q ≡ true → w ≡ w') → (not (isActive q) or w) ≡ (not (isActive q) or w')
+      go Active k = k refl
+      go (Idle n) k = refl
+      go Absent k = refl
+
+  worked-same : (op k : ℕ) (jump : Bool) → worked op k jump w q ≡ worked op k jump w' q
+  unfolding worked
+  worked-same op k jump = go q h
+    where
+      go : (q : Proc) → (isLive q ≡ true → w ≡ w') → worked op k jump w q ≡ worked op k jump w' q
+      go Active z = ap (λ (x : Bool). worked op k jump x Active) (z refl)
+      go (Idle n) z = ap (λ (x : Bool). worked op k jump x (Idle n)) (z refl)
+      go Absent z = refl
+
+-- "Mask bits above the group are ignored": masks that say the same of every processor in the group give the same step
+module _ (limit : ℕ) (p : Program) (booleans : ℕ) (g : Group) (alu predicate alu' predicate' : ℕ)
+    (a : Agree g alu alu') (b : Agree g predicate predicate')
+  where
+    abbrev w : ℕ → Bool
+    w = wishes limit p alu predicate booleans g
+
+    abbrev w' : ℕ → Bool
+    w' = wishes limit p alu' predicate' booleans g
+
+    same-wish : (i : ℕ) → isLive (elsed p g i) ≡ true → w i ≡ w' i
+    unfolding wishOf turnedIf
+    same-wish i h =
+        let l : isLive (g .procs i) ≡ true = sym (turned-live (on 4 (firstAt p g)) (g .procs i)) ∙ h in
+        ap₂ (λ (x y : Bool). wants (jumpFunc (firstAt p g)) x y (on (booleanNumber (secondAt p g)) booleans)) (a .same-bits i l) (b .same-bits i l)
+
+    same-decision : decision limit p alu predicate booleans g ≡ decision limit p alu' predicate' booleans g
+    unfolding decided
+    same-decision =
+        ap₂ (λ (x y : Bool). pick (on 5 (firstAt p g)) x y)
+        (some-same 32 _ _ (λ i h. active-and (elsed p g i) (w i) (w' i) (same-wish i)))
+        (every-same 32 _ _ (λ i h. idle-or (elsed p g i) (w i) (w' i) (same-wish i)))
+
+    same-settled : (j : Bool) →
+        settled limit (p .slots) (firstAt p g) (secondAt p g) j w (elsed p g) g ≡ settled limit (p .slots) (firstAt p g) (secondAt p g) j w' (elsed p g) g
+    unfolding settled
+    same-settled j =
+        ap (λ (f : ℕ → Proc).
+        pick (overLimit limit (branchOp j (firstAt p g)) (elsed p g)) (Fails 14)
+        (arrived (p .slots) j f (wayOf (aOp (firstAt p g)) j (g .position) (jumpAddress (secondAt p g)) (g .returns))))
+        (λ k i. worked-same (elsed p g i) (w i) (w' i) (same-wish i) (branchOp j (firstAt p g)) (popCount (firstAt p g)) j k)
+
+    pub same-step : stepOf limit p alu predicate booleans g ≡ stepOf limit p alu' predicate' booleans g
+    unfolding stepOf slotStep
+    same-step =
+        ap (λ (o : Outcome).
+        pick (ended p g) (Fails 16) (pick (leb (p .slots) 512) (pick (allowed (firstAt p g) (secondAt p g)) o (Fails 13)) (Fails 15)))
+        (ap (λ (j : Bool). settled limit (p .slots) (firstAt p g) (secondAt p g) j w (elsed p g) g) same-decision ∙
+        same-settled (decision limit p alu' predicate' booleans g))
+
+-- and the same run
+module _ (limit : ℕ) (p : Program) (booleans : ℕ) where
+  live-after : (alu predicate : ℕ) (g g' : Group) (jump : Bool) → stepOf limit p alu predicate booleans g ≡ Steps jump g' →
+      (i : ℕ) → isLive (g' .procs i) ≡ isLive (g .procs i)
+  unfolding turnedIf
+  live-after alu predicate g g' jump e i =
+      ap isLive (step-made limit p alu predicate booleans g jump g' e .each-processor i) ∙
+      worked-live _ _ _ _ (elsed p g i) ∙ turned-live (on 4 (firstAt p g)) (g .procs i)
+
+  agree-after : (g g' : Group) → ((i : ℕ) → isLive (g' .procs i) ≡ isLive (g .procs i)) → (ms ms' : List ℕ) → AllAgree g ms ms' → AllAgree g' ms ms'
+  agree-after g g' l [] [] h = tt
+  agree-after g g' l [] (m' ∷ ms') h = h
+  agree-after g g' l (m ∷ ms) [] h = h
+  agree-after g g' l (m ∷ ms) (m' ∷ ms') h =
+      (record { same-bits = λ i k. h .0 .same-bits i (sym (l i) ∙ k) }, agree-after g g' l ms ms' (h .1))
+
+  same-steps : (ms ms' : List ℕ) (g : Group) → AllAgree g ms ms' → stepsOf limit p booleans ms g ≡ stepsOf limit p booleans ms' g
+  unfolding stepsOf
+  same-steps [] [] g h = refl
+  same-steps [] (m' ∷ ms') g h = absurd h
+  same-steps (m ∷ ms) [] g h = absurd h
+  same-steps (m ∷ []) (m' ∷ []) g h = refl
+  same-steps (m ∷ []) (m' ∷ (n' ∷ ms')) g h = absurd (h .1)
+  same-steps (m ∷ (n ∷ ms)) (m' ∷ []) g h = absurd (h .1)
+  same-steps (m ∷ (n ∷ ms)) (m' ∷ (n' ∷ ms')) g h =
+      ap (pick (ended p g) (Makes 0 g))
+      (go (stepOf limit p m n booleans g) refl (same-steps ms ms') ∙
+      ap (λ (o : Outcome). goOn o (λ g'. stepsOf limit p booleans ms' g')) (same-step limit p booleans g m n m' n' (h .0) (h .1 .0)))
+    where
+      go : (o : Outcome) → stepOf limit p m n booleans g ≡ o →
+          ((g' : Group) → AllAgree g' ms ms' → stepsOf limit p booleans ms g' ≡ stepsOf limit p booleans ms' g') →
+          goOn o (λ g'. stepsOf limit p booleans ms g') ≡ goOn o (λ g'. stepsOf limit p booleans ms' g')
+      go (Steps jump g') e ih = ap onceMore (ih g' (agree-after g g' (live-after m n g g' jump e) ms ms' (h .1 .1)))
+      go (Fails why) e ih = refl
+
+  pub same-run : (ms ms' : List ℕ) (g : Group) → AllAgree g ms ms' → runOf limit p booleans ms g ≡ runOf limit p booleans ms' g
+  unfolding runOf
+  same-run ms ms' g h = ap (pick (ended p g) (Breaks 16)) (same-steps ms ms' g h)
