@@ -80,14 +80,12 @@ byte-follows r b =
 bytes-follow : (r : Replay) (bs : List ℕ) → Follows r (goneOn r bs)
 unfolding replayOf proceed
 bytes-follow r [] = same-follows r r refl refl
-bytes-follow r (b ∷ bs) = go (byteStep r b .reply)
+bytes-follow r (b ∷ bs) = go (byteStep r b .reply) (bytes-follow (byteStep r b .replay) bs)
   where
-    rest : Follows (byteStep r b .replay) (goneOn (byteStep r b .replay) bs)
-    rest = bytes-follow (byteStep r b .replay) bs
-
-    go : (y : Reply) → Follows r (proceed y (byteStep r b .replay) (replayOf (byteStep r b .replay) bs) .replay)
-    go taken = follows-on r (byteStep r b .replay) (goneOn (byteStep r b .replay) bs) (byte-follows r b) rest
-    go (refused n) = byte-follows r b
+    go : (y : Reply) → Follows (byteStep r b .replay) (goneOn (byteStep r b .replay) bs) →
+        Follows r (proceed y (byteStep r b .replay) (replayOf (byteStep r b .replay) bs) .replay)
+    go taken rest = follows-on r (byteStep r b .replay) (goneOn (byteStep r b .replay) bs) (byte-follows r b) rest
+    go (refused n) rest = byte-follows r b
 
 -- a part by its two ends
 part-is : (marks : List ℕ) (m : ℕ) (now : Tally) (k : ℕ) → k ≤ m → partOf marks m now k ≡ less (endedWith marks m now k) (beganWith marks k)
@@ -166,12 +164,16 @@ module _ (r : Replay) (v : LogValid r) (day : ℕ) (e : mayBegin (r .midnights) 
   unfolding afterMidnight
   new-mark = mark-new (r .marks) (r .midnights) (r .session .party .tally) (omega (arith, v .marks-length, few))
 
+  began-new : beganWith (afterMidnight r day .marks) (suc (r .midnights)) ≡ r .session .party .tally
+  unfolding beganWith
+  began-new = new-mark
+
   pub begins-empty : partAt (afterMidnight r day) (r .midnights + 1) ≡ noTally
   unfolding afterMidnight
   begins-empty =
       part-is (afterMidnight r day .marks) (r .midnights + 1) (r .session .party .tally) (r .midnights + 1) (omega arith) ∙
       ap₂ less (ended-now (afterMidnight r day .marks) (r .midnights + 1) (r .session .party .tally) (r .midnights + 1) (omega arith))
-      (ap (beganWith (afterMidnight r day .marks)) (add-one (r .midnights)) ∙ unfold beganWith in new-mark) ∙
+      (ap (beganWith (afterMidnight r day .marks)) (add-one (r .midnights)) ∙ began-new) ∙
       ap₂ {C = Tally} (λ (a b : ℕ). record { runs = a; claims = b }) (omega arith) (omega arith)
 
   pub closes : (k : ℕ) → k ≤ r .midnights → partAt (afterMidnight r day) k ≡ partAt r k

@@ -19,7 +19,7 @@ use Rattle.session.specs.Refusals.{RefusedTo, unchanged, stopping}
 use Rattle.session.proofs.Refusals.{refused-word, stopped-for-good, stopped-piece}
 use Rattle.session.proofs.Tallies.{counted}
 use Rattle.replay.specs.State.{WordRefused, Replay, newReplay}
-use Rattle.replay.specs.Step.{Reply, taken, refused, Stepped, taking, kindStep, noted, notedReply, afterWord, afterMidnight, midnightStep}
+use Rattle.replay.specs.Step.{Reply, taken, refused, Stepped, taking, kindStep, numberFrom, noted, notedReply, afterWord, afterMidnight, midnightStep}
 use Rattle.replay.specs.Cells.{LogValid}
 use Rattle.log.specs.Bytes.{recordStep, openStep, byteStep}
 use Rattle.log.specs.Feed.{Fed, proceed, replayOf, recordBytes, ahead}
@@ -146,7 +146,7 @@ module _ (r : Replay) (ne : r .refused .number ≡ 0 → ⊥) where
       (λ f.
       by-pick SameReport _ _ _ (λ g. refl)
       (λ g.
-      by-pick SameReport _ _ _ (λ h. noted-same _) (λ h. by-pick SameReport _ _ _ (λ i. refl) (λ i. refl)))))
+      by-pick SameReport _ _ _ (λ h. noted-same (stepOf (r .session) (numberFrom (r .opened .low) (r .opened .second) (r .opened .third) b) .reply)) (λ h. by-pick SameReport _ _ _ (λ i. refl) (λ i. refl)))))
       (λ e. refl)
 
 bytes-report : (r : Replay) (bs : List ℕ) → (r .refused .number ≡ 0 → ⊥) → goneOn r bs .refused ≡ r .refused
@@ -164,6 +164,11 @@ stopped-session : (s : Session) (ws : List ℕ) → s .party .stopped ≡ 1 → 
 stopped-session s [] e = unfold feedOf in refl
 stopped-session s (w ∷ ws) e = ap (λ (f : pieces.Fed). f .session) (stopped-piece s w ws e)
 
+stays : (r : Replay) (w n : ℕ) → stepOf (r .session) w .reply ≡ stream.refused n → (ws : List ℕ) →
+    feedOf (afterWord r w .session) ws .session ≡ stepOf (r .session) w .session
+unfolding afterWord
+stays r w n e ws = stopped-session (stepOf (r .session) w .session) ws (stopped-for-good (r .session) w n e)
+
 same-taken : {s u : Session} {n : ℕ} → RefusedTo s n u → u .party .taken ≡ s .party .taken
 same-taken (unchanged e) = refl
 same-taken (stopping e) = refl
@@ -172,12 +177,6 @@ pub refused-place : (before : List ℕ) (w n : ℕ) → FirstRefused before w n 
     Reported before n (replayed (before ++ (recordBytes 1 w ++ later)))
 refused-place before w n f later = subst (Reported before n) (sym whole) told
   where
-    r : Replay
-    r = replayed before
-
-    u : Replay
-    u = afterWord (replayed before) w
-
     whole : replayed (before ++ (recordBytes 1 w ++ later)) ≡ goneOn (afterWord (replayed before) w) later
     whole =
         gone-on before (recordBytes 1 w ++ later) ∙
@@ -210,10 +209,7 @@ refused-place before w n f later = subst (Reported before n) (sym whole) told
     session-is : goneOn (afterWord (replayed before) w) later .session .party .taken ≡ replayed before .session .party .taken
     session-is =
         ap (λ (s : Session). s .party .taken)
-        (one-session (afterWord (replayed before) w) later ∙
-        unfold afterWord in
-        stopped-session (stepOf (replayed before .session) w .session) (wordsIn (afterWord (replayed before) w) later)
-        (stopped-for-good (replayed before .session) w n (f .refuses))) ∙
+        (one-session (afterWord (replayed before) w) later ∙ stays (replayed before) w n (f .refuses) (wordsIn (afterWord (replayed before) w) later)) ∙
         same-taken (refused-word (replayed before .session) w n (f .refuses))
 
     told : Reported before n (goneOn (afterWord (replayed before) w) later)

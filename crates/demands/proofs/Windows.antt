@@ -34,7 +34,7 @@ use Rattle.state.specs.State.{Buffer, Domain, Shared, Session, unset, newSessio
 use Rattle.state.specs.Start.{valueOf, stepOfBuffer, spanOfBuffer, output, isSet, counts, containsDomain, apart, complete, covered, disjoint, readyOf}
 use Rattle.state.specs.Effects.{buffer, sharedAfter, after}
 use Rattle.state.specs.Valid.{Valid}
-use Rattle.session.specs.Step.{Reply, stillOpen, completed, refused, Stepped, startRuleOf, stepOf}
+use Rattle.session.specs.Step.{Reply, stillOpen, completed, refused, Stepped, startRuleOf, stepOf as wordStep}
 use Rattle.session.specs.Feed.{Fed, proceed, feedOf}
 use Rattle.session.specs.Reached.{Reached, begun, word, piece}
 use Rattle.session.proofs.Ways.{Way, wasStopped, stops, opens, fills, ends, way}
@@ -126,9 +126,9 @@ windowed-piece : (s : Session) (ws : List ℕ) → Valid s → Windowed (s .shar
 unfolding feedOf
 windowed-piece s [] v a = a
 windowed-piece s (w ∷ ws) v a =
-    let b : Windowed (stepOf s w .session .shared .outputs) = windowed-word s w v a (stepOf s w) (way s w) in
-    windowed-on (stepOf s w .reply) (stepOf s w .session) (feedOf (stepOf s w .session) ws) b
-    (windowed-piece (stepOf s w .session) ws (kept s w v) b)
+    let b : Windowed (wordStep s w .session .shared .outputs) = windowed-word s w v a (wordStep s w) (way s w) in
+    windowed-on (wordStep s w .reply) (wordStep s w .session) (feedOf (wordStep s w .session) ws) b
+    (windowed-piece (wordStep s w .session) ws (kept s w v) b)
 
 none-windowed : Windowed (newSession .shared .outputs)
 unfolding isSet output
@@ -142,7 +142,7 @@ none-windowed =
 -- every set output of a session that the entries give out has an accepted window
 pub reached-windowed : {s : Session} → Reached s → Windowed (s .shared .outputs)
 reached-windowed begun = none-windowed
-reached-windowed (word {s} r w) = windowed-word s w (reached-valid r) (reached-windowed r) (stepOf s w) (way s w)
+reached-windowed (word {s} r w) = windowed-word s w (reached-valid r) (reached-windowed r) (wordStep s w) (way s w)
 reached-windowed (piece {s} r ws) = windowed-piece s ws (reached-valid r) (reached-windowed r)
 
 -- what an accepted window tells
