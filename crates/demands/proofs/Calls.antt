@@ -16,11 +16,12 @@ use Rattle.memory.specs.Answers.{countTold}
 use Rattle.group.specs.Group.{Outcome, Steps, Fails, Run, Makes, Breaks, stepTold, runTold, beginTold, isGroupSize, stepOf, runOf}
 use Rattle.group.specs.Cells.{stepLeaves, runLeaves, beginLeaves}
 use Rattle.flow.specs.Store.{isProgram, loadTold, firstsLeft, secondsLeft}
-use Rattle.score.specs.Score.{Score, scored, refused}
+use Rattle.score.specs.Score.{Score, scored, refused, scoreOf}
 use Rattle.egretfold.specs.Crossing.{Crosses, statusOf, roomOf}
 use Rattle.egretfold.specs.Commands.{onLine, commandWith, namedWriteOf, namedRoom}
 use Rattle.egretfold.specs.Elements.{inSixteen}
 use Rattle.egretfold.specs.Scores.{claimedTold, servedTold, monthTold}
+use Rattle.demands.proofs.Numbers.{Nonzero, judged-number, translated-number, located-number, read-number, written-number, superfine-number, parameters-number, command-number, format-number, load-number, begin-number, step-number, run-number, month-number}
 use Rattle.demands.specs.Calls.{Call, layout, translate, locate, read, write, superfine, parameters, command, format, load, begin, step, run, month, Untouched, layoutIn}
 
 abbrev Lists : Type 0
@@ -37,8 +38,8 @@ module _ {t : Told} {r : ℕ} {before after : List ℕ} (c : Crosses t r before 
   room : after ≡ before
   room = c .room ∙ ap (λ (u : Told). roomOf u before) e
 
-  one-room : Untouched n r (before ∷ []) (after ∷ [])
-  one-room = record { number = number; arrays = ap {B = Lists} (λ (l : List ℕ). l ∷ []) room }
+  one-room : Nonzero t → Untouched n r (before ∷ []) (after ∷ [])
+  one-room z = record { number = number; not-zero = z n e; arrays = ap {B = Lists} (λ (l : List ℕ). l ∷ []) room }
 
 two : {a b c d : List ℕ} → a ≡ b → c ≡ d → _≡_ {A = Lists} (a ∷ c ∷ []) (b ∷ d ∷ [])
 two p q = λ i. p i ∷ q i ∷ []
@@ -88,13 +89,19 @@ served-refused (refused m) n e = e
 
 pub refused-call : {t : Told} {r : ℕ} {lent left : Lists} → Call t r lent left → (n : ℕ) → t ≡ refuses n → Untouched n r lent left
 unfolding memoryAfter loadTold firstsLeft secondsLeft beginTold beginLeaves
-refused-call (layout l r a b c) n e = one-room c n e
-refused-call (translate l x y r a b c) n e = one-room c n e
-refused-call (locate l address r a b c) n e = one-room c n e
-refused-call (read l x y first m r a b c) n e = one-room c n (ap inSixteen e)
+refused-call (layout l r a b c) n e = one-room c n e (judged-number l)
+refused-call (translate l x y r a b c) n e = one-room c n e (translated-number (layoutIn l) x y)
+refused-call (locate l address r a b c) n e = one-room c n e (located-number (layoutIn l) address)
+refused-call (read l x y first m r a b c) n e =
+    record {
+      number = number c n (ap inSixteen e);
+      not-zero = read-number (layoutIn l) x y first m n e;
+      arrays = ap {B = Lists} (λ (l : List ℕ). l ∷ []) (room c n (ap inSixteen e));
+    }
 refused-call (write l x y first given r a b c) n e =
     record {
       number = c .status ∙ ap statusOf e;
+      not-zero = written-number (layoutIn l) x y first given a n e;
       arrays =
           ap {B = Lists} (λ (l : List ℕ). l ∷ [])
           (c .memory ∙ ap (λ (t : Told). memoryAfter t (layoutIn l) x y first given a) e);
@@ -102,38 +109,47 @@ refused-call (write l x y first given r a b c) n e =
 refused-call (superfine base f height x y first m r a b p q c) n e =
     record {
       number = number (c .answer) n (ap inSixteen e);
+      not-zero = superfine-number base f height x y first m n e;
       arrays = two (room (c .answer) n (ap inSixteen e)) (room (c .number) n (ap countTold e));
     }
-refused-call (parameters header r a b c) n e = one-room c n e
+refused-call (parameters header r a b c) n e = one-room c n e (parameters-number header)
 refused-call (command header fields r a b p q c) n e =
     record {
       number = number (c .answer) n e;
+      not-zero = command-number header fields a n e;
       arrays = two (c .room ∙ named-room (lineWith header) header fields a refl n e) (room (c .answer) n e);
     }
-refused-call (format p h header k r a b c) n e = one-room c n e
+refused-call (format p h header k r a b c) n e = one-room c n e (format-number p h header k)
 refused-call (load words r f f' s s' k k' c) n e =
     let no = denied (isProgram words) _ 15 n e in
     record {
       number = number (c .answer) n e;
+      not-zero = load-number words n e;
       arrays = three (c .left-firsts ∙ pick-no _ _ no) (c .left-seconds ∙ pick-no _ _ no) (room (c .answer) n e);
     }
 refused-call (begin size r a b c) n e =
     record {
       number = c .status ∙ ap statusOf e;
+      not-zero = begin-number size n e;
       arrays = ap {B = Lists} (λ (l : List ℕ). l ∷ []) (c .left ∙ pick-no _ _ (denied (isGroupSize size) [] 13 n e));
     }
 refused-call (step limit program alu predicate booleans g r a b p q c) n e =
     record {
       number = number (c .answer) n e;
+      not-zero = step-number limit program alu predicate booleans g n e;
       arrays = two (c .left ∙ step-left a (stepOf limit program alu predicate booleans g) n e) (room (c .answer) n e);
     }
 refused-call (run limit program booleans masks g r a b p q c) n e =
     record {
       number = number (c .answer) n e;
+      not-zero = run-number limit program booleans masks g n e;
       arrays = two (c .left ∙ run-left a (runOf limit program booleans masks g) n e) (room (c .answer) n e);
     }
-refused-call (month s r a b m a' b' m' c) n e =
+refused-call (month l replay r a b m a' b' m' c) n e =
     record {
       number = number (c .month-room) n e;
-      arrays = three (room (c .claimed-room) n (claimed-refused s n e)) (room (c .served-room) n (served-refused s n e)) (room (c .month-room) n e);
+      not-zero = month-number l replay n e;
+      arrays =
+          three (room (c .claimed-room) n (claimed-refused (scoreOf l replay) n e)) (room (c .served-room) n (served-refused (scoreOf l replay) n e))
+          (room (c .month-room) n e);
     }

@@ -4,7 +4,7 @@
 use mathlib.Core.Path.{_≡_}
 use mathlib.Core.Bool.{Bool}
 use mathlib.Core.List.{List, [], _∷_}
-use Prim.Native.Nat.{ℕ}
+use Prim.Native.Nat.{ℕ, _≤_}
 use Rattle.refusal.specs.Told.{Told}
 use Rattle.layout.specs.Layout.{judgeOf}
 use Rattle.address.specs.Address.{layoutOf, translateOf, locateOf}
@@ -13,8 +13,9 @@ use Rattle.superfine.specs.Superfine.{superfineReadOf}
 use Rattle.state.specs.State.{Party, Shared}
 use Rattle.group.specs.Group.{Program, Group, stepTold, runTold, beginTold, stepOf, runOf}
 use Rattle.flow.specs.Store.{loadTold}
-use Rattle.score.specs.Lease.{Lease, leaseTold}
-use Rattle.score.specs.Score.{Score}
+use Rattle.replay.specs.State.{Replay}
+use Rattle.score.specs.Lease.{Lease}
+use Rattle.score.specs.Score.{scoreOf}
 use Rattle.egretfold.specs.Crossing.{Crosses}
 use Rattle.egretfold.specs.Commands.{parametersOf, namedWriteOf, CommandCrosses}
 use Rattle.egretfold.specs.Elements.{inSixteen, SuperfineCrosses, WriteCrosses}
@@ -85,11 +86,12 @@ pub data Call : Told → ℕ → List (List ℕ) → List (List ℕ) → Type 0 
       RunCrosses (runOf limit program booleans masks g) r cells cells' report report' →
       Call (runTold (runOf limit program booleans masks g)) r (cells ∷ report ∷ []) (cells' ∷ report' ∷ [])
   -- egretfold_score_month
-  month : (s : Score) (r : ℕ) (claimed served month claimed' served' month' : List ℕ) →
-      MonthCrosses s r claimed served month claimed' served' month' →
-      Call (monthTold s) r (claimed ∷ served ∷ month ∷ []) (claimed' ∷ served' ∷ month' ∷ [])
+  month : (l : Lease) (replay : Replay) (r : ℕ) (claimed served month claimed' served' month' : List ℕ) →
+      MonthCrosses (scoreOf l replay) r claimed served month claimed' served' month' →
+      Call (monthTold (scoreOf l replay)) r (claimed ∷ served ∷ month ∷ []) (claimed' ∷ served' ∷ month' ∷ [])
 
--- "A refusal hands back its number and no other result. Lent memory .. stay the same."
+-- "A refusal hands back its number and no other result. Lent memory .. stay the same." No refusal has the number 0
 pub record Untouched (n r : ℕ) (lent left : List (List ℕ)) : Type 0 where
   pub number : r ≡ n
+  pub not-zero : 1 ≤ n
   pub arrays : left ≡ lent
