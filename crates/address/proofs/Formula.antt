@@ -1,9 +1,9 @@
 -- Demand 3's "by the guide's formula, as document 01 gives it": a pair's address is the one that document 01 prints, line by line
 -- and size by size, and where the layout is accepted and the pair inside it is source 003's too. Assumes nothing.
-use mathlib.Core.Path.{_≡_, refl, sym, ap, ap₂, _∙_}
+use mathlib.Core.Path.{_≡_, refl, sym, ap, _∙_}
 use mathlib.Core.Bool.{Bool, true, false}
-use mathlib.Core.List.{List, [], _∷_}
-use Prim.Native.Nat.{ℕ, _+_, _*_, _/_, _%_, _^_, _<_, _≤_}
+use mathlib.Core.List.{[], _∷_}
+use Prim.Native.Nat.{ℕ, _+_, _*_, _/_, _%_, _<_, _≤_}
 use native.Mathlib.Nat.{add-assoc, mul-div-cancel}
 use native.Mathlib.Omega.{arith}
 use lib.ListN.{getD}
@@ -19,8 +19,7 @@ use Rattle.layout.proofs.Window.{form-size, rule-bounds}
 use Rattle.address.specs.Offset.{insideOf, tiledOffset, linearOffset, offsetOf}
 use Rattle.address.specs.Address.{stepOf, addressOf, translateOf}
 use Rattle.address.specs.Inverse.{Accepted, Inside}
-use Rattle.address.specs.Printed.{fromBits, slice, line1, line2, line4, line8, line16}
-use Rattle.address.specs.Formula.{printedInside, printedLinear, printedTiled, printedAddress, tileSlices, linearColumns, tiledColumns, guideAddress}
+use Rattle.address.specs.Formula.{printedInside, printedLinear, printedTiled, printedAddress, linearColumns, tiledColumns, guideAddress}
 use Rattle.address.proofs.Inverse.{inverse}
 use Rattle.address.proofs.Printed.{inside1, inside2, inside4, inside8, inside16, Fields, linear1, linear2, linear4, linear8, linear16}
 

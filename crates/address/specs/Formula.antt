@@ -1,6 +1,5 @@
 -- The address of a pair as it is printed: document 01's two formulas with its table of the bits inside a tile, line by line, and
 -- source 003's columns of bits. proofs/Formula.antt shows that the definitions of Address.antt are these. Assumes nothing.
-use mathlib.Core.Bool.{true, false}
 use mathlib.Core.List.{List, [], _∷_}
 use Prim.Native.Nat.{ℕ, _+_, _*_, _/_}
 use lib.ListN.{getD}

@@ -1,6 +1,6 @@
 -- A refused call changes no lent byte, whichever call it is, and its status is the refusal's number. Assumes nothing.
-use mathlib.Core.Path.{_≡_, refl, sym, ap, ap₂, _∙_}
-use mathlib.Core.Bool.{Bool, true, false}
+use mathlib.Core.Path.{_≡_, refl, sym, ap, _∙_}
+use mathlib.Core.Bool.{Bool, false}
 use mathlib.Core.List.{List, [], _∷_}
 use Prim.Native.Nat.{ℕ}
 use native.Mathlib.Omega.{arith}
@@ -21,8 +21,42 @@ use Rattle.egretfold.specs.Crossing.{Crosses, statusOf, roomOf}
 use Rattle.egretfold.specs.Commands.{onLine, commandWith, namedWriteOf, namedRoom}
 use Rattle.egretfold.specs.Elements.{inSixteen}
 use Rattle.egretfold.specs.Scores.{claimedTold, servedTold, monthTold}
-use Rattle.demands.proofs.Numbers.{Nonzero, judged-number, translated-number, located-number, read-number, written-number, superfine-number, parameters-number, command-number, format-number, load-number, begin-number, step-number, run-number, month-number}
-use Rattle.demands.specs.Calls.{Call, layout, translate, locate, read, write, superfine, parameters, command, format, load, begin, step, run, month, Untouched, layoutIn}
+use Rattle.demands.proofs.Numbers.{
+  Nonzero,
+  judged-number,
+  translated-number,
+  located-number,
+  read-number,
+  written-number,
+  superfine-number,
+  parameters-number,
+  command-number,
+  format-number,
+  load-number,
+  begin-number,
+  step-number,
+  run-number,
+  month-number,
+}
+use Rattle.demands.specs.Calls.{
+  Call,
+  layout,
+  translate,
+  locate,
+  read,
+  write,
+  superfine,
+  parameters,
+  command,
+  format,
+  load,
+  begin,
+  step,
+  run,
+  month,
+  Untouched,
+  layoutIn,
+}
 
 abbrev Lists : Type 0
 Lists = List (List ℕ)

@@ -1,22 +1,21 @@
 -- The days of a log: a part is what the words between its two midnights added, and a part that has ended never changes.
 -- Assumes nothing.
 use mathlib.Core.Path.{_≡_, refl, sym, ap, ap₂, _∙_, subst}
-use mathlib.Core.Bool.{Bool, true, false}
+use mathlib.Core.Bool.{true}
 use mathlib.Core.List.{List, [], _∷_, _++_, append-nil}
-use Prim.Native.Nat.{ℕ, zero, suc, _+_, _-_, _*_, _<_, _≤_}
+use Prim.Native.Nat.{ℕ, zero, suc, _+_, _-_, _<_, _≤_}
 use native.Mathlib.Nat.{zero-add}
 use native.Mathlib.Numerals.{add-one}
 use native.Mathlib.Omega.{arith}
-use lib.Dec.{eqb, leb, ltb}
-use lib.ListN.{length, getD}
+use lib.Dec.{ltb}
+use lib.ListN.{getD}
 use borrow.Author.Tests.{le-leb, ltb-true, ltb-false}
 use Rattle.laws.specs.Choice.{_and_, pick}
 use Rattle.laws.specs.Masks.{_or_}
 use Rattle.laws.proofs.Choice.{Tested, tested, holds, fails, pick-yes, pick-no, by-pick, and-left}
 use Rattle.laws.proofs.Table.{each, _&_}
-use Rattle.state.specs.State.{Tally, Session}
-use Rattle.session.specs.Feed.{nothing, feedOf}
-use Rattle.session.specs.Tallies.{runsOf, claimsOf}
+use Rattle.state.specs.State.{Tally}
+use Rattle.session.specs.Feed.{feedOf}
 use Rattle.session.proofs.Tallies.{tallied}
 use Rattle.replay.specs.State.{Replay, newReplay}
 use Rattle.replay.specs.Step.{Reply, taken, refused, Stepped, taking, kindStep, afterWord, mayBegin, afterMidnight, midnightStep}
@@ -24,7 +23,7 @@ use Rattle.replay.specs.Report.{noTally, markAt, beganWith, endedWith, less, pa
 use Rattle.replay.specs.Cells.{LogValid}
 use Rattle.replay.proofs.Marks.{mark-new, mark-old, ended-past, ended-now}
 use Rattle.log.specs.Bytes.{recordStep, openStep, byteStep}
-use Rattle.log.specs.Feed.{Fed, proceed, replayOf, joined, recordBytes, ahead}
+use Rattle.log.specs.Feed.{Fed, proceed, replayOf, joined, recordBytes}
 use Rattle.log.specs.Words.{wordsIn}
 use Rattle.log.specs.Asked.{Bytes8}
 use Rattle.log.proofs.Cut.{cut}

@@ -3,18 +3,16 @@
 use mathlib.Core.Path.{_≡_, refl, sym, ap, ap₂, _∙_, subst}
 use mathlib.Core.Bool.{Bool, true, false, not}
 use mathlib.Core.List.{List, [], _∷_}
-use Prim.Native.Nat.{ℕ, zero, suc, _+_, _<_, _≤_}
+use Prim.Native.Nat.{ℕ, zero, suc, _<_}
 use native.Mathlib.Omega.{arith}
 use lib.Dec.{eqb, leb}
-use lib.ListN.{getD}
 use borrow.Author.Tests.{leb-true, leb-false}
 use Rattle.laws.specs.Choice.{_and_, pick}
-use Rattle.laws.specs.Masks.{_or_, digit, on}
-use Rattle.laws.specs.Below.{some, every}
+use Rattle.laws.specs.Masks.{_or_, on}
 use Rattle.laws.proofs.Choice.{Tested, tested, holds, fails, pick-yes, pick-no, by-pick}
 use Rattle.laws.proofs.Below.{some-same, every-same}
 use Rattle.refusal.specs.Told.{gives, refuses}
-use Rattle.group.specs.Proc.{Proc, Active, Idle, Absent, isLive, isActive, turned, wants, decided, lowered, raised, worked}
+use Rattle.group.specs.Proc.{Proc, Active, Idle, Absent, isLive, isActive, turned, wants, decided, worked}
 use Rattle.group.specs.Group.{
   Program,
   Group,
@@ -50,13 +48,43 @@ use Rattle.group.specs.Group.{
   isGroupSize,
   beginTold,
 }
-use Rattle.group.specs.Cells.{groupOf, cellsOf, runLeaves, beginLeaves}
+use Rattle.group.specs.Cells.{groupOf, runLeaves, beginLeaves}
 use Rattle.group.specs.Cells as cells
 use Rattle.group.proofs.State.{made-of, left-made, step-sound}
 use Rattle.flow.proofs.Beginning.{begin-made}
 use Rattle.flow.proofs.Running.{SoundRun, steps-sound}
 use Rattle.egretfold.specs.Crossing.{statusOf}
-use Rattle.demands.specs.Flow.{firstAt, secondAt, elsed, wishes, decision, next, Made, Refused, hasEnded, tooMany, badField, counterAtLimit, stackAtLimit, pastEnd, Walk, listOut, halfPair, programOut, oneMore, stepFails, Ran, over, walked, Agree, AllAgree, Handed, begun, stepped, ran}
+use Rattle.demands.specs.Flow.{
+  firstAt,
+  secondAt,
+  elsed,
+  wishes,
+  decision,
+  next,
+  Made,
+  Refused,
+  hasEnded,
+  tooMany,
+  badField,
+  counterAtLimit,
+  stackAtLimit,
+  pastEnd,
+  Walk,
+  listOut,
+  halfPair,
+  programOut,
+  oneMore,
+  stepFails,
+  Ran,
+  over,
+  walked,
+  Agree,
+  AllAgree,
+  Handed,
+  begun,
+  stepped,
+  ran,
+}
 use Rattle.demands.specs.Flow as flow
 
 -- what an outcome shows

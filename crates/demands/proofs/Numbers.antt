@@ -1,10 +1,9 @@
 -- No refusal of a call has the number 0, so a status of 0 is no refusal. Assumes nothing.
-use mathlib.Core.Path.{_≡_, refl, sym, ap, _∙_, subst}
-use mathlib.Core.Bool.{Bool, true, false}
+use mathlib.Core.Path.{_≡_, refl, subst}
+use mathlib.Core.Bool.{Bool}
 use mathlib.Core.List.{List, [], _∷_}
 use Prim.Native.Nat.{ℕ, _≤_}
 use native.Mathlib.Omega.{arith}
-use lib.Dec.{eqb}
 use lib.ListN.{length}
 use borrow.Author.Tests.{eqb-false}
 use Rattle.laws.specs.Choice.{pick}
@@ -16,7 +15,6 @@ use Rattle.address.specs.Address.{ifAccepted, translateOf, backOf, locateOf}
 use Rattle.memory.specs.Elements.{inOrder, readOf, writeOf}
 use Rattle.superfine.specs.Superfine.{fourOf, fourAtOf, superfineReadOf}
 use Rattle.command.specs.Table.{lineWith}
-use Rattle.command.specs.Rules.{lastRuleOf}
 use Rattle.command.specs.Writer.{thenTold, judgeCommandOf}
 use Rattle.command.specs.Writer as writer
 use Rattle.command.specs.declared.commands.Command.{Command}
@@ -26,12 +24,29 @@ use Rattle.group.specs.Group.{Program, Group, Outcome, Steps, Fails, Run, Makes
 use Rattle.flow.specs.Store.{loadTold}
 use Rattle.replay.specs.State.{Replay}
 use Rattle.score.specs.Lease.{Lease}
-use Rattle.score.specs.Score.{Score, scored, refused, scoreOf}
+use Rattle.score.specs.Score.{Score, scoreOf}
 use Rattle.egretfold.specs.Commands.{onLine, parametersOf, namedWriteOf, commandWith}
 use Rattle.egretfold.specs.Scores.{monthTold}
 use Rattle.egretfold.specs.Sessions.{formatAt, formatOf}
 use Rattle.demands.specs.Calls.{Numbers, judgedIn}
-use Rattle.demands.specs.Flow.{Refused, hasEnded, tooMany, badField, counterAtLimit, stackAtLimit, pastEnd, Walk, listOut, halfPair, programOut, oneMore, stepFails, Ran, over, walked}
+use Rattle.demands.specs.Flow.{
+  Refused,
+  hasEnded,
+  tooMany,
+  badField,
+  counterAtLimit,
+  stackAtLimit,
+  pastEnd,
+  Walk,
+  listOut,
+  halfPair,
+  programOut,
+  oneMore,
+  stepFails,
+  Ran,
+  over,
+  walked,
+}
 use Rattle.demands.proofs.Flow.{step-refused, run-walks}
 
 abbrev pub Nonzero : Told → Type 0

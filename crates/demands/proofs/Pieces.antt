@@ -1,23 +1,21 @@
 -- Sessions as a host has them: arrays that the calls left may be handed in again, a refused word leaves tallies, settings and room, and
 -- pieces fed by one call after the other leave what one call with the uncut words leaves. Assumes nothing.
 use mathlib.Core.Path.{_≡_, refl, sym, ap, ap₂, _∙_, subst}
-use mathlib.Core.List.{List, [], _∷_, _++_}
+use mathlib.Core.List.{List, [], _∷_}
 use Prim.Native.Nat.{ℕ, _+_, _≤_}
 use native.Mathlib.Omega.{arith}
-use lib.ListN.{length, length-append}
-use lib.Dec.{eqb}
-use borrow.Author.Tests.{ne-eqb, eq-eqb}
+use lib.ListN.{length-append}
+use borrow.Author.Tests.{ne-eqb}
 use Rattle.laws.specs.Choice.{pick}
-use Rattle.laws.proofs.Choice.{pick-yes, pick-no}
-use Rattle.refusal.specs.Told.{Told, gives, refuses}
+use Rattle.laws.proofs.Choice.{pick-no}
 use Rattle.state.specs.State.{Session, newSession}
 use Rattle.state.specs.Valid.{Valid}
 use Rattle.state.specs.Asked.{Given, Held}
-use Rattle.state.specs.Cells.{sessionOf, partyOf, sharedOf, partyCells, tallyCells, sharedCells}
+use Rattle.state.specs.Cells.{sessionOf, tallyCells, sharedCells}
 use Rattle.state.proofs.Cells.{own-canon, tally-canon, shared-canon, held-view, held-given}
-use Rattle.session.specs.Step.{Stepped, Reply, refused, stepOf}
+use Rattle.session.specs.Step.{Reply, refused, stepOf}
 use Rattle.session.specs.Feed.{First, nothing, first, Fed, feedOf, earlier, joined, uncut}
-use Rattle.session.specs.Refusals.{StopNumber, low, full, RefusedTo, unchanged, stopping}
+use Rattle.session.specs.Refusals.{low, full, RefusedTo, unchanged, stopping}
 use Rattle.session.specs.Reached.{Reached}
 use Rattle.session.specs.Reached as reached
 use Rattle.session.proofs.Kept.{kept}

@@ -1,14 +1,12 @@
 -- The place of a log's first refused word. While no word is refused, every record that was read is a word that the session took or a
 -- midnight; after that the session's count and the report stand. Assumes nothing.
-use mathlib.Core.Path.{_≡_, refl, sym, ap, ap₂, _∙_, subst}
-use mathlib.Core.Bool.{Bool, true, false}
+use mathlib.Core.Path.{_≡_, refl, sym, ap, _∙_, subst}
 use mathlib.Core.List.{List, [], _∷_, _++_}
-use Prim.Native.Nat.{ℕ, zero, suc, _+_, _*_, _<_, _≤_, suc-le-suc}
+use Prim.Native.Nat.{ℕ, zero, suc, _+_, _*_, suc-le-suc}
 use native.Mathlib.Omega.{arith}
-use lib.Dec.{eqb, ltb}
+use lib.Dec.{eqb}
 use lib.ListN.{length}
-use borrow.Author.Tests.{eqb-true, eqb-false, eq-eqb, ne-eqb, ltb-true, ltb-false}
-use Rattle.laws.specs.Choice.{pick}
+use borrow.Author.Tests.{eqb-true, eqb-false, eq-eqb, ne-eqb, ltb-false}
 use Rattle.laws.proofs.Choice.{Tested, tested, holds, fails, pick-yes, pick-no, by-pick}
 use Rattle.state.specs.State.{Session}
 use Rattle.session.specs.Step.{stillOpen, completed, stepOf}
@@ -19,15 +17,15 @@ use Rattle.session.specs.Refusals.{RefusedTo, unchanged, stopping}
 use Rattle.session.proofs.Refusals.{refused-word, stopped-for-good, stopped-piece}
 use Rattle.session.proofs.Tallies.{counted}
 use Rattle.replay.specs.State.{WordRefused, Replay, newReplay}
-use Rattle.replay.specs.Step.{Reply, taken, refused, Stepped, taking, kindStep, numberFrom, noted, notedReply, afterWord, afterMidnight, midnightStep}
+use Rattle.replay.specs.Step.{Reply, taken, refused, Stepped, kindStep, numberFrom, noted, notedReply, afterWord, afterMidnight, midnightStep}
 use Rattle.replay.specs.Cells.{LogValid}
 use Rattle.log.specs.Bytes.{recordStep, openStep, byteStep}
-use Rattle.log.specs.Feed.{Fed, proceed, replayOf, recordBytes, ahead}
+use Rattle.log.specs.Feed.{Fed, proceed, replayOf, recordBytes}
 use Rattle.log.specs.Words.{wordsIn, reported}
 use Rattle.log.specs.Asked.{Bytes8}
-use Rattle.log.proofs.Cut.{Stopping, stopping as stops}
+use Rattle.log.proofs.Cut.{stopping as stops}
 use Rattle.log.proofs.Words.{one-session, first-refusal}
-use Rattle.log.proofs.Records.{Ready, word-read, not-zero}
+use Rattle.log.proofs.Records.{word-read, not-zero}
 use Rattle.log.proofs.Kept.{new-replay-valid, byte-valid}
 use Rattle.demands.specs.Days.{replayed, goneOn}
 use Rattle.demands.specs.Refused.{FirstRefused, Reported}
@@ -146,7 +144,8 @@ module _ (r : Replay) (ne : r .refused .number ≡ 0 → ⊥) where
       (λ f.
       by-pick SameReport _ _ _ (λ g. refl)
       (λ g.
-      by-pick SameReport _ _ _ (λ h. noted-same (stepOf (r .session) (numberFrom (r .opened .low) (r .opened .second) (r .opened .third) b) .reply)) (λ h. by-pick SameReport _ _ _ (λ i. refl) (λ i. refl)))))
+      by-pick SameReport _ _ _ (λ h. noted-same (stepOf (r .session) (numberFrom (r .opened .low) (r .opened .second) (r .opened .third) b) .reply))
+      (λ h. by-pick SameReport _ _ _ (λ i. refl) (λ i. refl)))))
       (λ e. refl)
 
 bytes-report : (r : Replay) (bs : List ℕ) → (r .refused .number ≡ 0 → ⊥) → goneOn r bs .refused ≡ r .refused

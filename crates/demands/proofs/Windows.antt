@@ -5,7 +5,6 @@ use mathlib.Core.Path.{_≡_, refl, sym, ap, _∙_, subst}
 use mathlib.Core.Bool.{Bool, true, false}
 use mathlib.Core.List.{List, [], _∷_}
 use Prim.Native.Nat.{ℕ, zero, suc, _+_, _<_, _≤_, zero-le, suc-le-suc}
-use native.Mathlib.Nat.{not-suc-le-zero}
 use native.Mathlib.Omega.{arith}
 use lib.Dec.{eqb, leb, ltb}
 use lib.ListN.{length, getD, set}
@@ -17,8 +16,7 @@ use Rattle.laws.proofs.Choice.{Tested, tested, holds, fails, pick-yes, pick-no,
 use Rattle.laws.proofs.Below.{every-at}
 use Rattle.laws.proofs.Table.{each, _&_}
 use Rattle.refusal.specs.Told.{Told, gives, refuses}
-use Rattle.layout.specs.Layout.{wellFormed, rowStep, spanOf, windowRule, judgeOf}
-use Rattle.layout.specs.declared.Layout.{Layout}
+use Rattle.layout.specs.Layout.{wellFormed, spanOf, windowRule, judgeOf}
 use Rattle.layout.proofs.Sizes.{tile}
 use Rattle.layout.proofs.Window.{form-size, rule-bounds}
 use Rattle.address.specs.Address.{stepOf}
@@ -29,9 +27,21 @@ use Rattle.command.specs.Rules.{isGiven, domainKept, windowKept, lastRuleOf}
 use Rattle.command.specs.declared.commands.Stored.the-variants as stored
 use Rattle.command.specs.declared.commands.Command.{Command}
 use Rattle.command.specs.declared.commands.Command.the-variants as command
-use Rattle.superfine.specs.Superfine.{layoutOf}
 use Rattle.state.specs.State.{Buffer, Domain, Shared, Session, unset, newSession}
-use Rattle.state.specs.Start.{valueOf, stepOfBuffer, spanOfBuffer, output, isSet, counts, containsDomain, apart, complete, covered, disjoint, readyOf}
+use Rattle.state.specs.Start.{
+  valueOf,
+  stepOfBuffer,
+  spanOfBuffer,
+  output,
+  isSet,
+  counts,
+  containsDomain,
+  apart,
+  complete,
+  covered,
+  disjoint,
+  readyOf,
+}
 use Rattle.state.specs.Effects.{buffer, sharedAfter, after}
 use Rattle.state.specs.Valid.{Valid}
 use Rattle.session.specs.Step.{Reply, stillOpen, completed, refused, Stepped, startRuleOf, stepOf as wordStep}

@@ -1,13 +1,12 @@
 -- The header's sentence on a refused word of a log: "The first refused word stands in the record whose number, counted from 0, is the
 -- words that the session has taken plus the midnights before that word." Assumes nothing.
 use mathlib.Core.Path.{_≡_}
-use mathlib.Core.List.{List, _++_}
+use mathlib.Core.List.{List}
 use Prim.Native.Nat.{ℕ, _+_, _*_, _<_}
 use lib.ListN.{length}
 use Rattle.session.specs.Step.{refused, stepOf}
 use Rattle.replay.specs.State.{Replay, noRecord}
 use Rattle.log.specs.Asked.{Bytes8}
-use Rattle.log.specs.Feed.{recordBytes}
 use Rattle.demands.specs.Days.{replayed}
 
 -- the records before the first refused word, and that word

@@ -1,9 +1,7 @@
 -- Every session that the entries give out is valid, and what the statements ask of a session holds of it. Assumes nothing.
 use mathlib.Core.Path.{_≡_, refl, sym, ap, _∙_, subst}
-use mathlib.Core.Bool.{true}
-use mathlib.Core.List.{List, [], _∷_, _++_, append-nil}
+use mathlib.Core.List.{List, [], _∷_, _++_}
 use Prim.Native.Nat.{ℕ, zero, suc, _+_, _≤_}
-use native.Mathlib.Nat.{add-zero}
 use native.Mathlib.Omega.{arith}
 use lib.Dec.{eqb, leb}
 use lib.ListN.{length, take, drop, length-append}
@@ -12,19 +10,19 @@ use borrow.Author.Tests.{eqb-true, le-leb}
 use Rattle.laws.specs.Choice.{pick}
 use Rattle.laws.proofs.Choice.{Tested, tested, holds, fails, pick-yes, pick-no}
 use Rattle.refusal.specs.Told.{Told, gives, refuses}
-use Rattle.command.specs.Table.{headerOf, countOf}
-use Rattle.command.specs.Commands.{lineOf, fieldsOf, wordsOf}
+use Rattle.command.specs.Table.{headerOf}
+use Rattle.command.specs.Commands.{lineOf, wordsOf}
 use Rattle.command.specs.Writer.{thenTold, judgeCommandOf, writeOf, roomAfter}
 use Rattle.command.specs.declared.commands.Command.{Command}
 use Rattle.command.proofs.Headers.{count-most}
 use Rattle.command.proofs.WriteBack.{lined}
-use Rattle.state.specs.State.{Open, Session, none, newSession}
+use Rattle.state.specs.State.{Session, none}
 use Rattle.state.specs.Effects.{limit, after}
 use Rattle.state.specs.Valid.{parametersOf, Valid, heldOf}
-use Rattle.session.specs.Step.{stillOpen, completed, refused, Stepped, stepOf}
-use Rattle.session.specs.Feed.{nothing, first, Fed, proceed, feedOf, joined, written}
+use Rattle.session.specs.Step.{Stepped, stepOf}
+use Rattle.session.specs.Feed.{nothing, first, Fed, proceed, feedOf, written}
 use Rattle.session.specs.Again.{Idle, SameSettings, ReadAgain, EachWritable}
-use Rattle.session.specs.Tallies.{runsOf, claimsOf}
+use Rattle.session.specs.Tallies.{claimsOf}
 use Rattle.session.specs.Reached.{Reached, begun, word, piece, mostWords, wordsPut, byWriter, allByWriter, ReadInFull}
 use Rattle.session.proofs.Ways.{Way, wasStopped, stops, opens, fills, ends, way}
 use Rattle.session.proofs.Kept.{new-valid, effects-of, kept}
