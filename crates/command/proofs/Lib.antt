@@ -1,6 +1,7 @@
 pub mod Fitting
 pub mod Headers
 pub mod Judging
+pub mod Known
 pub mod Readable
 pub mod Rule
 pub mod Windows

@@ -17,10 +17,11 @@ use Rattle.group.specs.Group.{Outcome, Steps, Fails, Run, Makes, Breaks, stepTo
 use Rattle.group.specs.Cells.{stepLeaves, runLeaves, beginLeaves}
 use Rattle.flow.specs.Store.{isProgram, loadTold, firstsLeft, secondsLeft}
 use Rattle.score.specs.Score.{Score, scored, refused, scoreOf}
-use Rattle.egretfold.specs.Crossing.{Crosses, statusOf, roomOf}
-use Rattle.egretfold.specs.Commands.{onLine, commandWith, namedWriteOf, namedRoom}
-use Rattle.egretfold.specs.Elements.{inSixteen}
-use Rattle.egretfold.specs.Scores.{claimedTold, servedTold, monthTold}
+use Rattle.refusal.specs.Crossing.{Crosses, statusOf, roomOf}
+use Rattle.command.specs.Known.{onLine}
+use Rattle.command_rooms.specs.Rooms.{commandWith, namedWriteOf, namedRoom}
+use Rattle.element_rooms.specs.Rooms.{inSixteen}
+use Rattle.score_rooms.specs.Rooms.{claimedTold, servedTold, monthTold}
 use Rattle.demands.proofs.Numbers.{
   Nonzero,
   judged-number,

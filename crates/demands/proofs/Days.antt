@@ -20,7 +20,7 @@ use Rattle.session.proofs.Tallies.{tallied}
 use Rattle.replay.specs.State.{Replay, newReplay}
 use Rattle.replay.specs.Step.{Reply, taken, refused, Stepped, taking, kindStep, afterWord, mayBegin, afterMidnight, midnightStep}
 use Rattle.replay.specs.Report.{noTally, markAt, beganWith, endedWith, less, partOf, partAt}
-use Rattle.replay.specs.Cells.{LogValid}
+use Rattle.replay.specs.Cells.{ReplayValid}
 use Rattle.replay.proofs.Marks.{mark-new, mark-old, ended-past, ended-now}
 use Rattle.log.specs.Bytes.{recordStep, openStep, byteStep}
 use Rattle.log.specs.Feed.{Fed, proceed, replayOf, joined, recordBytes}
@@ -118,7 +118,7 @@ days-stand before later k h =
     stands (replayed before) (goneOn (replayed before) later) (bytes-follow (replayed before) later) k h
 
 -- the last part grows by what the words add, where no midnight comes
-module _ (r : Replay) (v : LogValid r) (bs : List ℕ) (same : goneOn r bs .midnights ≡ r .midnights) where
+module _ (r : Replay) (v : ReplayValid r) (bs : List ℕ) (same : goneOn r bs .midnights ≡ r .midnights) where
   abbrev m : ℕ
   m = r .midnights
 
@@ -154,7 +154,7 @@ module _ (r : Replay) (v : LogValid r) (bs : List ℕ) (same : goneOn r bs .midn
       (omega (arith, tallied (r .session) (wordsIn r bs) .claims, last-grows .1, ap (λ (t : Tally). t .claims) (last-is then)))
 
 -- a midnight: the part that it begins has nothing yet, and no part before changes
-module _ (r : Replay) (v : LogValid r) (day : ℕ) (e : mayBegin (r .midnights) (r .lastDay) day ≡ true) where
+module _ (r : Replay) (v : ReplayValid r) (day : ℕ) (e : mayBegin (r .midnights) (r .lastDay) day ≡ true) where
   few : r .midnights < 400
   unfolding mayBegin
   few = ltb-true (r .midnights) 400 (and-left _ _ e)
@@ -210,19 +210,19 @@ record-bytes : (day : ℕ) → Bytes8 (recordBytes 2 day)
 record-bytes day k h =
     each (λ k. getD (recordBytes 2 day) k 0 < 256) 5 (tt & omega arith & omega arith & omega arith & omega arith & omega arith) k h
 
-midnight-valid : (r : Replay) (day : ℕ) → LogValid r → AtMidnight r day → LogValid (afterMidnight r day)
+midnight-valid : (r : Replay) (day : ℕ) → ReplayValid r → AtMidnight r day → ReplayValid (afterMidnight r day)
 unfolding replayOf
 midnight-valid r day v a =
-    subst LogValid (ap (goneOn r) (sym (append-nil (recordBytes 2 day))) ∙ midnight-read r day [] a) (piece-valid r v (recordBytes 2 day) (record-bytes day))
+    subst ReplayValid (ap (goneOn r) (sym (append-nil (recordBytes 2 day))) ∙ midnight-read r day [] a) (piece-valid r v (recordBytes 2 day) (record-bytes day))
 
 module _ (before : List ℕ) (day : ℕ) (during : List ℕ) (b : Bytes8 before) (a : AtMidnight (replayed before) day) where
   abbrev r₀ : Replay
   r₀ = replayed before
 
-  v₀ : LogValid r₀
+  v₀ : ReplayValid r₀
   v₀ = piece-valid newReplay new-replay-valid before b
 
-  v₁ : LogValid (begun before day)
+  v₁ : ReplayValid (begun before day)
   v₁ = midnight-valid r₀ day v₀ a
 
   pub to-day : replayed (withDay before day during) ≡ goneOn (begun before day) during

@@ -90,8 +90,15 @@ use Rattle.group.specs.Group.{
 }
 use Rattle.group.specs.Cells as cells
 use Rattle.flow.specs.Cases.{oneWord, c9, c10, c11, c12}
-use Rattle.egretfold.specs.Elements.{WriteCrosses}
-use Rattle.egretfold.specs.Sessions.{WordCrosses, FeedCrosses}
+use Rattle.element_rooms.specs.Rooms.{WriteCrosses}
+use Rattle.session_rooms.specs.Rooms.{WordCrosses, FeedCrosses}
+use Rattle.replay.specs.Cells.{ReplayHeld, ReplayGiven}
+use Rattle.log.proofs.Handed.{begun-given}
+use Rattle.log_rooms.specs.Rooms.{BeginCrosses}
+use Rattle.log_rooms.specs.Pieces.{Arrays, replayAt, GivenAt, FedAt, Pieces}
+use Rattle.log_rooms.proofs.Cut.{any-pieces, pieces-given}
+use Rattle.score_rooms.specs.Rooms.{MonthCrosses, ScoreCrosses}
+use Rattle.score_rooms.proofs.FromLog.{score-from-log}
 use Rattle.demands.specs.Calls.{Call, Untouched}
 use Rattle.demands.specs.Cases.{Agree as Cases, cases}
 use Rattle.demands.specs.Days.{added, replayed, goneOn, AtMidnight, withDay, begun}
@@ -298,6 +305,20 @@ flow-given = handed-made
 pub log-cut : (r : Replay) (ps : List (List ℕ)) → replayPieces r ps ≡ replayOf r (uncut ps)
 log-cut = bytes-cut-anywhere
 
+-- The same over the arrays: calls of egretfold_log_feed with the pieces, one after the other, leave the status, the sum of the bytes and
+-- all five arrays that one call with the uncut bytes leaves, and what they leave is what they ask for; so is a new replay.
+pub log-cut-calls :
+    (a : Arrays) → GivenAt a → (ps : List (List ℕ)) (status taken : ℕ) (a' : Arrays) → Pieces a ps status taken a' →
+    FedAt (replayOf (replayAt a) (uncut ps)) status taken a'
+log-cut-calls = any-pieces
+
+pub log-given :
+    (a : Arrays) → GivenAt a → (ps : List (List ℕ)) (status taken : ℕ) (a' : Arrays) → Pieces a ps status taken a' → GivenAt a'
+log-given = pieces-given
+
+pub log-begun : {log marks own tallies shared : List ℕ} → ReplayHeld newReplay log marks own tallies shared → ReplayGiven log marks own tallies shared
+log-begun = begun-given
+
 -- 18 and 19 "stop the replay and drop the open record. What came before stands; later bytes get that number again."
 pub log-refusals : (r : Replay) (b n : ℕ) → byteStep r b .reply ≡ byteRefused n → LogRefusedTo r n (byteStep r b .replay)
 log-refusals = refused-byte
@@ -435,6 +456,15 @@ score-verdict l e r = calling l r (bounds l e .some-days)
 -- A log fed in pieces, cut anywhere, has the score of the uncut log.
 pub score-cut : (l : Lease) (ps : List (List ℕ)) → scoreOf l (replayPieces newReplay ps .replay) ≡ scoreOfLog l (uncut ps)
 score-cut = in-pieces
+
+-- From a replay that was begun, through the pieces of a log, cut anywhere, to a month's rooms: they hold the score of the uncut bytes.
+pub score-calls :
+    (l : Lease) (a : Arrays) (b : ℕ) → BeginCrosses b (a .log) (a .marks) (a .own) (a .tallies) (a .shared) →
+    (ps : List (List ℕ)) (status taken : ℕ) (a' : Arrays) → Pieces a ps status taken a' →
+    (r : ℕ) (claimed served month claimed' served' month' : List ℕ) →
+    ScoreCrosses l (a' .log) (a' .marks) (a' .tallies) r claimed served month claimed' served' month' →
+    MonthCrosses (scoreOfLog l (uncut ps)) r claimed served month claimed' served' month'
+score-calls = score-from-log
 
 -- THE WORKED CASES
 

@@ -10,8 +10,8 @@ use Rattle.refusal.specs.Told.{Told, gives, refuses}
 use Rattle.layout.specs.declared.Layout.{Layout}
 use Rattle.address.specs.Address.{ifAccepted}
 use Rattle.memory.specs.Elements.{inOrder, writeOf, Wrote}
-use Rattle.egretfold.specs.Crossing.{statusOf}
-use Rattle.egretfold.specs.Elements.{WriteCrosses}
+use Rattle.refusal.specs.Crossing.{statusOf}
+use Rattle.element_rooms.specs.Rooms.{WriteCrosses}
 use Rattle.demands.proofs.Numbers.{written-number}
 
 -- a write tells nothing but that it is done

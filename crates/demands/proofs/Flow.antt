@@ -53,7 +53,7 @@ use Rattle.group.specs.Cells as cells
 use Rattle.group.proofs.State.{made-of, left-made, step-sound}
 use Rattle.flow.proofs.Beginning.{begin-made}
 use Rattle.flow.proofs.Running.{SoundRun, steps-sound}
-use Rattle.egretfold.specs.Crossing.{statusOf}
+use Rattle.refusal.specs.Crossing.{statusOf}
 use Rattle.demands.specs.Flow.{
   firstAt,
   secondAt,

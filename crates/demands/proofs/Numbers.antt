@@ -25,9 +25,10 @@ use Rattle.flow.specs.Store.{loadTold}
 use Rattle.replay.specs.State.{Replay}
 use Rattle.score.specs.Lease.{Lease}
 use Rattle.score.specs.Score.{Score, scoreOf}
-use Rattle.egretfold.specs.Commands.{onLine, parametersOf, namedWriteOf, commandWith}
-use Rattle.egretfold.specs.Scores.{monthTold}
-use Rattle.egretfold.specs.Sessions.{formatAt, formatOf}
+use Rattle.command.specs.Known.{onLine}
+use Rattle.command_rooms.specs.Rooms.{parametersOf, namedWriteOf, commandWith}
+use Rattle.score_rooms.specs.Rooms.{monthTold}
+use Rattle.setting_rooms.specs.Rooms.{formatAt, formatOf}
 use Rattle.demands.specs.Calls.{Numbers, judgedIn}
 use Rattle.demands.specs.Flow.{
   Refused,

@@ -14,7 +14,7 @@ use Rattle.state.specs.Asked.{Given, Held}
 use Rattle.state.specs.Cells.{sessionOf, tallyCells, sharedCells}
 use Rattle.state.proofs.Cells.{own-canon, tally-canon, shared-canon, held-view, held-given}
 use Rattle.session.specs.Step.{Reply, refused, stepOf}
-use Rattle.session.specs.Feed.{First, nothing, first, Fed, feedOf, earlier, joined, uncut}
+use Rattle.session.specs.Feed.{First, nothing, first, Fed, feedOf, earlier, joined, uncut, firstStatus}
 use Rattle.session.specs.Refusals.{low, full, RefusedTo, unchanged, stopping}
 use Rattle.session.specs.Reached.{Reached}
 use Rattle.session.specs.Reached as reached
@@ -22,8 +22,8 @@ use Rattle.session.proofs.Kept.{kept}
 use Rattle.session.proofs.Cut.{cut}
 use Rattle.session.proofs.Refusals.{fed-valid, refused-word, refused-piece}
 use Rattle.session.proofs.Reached.{reached-valid}
-use Rattle.egretfold.specs.Crossing.{statusOf, roomOf}
-use Rattle.egretfold.specs.Sessions.{replyTold, firstStatus, WordCrosses, FeedCrosses}
+use Rattle.refusal.specs.Crossing.{statusOf, roomOf}
+use Rattle.session_rooms.specs.Rooms.{replyTold, WordCrosses, FeedCrosses}
 use Rattle.demands.specs.Pieces.{Handed, begun, word, piece, WordRefused, firstOf, InTurn, noMore, andThen, AsOne}
 
 -- the arrays show a session that the entries reached

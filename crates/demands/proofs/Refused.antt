@@ -18,7 +18,7 @@ use Rattle.session.proofs.Refusals.{refused-word, stopped-for-good, stopped-pie
 use Rattle.session.proofs.Tallies.{counted}
 use Rattle.replay.specs.State.{WordRefused, Replay, newReplay}
 use Rattle.replay.specs.Step.{Reply, taken, refused, Stepped, kindStep, numberFrom, noted, notedReply, afterWord, afterMidnight, midnightStep}
-use Rattle.replay.specs.Cells.{LogValid}
+use Rattle.replay.specs.Cells.{ReplayValid}
 use Rattle.log.specs.Bytes.{recordStep, openStep, byteStep}
 use Rattle.log.specs.Feed.{Fed, proceed, replayOf, recordBytes}
 use Rattle.log.specs.Words.{wordsIn, reported}
@@ -63,7 +63,7 @@ unnoted s w m f (completed c) e z n k = let x : _≡_ {A = ℕ} 0 1 = cc in omeg
 unnoted s w m f (stream.refused j) e z n k = noted-so j m f (not-zero (refused-word s w j e)) z
 
 -- a byte that is taken, while no word is refused
-module _ (r : Replay) (v : LogValid r) (b : ℕ) where
+module _ (r : Replay) (v : ReplayValid r) (b : ℕ) where
   abbrev OnePlaceOn : Stepped → Type 0
   OnePlaceOn t = t .reply ≡ taken → t .replay .refused .number ≡ 0 → place (t .replay) ≡ place r + 1
 
@@ -109,7 +109,7 @@ stood r bs e = go (feedOf (r .session) (wordsIn r bs) .refusal) (sym (first-refu
 no-first : {A : Type 0} {n : ℕ} → first n ≡ nothing → A
 no-first e = absurd (let z : _≡_ {A = ℕ} 0 1 = cc in omega arith)
 
-bytes-place : (r : Replay) → LogValid r → (bs : List ℕ) → Bytes8 bs → replayOf r bs .refusal ≡ nothing → goneOn r bs .refused .number ≡ 0 →
+bytes-place : (r : Replay) → ReplayValid r → (bs : List ℕ) → Bytes8 bs → replayOf r bs .refusal ≡ nothing → goneOn r bs .refused .number ≡ 0 →
     place (goneOn r bs) ≡ place r + length bs
 unfolding replayOf proceed
 bytes-place r v [] h e z = omega arith

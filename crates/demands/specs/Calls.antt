@@ -16,12 +16,12 @@ use Rattle.flow.specs.Store.{loadTold}
 use Rattle.replay.specs.State.{Replay}
 use Rattle.score.specs.Lease.{Lease}
 use Rattle.score.specs.Score.{scoreOf}
-use Rattle.egretfold.specs.Crossing.{Crosses}
-use Rattle.egretfold.specs.Commands.{parametersOf, namedWriteOf, CommandCrosses}
-use Rattle.egretfold.specs.Elements.{inSixteen, SuperfineCrosses, WriteCrosses}
-use Rattle.egretfold.specs.Groups.{LoadCrosses, BeginCrosses, StepCrosses, RunCrosses}
-use Rattle.egretfold.specs.Scores.{monthTold, MonthCrosses}
-use Rattle.egretfold.specs.Sessions.{formatOf}
+use Rattle.refusal.specs.Crossing.{Crosses}
+use Rattle.command_rooms.specs.Rooms.{parametersOf, namedWriteOf, CommandCrosses}
+use Rattle.element_rooms.specs.Rooms.{inSixteen, SuperfineCrosses, WriteCrosses}
+use Rattle.group_rooms.specs.Rooms.{LoadCrosses, BeginCrosses, StepCrosses, RunCrosses}
+use Rattle.score_rooms.specs.Rooms.{monthTold, MonthCrosses}
+use Rattle.setting_rooms.specs.Rooms.{formatOf}
 
 -- a layout's numbers, as every call on addresses and elements takes them
 pub record Numbers : Type 0 where

@@ -35,7 +35,7 @@ use Rattle.group.specs.Group.{
   runOf,
 }
 use Rattle.group.specs.Cells.{groupOf}
-use Rattle.egretfold.specs.Groups.{BeginCrosses, StepCrosses, RunCrosses}
+use Rattle.group_rooms.specs.Rooms.{BeginCrosses, StepCrosses, RunCrosses}
 
 -- the words of the slot that a group stands at
 abbrev pub firstAt : Program → Group → ℕ

@@ -9,7 +9,7 @@ use Rattle.state.specs.Cells.{sessionOf}
 use Rattle.session.specs.Step.{stepOf}
 use Rattle.session.specs.Feed.{feedOf}
 use Rattle.session.specs.Refusals.{RefusedTo}
-use Rattle.egretfold.specs.Sessions.{BeginCrosses, WordCrosses, FeedCrosses}
+use Rattle.session_rooms.specs.Rooms.{BeginCrosses, WordCrosses, FeedCrosses}
 
 -- arrays that came from these calls
 pub data Handed : List ℕ → List ℕ → List ℕ → Type 0 where
