@@ -42,7 +42,7 @@ use Rattle.session.specs.Again.{Idle, SameSettings}
 use Rattle.session.specs.Reached.{Reached, mostWords, allByWriter, ReadInFull}
 use Rattle.session.specs.Silent.{SilentSettings, startWords, EmptyRun, AsBefore}
 use Rattle.session.proofs.Cut.{cut-anywhere}
-use Rattle.session.proofs.Reached.{reached-valid, back-by-writer, read-in-full, read-here}
+use Rattle.session.proofs.Reached.{reached-valid, by-writer, back-by-writer, read-in-full, read-here}
 use Rattle.session.proofs.Refusals.{refused-word, refused-piece, stopped-for-good, stopped-piece}
 use Rattle.session.proofs.Silent.{silent-start, as-before}
 use Rattle.session.proofs.Tallies.{Tallied, tallied, counted}
@@ -174,6 +174,12 @@ pub demand2-write-back :
     heldOf (s .party .opened) ++ take (feedOf s ws .taken) ws ≡
     allByWriter (feedOf s ws .commands) room ++ heldOf (feedOf s (take (feedOf s ws .taken) ws) .session .party .opened)
 demand2-write-back = back-by-writer
+
+-- What the writer puts are the commands' words.
+pub demand2-writer :
+    (s : Session) → Reached s → (ws room : List ℕ) → mostWords ≤ length room →
+    allByWriter (feedOf s ws .commands) room ≡ written (feedOf s ws .commands)
+demand2-writer = by-writer
 
 -- These words, read again by a session between two commands that has the settings they first met and room for them, give the same
 -- commands and settings, add the same to the tallies, and leave the session between two commands.

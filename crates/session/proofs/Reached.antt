@@ -61,6 +61,12 @@ all-put (c ∷ cs) room e h =
     ap (λ (l : List ℕ). l ++ allByWriter cs room) (writer-puts c room (e .0) (omega (arith, words-most c))) ∙
     ap (λ (l : List ℕ). wordsOf c ++ l) (all-put cs room (e .1) h)
 
+-- so what the writer gives for the commands of a piece are their words
+pub by-writer :
+    (s : Session) → Reached s → (ws room : List ℕ) → mostWords ≤ length room →
+    allByWriter (feedOf s ws .commands) room ≡ written (feedOf s ws .commands)
+by-writer s r ws room h = all-put (feedOf s ws .commands) room (each-writable s ws (reached-valid r)) h
+
 -- "Accepted commands write back to the words they came from": the words held before, with those that a piece took, are what the writer
 -- gives for its commands, and the words that they leave held; also where a later word is refused
 pub back-by-writer :
@@ -70,7 +76,7 @@ pub back-by-writer :
 back-by-writer s r ws room h =
     taken-back s ws (reached-valid r) ∙
     ap (λ (l : List ℕ). l ++ heldOf (feedOf s (take (feedOf s ws .taken) ws) .session .party .opened))
-    (sym (all-put (feedOf s ws .commands) room (each-writable s ws (reached-valid r)) h))
+    (sym (by-writer s r ws room h))
 
 -- a piece without a refusal doesn't stop a session
 no-first : {A : Type 0} {n : ℕ} → first n ≡ nothing → A
