@@ -25,7 +25,7 @@ use Rattle.command.specs.declared.commands.Stored.the-variants as stored
 use Rattle.command.specs.declared.commands.Command.{Command}
 use Rattle.command.specs.declared.commands.Command.the-variants as command
 use Rattle.command.proofs.Fitting.{conditional-fits, store-fits, start-fits, quiet-fits, mask-fits, conditional-mask-fits, test-fits}
-use Rattle.command.proofs.Headers.{accepted-stands}
+use Rattle.command.proofs.Headers.{accepted-listed}
 use Rattle.command.proofs.Readable.{readable}
 use Rattle.state.specs.State.{Party, Shared, Session}
 use Rattle.state.specs.Start.{readyOf}
@@ -379,6 +379,6 @@ module _ (l t h : List ℕ) (g : Given l t h) where
       begun c k l1 t1 h1 y
       (subst (λ (x : List ℕ). Tried c x (length (wordsOf c)) l t h k l1 t1 h1)
       (ap {B = List ℕ} (λ (w : ℕ). w ∷ getD ws (i + 1) 0 ∷ getD ws (i + 2) 0 ∷ getD ws (i + 3) 0 ∷ getD ws (i + 4) 0 ∷ drop (i + 5) ws)
-      (accepted-stands (getD ws i 0) line e .header) ∙
+      (accepted-listed (getD ws i 0) line e .header) ∙
       sym (five-words ws i (omega arith)))
       (q (drop (i + 5) ws)))

@@ -87,13 +87,13 @@ module _ (w : ℕ) where
   absent n = pick-no _ _ (le-ltb (placeOf w headers) 21 (omega arith))
 
   -- what is found stands in the table
-  pub stands : placeOf w headers < 21 → headerOf (placeOf w headers) ≡ w
+  pub listed : placeOf w headers < 21 → headerOf (placeOf w headers) ≡ w
   unfolding headerOf
-  stands h = place-found w headers h
+  listed h = place-found w headers h
 
   -- the line of a header is its operation less 7
   pub line-of-operation : placeOf w headers < 21 → placeOf w headers + 7 ≡ w / 256 % 256
-  line-of-operation h = sym (operation-in-header (placeOf w headers) h) ∙ ap (λ (x : ℕ). x / 256 % 256) (stands h)
+  line-of-operation h = sym (operation-in-header (placeOf w headers) h) ∙ ap (λ (x : ℕ). x / 256 % 256) (listed h)
 
   pub absent-low : w / 256 % 256 < 7 → lineWith w ≡ refuses 2
   absent-low k = absent (λ h. let e : placeOf w headers + 7 ≡ w / 256 % 256 = line-of-operation h in omega arith)
@@ -107,33 +107,33 @@ module _ (w : ℕ) where
       absent
       (λ h.
       let e : placeOf w headers ≡ w / 256 % 256 - 7 = omega (arith, line-of-operation h) in
-      n (sym (ap headerOf e) ∙ stands h))
+      n (sym (ap headerOf e) ∙ listed h))
 
 -- a header is accepted exactly when it stands in the table, at the line where it stands
 pub record Accepted (w l : ℕ) : Type 0 where
   pub line : l < 21
   pub header : headerOf l ≡ w
 
-pub accepted-stands : (w l : ℕ) → lineWith w ≡ gives (l ∷ []) → Accepted w l
+pub accepted-listed : (w l : ℕ) → lineWith w ≡ gives (l ∷ []) → Accepted w l
 unfolding lineWith
-accepted-stands w l e = go (tested (ltb (placeOf w headers) 21))
+accepted-listed w l e = go (tested (ltb (placeOf w headers) 21))
   where
     go : Tested (ltb (placeOf w headers) 21) → Accepted w l
     go (holds t) =
         let g : gives (placeOf w headers ∷ []) ≡ gives (l ∷ []) = sym (pick-yes _ _ t) ∙ e in
         let p : placeOf w headers ≡ l = cc in
         let h : placeOf w headers < 21 = ltb-true _ _ t in
-        record { line = rw p at h; header = rw p at (stands w h) }
+        record { line = rw p at h; header = rw p at (listed w h) }
     go (fails t) =
         let g : refuses 2 ≡ gives (l ∷ []) = sym (pick-no _ _ t) ∙ e in
         let z : _≡_ {A = ℕ} 0 1 = cc in
         absurd (omega arith)
 
-pub stands-accepted : (w l : ℕ) → Accepted w l → lineWith w ≡ gives (l ∷ [])
-stands-accepted w l a = found w l (a .line) (a .header)
+pub listed-accepted : (w l : ℕ) → Accepted w l → lineWith w ≡ gives (l ∷ [])
+listed-accepted w l a = found w l (a .line) (a .header)
 
 pub refused-absent : (w : ℕ) → lineWith w ≡ refuses 2 → (l : ℕ) → Accepted w l → ⊥
 refused-absent w e l a =
-    let g : refuses 2 ≡ gives (l ∷ []) = sym e ∙ stands-accepted w l a in
+    let g : refuses 2 ≡ gives (l ∷ []) = sym e ∙ listed-accepted w l a in
     let z : _≡_ {A = ℕ} 0 1 = cc in
     omega arith

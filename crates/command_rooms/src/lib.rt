@@ -20,7 +20,7 @@ pub fn parameters(header: u32, count: &mut [u32; 1]) -> u32
     match table::line_of(header) {
         Line::Unknown => refusal::number(Refusal::UnknownHeader),
         Line::At(line) => {
-            *count = [table::parameters(line)];
+            *count = [table::count(line)];
             0
         }
     }

@@ -13,7 +13,7 @@ use Rattle.command.specs.Writer.{writeOf, roomAfter}
 use Rattle.memory.specs.Elements.{memoryAfter}
 use Rattle.memory.specs.Elements as elements
 use Rattle.memory.specs.Answers.{countTold}
-use Rattle.group.specs.Group.{Outcome, Steps, Fails, Run, Makes, Breaks, stepTold, runTold, beginTold, isGroupSize, stepOf, runOf}
+use Rattle.group.specs.Group.{Outcome, Steps, Fails, Run, Makes, Breaks, stepTold, runTold, beginTold, isGroupSize, groupStep, groupRun}
 use Rattle.group.specs.Cells.{stepLeaves, runLeaves, beginLeaves}
 use Rattle.flow.specs.Store.{isProgram, loadTold, firstsLeft, secondsLeft}
 use Rattle.score.specs.Score.{Score, scored, refused, scoreOf}
@@ -172,13 +172,13 @@ refused-call (step limit program alu predicate booleans g r a b p q c) n e =
     record {
       number = number (c .answer) n e;
       not-zero = step-number limit program alu predicate booleans g n e;
-      arrays = two (c .left ∙ step-left a (stepOf limit program alu predicate booleans g) n e) (room (c .answer) n e);
+      arrays = two (c .left ∙ step-left a (groupStep limit program alu predicate booleans g) n e) (room (c .answer) n e);
     }
 refused-call (run limit program booleans masks g r a b p q c) n e =
     record {
       number = number (c .answer) n e;
       not-zero = run-number limit program booleans masks g n e;
-      arrays = two (c .left ∙ run-left a (runOf limit program booleans masks g) n e) (room (c .answer) n e);
+      arrays = two (c .left ∙ run-left a (groupRun limit program booleans masks g) n e) (room (c .answer) n e);
     }
 refused-call (month l replay r a b m a' b' m' c) n e =
     record {

@@ -16,7 +16,7 @@ use Rattle.layout.specs.Sizes.{isSize, widthOf, heightOf}
 use Rattle.layout.specs.Layout.{wellFormed, unitOf, rowStep, tileRows, spanOf, inBounds, windowRule, judgeOf}
 use Rattle.layout.specs.declared.Layout.{Layout}
 use Rattle.layout.proofs.Window.{form-size}
-use Rattle.address.specs.Offset.{cellWidth, cellHeight, codeOf, insideOf, tiledOffset, linearOffset, offsetOf}
+use Rattle.address.specs.Offset.{blockWidth, blockHeight, codeOf, insideOf, tiledOffset, linearOffset, offsetOf}
 use Rattle.address.specs.Address.{ifAccepted, inside, addressOf, translateOf}
 use Rattle.address.specs.Inverse.{Accepted, Inside, Inverse}
 use Rattle.address.specs.Formula.{printedAddress, guideAddress}
@@ -24,10 +24,11 @@ use Rattle.address.proofs.Formula.{printed, address-printed, address-guide}
 use Rattle.address.proofs.Inverse.{inverse}
 use Rattle.memory.specs.Bytes.{Touched}
 use Rattle.memory.specs.Elements.{readOf}
-use Rattle.memory.specs.Reads.{ReadBack, joined}
+use Rattle.memory.specs.Reads.{ReadBack}
 use Rattle.memory.proofs.Bytes.{touched}
 use Rattle.memory.proofs.ReadBack.{read-back}
-use Rattle.superfine.specs.Superfine.{superfineWord, superfineReadOf, layoutOf}
+use Rattle.superfine.specs.InLine.{joined}
+use Rattle.superfine.specs.Superfine.{superfineWord, superfineReadOf, formatLayout}
 use Rattle.superfine.proofs.FourReads.{four-reads}
 use Rattle.command.specs.declared.commands.Command.the-variants as command
 use Rattle.state.specs.State.{Session, newSession}
@@ -70,7 +71,7 @@ use Rattle.score.proofs.Lines.{bounds}
 use Rattle.score.proofs.Midnights.{midnight-records}
 use Rattle.score.proofs.Promises.{line-first, dark-day, refused-with, scored-as, log-refused, log-scored, in-pieces}
 use Rattle.score.proofs.Verdicts.{full-if, full-only-if, calling}
-use Rattle.group.specs.Proc.{wants, decided, worked}
+use Rattle.group.specs.Proc.{wants, decided, branched}
 use Rattle.group.specs.Group.{
   Program,
   Group,
@@ -85,8 +86,8 @@ use Rattle.group.specs.Group.{
   settled,
   slotStep,
   ended,
-  runOf,
-  stepOf as flowStep,
+  groupRun,
+  groupStep as flowStep,
 }
 use Rattle.group.specs.Cells as cells
 use Rattle.flow.specs.Cases.{oneWord, c9, c10, c11, c12}
@@ -253,9 +254,9 @@ element-reads l x y at given before now c = read-back l x y at given before now 
 pub superfine-reads :
     (base format height x y at : ℕ) (m : List ℕ) → superfineWord base format ≡ true →
     superfineReadOf base format height x y at m ≡
-    joined (readOf (layoutOf base format height) (x + 1) y at m)
-    (joined (readOf (layoutOf base format height) x (y + 1) at m)
-    (joined (readOf (layoutOf base format height) (x + 1) (y + 1) at m) (readOf (layoutOf base format height) x y at m)))
+    joined (readOf (formatLayout base format height) (x + 1) y at m)
+    (joined (readOf (formatLayout base format height) x (y + 1) at m)
+    (joined (readOf (formatLayout base format height) (x + 1) (y + 1) at m) (readOf (formatLayout base format height) x y at m)))
 superfine-reads = four-reads
 
 -- A start that the settings don't refuse: every pair of the domain is inside each window that counts, and no byte lies in two spans that
@@ -287,7 +288,7 @@ flow-refused = step-refused
 -- A run is its steps, up to the list's or the program's end; if one is refused, the whole run is (and by demand 1 leaves the cells as
 -- they were).
 pub flow-run :
-    (limit : ℕ) (p : Program) (booleans : ℕ) (masks : List ℕ) (g : Group) → Ran limit p booleans masks g (runOf limit p booleans masks g)
+    (limit : ℕ) (p : Program) (booleans : ℕ) (masks : List ℕ) (g : Group) → Ran limit p booleans masks g (groupRun limit p booleans masks g)
 flow-run = run-walks
 
 -- "Mask bits above the group are ignored": masks that say the same of every processor in the group give the same step and the same run.
@@ -298,11 +299,11 @@ flow-masks = same-step
 
 pub flow-run-masks :
     (limit : ℕ) (p : Program) (booleans : ℕ) (ms ms' : List ℕ) (g : Group) → AllAgree g ms ms' →
-    runOf limit p booleans ms g ≡ runOf limit p booleans ms' g
+    groupRun limit p booleans ms g ≡ groupRun limit p booleans ms' g
 flow-run-masks = same-run
 
 -- The cells given out are those taken: what begin, step and run left is what step and run ask for.
-pub flow-given : {l : List ℕ} → flow.Handed l → cells.Made l
+pub flow-given : {l : List ℕ} → flow.Handed l → cells.GroupGiven l
 flow-given = handed-made
 
 -- REQUEST 1, "One log over midnight"
@@ -477,8 +478,8 @@ score-calls = score-from-log
 -- The worked cases C1 to C12 of document 01, all together.
 pub worked-cases : Cases cases
 unfolding
-    _and_ pick placeOf isSize widthOf heightOf wellFormed unitOf rowStep tileRows spanOf inBounds windowRule judgeOf xor cellWidth
-    cellHeight codeOf insideOf tiledOffset linearOffset offsetOf ifAccepted inside addressOf translateOf _or_ differ digit on pack
-    some every wants decided worked allowed fresh turnedIf wishOf overLimit wayOf settled slotStep ended flowStep oneWord c9 c10 c11 c12
+    _and_ pick placeOf isSize widthOf heightOf wellFormed unitOf rowStep tileRows spanOf inBounds windowRule judgeOf xor blockWidth
+    blockHeight codeOf insideOf tiledOffset linearOffset offsetOf ifAccepted inside addressOf translateOf _or_ differ digit on pack
+    some every wants decided branched allowed fresh turnedIf wishOf overLimit wayOf settled slotStep ended flowStep oneWord c9 c10 c11 c12
 worked-cases =
     (refl, (refl, (refl, (refl, (refl, (refl, (refl, (refl, (refl, (refl, (refl, (refl, (refl, (refl, (refl, tt)))))))))))))))

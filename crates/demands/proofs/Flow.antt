@@ -12,7 +12,7 @@ use Rattle.laws.specs.Masks.{_or_, on}
 use Rattle.laws.proofs.Choice.{Tested, tested, holds, fails, pick-yes, pick-no, by-pick}
 use Rattle.laws.proofs.Below.{some-same, every-same}
 use Rattle.refusal.specs.Told.{gives, refuses}
-use Rattle.group.specs.Proc.{Proc, Active, Idle, Absent, isLive, isActive, turned, wants, decided, worked}
+use Rattle.group.specs.Proc.{counterLimit, Proc, Active, Idle, Absent, isLive, isActive, turned, wants, decided, branched}
 use Rattle.group.specs.Group.{
   Program,
   Group,
@@ -30,6 +30,8 @@ use Rattle.group.specs.Group.{
   allowed,
   aOp,
   jumpFunc,
+  bElse,
+  jumpAny,
   popCount,
   branchOp,
   booleanNumber,
@@ -42,16 +44,16 @@ use Rattle.group.specs.Group.{
   settled,
   slotStep,
   ended,
-  stepOf,
-  stepsOf,
-  runOf,
+  groupStep,
+  groupSteps,
+  groupRun,
   isGroupSize,
   beginTold,
 }
 use Rattle.group.specs.Cells.{groupOf, runLeaves, beginLeaves}
 use Rattle.group.specs.Cells as cells
-use Rattle.group.proofs.State.{made-of, left-made, step-sound}
-use Rattle.flow.proofs.Beginning.{begin-made}
+use Rattle.group.proofs.State.{given-of, left-given, step-sound}
+use Rattle.flow.proofs.Beginning.{begin-given}
 use Rattle.flow.proofs.Running.{SoundRun, steps-sound}
 use Rattle.refusal.specs.Crossing.{statusOf}
 use Rattle.demands.specs.Flow.{
@@ -100,7 +102,7 @@ module _ (limit : ℕ) (p : Program) (alu predicate booleans : ℕ) (g : Group) 
   op = branchOp jump (firstAt p g)
 
   abbrev procs : ℕ → Proc
-  procs i = worked op (popCount (firstAt p g)) jump (wishes limit p alu predicate booleans g i) (elsed p g i)
+  procs i = branched op (popCount (firstAt p g)) jump (wishes limit p alu predicate booleans g i) (elsed p g i)
 
   module _ (running : g .position < p .slots) (fields : allowed (firstAt p g) (secondAt p g) ≡ true) (counters : overLimit limit op (elsed p g) ≡ false) where
     shown-way : (w : Way) → next limit p alu predicate booleans g ≡ w → Shown (arrived (p .slots) jump procs w)
@@ -119,8 +121,8 @@ module _ (limit : ℕ) (p : Program) (alu predicate booleans : ℕ) (g : Group) 
         })
         (λ t. pastEnd running fields counters at returns e (leb-false at (p .slots) t))
 
-  pub shown : Shown (stepOf limit p alu predicate booleans g)
-  unfolding stepOf ended slotStep settled
+  pub shown : Shown (groupStep limit p alu predicate booleans g)
+  unfolding groupStep ended slotStep settled
   shown =
       by-pick Shown (leb (p .slots) (g .position)) _ _ (λ t. hasEnded (leb-true (p .slots) (g .position) t))
       (λ t.
@@ -134,33 +136,33 @@ module _ (limit : ℕ) (p : Program) (alu predicate booleans : ℕ) (g : Group) 
       (λ f. badField running f))
       (λ u. tooMany running (leb-false (p .slots) 512 u)))
 
-  pub step-made : (j : Bool) (g' : Group) → stepOf limit p alu predicate booleans g ≡ Steps j g' → Made limit p alu predicate booleans g j g'
+  pub step-made : (j : Bool) (g' : Group) → groupStep limit p alu predicate booleans g ≡ Steps j g' → Made limit p alu predicate booleans g j g'
   step-made j g' e = subst Shown e shown
 
-  pub step-refused : (n : ℕ) → stepOf limit p alu predicate booleans g ≡ Fails n → Refused limit p alu predicate booleans g n
+  pub step-refused : (n : ℕ) → groupStep limit p alu predicate booleans g ≡ Fails n → Refused limit p alu predicate booleans g n
   step-refused n e = subst Shown e shown
 
 -- a run
 module _ (limit : ℕ) (p : Program) (booleans : ℕ) where
-  outcome : (alu predicate : ℕ) (masks : List ℕ) (g : Group) (o : Outcome) → ended p g ≡ false → stepOf limit p alu predicate booleans g ≡ o →
-      ((g' : Group) → Walk limit p booleans masks g' (stepsOf limit p booleans masks g')) →
-      Walk limit p booleans (alu ∷ (predicate ∷ masks)) g (goOn o (λ g'. stepsOf limit p booleans masks g'))
+  outcome : (alu predicate : ℕ) (masks : List ℕ) (g : Group) (o : Outcome) → ended p g ≡ false → groupStep limit p alu predicate booleans g ≡ o →
+      ((g' : Group) → Walk limit p booleans masks g' (groupSteps limit p booleans masks g')) →
+      Walk limit p booleans (alu ∷ (predicate ∷ masks)) g (goOn o (λ g'. groupSteps limit p booleans masks g'))
   outcome alu predicate masks g (Steps jump g') t e rest =
-      oneMore alu predicate masks g g' jump (stepsOf limit p booleans masks g') t e (rest g')
+      oneMore alu predicate masks g g' jump (groupSteps limit p booleans masks g') t e (rest g')
   outcome alu predicate masks g (Fails why) t e rest = stepFails alu predicate masks g why t e
 
-  walk : (masks : List ℕ) (g : Group) → Walk limit p booleans masks g (stepsOf limit p booleans masks g)
-  unfolding stepsOf
+  walk : (masks : List ℕ) (g : Group) → Walk limit p booleans masks g (groupSteps limit p booleans masks g)
+  unfolding groupSteps
   walk [] g = listOut g
   walk (alu ∷ []) g = halfPair alu g
   walk (alu ∷ (predicate ∷ masks)) g =
       by-pick (Walk limit p booleans (alu ∷ (predicate ∷ masks)) g) (ended p g) _ _ (λ t. programOut alu predicate masks g t)
-      (λ t. outcome alu predicate masks g (stepOf limit p alu predicate booleans g) t refl (walk masks))
+      (λ t. outcome alu predicate masks g (groupStep limit p alu predicate booleans g) t refl (walk masks))
 
-  pub run-walks : (masks : List ℕ) (g : Group) → Ran limit p booleans masks g (runOf limit p booleans masks g)
-  unfolding runOf
+  pub run-walks : (masks : List ℕ) (g : Group) → Ran limit p booleans masks g (groupRun limit p booleans masks g)
+  unfolding groupRun
   run-walks masks g =
-      by-pick (Ran limit p booleans masks g) (ended p g) _ _ (λ t. over t) (λ t. walked (stepsOf limit p booleans masks g) t (walk masks g))
+      by-pick (Ran limit p booleans masks g) (ended p g) _ _ (λ t. over t) (λ t. walked (groupSteps limit p booleans masks g) t (walk masks g))
 
 -- the cells given out are those taken
 begin-size : (size : ℕ) → 0 ≡ statusOf (beginTold size) → isGroupSize size ≡ true
@@ -171,23 +173,23 @@ begin-size size e = go (tested (isGroupSize size))
     go (holds t) = t
     go (fails t) = absurd (let z : 0 ≡ 13 = e ∙ ap statusOf (pick-no (gives []) (refuses 13) t) in omega arith)
 
-run-left : (l : List ℕ) (o : Run) → cells.Made l → SoundRun 31 o → cells.Made (runLeaves l o)
-run-left l (Makes n g) m s = made-of g s
+run-left : (l : List ℕ) (o : Run) → cells.GroupGiven l → SoundRun counterLimit o → cells.GroupGiven (runLeaves l o)
+run-left l (Makes n g) m s = given-of g s
 run-left l (Breaks why) m s = m
 
-pub handed-made : {l : List ℕ} → Handed l → cells.Made l
-unfolding beginLeaves isGroupSize runOf
+pub handed-made : {l : List ℕ} → Handed l → cells.GroupGiven l
+unfolding beginLeaves isGroupSize groupRun
 handed-made (begun size c c' k) =
     let t = begin-size size (k .status) in
-    subst cells.Made (sym (k .left ∙ pick-yes _ _ t)) (begin-made size (leb-true size 32 (Rattle.laws.proofs.Choice.and-right _ _ t)))
+    subst cells.GroupGiven (sym (k .left ∙ pick-yes _ _ t)) (begin-given size (leb-true size 32 (Rattle.laws.proofs.Choice.and-right _ _ t)))
 handed-made (stepped {cells = l} h p alu predicate booleans r c' a a' k) =
-    subst cells.Made (sym (k .left))
-    (left-made l (stepOf 31 p alu predicate booleans (groupOf l)) (handed-made h)
-    (step-sound 31 p alu predicate booleans (groupOf l) (handed-made h .sound)))
+    subst cells.GroupGiven (sym (k .left))
+    (left-given l (groupStep counterLimit p alu predicate booleans (groupOf l)) (handed-made h)
+    (step-sound counterLimit p alu predicate booleans (groupOf l) (handed-made h .sound)))
 handed-made (ran {cells = l} h p booleans masks r c' a a' k) =
-    subst cells.Made (sym (k .left))
-    (run-left l (runOf 31 p booleans masks (groupOf l)) (handed-made h)
-    (by-pick (SoundRun 31) (ended p (groupOf l)) _ _ (λ e. tt) (λ e. steps-sound 31 p booleans masks (groupOf l) (handed-made h .sound))))
+    subst cells.GroupGiven (sym (k .left))
+    (run-left l (groupRun counterLimit p booleans masks (groupOf l)) (handed-made h)
+    (by-pick (SoundRun counterLimit) (ended p (groupOf l)) _ _ (λ e. tt) (λ e. steps-sound counterLimit p booleans masks (groupOf l) (handed-made h .sound))))
 
 -- a processor is in the group after a step where it was before
 turned-live : (else : Bool) (q : Proc) → isLive (pick else (turned q) q) ≡ isLive q
@@ -201,8 +203,8 @@ turned-live false q = refl
 pick-live : (t : Bool) (a b : Proc) → isLive a ≡ true → isLive b ≡ true → isLive (pick t a b) ≡ true
 pick-live t a b ha hb = by-pick (λ (q : Proc). isLive q ≡ true) t a b (λ e. ha) (λ e. hb)
 
-worked-live : (op k : ℕ) (jump wish : Bool) (q : Proc) → isLive (worked op k jump wish q) ≡ isLive q
-unfolding worked
+worked-live : (op k : ℕ) (jump wish : Bool) (q : Proc) → isLive (branched op k jump wish q) ≡ isLive q
+unfolding branched
 worked-live op k jump wish Active = pick-live _ _ _ refl (pick-live _ _ _ (pick-live _ _ _ refl refl) refl)
 worked-live op k jump wish (Idle n) = pick-live _ _ _ (pick-live _ _ _ refl refl) (pick-live _ _ _ refl refl)
 worked-live op k jump wish Absent = gone (eqb op 1) (eqb op 2)
@@ -230,13 +232,13 @@ module _ (q : Proc) (w w' : Bool) (h : isLive q ≡ true → w ≡ w') where
       go (Idle n) k = refl
       go Absent k = refl
 
-  worked-same : (op k : ℕ) (jump : Bool) → worked op k jump w q ≡ worked op k jump w' q
-  unfolding worked
+  worked-same : (op k : ℕ) (jump : Bool) → branched op k jump w q ≡ branched op k jump w' q
+  unfolding branched
   worked-same op k jump = go q h
     where
-      go : (q : Proc) → (isLive q ≡ true → w ≡ w') → worked op k jump w q ≡ worked op k jump w' q
-      go Active z = ap (λ (x : Bool). worked op k jump x Active) (z refl)
-      go (Idle n) z = ap (λ (x : Bool). worked op k jump x (Idle n)) (z refl)
+      go : (q : Proc) → (isLive q ≡ true → w ≡ w') → branched op k jump w q ≡ branched op k jump w' q
+      go Active z = ap (λ (x : Bool). branched op k jump x Active) (z refl)
+      go (Idle n) z = ap (λ (x : Bool). branched op k jump x (Idle n)) (z refl)
       go Absent z = refl
 
 -- "Mask bits above the group are ignored": masks that say the same of every processor in the group give the same step
@@ -252,13 +254,13 @@ module _ (limit : ℕ) (p : Program) (booleans : ℕ) (g : Group) (alu predicate
     same-wish : (i : ℕ) → isLive (elsed p g i) ≡ true → w i ≡ w' i
     unfolding wishOf turnedIf
     same-wish i h =
-        let l : isLive (g .procs i) ≡ true = sym (turned-live (on 4 (firstAt p g)) (g .procs i)) ∙ h in
+        let l : isLive (g .procs i) ≡ true = sym (turned-live (bElse (firstAt p g)) (g .procs i)) ∙ h in
         ap₂ (λ (x y : Bool). wants (jumpFunc (firstAt p g)) x y (on (booleanNumber (secondAt p g)) booleans)) (a .same-bits i l) (b .same-bits i l)
 
     same-decision : decision limit p alu predicate booleans g ≡ decision limit p alu' predicate' booleans g
     unfolding decided
     same-decision =
-        ap₂ (λ (x y : Bool). pick (on 5 (firstAt p g)) x y)
+        ap₂ (λ (x y : Bool). pick (jumpAny (firstAt p g)) x y)
         (some-same 32 _ _ (λ i h. active-and (elsed p g i) (w i) (w' i) (same-wish i)))
         (every-same 32 _ _ (λ i h. idle-or (elsed p g i) (w i) (w' i) (same-wish i)))
 
@@ -271,8 +273,8 @@ module _ (limit : ℕ) (p : Program) (booleans : ℕ) (g : Group) (alu predicate
         (arrived (p .slots) j f (wayOf (aOp (firstAt p g)) j (g .position) (jumpAddress (secondAt p g)) (g .returns))))
         (λ k i. worked-same (elsed p g i) (w i) (w' i) (same-wish i) (branchOp j (firstAt p g)) (popCount (firstAt p g)) j k)
 
-    pub same-step : stepOf limit p alu predicate booleans g ≡ stepOf limit p alu' predicate' booleans g
-    unfolding stepOf slotStep
+    pub same-step : groupStep limit p alu predicate booleans g ≡ groupStep limit p alu' predicate' booleans g
+    unfolding groupStep slotStep
     same-step =
         ap (λ (o : Outcome).
         pick (ended p g) (Fails 16) (pick (leb (p .slots) 512) (pick (allowed (firstAt p g) (secondAt p g)) o (Fails 13)) (Fails 15)))
@@ -281,12 +283,12 @@ module _ (limit : ℕ) (p : Program) (booleans : ℕ) (g : Group) (alu predicate
 
 -- and the same run
 module _ (limit : ℕ) (p : Program) (booleans : ℕ) where
-  live-after : (alu predicate : ℕ) (g g' : Group) (jump : Bool) → stepOf limit p alu predicate booleans g ≡ Steps jump g' →
+  live-after : (alu predicate : ℕ) (g g' : Group) (jump : Bool) → groupStep limit p alu predicate booleans g ≡ Steps jump g' →
       (i : ℕ) → isLive (g' .procs i) ≡ isLive (g .procs i)
   unfolding turnedIf
   live-after alu predicate g g' jump e i =
       ap isLive (step-made limit p alu predicate booleans g jump g' e .each-processor i) ∙
-      worked-live _ _ _ _ (elsed p g i) ∙ turned-live (on 4 (firstAt p g)) (g .procs i)
+      worked-live _ _ _ _ (elsed p g i) ∙ turned-live (bElse (firstAt p g)) (g .procs i)
 
   agree-after : (g g' : Group) → ((i : ℕ) → isLive (g' .procs i) ≡ isLive (g .procs i)) → (ms ms' : List ℕ) → AllAgree g ms ms' → AllAgree g' ms ms'
   agree-after g g' l [] [] h = tt
@@ -295,8 +297,8 @@ module _ (limit : ℕ) (p : Program) (booleans : ℕ) where
   agree-after g g' l (m ∷ ms) (m' ∷ ms') h =
       (record { same-bits = λ i k. h .0 .same-bits i (sym (l i) ∙ k) }, agree-after g g' l ms ms' (h .1))
 
-  same-steps : (ms ms' : List ℕ) (g : Group) → AllAgree g ms ms' → stepsOf limit p booleans ms g ≡ stepsOf limit p booleans ms' g
-  unfolding stepsOf
+  same-steps : (ms ms' : List ℕ) (g : Group) → AllAgree g ms ms' → groupSteps limit p booleans ms g ≡ groupSteps limit p booleans ms' g
+  unfolding groupSteps
   same-steps [] [] g h = refl
   same-steps [] (m' ∷ ms') g h = absurd h
   same-steps (m ∷ ms) [] g h = absurd h
@@ -305,15 +307,15 @@ module _ (limit : ℕ) (p : Program) (booleans : ℕ) where
   same-steps (m ∷ (n ∷ ms)) (m' ∷ []) g h = absurd (h .1)
   same-steps (m ∷ (n ∷ ms)) (m' ∷ (n' ∷ ms')) g h =
       ap (pick (ended p g) (Makes 0 g))
-      (go (stepOf limit p m n booleans g) refl (same-steps ms ms') ∙
-      ap (λ (o : Outcome). goOn o (λ g'. stepsOf limit p booleans ms' g')) (same-step limit p booleans g m n m' n' (h .0) (h .1 .0)))
+      (go (groupStep limit p m n booleans g) refl (same-steps ms ms') ∙
+      ap (λ (o : Outcome). goOn o (λ g'. groupSteps limit p booleans ms' g')) (same-step limit p booleans g m n m' n' (h .0) (h .1 .0)))
     where
-      go : (o : Outcome) → stepOf limit p m n booleans g ≡ o →
-          ((g' : Group) → AllAgree g' ms ms' → stepsOf limit p booleans ms g' ≡ stepsOf limit p booleans ms' g') →
-          goOn o (λ g'. stepsOf limit p booleans ms g') ≡ goOn o (λ g'. stepsOf limit p booleans ms' g')
+      go : (o : Outcome) → groupStep limit p m n booleans g ≡ o →
+          ((g' : Group) → AllAgree g' ms ms' → groupSteps limit p booleans ms g' ≡ groupSteps limit p booleans ms' g') →
+          goOn o (λ g'. groupSteps limit p booleans ms g') ≡ goOn o (λ g'. groupSteps limit p booleans ms' g')
       go (Steps jump g') e ih = ap onceMore (ih g' (agree-after g g' (live-after m n g g' jump e) ms ms' (h .1 .1)))
       go (Fails why) e ih = refl
 
-  pub same-run : (ms ms' : List ℕ) (g : Group) → AllAgree g ms ms' → runOf limit p booleans ms g ≡ runOf limit p booleans ms' g
-  unfolding runOf
+  pub same-run : (ms ms' : List ℕ) (g : Group) → AllAgree g ms ms' → groupRun limit p booleans ms g ≡ groupRun limit p booleans ms' g
+  unfolding groupRun
   same-run ms ms' g h = ap (pick (ended p g) (Breaks 16)) (same-steps ms ms' g h)

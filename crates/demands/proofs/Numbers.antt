@@ -20,7 +20,7 @@ use Rattle.command.specs.Writer as writer
 use Rattle.command.specs.declared.commands.Command.{Command}
 use Rattle.command.proofs.Rule.{Ruled, fine, five, six, ruled}
 use Rattle.state.specs.State.{Party, Shared}
-use Rattle.group.specs.Group.{Program, Group, Outcome, Steps, Fails, Run, Makes, Breaks, onceMore, stepTold, runTold, beginTold, stepOf, runOf}
+use Rattle.group.specs.Group.{Program, Group, Outcome, Steps, Fails, Run, Makes, Breaks, onceMore, stepTold, runTold, beginTold, groupStep, groupRun}
 use Rattle.flow.specs.Store.{loadTold}
 use Rattle.replay.specs.State.{Replay}
 use Rattle.score.specs.Lease.{Lease}
@@ -156,10 +156,10 @@ module _ (limit : ℕ) (p : Program) where
   refused-least (stackAtLimit h k o s) = omega arith
   refused-least (pastEnd h k o at returns s l) = omega arith
 
-  pub step-number : (alu predicate booleans : ℕ) (g : Group) → Nonzero (stepTold (stepOf limit p alu predicate booleans g))
-  step-number alu predicate booleans g = go (stepOf limit p alu predicate booleans g) refl
+  pub step-number : (alu predicate booleans : ℕ) (g : Group) → Nonzero (stepTold (groupStep limit p alu predicate booleans g))
+  step-number alu predicate booleans g = go (groupStep limit p alu predicate booleans g) refl
     where
-      go : (o : Outcome) → stepOf limit p alu predicate booleans g ≡ o → Nonzero (stepTold o)
+      go : (o : Outcome) → groupStep limit p alu predicate booleans g ≡ o → Nonzero (stepTold o)
       go (Steps jump g') e = given _
       go (Fails n) e = numbered n (refused-least (step-refused limit p alu predicate booleans g n e))
 
@@ -182,8 +182,8 @@ module _ (limit : ℕ) (p : Program) where
   ran-least (over t) = omega arith
   ran-least (walked r t w) = walk-least w
 
-  pub run-number : (booleans : ℕ) (masks : List ℕ) (g : Group) → Nonzero (runTold (runOf limit p booleans masks g))
-  run-number booleans masks g = go (runOf limit p booleans masks g) (ran-least (run-walks limit p booleans masks g))
+  pub run-number : (booleans : ℕ) (masks : List ℕ) (g : Group) → Nonzero (runTold (groupRun limit p booleans masks g))
+  run-number booleans masks g = go (groupRun limit p booleans masks g) (ran-least (run-walks limit p booleans masks g))
     where
       go : (r : Run) → Least r → Nonzero (runTold r)
       go (Makes n g) l = given _

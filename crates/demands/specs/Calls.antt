@@ -11,7 +11,7 @@ use Rattle.address.specs.Address.{layoutOf, translateOf, locateOf}
 use Rattle.memory.specs.Elements.{readOf, writeOf}
 use Rattle.superfine.specs.Superfine.{superfineReadOf}
 use Rattle.state.specs.State.{Party, Shared}
-use Rattle.group.specs.Group.{Program, Group, stepTold, runTold, beginTold, stepOf, runOf}
+use Rattle.group.specs.Group.{Program, Group, stepTold, runTold, beginTold, groupStep, groupRun}
 use Rattle.flow.specs.Store.{loadTold}
 use Rattle.replay.specs.State.{Replay}
 use Rattle.score.specs.Lease.{Lease}
@@ -79,12 +79,12 @@ pub data Call : Told → ℕ → List (List ℕ) → List (List ℕ) → Type 0 
       BeginCrosses size r cells cells' → Call (beginTold size) r (cells ∷ []) (cells' ∷ [])
   -- egretfold_group_step
   step : (limit : ℕ) (program : Program) (alu predicate booleans : ℕ) (g : Group) (r : ℕ) (cells cells' taken taken' : List ℕ) →
-      StepCrosses (stepOf limit program alu predicate booleans g) r cells cells' taken taken' →
-      Call (stepTold (stepOf limit program alu predicate booleans g)) r (cells ∷ taken ∷ []) (cells' ∷ taken' ∷ [])
+      StepCrosses (groupStep limit program alu predicate booleans g) r cells cells' taken taken' →
+      Call (stepTold (groupStep limit program alu predicate booleans g)) r (cells ∷ taken ∷ []) (cells' ∷ taken' ∷ [])
   -- egretfold_group_run
   run : (limit : ℕ) (program : Program) (booleans : ℕ) (masks : List ℕ) (g : Group) (r : ℕ) (cells cells' report report' : List ℕ) →
-      RunCrosses (runOf limit program booleans masks g) r cells cells' report report' →
-      Call (runTold (runOf limit program booleans masks g)) r (cells ∷ report ∷ []) (cells' ∷ report' ∷ [])
+      RunCrosses (groupRun limit program booleans masks g) r cells cells' report report' →
+      Call (runTold (groupRun limit program booleans masks g)) r (cells ∷ report ∷ []) (cells' ∷ report' ∷ [])
   -- egretfold_score_month
   month : (l : Lease) (replay : Replay) (r : ℕ) (claimed served month claimed' served' month' : List ℕ) →
       MonthCrosses (scoreOf l replay) r claimed served month claimed' served' month' →

@@ -5,7 +5,7 @@ use mathlib.Core.List.{List, [], _∷_}
 use Prim.Native.Nat.{ℕ, _<_, _≤_}
 use lib.ListN.{getD}
 use Rattle.laws.specs.Masks.{on}
-use Rattle.group.specs.Proc.{Proc, isLive, isActive, decided, worked}
+use Rattle.group.specs.Proc.{counterLimit, Proc, isLive, isActive, decided, branched}
 use Rattle.group.specs.Group.{
   Program,
   Group,
@@ -30,9 +30,11 @@ use Rattle.group.specs.Group.{
   wishOf,
   overLimit,
   wayOf,
+  bElse,
+  jumpAny,
   ended,
-  stepOf,
-  runOf,
+  groupStep,
+  groupRun,
 }
 use Rattle.group.specs.Cells.{groupOf}
 use Rattle.group_rooms.specs.Rooms.{BeginCrosses, StepCrosses, RunCrosses}
@@ -46,7 +48,7 @@ secondAt p g = getD (p .seconds) (g .position) 0
 
 -- 1. the processors once B_ELSE has done its work
 abbrev pub elsed : Program → Group → ℕ → Proc
-elsed p g = turnedIf (on 4 (firstAt p g)) (g .procs)
+elsed p g = turnedIf (bElse (firstAt p g)) (g .procs)
 
 module _ (limit : ℕ) (p : Program) (alu predicate booleans : ℕ) (g : Group) where
   -- 2. each processor's wish
@@ -55,7 +57,7 @@ module _ (limit : ℕ) (p : Program) (alu predicate booleans : ℕ) (g : Group) 
 
   -- 3. the decision
   abbrev pub decision : Bool
-  decision = decided (on 5 (firstAt p g)) (λ i. isActive (elsed p g i)) wishes
+  decision = decided (jumpAny (firstAt p g)) (λ i. isActive (elsed p g i)) wishes
 
   -- 5. where the step goes on, and the returns stored then
   abbrev pub next : Way
@@ -71,7 +73,7 @@ module _ (limit : ℕ) (p : Program) (alu predicate booleans : ℕ) (g : Group) 
     -- 4. no counter is at its limit where it must gain 1, and each processor does what the operation says
     pub counters : overLimit limit (branchOp decision (firstAt p g)) (elsed p g) ≡ false
     pub each-processor :
-        (i : ℕ) → g' .procs i ≡ worked (branchOp decision (firstAt p g)) (popCount (firstAt p g)) decision (wishes i) (elsed p g i)
+        (i : ℕ) → g' .procs i ≡ branched (branchOp decision (firstAt p g)) (popCount (firstAt p g)) decision (wishes i) (elsed p g i)
     -- 5. the return stack and the place that it leads to
     pub stack : next ≡ Goes (g' .position) (g' .returns)
     -- 6. "The next position may equal N, which ends the program"
@@ -101,10 +103,10 @@ module _ (limit : ℕ) (p : Program) (booleans : ℕ) where
     -- "or with the program; masks left over aren't read"
     programOut : (alu predicate : ℕ) (masks : List ℕ) (g : Group) → ended p g ≡ true → Walk (alu ∷ (predicate ∷ masks)) g (Makes 0 g)
     oneMore : (alu predicate : ℕ) (masks : List ℕ) (g g' : Group) (jump : Bool) (r : Run) → ended p g ≡ false →
-        stepOf limit p alu predicate booleans g ≡ Steps jump g' → Walk masks g' r → Walk (alu ∷ (predicate ∷ masks)) g (onceMore r)
+        groupStep limit p alu predicate booleans g ≡ Steps jump g' → Walk masks g' r → Walk (alu ∷ (predicate ∷ masks)) g (onceMore r)
     -- "If any step is refused, the whole run gets that number"
     stepFails : (alu predicate : ℕ) (masks : List ℕ) (g : Group) (why : ℕ) → ended p g ≡ false →
-        stepOf limit p alu predicate booleans g ≡ Fails why → Walk (alu ∷ (predicate ∷ masks)) g (Breaks why)
+        groupStep limit p alu predicate booleans g ≡ Fails why → Walk (alu ∷ (predicate ∷ masks)) g (Breaks why)
 
   -- "it then gets 16, whatever the list"; else it is its steps
   pub data Ran (masks : List ℕ) (g : Group) : Run → Type 0 where
@@ -126,6 +128,6 @@ AllAgree g (m ∷ ms) (m' ∷ ms') = Agree g m m' × AllAgree g ms ms'
 pub data Handed : List ℕ → Type 0 where
   begun : (size : ℕ) (cells cells' : List ℕ) → BeginCrosses size 0 cells cells' → Handed cells'
   stepped : {cells : List ℕ} → Handed cells → (p : Program) (alu predicate booleans r : ℕ) (cells' taken taken' : List ℕ) →
-      StepCrosses (stepOf 31 p alu predicate booleans (groupOf cells)) r cells cells' taken taken' → Handed cells'
+      StepCrosses (groupStep counterLimit p alu predicate booleans (groupOf cells)) r cells cells' taken taken' → Handed cells'
   ran : {cells : List ℕ} → Handed cells → (p : Program) (booleans : ℕ) (masks : List ℕ) (r : ℕ) (cells' report report' : List ℕ) →
-      RunCrosses (runOf 31 p booleans masks (groupOf cells)) r cells cells' report report' → Handed cells'
+      RunCrosses (groupRun counterLimit p booleans masks (groupOf cells)) r cells cells' report report' → Handed cells'

@@ -8,7 +8,7 @@ use Rattle.layout.specs.Layout.{spanOf}
 use Rattle.layout.specs.declared.Layout.{Layout}
 use Rattle.address.specs.Address.{stepOf}
 use Rattle.address.specs.Inverse.{Accepted, Inside}
-use Rattle.superfine.specs.Superfine.{layoutOf}
+use Rattle.superfine.specs.Superfine.{formatLayout}
 use Rattle.state.specs.State.{Buffer, Domain, Session}
 use Rattle.state.specs.Start.{output, isSet, counts}
 
@@ -26,7 +26,7 @@ pub record InSpan (l : Layout) (a : ℕ) : Type 0 where
 
 -- the layout that a buffer's base, format word and height describe
 abbrev pub layoutIn : Buffer → Layout
-layoutIn b = layoutOf (b .base) (b .format) (b .height)
+layoutIn b = formatLayout (b .base) (b .format) (b .height)
 
 -- the window of output `n`
 abbrev pub windowIn : Session → ℕ → Layout

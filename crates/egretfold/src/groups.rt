@@ -1,7 +1,6 @@
 // Flow words for one group: programs, groups, steps and runs.
-ghost use Rattle.stepper.specs.Answers.{programOf};
-ghost use Rattle.group.specs.Cells.{Made, groupOf};
-ghost use Rattle.group.specs.Group.{stepOf, runOf};
+ghost use Rattle.stepper.specs.Answers.{stepIn, runIn};
+ghost use Rattle.group.specs.Cells.{GroupGiven};
 ghost use Rattle.group_rooms.specs.Rooms.{BeginCrosses, LoadCrosses, RunCrosses, StepCrosses};
 
 // Loads a program, two words a slot, and says how many slots run; 15.
@@ -37,8 +36,8 @@ pub extern "C" fn egretfold_group_step(
     booleans: u32,
     taken: &mut [u32; group_rooms::STEP_NUMBERS],
 ) -> u32
-    requires { ⌜ Made (now cells) ⌝ }
-    ensures { λ r. ⌜ StepCrosses (stepOf 31 (programOf (now (firsts .entry)) (now (seconds .entry)) slots) alu predicate booleans (groupOf (now (cells .entry)))) r (now (cells .entry)) (now (cells .exit)) (now (taken .entry)) (now (taken .exit)) ⌝ }
+    requires { ⌜ GroupGiven (now cells) ⌝ }
+    ensures { λ r. ⌜ StepCrosses (stepIn (now (firsts .entry)) (now (seconds .entry)) slots (now (cells .entry)) alu predicate booleans) r (now (cells .entry)) (now (cells .exit)) (now (taken .entry)) (now (taken .exit)) ⌝ }
 {
     group_rooms::step(
         firsts,
@@ -63,8 +62,8 @@ pub extern "C" fn egretfold_group_run(
     booleans: u32,
     report: &mut [u64; group_rooms::REPORT_NUMBERS],
 ) -> u32
-    requires { ⌜ Made (now cells) ⌝ }
-    ensures { λ r. ⌜ RunCrosses (runOf 31 (programOf (now (firsts .entry)) (now (seconds .entry)) slots) booleans (now (masks .entry)) (groupOf (now (cells .entry)))) r (now (cells .entry)) (now (cells .exit)) (now (report .entry)) (now (report .exit)) ⌝ }
+    requires { ⌜ GroupGiven (now cells) ⌝ }
+    ensures { λ r. ⌜ RunCrosses (runIn (now (firsts .entry)) (now (seconds .entry)) slots (now (cells .entry)) (now (masks .entry)) booleans) r (now (cells .entry)) (now (cells .exit)) (now (report .entry)) (now (report .exit)) ⌝ }
 {
     group_rooms::run(firsts, seconds, slots, cells, masks, booleans, report)
 }

@@ -4,9 +4,8 @@ use flow::Begun;
 use flow::Loaded;
 use flow::Ran;
 use stepper::Stepped;
-ghost use Rattle.stepper.specs.Answers.{programOf};
-ghost use Rattle.group.specs.Cells.{Made, groupOf};
-ghost use Rattle.group.specs.Group.{stepOf, runOf};
+ghost use Rattle.stepper.specs.Answers.{stepIn, runIn};
+ghost use Rattle.group.specs.Cells.{GroupGiven};
 ghost use Rattle.group_rooms.specs.Rooms.{BeginCrosses, LoadCrosses, RunCrosses, StepCrosses};
 
 // Lengths of rooms: a step's way, 1 for a jump or 0 for a stay, and the next position; a run's steps, first active processor and
@@ -54,8 +53,8 @@ pub fn step(
     booleans: u32,
     taken: &mut [u32; STEP_NUMBERS],
 ) -> u32
-    requires { ⌜ Made (now cells) ⌝ }
-    ensures { λ r. ⌜ StepCrosses (stepOf 31 (programOf (now (firsts .entry)) (now (seconds .entry)) slots) alu predicate booleans (groupOf (now (cells .entry)))) r (now (cells .entry)) (now (cells .exit)) (now (taken .entry)) (now (taken .exit)) ⌝ }
+    requires { ⌜ GroupGiven (now cells) ⌝ }
+    ensures { λ r. ⌜ StepCrosses (stepIn (now (firsts .entry)) (now (seconds .entry)) slots (now (cells .entry)) alu predicate booleans) r (now (cells .entry)) (now (cells .exit)) (now (taken .entry)) (now (taken .exit)) ⌝ }
 {
     match flow::step(firsts, seconds, slots, cells, alu, predicate, booleans) {
         Stepped::Refused(why) => refusal::number(why),
@@ -80,8 +79,8 @@ pub fn run(
     booleans: u32,
     report: &mut [u64; REPORT_NUMBERS],
 ) -> u32
-    requires { ⌜ Made (now cells) ⌝ }
-    ensures { λ r. ⌜ RunCrosses (runOf 31 (programOf (now (firsts .entry)) (now (seconds .entry)) slots) booleans (now (masks .entry)) (groupOf (now (cells .entry)))) r (now (cells .entry)) (now (cells .exit)) (now (report .entry)) (now (report .exit)) ⌝ }
+    requires { ⌜ GroupGiven (now cells) ⌝ }
+    ensures { λ r. ⌜ RunCrosses (runIn (now (firsts .entry)) (now (seconds .entry)) slots (now (cells .entry)) (now (masks .entry)) booleans) r (now (cells .entry)) (now (cells .exit)) (now (report .entry)) (now (report .exit)) ⌝ }
 {
     match flow::run(firsts, seconds, slots, cells, masks, booleans) {
         Ran::Refused(why) => refusal::number(why),

@@ -14,9 +14,9 @@ use Rattle.layout.specs.declared.Layout.{Layout}
 use Rattle.address.specs.Address.{addressOf}
 use Rattle.address.specs.Inverse.{Owns}
 use Rattle.memory.specs.Bytes.{byteAt, Touched}
-use Rattle.memory.specs.Elements.{stored, memoryAfter, Wrote}
+use Rattle.memory.specs.Elements.{overwritten, memoryAfter, Wrote}
 use Rattle.memory.proofs.ReadBack.{Done, done}
-use Rattle.memory.proofs.Stored.{length-stored, part-stored, before-stored, after-stored}
+use Rattle.memory.proofs.Overwritten.{length-overwritten, part-overwritten, before-overwritten, after-overwritten}
 
 -- an entry of a part is that of the list
 entry : (m : List ℕ) (a n k : ℕ) → k < n → getD (take n (drop a m)) k 0 ≡ getD m (a + k) 0
@@ -35,26 +35,26 @@ module _ (l : Layout) (x y first : ℕ) (given before : List ℕ) (d : Done l x 
   fits : at + length given ≤ length before
   fits = omega (arith, d .size, d .held .low, d .held .whole)
 
-  own : (place : ℕ) → place < l .size → byteAt first (stored at given before) (addressOf l x y + place) ≡ getD given place 0
+  own : (place : ℕ) → place < l .size → byteAt first (overwritten at given before) (addressOf l x y + place) ≡ getD given place 0
   own place h =
-      ap (λ (n : ℕ). getD (stored at given before) n 0) {x = addressOf l x y + place - first} {y = at + place} (omega (arith, d .held .low)) ∙
-      sym (entry (stored at given before) at (length given) place (omega (arith, d .size))) ∙
-      ap (λ (m : List ℕ). getD m place 0) (part-stored at given before fits)
+      ap (λ (n : ℕ). getD (overwritten at given before) n 0) {x = addressOf l x y + place - first} {y = at + place} (omega (arith, d .held .low)) ∙
+      sym (entry (overwritten at given before) at (length given) place (omega (arith, d .size))) ∙
+      ap (λ (m : List ℕ). getD m place 0) (part-overwritten at given before fits)
 
   outside :
       (a : ℕ) → first ≤ a → ((place : ℕ) → Owns l a x y place → ⊥) →
-      byteAt first (stored at given before) a ≡ byteAt first before a
-  outside a low free = same-entry (stored at given before) before (a - first) (go (tested (ltb a (addressOf l x y))) (tested (leb (addressOf l x y + l .size) a)))
+      byteAt first (overwritten at given before) a ≡ byteAt first before a
+  outside a low free = same-entry (overwritten at given before) before (a - first) (go (tested (ltb a (addressOf l x y))) (tested (leb (addressOf l x y + l .size) a)))
     where
       go :
           Tested (ltb a (addressOf l x y)) → Tested (leb (addressOf l x y + l .size) a) →
-          take 1 (drop (a - first) (stored at given before)) ≡ take 1 (drop (a - first) before)
+          take 1 (drop (a - first) (overwritten at given before)) ≡ take 1 (drop (a - first) before)
       go (holds e) f =
           let k : a < addressOf l x y = ltb-true a (addressOf l x y) e in
-          before-stored at given before fits (a - first) 1 (omega arith)
+          before-overwritten at given before fits (a - first) 1 (omega arith)
       go (fails e) (holds f) =
           let k : addressOf l x y + l .size ≤ a = leb-true (addressOf l x y + l .size) a f in
-          after-stored at given before fits (a - first) 1 (omega (arith, d .size, d .held .low))
+          after-overwritten at given before fits (a - first) 1 (omega (arith, d .size, d .held .low))
       go (fails e) (fails f) =
           let j : addressOf l x y ≤ a = ltb-false a (addressOf l x y) e in
           let k : a < addressOf l x y + l .size = leb-false (addressOf l x y + l .size) a f in
@@ -67,11 +67,11 @@ pub touched :
 unfolding memoryAfter
 touched l x y first given before now w =
     let d = done l x y first given before (sym (w .answer)) in
-    let e : now ≡ stored (addressOf l x y - first) given before =
+    let e : now ≡ overwritten (addressOf l x y - first) given before =
     w .memory ∙ ap (λ (t : Told). memoryAfter t l x y first given before) (sym (w .answer)) in
     subst (Touched l x y first given before) (sym e)
     (record {
-      same-length = length-stored (addressOf l x y - first) given before (fits l x y first given before d);
+      same-length = length-overwritten (addressOf l x y - first) given before (fits l x y first given before d);
       own = own l x y first given before d;
       outside = outside l x y first given before d;
     })

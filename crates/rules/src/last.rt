@@ -28,7 +28,7 @@ pub fn is_window(base: u32, format: u32, height: u32) -> bool
     let size = format::size(format::code(format));
     let tiled = format::tiled(format);
     if layout::well_formed(base, pitch, size) {
-        if 0 < layout::stream_row(base, pitch, height, size, tiled) {
+        if 0 < layout::stream_stride(base, pitch, height, size, tiled) {
             true
         } else {
             false

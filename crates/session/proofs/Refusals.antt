@@ -14,7 +14,7 @@ use Rattle.command.specs.Table.{headers}
 use Rattle.command.specs.Writer.{thenTold}
 use Rattle.command.specs.declared.commands.Command.{Command}
 use Rattle.command.specs.declared.commands.Command.the-variants as command
-use Rattle.command.proofs.Headers.{Accepted, stands, place-of-line}
+use Rattle.command.proofs.Headers.{Accepted, listed, place-of-line}
 use Rattle.command.proofs.Judging.{Fault, three, four, fault}
 use Rattle.command.proofs.Rule.{Ruled, fine, five, six, ruled}
 use Rattle.state.specs.State.{Open, Session, none}
@@ -187,4 +187,4 @@ module _ (s : Session) (w : ℕ) (i : Idle s) (room : s .party .taken < limit) w
   unfolding headerStep
   header-refused none =
       at-header ∙
-      pick-no _ _ (le-ltb (placeOf w headers) 21 (let k : placeOf w headers < 21 → ⊥ = λ h. none (placeOf w headers) (record { line = h; header = stands w h }) in omega arith))
+      pick-no _ _ (le-ltb (placeOf w headers) 21 (let k : placeOf w headers < 21 → ⊥ = λ h. none (placeOf w headers) (record { line = h; header = listed w h }) in omega arith))

@@ -35,7 +35,7 @@ pub fn word(
         }
         Answer::Done(done) => {
             let places = commands::fields(done);
-            let header = table::header(commands::line(done));
+            let header = table::made_header(commands::line(done));
             *command = [1, header, places.0, places.1, places.2, places.3];
             0
         }

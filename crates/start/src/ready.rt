@@ -79,7 +79,7 @@ fn window_of(base: u32, format: u32, height: u32) -> Window
     if !layout::well_formed(base, pitch, size) {
         return Window { step: 0, span: 0 };
     }
-    let row = layout::stream_row(base, pitch, height, size, tiled);
+    let row = layout::stream_stride(base, pitch, height, size, tiled);
     if row < 1 {
         return Window { step: 0, span: 0 };
     }

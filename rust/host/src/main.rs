@@ -67,7 +67,7 @@ enum What {
     /// A byte address back to its pair and its place in the element
     #[command(after_help = address::locate::EXAMPLES)]
     Locate(address::locate::Options),
-    /// A tile drawn, with the place of each cell
+    /// A tile drawn, with the place of each block
     Tile(address::tile::Options),
     /// A flow program listed, or stepped with given masks
     #[command(after_help = flow::EXAMPLES)]

@@ -1,7 +1,7 @@
 -- `accept::take` meets its contract. Assumes nothing.
 use mathlib.Core.Path.{sym, ap, _∙_}
 use Rattle.command.specs.Table.{toldLine}
-use Rattle.command.proofs.Headers.{accepted-stands}
+use Rattle.command.proofs.Headers.{accepted-listed}
 use Rattle.accept.specs.Whole.{unbegun}
 use Rattle.accept.proofs.WholeCommands.{ready, piece-tried}
 use borrow.Author.Needs.{needs}
@@ -85,7 +85,7 @@ shared-slice-read-take-line-4 c = search needs
 
 take-line-requires : tie.Need-take-line-requires
 take-line-requires c κs = (
-  accepted-stands _ _ (sym (c .before .before .before .before .before .before .before .before .before .before .line-of .ensures) ∙ ap toldLine (c .before .before .before .before .before .before .before .before .line .given .1)) .line,
+  accepted-listed _ _ (sym (c .before .before .before .before .before .before .before .before .before .before .line-of .ensures) ∙ ap toldLine (c .before .before .before .before .before .before .before .before .line .given .1)) .line,
   ready _ _ _ (c .before .before .before .before .before .before .before .before .before .before .before .before .before .before .before .before .before .before .before .before .pre .0) (c .before .before .before .before .before .before .before .before .before .before .before .before .before .before .before .before .if2 .left) (c .before .before .before .before .before .before .before .before .before .before .before .before .before .before .if3 .left) (c .before .before .before .before .before .before .before .before .before .before .before .before .if4 .left),
 )
 

@@ -22,8 +22,8 @@ number-requires c κs = search needs
 enum-known-line : tie.Need-enum-known-line
 enum-known-line c = search needs
 
-parameters-requires : tie.Need-parameters-requires
-parameters-requires c κs = search needs
+count-requires : tie.Need-count-requires
+count-requires c κs = search needs
 
 returns : tie.Need-returns
 returns c =
@@ -34,7 +34,7 @@ returns-2 : tie.Need-returns-2
 returns-2 c =
     crosses-gives _ _ _
     (on-line _ _ _ _ (sym (c .before .before .before .before .before .line-of .ensures) ∙ ap toldLine (c .before .before .before .line .given .1)) ∙
-    ap (λ (n : ℕ). gives (n ∷ [])) (sym (c .before .parameters .ensures)))
+    ap (λ (n : ℕ). gives (n ∷ [])) (sym (c .before .count .ensures)))
 
 pub parameters-spec : {M : Type 1} → statement M
 parameters-spec =
@@ -44,6 +44,6 @@ parameters-spec =
     enum-told
     number-requires
     enum-known-line
-    parameters-requires
+    count-requires
     returns
     returns-2)

@@ -1,7 +1,7 @@
 -- `command_rooms::write` meets its contract: each answer crosses as it is told. Assumes nothing.
 use mathlib.Core.Path.{sym, ap, _∙_}
 use Rattle.command.specs.Table.{toldLine}
-use Rattle.command.proofs.Headers.{accepted-stands}
+use Rattle.command.proofs.Headers.{accepted-listed}
 use Rattle.refusal.proofs.Crossings.{crosses-refuses}
 use Rattle.command.proofs.Known.{off-line}
 use Rattle.command_rooms.proofs.Written.{write-known}
@@ -37,7 +37,7 @@ build-requires : tie.Need-build-requires
 build-requires c κs =
     let at-line = c .before .before .before .before .before in
     let at-line-of = at-line .before .before in
-    accepted-stands _ _ (sym (at-line-of .line-of .ensures) ∙ ap toldLine (at-line .line .given .1)) .line
+    accepted-listed _ _ (sym (at-line-of .line-of .ensures) ∙ ap toldLine (at-line .line .given .1)) .line
 
 write-words-requires : tie.Need-write-words-requires
 write-words-requires c κs = search needs

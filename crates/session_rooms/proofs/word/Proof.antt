@@ -30,8 +30,8 @@ fields-requires c κs = search needs
 line-requires : tie.Need-line-requires
 line-requires c κs = search needs
 
-header-requires : tie.Need-header-requires
-header-requires c κs = rw (c .line .ensures) (lined _ .line-most)
+made-header-requires : tie.Need-made-header-requires
+made-header-requires c κs = rw (c .line .ensures) (lined _ .line-most)
 
 returns : tie.Need-returns
 returns c =
@@ -60,7 +60,7 @@ returns-3 c =
       answer =
           crosses-gives _ _ _
           (ap replyTold (sym (at-word .word .ensures .reply) ∙ ap replyOf (at-done .done .given .1)) ∙
-          done-told _ _ _ _ (c .before .header .ensures) (at-line .line .ensures) (at-fields .fields .ensures));
+          done-told _ _ _ _ (c .before .made-header .ensures) (at-line .line .ensures) (at-fields .fields .ensures));
       held = at-word .word .ensures .held;
     }
 
@@ -75,7 +75,7 @@ word-spec =
     enum-known-done
     fields-requires
     line-requires
-    header-requires
+    made-header-requires
     returns
     returns-2
     returns-3)

@@ -1,4 +1,4 @@
-//! `egretfold tile`: a tile drawn, cell by cell, so that an address can be followed with a finger. Every number is the product's.
+//! `egretfold tile`: a tile drawn, block by block, so that an address can be followed with a finger. Every number is the product's.
 
 use crate::address::tiles::{tile_of, Tile, TILE_BYTES};
 use crate::common::failure::{Failure, Outcome};
@@ -6,9 +6,9 @@ use boundary::Layout;
 use clap::Args;
 use std::io::Write;
 
-/// A tile of any size is 8 by 8 cells of this many bytes.
-const CELL_BYTES: u32 = 32;
-const CELLS: u32 = 8;
+/// A tile of any size is 8 by 8 blocks of this many bytes.
+const BLOCK_BYTES: u32 = 32;
+const BLOCKS: u32 = 8;
 
 #[derive(Args)]
 pub struct Options {
@@ -34,49 +34,49 @@ pub fn run(options: &Options, out: &mut dyn Write) -> Outcome {
         options.row.saturating_mul(tile.height),
     );
     inside(options, tile, left, top)?;
-    let (wide, high) = (tile.width / CELLS, tile.height / CELLS);
+    let (wide, high) = (tile.width / BLOCKS, tile.height / BLOCKS);
     writeln!(
         out,
-        "size {size}: a tile has {} x {} elements, {CELLS} x {CELLS} cells of {wide} x {high} elements, {CELL_BYTES} bytes each",
+        "size {size}: a tile has {} x {} elements, {BLOCKS} x {BLOCKS} blocks of {wide} x {high} elements, {BLOCK_BYTES} bytes each",
         tile.width, tile.height
     )?;
-    draw_cells(options, tile, out)?;
+    draw_blocks(options, tile, out)?;
     draw_elements(options, tile, out)
 }
 
-/// The number of each cell: its place in the tile, counted in cells.
-fn draw_cells(options: &Options, tile: &Tile, out: &mut dyn Write) -> Outcome {
+/// The number of each block: its place in the tile, counted in blocks.
+fn draw_blocks(options: &Options, tile: &Tile, out: &mut dyn Write) -> Outcome {
     let (column, row) = (options.column, options.row);
-    let (wide, high) = (tile.width / CELLS, tile.height / CELLS);
+    let (wide, high) = (tile.width / BLOCKS, tile.height / BLOCKS);
     writeln!(
         out,
-        "\ntile in column {column}, row {row}: each cell's place, in {CELL_BYTES} bytes\n"
+        "\ntile in column {column}, row {row}: each block's place, in {BLOCK_BYTES} bytes\n"
     )?;
     write!(out, "   y \\ x")?;
-    for cell in 0..CELLS {
-        write!(out, "{:>6}", column * tile.width + cell * wide)?;
+    for block in 0..BLOCKS {
+        write!(out, "{:>6}", column * tile.width + block * wide)?;
     }
     writeln!(out)?;
-    for down in 0..CELLS {
+    for down in 0..BLOCKS {
         let y = row * tile.height + down * high;
         write!(out, "{y:>8}")?;
-        for cell in 0..CELLS {
-            let x = column * tile.width + cell * wide;
-            write!(out, "{:>6}", inside(options, tile, x, y)? / CELL_BYTES)?;
+        for block in 0..BLOCKS {
+            let x = column * tile.width + block * wide;
+            write!(out, "{:>6}", inside(options, tile, x, y)? / BLOCK_BYTES)?;
         }
         writeln!(out)?;
     }
     Ok(())
 }
 
-/// The byte at which each element of the tile's first cell begins.
+/// The byte at which each element of the tile's first block begins.
 fn draw_elements(options: &Options, tile: &Tile, out: &mut dyn Write) -> Outcome {
     let (left, top) = (options.column * tile.width, options.row * tile.height);
-    writeln!(out, "\nin a cell: the byte at which each element begins\n")?;
-    for y in top..top + tile.height / CELLS {
+    writeln!(out, "\nin a block: the byte at which each element begins\n")?;
+    for y in top..top + tile.height / BLOCKS {
         write!(out, "        ")?;
-        for x in left..left + tile.width / CELLS {
-            write!(out, "{:>6}", inside(options, tile, x, y)? % CELL_BYTES)?;
+        for x in left..left + tile.width / BLOCKS {
+            write!(out, "{:>6}", inside(options, tile, x, y)? % BLOCK_BYTES)?;
         }
         writeln!(out)?;
     }

@@ -22,14 +22,14 @@ tiled-requires c κs = search needs
 well-formed-requires : tie.Need-well-formed-requires
 well-formed-requires c κs = search needs
 
-stream-row-requires : tie.Need-stream-row-requires
-stream-row-requires c κs = sym (c .before .well-formed .ensures) ∙ c .if1 .taken
+stream-stride-requires : tie.Need-stream-stride-requires
+stream-stride-requires c κs = sym (c .before .well-formed .ensures) ∙ c .if1 .taken
 
 returns : tie.Need-returns
-returns c = accepted _ _ _ _ _ _ _ (c .before .before .before .before .before .before .before .pitch .ensures) (c .before .before .before .before .before .before .code .ensures) (c .before .before .before .before .before .size .ensures) (c .before .before .before .before .tiled .ensures) (sym (c .before .before .before .well-formed .ensures) ∙ c .before .before .if1 .taken) (ruled _ _ _ _ _ (sym (c .before .before .before .well-formed .ensures) ∙ c .before .before .if1 .taken) _ (c .before .stream-row .ensures) (c .if2 .taken) .rule)
+returns c = accepted _ _ _ _ _ _ _ (c .before .before .before .before .before .before .before .pitch .ensures) (c .before .before .before .before .before .before .code .ensures) (c .before .before .before .before .before .size .ensures) (c .before .before .before .before .tiled .ensures) (sym (c .before .before .before .well-formed .ensures) ∙ c .before .before .if1 .taken) (ruled _ _ _ _ _ (sym (c .before .before .before .well-formed .ensures) ∙ c .before .before .if1 .taken) _ (c .before .stream-stride .ensures) (c .if2 .taken) .rule)
 
 returns-2 : tie.Need-returns-2
-returns-2 c = broken _ _ _ _ _ _ _ (c .before .before .before .before .before .before .before .pitch .ensures) (c .before .before .before .before .before .before .code .ensures) (c .before .before .before .before .before .size .ensures) (c .before .before .before .before .tiled .ensures) (sym (c .before .before .before .well-formed .ensures) ∙ c .before .before .if1 .taken) (unruled _ _ _ _ _ (sym (c .before .before .before .well-formed .ensures) ∙ c .before .before .if1 .taken) _ (c .before .stream-row .ensures) (omega (arith, c .if2 .left)))
+returns-2 c = broken _ _ _ _ _ _ _ (c .before .before .before .before .before .before .before .pitch .ensures) (c .before .before .before .before .before .before .code .ensures) (c .before .before .before .before .before .size .ensures) (c .before .before .before .before .tiled .ensures) (sym (c .before .before .before .well-formed .ensures) ∙ c .before .before .if1 .taken) (unruled _ _ _ _ _ (sym (c .before .before .before .well-formed .ensures) ∙ c .before .before .if1 .taken) _ (c .before .stream-stride .ensures) (omega (arith, c .if2 .left)))
 
 returns-3 : tie.Need-returns-3
 returns-3 c = malformed _ _ _ _ _ _ _ (c .before .before .before .before .before .pitch .ensures) (c .before .before .before .before .code .ensures) (c .before .before .before .size .ensures) (c .before .before .tiled .ensures) (sym (c .before .well-formed .ensures) ∙ c .if1 .left)
@@ -43,7 +43,7 @@ is-window-spec =
     size-requires
     tiled-requires
     well-formed-requires
-    stream-row-requires
+    stream-stride-requires
     returns
     returns-2
     returns-3)
