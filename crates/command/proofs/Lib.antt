@@ -1,9 +1,5 @@
-pub mod Fitting
 pub mod Headers
-pub mod Judging
 pub mod Known
-pub mod Readable
-pub mod Rule
 pub mod Windows
 pub mod Words
 pub mod WriteBack

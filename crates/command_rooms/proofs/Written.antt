@@ -6,11 +6,11 @@ use Prim.Native.Nat.{ℕ, _≤_, _+_}
 use native.Mathlib.Omega.{arith}
 use lib.ListN.{length}
 use Rattle.laws.specs.Choice.{pick}
-use Rattle.refusal.specs.Told.{Told, gives, refuses}
+use Rattle.refusal.specs.Told.{Told, gives, refuses, thenTold}
 use Rattle.refusal.specs.Crossing.{Crosses}
 use Rattle.command.specs.Table.{countOf, lineWith}
 use Rattle.command.specs.Commands.{lineOf, wordsOf, fieldsOf}
-use Rattle.command.specs.Writer.{judgeCommandOf, thenTold, writeOf}
+use Rattle.rules.specs.Writer.{judgeCommandOf, writeOf}
 use Rattle.command.specs.declared.commands.Command.{Command}
 use Rattle.command.proofs.Headers.{count-most}
 use Rattle.command.proofs.WriteBack.{lined}

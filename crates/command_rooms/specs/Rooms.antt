@@ -7,7 +7,7 @@ use Rattle.refusal.specs.Told.{Told, gives}
 use Rattle.command.specs.Table.{lineWith, countOf}
 use Rattle.command.specs.Known.{onLine, ifKnown}
 use Rattle.command.specs.Commands.{commandOf}
-use Rattle.command.specs.Writer.{writeOf, roomAfter}
+use Rattle.rules.specs.Writer.{writeOf, roomAfter}
 use Rattle.command.specs.declared.commands.Command.{Command}
 use Rattle.refusal.specs.Crossing.{Crosses}
 

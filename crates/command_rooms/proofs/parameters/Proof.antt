@@ -5,6 +5,7 @@ use Prim.Native.Nat.{ℕ}
 use Rattle.refusal.specs.Told.{gives}
 use Rattle.command.specs.Table.{toldLine}
 use Rattle.refusal.proofs.Crossings.{crosses-gives, crosses-refuses}
+use Rattle.command.proofs.Headers.{accepted-listed}
 use Rattle.command.proofs.Known.{on-line, off-line}
 use borrow.Author.Needs.{needs}
 use Rattle.command_rooms.proofs.parameters.Statement.{statement}
@@ -23,7 +24,8 @@ enum-known-line : tie.Need-enum-known-line
 enum-known-line c = search needs
 
 count-requires : tie.Need-count-requires
-count-requires c κs = search needs
+count-requires c κs =
+    accepted-listed _ _ (sym (c .before .before .before .line-of .ensures) ∙ ap toldLine (c .before .line .given .1)) .line
 
 returns : tie.Need-returns
 returns c =
