@@ -9,7 +9,7 @@ use Rattle.laws.specs.Choice.{pick}
 use Rattle.laws.proofs.Choice.{Tested, tested, holds, fails, pick-yes, pick-no}
 use Rattle.refusal.specs.Told.{Told, gives, refuses}
 use Rattle.command.specs.Table.{lineWith}
-use Rattle.command.specs.Writer.{writeOf, roomAfter}
+use Rattle.rules.specs.Writer.{writeOf, roomAfter}
 use Rattle.memory.specs.Elements.{memoryAfter}
 use Rattle.memory.specs.Elements as elements
 use Rattle.memory.specs.Answers.{countTold}

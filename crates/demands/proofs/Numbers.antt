@@ -8,17 +8,17 @@ use lib.ListN.{length}
 use borrow.Author.Tests.{eqb-false}
 use Rattle.laws.specs.Choice.{pick}
 use Rattle.laws.proofs.Choice.{by-pick}
-use Rattle.refusal.specs.Told.{Told, gives, refuses}
+use Rattle.refusal.specs.Told.{Told, gives, refuses, thenTold}
 use Rattle.layout.specs.Layout.{judgeOf}
 use Rattle.layout.specs.declared.Layout.{Layout}
 use Rattle.address.specs.Address.{ifAccepted, translateOf, backOf, locateOf}
 use Rattle.memory.specs.Elements.{inOrder, readOf, writeOf}
 use Rattle.superfine.specs.Superfine.{fourOf, fourAtOf, superfineReadOf}
 use Rattle.command.specs.Table.{lineWith}
-use Rattle.command.specs.Writer.{thenTold, judgeCommandOf}
-use Rattle.command.specs.Writer as writer
+use Rattle.rules.specs.Writer.{judgeCommandOf}
+use Rattle.rules.specs.Writer as writer
 use Rattle.command.specs.declared.commands.Command.{Command}
-use Rattle.command.proofs.Rule.{Ruled, fine, five, six, ruled}
+use Rattle.rules.proofs.Rule.{Ruled, fine, five, six, ruled}
 use Rattle.state.specs.State.{Party, Shared}
 use Rattle.group.specs.Group.{Program, Group, Outcome, Steps, Fails, Run, Makes, Breaks, onceMore, stepTold, runTold, beginTold, groupStep, groupRun}
 use Rattle.flow.specs.Store.{loadTold}

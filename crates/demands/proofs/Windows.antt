@@ -15,7 +15,7 @@ use Rattle.laws.specs.Below.{every}
 use Rattle.laws.proofs.Choice.{Tested, tested, holds, fails, pick-yes, pick-no, and-intro, and-left, and-right}
 use Rattle.laws.proofs.Below.{every-at}
 use Rattle.laws.proofs.Table.{each, _&_}
-use Rattle.refusal.specs.Told.{Told, gives, refuses}
+use Rattle.refusal.specs.Told.{Told, gives, refuses, isGiven}
 use Rattle.layout.specs.Layout.{wellFormed, spanOf, windowRule, judgeOf}
 use Rattle.layout.proofs.Sizes.{tile}
 use Rattle.layout.proofs.Window.{form-size, rule-bounds}
@@ -23,7 +23,7 @@ use Rattle.address.specs.Address.{stepOf}
 use Rattle.address.specs.Inverse.{Accepted, Inside}
 use Rattle.address.proofs.Inverse.{inverse}
 use Rattle.command.specs.Format.{pitchOf, tiledOf, codeOf, sizeOf, windowOf}
-use Rattle.command.specs.Rules.{isGiven, domainKept, windowKept, lastRuleOf}
+use Rattle.rules.specs.Rules.{domainKept, windowKept, lastRuleOf}
 use Rattle.command.specs.declared.commands.Stored.the-variants as stored
 use Rattle.command.specs.declared.commands.Command.{Command}
 use Rattle.command.specs.declared.commands.Command.the-variants as command

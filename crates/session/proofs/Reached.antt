@@ -9,10 +9,10 @@ use lib.Seq.{take-append-seam}
 use borrow.Author.Tests.{eqb-true, le-leb}
 use Rattle.laws.specs.Choice.{pick}
 use Rattle.laws.proofs.Choice.{Tested, tested, holds, fails, pick-yes, pick-no}
-use Rattle.refusal.specs.Told.{Told, gives, refuses}
+use Rattle.refusal.specs.Told.{Told, gives, refuses, thenTold}
 use Rattle.command.specs.Table.{headerOf}
 use Rattle.command.specs.Commands.{lineOf, wordsOf}
-use Rattle.command.specs.Writer.{thenTold, judgeCommandOf, writeOf, roomAfter}
+use Rattle.rules.specs.Writer.{judgeCommandOf, writeOf, roomAfter}
 use Rattle.command.specs.declared.commands.Command.{Command}
 use Rattle.command.proofs.Headers.{count-most}
 use Rattle.command.proofs.WriteBack.{lined}

@@ -5,7 +5,7 @@ use mathlib.Core.List.{List, [], _∷_, _++_}
 use Prim.Native.Nat.{ℕ, _+_}
 use lib.ListN.{length, take}
 use Rattle.refusal.specs.Told.{Told, gives, refuses}
-use Rattle.command.specs.Writer.{writeOf, roomAfter}
+use Rattle.rules.specs.Writer.{writeOf, roomAfter}
 use Rattle.command.specs.declared.commands.Command.{Command}
 use Rattle.state.specs.State.{Session, newSession}
 use Rattle.session.specs.Step.{stepOf}
