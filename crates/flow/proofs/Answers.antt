@@ -16,10 +16,10 @@ use Rattle.refusal.specs.Told.{gives, refuses}
 use Rattle.refusal.specs.declared.Refusal.{Refusal}
 use Rattle.group.specs.Proc.{counterLimit}
 use Rattle.group.specs.Group.{Outcome, Steps, Fails, stepTold}
-use Rattle.group.specs.Cells.{positionIn}
-use Rattle.group.proofs.State.{SoundAfter}
+use Rattle.group.specs.Cells.{positionIn, groupOf, GroupGiven, stepLeaves}
+use Rattle.group.proofs.State.{SoundAfter, step-sound}
 use Rattle.stepper.specs.declared.Stepped.the-variants as stepped
-use Rattle.stepper.specs.Answers.{NumberDone, StepDone}
+use Rattle.stepper.specs.Answers.{stepNumber, NumberDone, StepDone, programOf, stepIn}
 use Rattle.flow.specs.Answers.{refusalOf}
 
 -- 13 to 16 are the numbers of the refusals that they stand for
@@ -32,35 +32,42 @@ refusal-number n low high =
     again : n - 13 + 13 ≡ n
     again = omega arith
 
-module _ {l leaves : List ℕ} {n : ℕ} where
+-- the step of a group that was given out, by the number that it answers
+module _ {leaves : List ℕ} (l firsts seconds : List ℕ) (slots alu predicate booleans : ℕ) (m : GroupGiven l) {n : ℕ}
+    (d : NumberDone l leaves n (stepIn firsts seconds slots l alu predicate booleans)) where
+  abbrev here : Outcome
+  here = stepIn firsts seconds slots l alu predicate booleans
+
+  pub sound-here : SoundAfter counterLimit here
+  sound-here = step-sound counterLimit (programOf firsts seconds slots) alu predicate booleans (groupOf l) (m .sound)
+
   -- a number above 1 is a refusal's
-  pub step-refused :
-      (o : Outcome) → SoundAfter counterLimit o → NumberDone l leaves n o → {why : Refusal} → 1 < n → why ≡ refusalOf n →
-      StepDone l leaves (stepped.Refused why) o
-  step-refused (Steps jump g) s d h e =
-      let z : n ≡ digit jump = d .number in
-      let q : digit jump < 2 = digit-lt jump in
-      absurd (omega arith)
-  step-refused (Fails k) s d h e =
-      record { told = ap refuses (ap numberOf (e ∙ ap refusalOf (d .number)) ∙ refusal-number k (s .0) (s .1)); left = d .left }
+  pub step-refused : {why : Refusal} → 1 < n → why ≡ refusalOf n → StepDone l leaves (stepped.Refused why) here
+  step-refused {why} h e = record { told = by here sound-here (d .number); left = d .left }
+    where
+      by : (o : Outcome) → SoundAfter counterLimit o → n ≡ stepNumber o → refuses (numberOf why) ≡ stepTold o
+      by (Steps jump g) s z =
+          let q : digit jump < 2 = digit-lt jump in
+          absurd (omega arith)
+      by (Fails k) s z = ap refuses (ap numberOf (e ∙ ap refusalOf z) ∙ refusal-number k (s .0) (s .1))
 
   -- 0 and 1 are told with the position that the cells then show
-  made :
-      (o : Outcome) → SoundAfter counterLimit o → NumberDone l leaves n o → n ≤ 1 → gives (n ∷ positionIn leaves ∷ []) ≡ stepTold o
-  made (Steps jump g) s d h = ap₂ (λ (m at : ℕ). gives (m ∷ at ∷ [])) (d .number) (ap positionIn (d .left))
-  made (Fails k) s d h =
-      let z : n ≡ k = d .number in
-      let q : 12 < k = s .0 in
-      absurd (omega arith)
+  made : n ≤ 1 → gives (n ∷ positionIn leaves ∷ []) ≡ stepTold here
+  made h = by here sound-here (d .number) (d .left)
+    where
+      by :
+          (o : Outcome) → SoundAfter counterLimit o → n ≡ stepNumber o → leaves ≡ stepLeaves l o →
+          gives (n ∷ positionIn leaves ∷ []) ≡ stepTold o
+      by (Steps jump g) s z left = ap₂ (λ (j at : ℕ). gives (j ∷ at ∷ [])) z (ap positionIn left)
+      by (Fails k) s z left = let q : 12 < k = s .0 in absurd (omega arith)
 
-  module _ (o : Outcome) (s : SoundAfter counterLimit o) (d : NumberDone l leaves n o) (h : n ≤ 1) where
-    pub step-jumped : n ≡ 1 → StepDone l leaves (stepped.Jumped (record { 0 = positionIn leaves })) o
-    step-jumped e =
-        record { told = ap (λ (m : ℕ). gives (m ∷ positionIn leaves ∷ [])) (sym e) ∙ made o s d h; left = d .left }
+  pub step-jumped : n ≤ 1 → n ≡ 1 → StepDone l leaves (stepped.Jumped (record { 0 = positionIn leaves })) here
+  step-jumped h e =
+      record { told = ap (λ (j : ℕ). gives (j ∷ positionIn leaves ∷ [])) (sym e) ∙ made h; left = d .left }
 
-    pub step-stayed : (n ≡ 1 → ⊥) → StepDone l leaves (stepped.Stayed (record { 0 = positionIn leaves })) o
-    step-stayed e =
-        record { told = ap (λ (m : ℕ). gives (m ∷ positionIn leaves ∷ [])) none ∙ made o s d h; left = d .left }
-      where
-        none : 0 ≡ n
-        none = omega arith
+  pub step-stayed : n ≤ 1 → (n ≡ 1 → ⊥) → StepDone l leaves (stepped.Stayed (record { 0 = positionIn leaves })) here
+  step-stayed h e =
+      record { told = ap (λ (j : ℕ). gives (j ∷ positionIn leaves ∷ [])) none ∙ made h; left = d .left }
+    where
+      none : 0 ≡ n
+      none = omega arith

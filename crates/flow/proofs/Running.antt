@@ -28,7 +28,7 @@ use Rattle.group.specs.Group.{Group, Outcome, Steps, Fails, Program, Run, Makes
 use Rattle.group.specs.Cells.{activeIn, positionIn, groupOf, Sound, GroupGiven, runLeaves}
 use Rattle.stepper.specs.Answers.{NumberDone, programOf, stepIn, runIn}
 use Rattle.flow.specs.Answers.{refusalOf, RunDone, stepsTold, StepsDone}
-use Rattle.flow.proofs.Answers.{refusal-number}
+use Rattle.flow.proofs.Answers.{refusal-number, sound-here}
 use Rattle.group.proofs.State.{SoundAfter, given-of, group-back, given-masks, step-sound}
 
 -- a run of one step
@@ -41,11 +41,11 @@ module _ {leaves : List ℕ} (l firsts seconds : List ℕ) (slots alu predicate 
   abbrev here : Outcome
   here = stepIn firsts seconds slots l alu predicate booleans
 
-  pub sound-here : SoundAfter counterLimit here
-  sound-here = step-sound counterLimit (programOf firsts seconds slots) alu predicate booleans (groupOf l) (m .sound)
+  sound : SoundAfter counterLimit here
+  sound = sound-here l firsts seconds slots alu predicate booleans m d
 
   pub one-went : n ≤ 1 → StepsDone leaves (stepsMade.Number 1) (single here)
-  one-went h = by here sound-here d
+  one-went h = by here sound d
     where
       by : (o : Outcome) → SoundAfter counterLimit o → NumberDone l leaves n o → StepsDone leaves (stepsMade.Number 1) (single o)
       by (Steps jump g) s k =
@@ -59,7 +59,7 @@ module _ {leaves : List ℕ} (l firsts seconds : List ℕ) (slots alu predicate 
           absurd (omega arith)
 
   pub one-stopped : {why : Refusal} → 1 < n → why ≡ refusalOf n → StepsDone leaves (stepsMade.Refused why) (single here)
-  one-stopped {why} h e = by here sound-here d
+  one-stopped {why} h e = by here sound d
     where
       by : (o : Outcome) → SoundAfter counterLimit o → NumberDone l leaves n o → StepsDone leaves (stepsMade.Refused why) (single o)
       by (Steps jump g) s k =

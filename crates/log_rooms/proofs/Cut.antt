@@ -1,5 +1,6 @@
 -- "Demand 2's cut rule then also holds for bytes", over the arrays: two pieces through `feed`, one after the other, leave what the
--- joined piece leaves, with the sum of what they took and the first refusal; so does any list of pieces. Assumes nothing.
+-- joined piece leaves, with the sum of what they took and the first refusal; so does any list of pieces. A byte through `take_byte` is a
+-- piece of one byte. Assumes nothing.
 use mathlib.Core.Path.{_≡_, refl, sym, ap, ap₂, _∙_, subst}
 use mathlib.Core.List.{List, [], _∷_, _++_}
 use Prim.Native.Nat.{ℕ, _+_}
@@ -8,13 +9,16 @@ use Rattle.laws.specs.Choice.{pick}
 use Rattle.laws.proofs.Choice.{pick-no}
 use Rattle.session.specs.Feed.{First, nothing, first, earlier, uncut, firstStatus}
 use Rattle.replay.specs.State.{Replay, newReplay}
+use Rattle.replay.specs.Step.{Reply}
+use Rattle.replay.specs.Step as step
 use Rattle.log.specs.Asked.{Bytes8}
-use Rattle.log.specs.Feed.{Fed, joined, replayOf, replayPieces}
+use Rattle.log.specs.Bytes.{byteStep}
+use Rattle.log.specs.Feed.{Fed, ended, proceed, joined, replayOf, replayPieces}
 use Rattle.log.proofs.Cut.{Stopping, stopping, cut, cut-anywhere}
 use Rattle.log.proofs.Feeding.{held-view}
 use Rattle.log.proofs.Handed.{held-same, begun-given, piece-given}
 use Rattle.log.proofs.Kept.{new-replay-valid, piece-valid}
-use Rattle.log_rooms.specs.Pieces.{Arrays, replayAt, GivenAt, FedAt, firstOfTwo, Pieces, none, more}
+use Rattle.log_rooms.specs.Pieces.{Arrays, replayAt, GivenAt, FedAt, ByteAt, takenBy, firstOfTwo, Pieces, none, more}
 use Rattle.log_rooms.specs.Rooms.{BeginCrosses}
 
 -- the status of two pieces: a refusal's number is never 0
@@ -60,6 +64,31 @@ module _ (a : Arrays) (g : GivenAt a) (p : List ℕ) (small : Bytes8 p) (status 
         (both (replayAt a) (replayOf (replayAt a) p) (replayOf (replayOf (replayAt a) p .replay) q) (stopping (replayAt a) p) status
         taken a1 c status1 taken1 a2
         (subst (λ (r : Replay). FedAt (replayOf r q) status1 taken1 a2) after-piece d))
+
+-- a byte by itself takes one byte, or none where it is refused
+one-taken : (y : Reply) (u : Replay) → ((n : ℕ) → y ≡ step.refused n → n ≡ 0 → ⊥) →
+    proceed y u (ended nothing u) .taken ≡ takenBy (firstStatus (proceed y u (ended nothing u) .refusal))
+unfolding proceed pick
+one-taken step.taken u refusing = refl
+one-taken (step.refused n) u refusing = sym (pick-no 1 0 (ne-eqb n 0 (refusing n refl)))
+
+taken-by-status : (r : Replay) (b : ℕ) → replayOf r (b ∷ []) .taken ≡ takenBy (firstStatus (replayOf r (b ∷ []) .refusal))
+unfolding replayOf proceed
+taken-by-status r b =
+    one-taken (byteStep r b .reply) (byteStep r b .replay)
+    (λ n e.
+    stopping r (b ∷ []) .not-none n
+    (ap (λ (y : Reply). proceed y (byteStep r b .replay) (ended nothing (byteStep r b .replay)) .refusal) e))
+
+-- so through `take_byte` it is the piece of one byte
+pub byte-piece : (r : Replay) (b status : ℕ) (a : Arrays) → ByteAt (replayOf r (b ∷ [])) status a →
+    FedAt (replayOf r (b ∷ [])) status (takenBy status) a
+byte-piece r b status a c =
+    record {
+      status = c .status;
+      room = ap (λ (n : ℕ). takenBy n ∷ []) (c .status) ∙ ap (λ (n : ℕ). n ∷ []) (sym (taken-by-status r b));
+      held = c .held;
+    }
 
 -- any pieces, empty ones among them, are the uncut bytes
 pub any-pieces : (a : Arrays) → GivenAt a → (ps : List (List ℕ)) (status taken : ℕ) (a1 : Arrays) → Pieces a ps status taken a1 →

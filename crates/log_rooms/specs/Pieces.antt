@@ -5,7 +5,7 @@ use lib.Dec.{eqb}
 use Rattle.laws.specs.Choice.{pick}
 use Rattle.replay.specs.State.{Replay}
 use Rattle.replay.specs.Cells.{ReplayGiven, replayIn}
-use Rattle.log.specs.Asked.{Bytes8}
+use Rattle.log.specs.Asked.{ByteLeft, Bytes8}
 use Rattle.log.specs.Feed.{Fed, replayOf}
 use Rattle.log_rooms.specs.Rooms.{FeedCrosses}
 
@@ -26,6 +26,13 @@ GivenAt a = ReplayGiven (a .log) (a .marks) (a .own) (a .tallies) (a .shared)
 -- what one call of `feed` answers and leaves: its status, the bytes taken, and the arrays at return
 abbrev pub FedAt : Fed → ℕ → ℕ → Arrays → Type 0
 FedAt f status taken a = FeedCrosses f status (a .log) (a .marks) (a .own) (a .tallies) (a .shared) (taken ∷ [])
+
+-- what one call of `take_byte` answers and leaves, and how many bytes it took: one where its status is 0
+abbrev pub ByteAt : Fed → ℕ → Arrays → Type 0
+ByteAt f status a = ByteLeft f status (a .log) (a .marks) (a .own) (a .tallies) (a .shared)
+
+abbrev pub takenBy : ℕ → ℕ
+takenBy status = pick (eqb status 0) 1 0
 
 -- the first status of two that isn't 0
 abbrev pub firstOfTwo : ℕ → ℕ → ℕ

@@ -92,10 +92,12 @@ module _ (l p0 p1 p2 p3 : ℕ) (second : Told) (asked1 : second ≡ checkOf (kin
 pub record Spread (c : Command) : Type 0 where
   pub three :
       fieldsUnrefused 3 c ≡
-      (unrefused 3 (kindOf (lineOf c) 0) (placesOf c .0) and unrefused 3 (kindOf (lineOf c) 1) (placesOf c .1) and unrefused 3 (kindOf (lineOf c) 2) (placesOf c .2) and unrefused 3 (kindOf (lineOf c) 3) (placesOf c .3) and true)
+      (unrefused 3 (kindOf (lineOf c) 0) (placesOf c .0) and unrefused 3 (kindOf (lineOf c) 1) (placesOf c .1)
+      and unrefused 3 (kindOf (lineOf c) 2) (placesOf c .2) and unrefused 3 (kindOf (lineOf c) 3) (placesOf c .3) and true)
   pub four :
       fieldsUnrefused 4 c ≡
-      (unrefused 4 (kindOf (lineOf c) 0) (placesOf c .0) and unrefused 4 (kindOf (lineOf c) 1) (placesOf c .1) and unrefused 4 (kindOf (lineOf c) 2) (placesOf c .2) and unrefused 4 (kindOf (lineOf c) 3) (placesOf c .3) and true)
+      (unrefused 4 (kindOf (lineOf c) 0) (placesOf c .0) and unrefused 4 (kindOf (lineOf c) 1) (placesOf c .1)
+      and unrefused 4 (kindOf (lineOf c) 2) (placesOf c .2) and unrefused 4 (kindOf (lineOf c) 3) (placesOf c .3) and true)
 
 spread : (c : Command) → Spread c
 unfolding fieldsUnrefused allUnrefused unrefused kindOf lineOf placesOf fieldsOf noEffectLine storedLine faultOf allowed pick _and_
@@ -200,7 +202,8 @@ places-judged c =
     let l = lineOf c in
     let t = later-three l (lined c .line-most) in
     rw (spread c .three, spread c .four)
-    (ordered (kindOf l 0) (kindOf l 1) (kindOf l 2) (kindOf l 3) (placesOf c .0) (placesOf c .1) (placesOf c .2) (placesOf c .3) (lastRuleOf c) (fault (kindOf l 0)) (eqb-true _ _ (and-left _ _ t)) (eqb-true _ _ (and-left _ _ (and-right _ _ t)))
+    (ordered (kindOf l 0) (kindOf l 1) (kindOf l 2) (kindOf l 3) (placesOf c .0) (placesOf c .1) (placesOf c .2) (placesOf c .3)
+    (lastRuleOf c) (fault (kindOf l 0)) (eqb-true _ _ (and-left _ _ t)) (eqb-true _ _ (and-left _ _ (and-right _ _ t)))
     (eqb-true _ _ (and-right _ _ (and-right _ _ t))))
 
 -- the same from the line and the places as the code has them

@@ -1,7 +1,6 @@
 -- `flow::step` meets its contract: the answer that its number stands for. Assumes nothing.
 use denote.Ref.{now}
 use Rattle.flow.proofs.Answers.{step-refused, step-jumped, step-stayed}
-use Rattle.flow.proofs.Running.{sound-here}
 use borrow.Author.Needs.{needs}
 use Rattle.flow.proofs.step.Statement.{statement}
 use Rattle.flow.proofs.step.Tie as tie
@@ -18,8 +17,8 @@ returns c =
     let at-if1 = c .before in
     let at-step-number = at-if1 .before in
     let entry = at-step-number .before .before in
-    step-refused _ (sound-here (now (entry .args .cells)) (now (entry .args .firsts)) (now (entry .args .seconds)) (entry .args .slots) (entry .args .alu)
-    (entry .args .predicate) (entry .args .booleans) (entry .pre) (at-step-number .step-number .ensures)) (at-step-number .step-number .ensures) (at-if1 .if1 .taken) (c .refusal-of .ensures)
+    step-refused (now (entry .args .cells)) (now (entry .args .firsts)) (now (entry .args .seconds)) (entry .args .slots) (entry .args .alu)
+    (entry .args .predicate) (entry .args .booleans) (entry .pre) (at-step-number .step-number .ensures) (at-if1 .if1 .taken) (c .refusal-of .ensures)
 
 element-copy-out-t15 : tie.Need-element-copy-out-t15
 element-copy-out-t15 c = search needs
@@ -30,8 +29,8 @@ returns-2 c =
     let at-if1 = c .before .before in
     let at-step-number = at-if1 .before in
     let entry = at-step-number .before .before in
-    step-jumped _ (sound-here (now (entry .args .cells)) (now (entry .args .firsts)) (now (entry .args .seconds)) (entry .args .slots) (entry .args .alu)
-    (entry .args .predicate) (entry .args .booleans) (entry .pre) (at-step-number .step-number .ensures)) (at-step-number .step-number .ensures) (at-if1 .if1 .left) (c .if2 .taken)
+    step-jumped (now (entry .args .cells)) (now (entry .args .firsts)) (now (entry .args .seconds)) (entry .args .slots) (entry .args .alu)
+    (entry .args .predicate) (entry .args .booleans) (entry .pre) (at-step-number .step-number .ensures) (at-if1 .if1 .left) (c .if2 .taken)
 
 -- 0
 returns-3 : tie.Need-returns-3
@@ -39,8 +38,8 @@ returns-3 c =
     let at-if1 = c .before .before in
     let at-step-number = at-if1 .before in
     let entry = at-step-number .before .before in
-    step-stayed _ (sound-here (now (entry .args .cells)) (now (entry .args .firsts)) (now (entry .args .seconds)) (entry .args .slots) (entry .args .alu)
-    (entry .args .predicate) (entry .args .booleans) (entry .pre) (at-step-number .step-number .ensures)) (at-step-number .step-number .ensures) (at-if1 .if1 .left) (c .if2 .left)
+    step-stayed (now (entry .args .cells)) (now (entry .args .firsts)) (now (entry .args .seconds)) (entry .args .slots) (entry .args .alu)
+    (entry .args .predicate) (entry .args .booleans) (entry .pre) (at-step-number .step-number .ensures) (at-if1 .if1 .left) (c .if2 .left)
 
 pub step-spec : {M : Type 1} → statement M
 step-spec =
