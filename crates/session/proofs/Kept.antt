@@ -25,7 +25,7 @@ use Rattle.command.proofs.Headers.{count-least, count-most}
 use Rattle.rules.proofs.Rule.{rule-five}
 use Rattle.command.proofs.WriteBack.{made}
 use Rattle.state.specs.State.{Buffer, Open, Domain, Tally, Party, Shared, Session, none, newSession}
-use Rattle.state.specs.Start.{sumBelow, counts, pairsOf, claimOf}
+use Rattle.state.specs.Start.{sumBelow, counts, pairsOf, claimOf, mostClaim, mostPairs}
 use Rattle.state.specs.Effects.{limit, opening, took, stop, withParameter, buffer, ownAfter, sharedAfter, after}
 use Rattle.session.specs.Step.{Reply, stillOpen, completed, refused, Stepped, refusing, startRuleOf, stepOf}
 use Rattle.state.specs.Valid.{parametersOf, OpenValid, DomainValid, TallyValid, Valid}
@@ -98,10 +98,10 @@ set-domain i0 j0 i1 j1 a k =
     }
 
 -- no start claims more than 4,096 · 4,096 pairs of four outputs
-claim-most : (d : Domain) (mask : ℕ) (outputs : List Buffer) → DomainValid d → claimOf d mask outputs ≤ 67108864
+claim-most : (d : Domain) (mask : ℕ) (outputs : List Buffer) → DomainValid d → claimOf d mask outputs ≤ mostClaim
 unfolding claimOf pairsOf sumBelow
 claim-most d mask outputs v =
-    mul-le-mul {n₂ = 16777216} {m₂ = 4} (mul-le-mul {n₂ = 4096} {m₂ = 4096} (omega (arith, v)) (omega (arith, v)))
+    mul-le-mul {n₂ = mostPairs} {m₂ = 4} (mul-le-mul {n₂ = 4096} {m₂ = 4096} (omega (arith, v)) (omega (arith, v)))
     (sum-most (λ n. pick (counts mask outputs n) 1 0) (λ n. by-pick (λ (m : ℕ). m ≤ 1) (counts mask outputs n) 1 0 (λ e. omega arith) (λ e. omega arith)))
   where
     sum-most : (f : ℕ → ℕ) → ((n : ℕ) → f n ≤ 1) → sumBelow 4 f ≤ 4
@@ -168,7 +168,7 @@ module _ (h : Shared) (p : Party) (n : ℕ) (d : DomainValid (p .domain)) (t : T
         outputs = refl;
         inputs = refl;
       }
-  effects (command.Quiet what) a u r = plain (command.Quiet what) refl refl refl refl refl refl refl refl refl
+  effects (command.Effectless what) a u r = plain (command.Effectless what) refl refl refl refl refl refl refl refl refl
   effects (command.Store stored.Instructions base format) a u r =
       plain (command.Store stored.Instructions base format) refl refl refl refl refl refl refl refl refl
   effects (command.Store stored.Floats base format) a u r =
