@@ -11,7 +11,8 @@ use lib.ListN.{length, getD, drop, set, length-drop}
 use lib.Seq.{drop-cons}
 use borrow.Author.Tests.{eqb-true, lt-ltb, le-ltb}
 use Rattle.laws.specs.Choice.{_and_, pick, placeOf}
-use Rattle.laws.proofs.Table.{NoneOf, everyBelow, namedOr, otherwise}
+use Rattle.laws.specs.Below.{every}
+use Rattle.laws.proofs.Table.{NoneOf, namedOr, otherwise}
 use Rattle.refusal.specs.Told.{Told, gives, refuses, isGiven}
 use Rattle.command.specs.Table.{headerOf, lineWith}
 use Rattle.command.specs.Commands.{noEffectLine, storedLine, lineOf, fieldsOf, wordsOf, commandOf}
@@ -23,7 +24,7 @@ use Rattle.command.specs.declared.commands.Stored.the-variants as stored
 use Rattle.command.specs.declared.commands.Command.{Command}
 use Rattle.command.specs.declared.commands.Command.the-variants as command
 use Rattle.rules.proofs.Fitting.{start-fits, effectless-fits, store-decided, mask-decided, conditional-mask-decided, test-decided, given-fine}
-use Rattle.command.proofs.Headers.{accepted-stands}
+use Rattle.command.proofs.Headers.{accepted-listed}
 use Rattle.rules.proofs.Readable.{readable}
 use Rattle.state.specs.State.{Open, Party, Shared, Session}
 use Rattle.state.specs.Start.{readyOf, readinessOf}
@@ -399,7 +400,7 @@ isEffectless line = eqb line (noEffectLine (effectlessAt line))
 
 pub effectless-line : (line : ℕ) → line < 21 → NoneOf Unit (0 ∷ 1 ∷ 3 ∷ 4 ∷ 5 ∷ 6 ∷ 7 ∷ 8 ∷ 9 ∷ 18 ∷ 19 ∷ 20 ∷ []) line →
     line ≡ noEffectLine (effectlessAt line)
-unfolding isEffectless effectlessAt noEffectLine everyBelow namedOr placeOf pick _and_
+unfolding isEffectless effectlessAt noEffectLine every namedOr placeOf pick _and_
 effectless-line line h r =
     eqb-true line (noEffectLine (effectlessAt line))
     (otherwise isEffectless (0 ∷ 1 ∷ 3 ∷ 4 ∷ 5 ∷ 6 ∷ 7 ∷ 8 ∷ 9 ∷ 18 ∷ 19 ∷ 20 ∷ []) 21 refl line h r)
@@ -463,6 +464,6 @@ module _ (l t h : List ℕ) (g : Given l t h) where
       begun c k l1 t1 h1 y
       (subst (λ (x : List ℕ). Tried c x (everyWord c) l t h k l1 t1 h1)
       (ap {B = List ℕ} (λ (w : ℕ). w ∷ getD ws (i + 1) 0 ∷ getD ws (i + 2) 0 ∷ getD ws (i + 3) 0 ∷ getD ws (i + 4) 0 ∷ drop (i + 5) ws)
-      (accepted-stands (getD ws i 0) line e .header) ∙
+      (accepted-listed (getD ws i 0) line e .header) ∙
       sym (five-words ws i (omega arith)))
       (q (drop (i + 5) ws)))

@@ -1,4 +1,5 @@
 pub mod Headers
+pub mod Known
 pub mod Windows
 pub mod Words
 pub mod WriteBack

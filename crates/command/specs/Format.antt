@@ -5,7 +5,7 @@ use mathlib.Core.List.{[], _∷_}
 use Prim.Native.Nat.{ℕ, _/_, _%_, _^_}
 use lib.Dec.{eqb}
 use lib.ListN.{getD}
-use Rattle.refusal.specs.Told.{Told, isGiven, valueOf}
+use Rattle.refusal.specs.Told.{Told, gives, refuses, isGiven}
 use Rattle.layout.specs.Layout.{judgeOf}
 use Rattle.command.specs.declared.format.Window.{Window}
 
@@ -35,6 +35,11 @@ channelsOf code = getD (1 ∷ 4 ∷ 1 ∷ 2 ∷ 4 ∷ []) code 0
 -- the judgement of the layout that the three words describe
 unfoldable pub windowOf : ℕ → ℕ → ℕ → Told
 windowOf base format height = judgeOf base (pitchOf format) height (sizeOf (codeOf format)) (tiledOf format)
+
+-- value `k` of an answer, the first being 0; 0 where it has none
+unfoldable pub valueOf : Told → ℕ → ℕ
+valueOf (gives values) k = getD values k 0
+valueOf (refuses number) k = 0
 
 -- what that judgement tells of a window: whether it is accepted, its row step and its span
 abbrev pub windowSeen : Told → Window

@@ -1,4 +1,5 @@
 pub mod Commands
 pub mod Format
 pub mod Kinds
+pub mod Known
 pub mod Table

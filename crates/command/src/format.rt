@@ -78,7 +78,7 @@ pub fn window_of(base: u32, format: u32, height: u32) -> Window
             span: 0,
         };
     }
-    let row = layout::stream_row(base, pitch, height, size, tiled);
+    let row = layout::stream_stride(base, pitch, height, size, tiled);
     if row < 1 {
         return Window {
             given: false,

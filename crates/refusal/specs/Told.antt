@@ -4,7 +4,6 @@
 use mathlib.Core.Bool.{Bool, true, false}
 use mathlib.Core.List.{List}
 use Prim.Native.Nat.{ℕ}
-use lib.ListN.{getD}
 
 pub data Told : Type 0 where
   -- the values of an answer that is no refusal, in the order in which document 01 names them
@@ -21,8 +20,3 @@ isGiven (refuses number) = false
 unfoldable pub thenTold : Told → Told → Told
 thenTold (gives values) next = next
 thenTold (refuses number) next = refuses number
-
--- value `k` of an answer, the first being 0; 0 where it has none
-unfoldable pub valueOf : Told → ℕ → ℕ
-valueOf (gives values) k = getD values k 0
-valueOf (refuses number) k = 0

@@ -6,9 +6,10 @@ use mathlib.Core.List.{List, []}
 use Prim.Native.Nat.{ℕ, _<_}
 use lib.Dec.{eqb}
 use borrow.Author.Tests.{eqb-true}
+use Rattle.laws.specs.Below.{every}
 use Rattle.laws.specs.Choice.{_and_, pick}
+use Rattle.laws.proofs.Below.{every-at}
 use Rattle.laws.proofs.Choice.{and-left, and-right}
-use Rattle.laws.proofs.Table.{everyBelow, every}
 use Rattle.refusal.specs.Told.{Told, gives, refuses, thenTold}
 use Rattle.command.specs.Kinds.{allowed, faultOf, checkOf, kindOf}
 use Rattle.command.specs.Commands.{noEffectLine, storedLine, lineOf, fieldsOf, placesOf}
@@ -91,10 +92,12 @@ module _ (l p0 p1 p2 p3 : ℕ) (second : Told) (asked1 : second ≡ checkOf (kin
 pub record Spread (c : Command) : Type 0 where
   pub three :
       fieldsUnrefused 3 c ≡
-      (unrefused 3 (kindOf (lineOf c) 0) (placesOf c .0) and unrefused 3 (kindOf (lineOf c) 1) (placesOf c .1) and unrefused 3 (kindOf (lineOf c) 2) (placesOf c .2) and unrefused 3 (kindOf (lineOf c) 3) (placesOf c .3) and true)
+      (unrefused 3 (kindOf (lineOf c) 0) (placesOf c .0) and unrefused 3 (kindOf (lineOf c) 1) (placesOf c .1)
+      and unrefused 3 (kindOf (lineOf c) 2) (placesOf c .2) and unrefused 3 (kindOf (lineOf c) 3) (placesOf c .3) and true)
   pub four :
       fieldsUnrefused 4 c ≡
-      (unrefused 4 (kindOf (lineOf c) 0) (placesOf c .0) and unrefused 4 (kindOf (lineOf c) 1) (placesOf c .1) and unrefused 4 (kindOf (lineOf c) 2) (placesOf c .2) and unrefused 4 (kindOf (lineOf c) 3) (placesOf c .3) and true)
+      (unrefused 4 (kindOf (lineOf c) 0) (placesOf c .0) and unrefused 4 (kindOf (lineOf c) 1) (placesOf c .1)
+      and unrefused 4 (kindOf (lineOf c) 2) (placesOf c .2) and unrefused 4 (kindOf (lineOf c) 3) (placesOf c .3) and true)
 
 spread : (c : Command) → Spread c
 unfolding fieldsUnrefused allUnrefused unrefused kindOf lineOf placesOf fieldsOf noEffectLine storedLine faultOf allowed pick _and_
@@ -125,8 +128,8 @@ laterThree : ℕ → Bool
 laterThree l = eqb (faultOf (kindOf l 1)) 3 and eqb (faultOf (kindOf l 2)) 3 and eqb (faultOf (kindOf l 3)) 3
 
 later-three : (l : ℕ) → l < 21 → laterThree l ≡ true
-unfolding laterThree faultOf kindOf everyBelow _and_
-later-three = every laterThree 21 refl
+unfolding laterThree faultOf kindOf every _and_
+later-three = every-at 21 laterThree refl
 
 -- a word's fault is 3 or 4
 pub data Fault (n : ℕ) : Type 0 where
@@ -199,7 +202,8 @@ places-judged c =
     let l = lineOf c in
     let t = later-three l (lined c .line-most) in
     rw (spread c .three, spread c .four)
-    (ordered (kindOf l 0) (kindOf l 1) (kindOf l 2) (kindOf l 3) (placesOf c .0) (placesOf c .1) (placesOf c .2) (placesOf c .3) (lastRuleOf c) (fault (kindOf l 0)) (eqb-true _ _ (and-left _ _ t)) (eqb-true _ _ (and-left _ _ (and-right _ _ t)))
+    (ordered (kindOf l 0) (kindOf l 1) (kindOf l 2) (kindOf l 3) (placesOf c .0) (placesOf c .1) (placesOf c .2) (placesOf c .3)
+    (lastRuleOf c) (fault (kindOf l 0)) (eqb-true _ _ (and-left _ _ t)) (eqb-true _ _ (and-left _ _ (and-right _ _ t)))
     (eqb-true _ _ (and-right _ _ (and-right _ _ t))))
 
 -- the same from the line and the places as the code has them

@@ -9,9 +9,10 @@ use native.Mathlib.Omega.{arith}
 use lib.Dec.{eqb}
 use lib.ListN.{length, getD}
 use borrow.Author.Tests.{eqb-true}
+use Rattle.laws.specs.Below.{every}
 use Rattle.laws.specs.Choice.{_and_, pick}
+use Rattle.laws.proofs.Below.{every-at}
 use Rattle.laws.proofs.Choice.{Tested, holds, fails, tested, pick-yes, pick-no, and-intro, and-left, and-right}
-use Rattle.laws.proofs.Table.{everyBelow, every}
 use Rattle.refusal.specs.Told.{Told, gives, refuses}
 use Rattle.command.specs.Table.{headerOf, countOf, lineWith}
 use Rattle.command.specs.Kinds.{superfineAllowed, formatAllowed, allowed, faultOf, kinds, kindOf}
@@ -58,8 +59,8 @@ kindsCounted : ℕ → Bool
 kindsCounted l = eqb (length (getD kinds l [])) (countOf l)
 
 pub kinds-count : (l : ℕ) → l < 21 → length (getD kinds l []) ≡ countOf l
-unfolding kindsCounted countOf everyBelow _and_
-kinds-count l h = eqb-true _ _ (every kindsCounted 21 refl l h)
+unfolding kindsCounted countOf every _and_
+kinds-count l h = eqb-true _ _ (every-at 21 kindsCounted refl l h)
 
 -- a word that causes neither 3 nor 4 is allowed, and an allowed word causes no refusal
 is-allowed : (k : Kind) (w : ℕ) → unrefused 3 k w ≡ true → unrefused 4 k w ≡ true → allowed k w ≡ true

@@ -10,6 +10,7 @@ use lib.ListN.{length, getD, take, set, length-set}
 use lib.Seq.{getD-take}
 use borrow.Author.Tests.{eqb-true, eqb-false, ltb-true, ltb-false, leb-true, leb-false, ne-eqb, eq-eqb}
 use Rattle.laws.specs.Choice.{_and_, pick, placeOf}
+use Rattle.laws.proofs.Below.{count-bounded}
 use Rattle.laws.proofs.Choice.{pick-yes, pick-no, by-pick, and-left, and-right, Tested, tested, holds, fails}
 use Rattle.laws.proofs.Table.{each, _&_}
 use Rattle.refusal.specs.Told.{Told, gives, refuses}
@@ -25,7 +26,7 @@ use Rattle.command.proofs.Headers.{count-least, count-most}
 use Rattle.rules.proofs.Rule.{rule-five}
 use Rattle.command.proofs.WriteBack.{made}
 use Rattle.state.specs.State.{Buffer, Open, Domain, Tally, Party, Shared, Session, none, newSession}
-use Rattle.state.specs.Start.{sumBelow, counts, pairsOf, claimOf, mostClaim, mostPairs}
+use Rattle.state.specs.Start.{counts, pairsOf, claimOf, mostClaim, mostPairs}
 use Rattle.state.specs.Effects.{limit, opening, took, stop, withParameter, buffer, ownAfter, sharedAfter, after}
 use Rattle.session.specs.Step.{Reply, stillOpen, completed, refused, Stepped, refusing, startRuleOf, stepOf}
 use Rattle.state.specs.Valid.{parametersOf, OpenValid, DomainValid, TallyValid, Valid}
@@ -99,13 +100,10 @@ set-domain i0 j0 i1 j1 a k =
 
 -- no start claims more than 4,096 · 4,096 pairs of four outputs
 claim-most : (d : Domain) (mask : ℕ) (outputs : List Buffer) → DomainValid d → claimOf d mask outputs ≤ mostClaim
-unfolding claimOf pairsOf sumBelow
+unfolding claimOf pairsOf
 claim-most d mask outputs v =
     mul-le-mul {n₂ = mostPairs} {m₂ = 4} (mul-le-mul {n₂ = 4096} {m₂ = 4096} (omega (arith, v)) (omega (arith, v)))
-    (sum-most (λ n. pick (counts mask outputs n) 1 0) (λ n. by-pick (λ (m : ℕ). m ≤ 1) (counts mask outputs n) 1 0 (λ e. omega arith) (λ e. omega arith)))
-  where
-    sum-most : (f : ℕ → ℕ) → ((n : ℕ) → f n ≤ 1) → sumBelow 4 f ≤ 4
-    sum-most f h = omega (arith, h 0, h 1, h 2, h 3)
+    (count-bounded 4 (counts mask outputs))
 
 -- what a whole command leaves of a session: the open command, the count and the flag stand; what it sets is valid
 pub record Effects (c : Command) (h : Shared) (p : Party) (n : ℕ) : Type 0 where

@@ -13,7 +13,7 @@ use Rattle.refusal.specs.Told.{Told, gives, refuses, thenTold}
 use Rattle.command.specs.Table.{headers}
 use Rattle.command.specs.declared.commands.Command.{Command}
 use Rattle.command.specs.declared.commands.Command.the-variants as command
-use Rattle.command.proofs.Headers.{Accepted, stands, place-of-line}
+use Rattle.command.proofs.Headers.{Accepted, listed, place-of-line}
 use Rattle.rules.proofs.Judging.{Fault, three, four, fault}
 use Rattle.rules.proofs.Rule.{Ruled, fine, five, six, ruled}
 use Rattle.state.specs.State.{Open, Session, none}
@@ -186,4 +186,4 @@ module _ (s : Session) (w : ℕ) (i : Idle s) (room : s .party .taken < limit) w
   unfolding headerStep
   header-refused none =
       at-header ∙
-      pick-no _ _ (le-ltb (placeOf w headers) 21 (let k : placeOf w headers < 21 → ⊥ = λ h. none (placeOf w headers) (record { line = h; header = stands w h }) in omega arith))
+      pick-no _ _ (le-ltb (placeOf w headers) 21 (let k : placeOf w headers < 21 → ⊥ = λ h. none (placeOf w headers) (record { line = h; header = listed w h }) in omega arith))

@@ -11,7 +11,8 @@ ghost use Rattle.command.specs.declared.commands.Command.{Command};
 ghost use Rattle.state.specs.Asked.{OwnAsked};
 ghost use Rattle.state.specs.Cells.{bufferAt, partyOf, sharedOf, tallyCells, ownLength, sharedLength};
 ghost use Rattle.state.specs.Effects.{ownAfter};
-ghost use Rattle.state.specs.Start.{claimOf, counts, sumBelow, mostClaim, mostPairs};
+ghost use Rattle.laws.specs.Below.{count};
+ghost use Rattle.state.specs.Start.{claimOf, counts, mostClaim, mostPairs};
 ghost use Rattle.state.specs.Valid.{DomainValid};
 ghost use Rattle.start.specs.Windows.{countsBy};
 
@@ -40,7 +41,7 @@ fn one_at(bits: u32, shared: &[u32; state::SHARED_CELLS], at: usize) -> u64
 // The number of outputs that count.
 fn counted_outputs(shared: &[u32; state::SHARED_CELLS]) -> u64
     requires { ⌜ length (now shared) ≡ sharedLength ⌝ }
-    ensures { λ r. ⌜ (r ≡ sumBelow 4 (λ n. pick (counts (sharedOf (now (shared .entry)) .mask) (sharedOf (now (shared .entry)) .outputs) n) 1 0)) × (r ≤ 4) ⌝ }
+    ensures { λ r. ⌜ (r ≡ count 4 (counts (sharedOf (now (shared .entry)) .mask) (sharedOf (now (shared .entry)) .outputs))) × (r ≤ 4) ⌝ }
 {
     let mask = shared[settings::MASK];
     one_at(mask, shared, settings::OUTPUT_0)

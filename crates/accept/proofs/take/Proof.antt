@@ -1,7 +1,7 @@
 -- `accept::take` meets its contract. Assumes nothing.
 use mathlib.Core.Path.{sym, ap, _∙_}
 use Rattle.command.specs.Table.{toldLine}
-use Rattle.command.proofs.Headers.{accepted-stands}
+use Rattle.command.proofs.Headers.{accepted-listed}
 use Rattle.accept.proofs.WholeCommands.{ready, own-asked, words-few, is-stopped, is-open, is-full, no-header, piece-tried}
 use borrow.Author.Needs.{needs}
 use Rattle.accept.proofs.take.Statement.{statement}
@@ -83,7 +83,7 @@ shared-slice-read-take-line-4 : tie.Need-shared-slice-read-take-line-4
 shared-slice-read-take-line-4 c = search needs
 
 take-line-requires : tie.Need-take-line-requires
-take-line-requires c κs = (accepted-stands _ _ (sym (c .before .before .before .before .before .before .before .before .before .before .line-of .ensures) ∙ ap toldLine (c .before .before .before .before .before .before .before .before .line .given .1)) .line, own-asked (ready _ _ _ (c .before .before .before .before .before .before .before .before .before .before .before .before .before .before .before .before .before .before .before .before .pre .0) (c .before .before .before .before .before .before .before .before .before .before .before .before .before .before .before .before .if2 .left) (c .before .before .before .before .before .before .before .before .before .before .before .before .before .before .if3 .left) (c .before .before .before .before .before .before .before .before .before .before .before .before .if4 .left)))
+take-line-requires c κs = (accepted-listed _ _ (sym (c .before .before .before .before .before .before .before .before .before .before .line-of .ensures) ∙ ap toldLine (c .before .before .before .before .before .before .before .before .line .given .1)) .line, own-asked (ready _ _ _ (c .before .before .before .before .before .before .before .before .before .before .before .before .before .before .before .before .before .before .before .before .pre .0) (c .before .before .before .before .before .before .before .before .before .before .before .before .before .before .before .before .if2 .left) (c .before .before .before .before .before .before .before .before .before .before .before .before .before .before .if3 .left) (c .before .before .before .before .before .before .before .before .before .before .before .before .if4 .left)))
 
 returns-5 : tie.Need-returns-5
 returns-5 c = no-header (c .before .before .before .before .before .before .before .before .before .before .before .before .args .own .now) (c .before .before .before .before .before .before .before .before .before .before .before .before .args .tallies .now) (c .before .before .before .before .before .before .before .before .before .before .before .before .args .shared .now) (c .before .before .before .before .before .before .before .before .before .before .before .before .pre .0) (c .before .before .before .before .before .before .before .before .before .before .before .before .args .words .now) (c .before .before .before .before .before .before .before .before .before .before .before .before .args .at) (c .before .before .before .before .before .before .before .before .before .before .before .before .pre .1) (sym (c .before .before .line-of .ensures) ∙ ap toldLine (c .enum-told .given .1))

@@ -27,23 +27,23 @@ well-formed-requires c κs = search needs
 returns : tie.Need-returns
 returns c = seen-malformed _ _ _ _ _ _ _ (c .before .before .before .before .before .pitch .ensures) (c .before .before .before .before .code .ensures) (c .before .before .before .size .ensures) (c .before .before .tiled .ensures) (sym (c .before .well-formed .ensures) ∙ not-true _ (c .if1 .taken))
 
-stream-row-requires : tie.Need-stream-row-requires
-stream-row-requires c κs = sym (c .before .well-formed .ensures) ∙ not-false _ (c .if1 .left)
+stream-stride-requires : tie.Need-stream-stride-requires
+stream-stride-requires c κs = sym (c .before .well-formed .ensures) ∙ not-false _ (c .if1 .left)
 
 returns-2 : tie.Need-returns-2
-returns-2 c = seen-broken _ _ _ _ _ _ _ (c .before .before .before .before .before .before .before .pitch .ensures) (c .before .before .before .before .before .before .code .ensures) (c .before .before .before .before .before .size .ensures) (c .before .before .before .before .tiled .ensures) (sym (c .before .before .before .well-formed .ensures) ∙ not-false _ (c .before .before .if1 .left)) (unruled _ _ _ _ _ (sym (c .before .before .before .well-formed .ensures) ∙ not-false _ (c .before .before .if1 .left)) _ (c .before .stream-row .ensures) (c .if2 .taken))
+returns-2 c = seen-broken _ _ _ _ _ _ _ (c .before .before .before .before .before .before .before .pitch .ensures) (c .before .before .before .before .before .before .code .ensures) (c .before .before .before .before .before .size .ensures) (c .before .before .before .before .tiled .ensures) (sym (c .before .before .before .well-formed .ensures) ∙ not-false _ (c .before .before .if1 .left)) (unruled _ _ _ _ _ (sym (c .before .before .before .well-formed .ensures) ∙ not-false _ (c .before .before .if1 .left)) _ (c .before .stream-stride .ensures) (c .if2 .taken))
 
 row-step-requires : tie.Need-row-step-requires
 row-step-requires c κs = form-size _ _ _ (sym (c .before .before .before .well-formed .ensures) ∙ not-false _ (c .before .before .if1 .left))
 
 rows-taken-requires : tie.Need-rows-taken-requires
-rows-taken-requires c κs = (form-size _ _ _ (sym (c .before .before .before .before .well-formed .ensures) ∙ not-false _ (c .before .before .before .if1 .left)), rule-bounds _ _ _ _ _ ((ruled _ _ _ _ _ (sym (c .before .before .before .before .well-formed .ensures) ∙ not-false _ (c .before .before .before .if1 .left)) _ (c .before .before .stream-row .ensures) (c .before .if2 .left)) .rule) .height-most)
+rows-taken-requires c κs = (form-size _ _ _ (sym (c .before .before .before .before .well-formed .ensures) ∙ not-false _ (c .before .before .before .if1 .left)), rule-bounds _ _ _ _ _ ((ruled _ _ _ _ _ (sym (c .before .before .before .before .well-formed .ensures) ∙ not-false _ (c .before .before .before .if1 .left)) _ (c .before .before .stream-stride .ensures) (c .before .if2 .left)) .rule) .height-most)
 
 mul-t12 : tie.Need-mul-t12
-mul-t12 c = omega (arith, (window-span _ _ _ _ _ (sym (c .before .before .before .before .before .well-formed .ensures) ∙ not-false _ (c .before .before .before .before .if1 .left)) _ _ (ruled _ _ _ _ _ (sym (c .before .before .before .before .before .well-formed .ensures) ∙ not-false _ (c .before .before .before .before .if1 .left)) _ (c .before .before .before .stream-row .ensures) (c .before .before .if2 .left)) (c .rows-taken .ensures)) .1)
+mul-t12 c = omega (arith, (window-span _ _ _ _ _ (sym (c .before .before .before .before .before .well-formed .ensures) ∙ not-false _ (c .before .before .before .before .if1 .left)) _ _ (ruled _ _ _ _ _ (sym (c .before .before .before .before .before .well-formed .ensures) ∙ not-false _ (c .before .before .before .before .if1 .left)) _ (c .before .before .before .stream-stride .ensures) (c .before .before .if2 .left)) (c .rows-taken .ensures)) .1)
 
 returns-3 : tie.Need-returns-3
-returns-3 c = seen-accepted _ _ _ _ _ _ _ (c .before .before .before .before .before .before .before .before .before .pitch .ensures) (c .before .before .before .before .before .before .before .before .code .ensures) (c .before .before .before .before .before .before .before .size .ensures) (c .before .before .before .before .before .before .tiled .ensures) (sym (c .before .before .before .before .before .well-formed .ensures) ∙ not-false _ (c .before .before .before .before .if1 .left)) _ _ (c .before .row-step .ensures) ((window-span _ _ _ _ _ (sym (c .before .before .before .before .before .well-formed .ensures) ∙ not-false _ (c .before .before .before .before .if1 .left)) _ _ (ruled _ _ _ _ _ (sym (c .before .before .before .before .before .well-formed .ensures) ∙ not-false _ (c .before .before .before .before .if1 .left)) _ (c .before .before .before .stream-row .ensures) (c .before .before .if2 .left)) (c .rows-taken .ensures)) .0) ((ruled _ _ _ _ _ (sym (c .before .before .before .before .before .well-formed .ensures) ∙ not-false _ (c .before .before .before .before .if1 .left)) _ (c .before .before .before .stream-row .ensures) (c .before .before .if2 .left)) .rule)
+returns-3 c = seen-accepted _ _ _ _ _ _ _ (c .before .before .before .before .before .before .before .before .before .pitch .ensures) (c .before .before .before .before .before .before .before .before .code .ensures) (c .before .before .before .before .before .before .before .size .ensures) (c .before .before .before .before .before .before .tiled .ensures) (sym (c .before .before .before .before .before .well-formed .ensures) ∙ not-false _ (c .before .before .before .before .if1 .left)) _ _ (c .before .row-step .ensures) ((window-span _ _ _ _ _ (sym (c .before .before .before .before .before .well-formed .ensures) ∙ not-false _ (c .before .before .before .before .if1 .left)) _ _ (ruled _ _ _ _ _ (sym (c .before .before .before .before .before .well-formed .ensures) ∙ not-false _ (c .before .before .before .before .if1 .left)) _ (c .before .before .before .stream-stride .ensures) (c .before .before .if2 .left)) (c .rows-taken .ensures)) .0) ((ruled _ _ _ _ _ (sym (c .before .before .before .before .before .well-formed .ensures) ∙ not-false _ (c .before .before .before .before .if1 .left)) _ (c .before .before .before .stream-stride .ensures) (c .before .before .if2 .left)) .rule)
 
 pub window-of-spec : {M : Type 1} → statement M
 window-of-spec =
@@ -55,7 +55,7 @@ window-of-spec =
     tiled-requires
     well-formed-requires
     returns
-    stream-row-requires
+    stream-stride-requires
     returns-2
     row-step-requires
     rows-taken-requires
