@@ -1,13 +1,13 @@
--- `start::ready::window_of` meets its contract: each return is what the tests on the way show of the window. Assumes nothing.
-use Rattle.start.proofs.Readiness.{seen-malformed, seen-broken, seen-accepted}
+-- `command::format::window_of` meets its contract: each return is what the tests on the way show of the window. Assumes nothing.
+use Rattle.command.proofs.Windows.{seen-malformed, seen-broken, seen-accepted}
 use Rattle.layout.proofs.Rows.{ruled, unruled, window-span}
 use Rattle.layout.proofs.Window.{form-size, rule-bounds}
 use borrow.Author.Tests.{not-true, not-false}
 use native.Mathlib.Omega.{arith}
 use mathlib.Core.Path.{_∙_, sym}
 use borrow.Author.Needs.{needs}
-use Rattle.start.proofs.ready.window_of.Statement.{statement}
-use Rattle.start.proofs.ready.window_of.Tie as tie
+use Rattle.command.proofs.format.window_of.Statement.{statement}
+use Rattle.command.proofs.format.window_of.Tie as tie
 
 pitch-requires : tie.Need-pitch-requires
 pitch-requires c κs = search needs
