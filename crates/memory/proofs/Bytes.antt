@@ -44,7 +44,8 @@ module _ (l : Layout) (x y first : ℕ) (given before : List ℕ) (d : Done l x 
   outside :
       (a : ℕ) → first ≤ a → ((place : ℕ) → Owns l a x y place → ⊥) →
       byteAt first (overwritten at given before) a ≡ byteAt first before a
-  outside a low free = same-entry (overwritten at given before) before (a - first) (go (tested (ltb a (addressOf l x y))) (tested (leb (addressOf l x y + l .size) a)))
+  outside a low free = same-entry (overwritten at given before) before (a - first)
+      (go (tested (ltb a (addressOf l x y))) (tested (leb (addressOf l x y + l .size) a)))
     where
       go :
           Tested (ltb a (addressOf l x y)) → Tested (leb (addressOf l x y + l .size) a) →
