@@ -4,6 +4,7 @@ use mathlib.Core.List.{[], _∷_}
 use Prim.Native.Nat.{ℕ}
 use Rattle.refusal.specs.Told.{gives}
 use Rattle.command.specs.Table.{toldLine}
+use Rattle.command.proofs.Headers.{accepted-listed}
 use Rattle.egretfold.proofs.Crossings.{crosses-gives, crosses-refuses, on-line, off-line}
 use borrow.Author.Needs.{needs}
 use Rattle.egretfold.proofs.commands.egretfold_command_parameters.Statement.{statement}
@@ -22,7 +23,8 @@ enum-known-line : tie.Need-enum-known-line
 enum-known-line c = search needs
 
 count-requires : tie.Need-count-requires
-count-requires c κs = search needs
+count-requires c κs =
+    accepted-listed _ _ (sym (c .before .before .before .line-of .ensures) ∙ ap toldLine (c .before .line .given .1)) .line
 
 returns : tie.Need-returns
 returns c = crosses-refuses _ _ _ _ (c .number .ensures) (off-line _ _ _ (sym (c .before .before .before .line-of .ensures) ∙ ap toldLine (c .before .enum-told .given .1)))
