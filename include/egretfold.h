@@ -43,7 +43,7 @@ extern "C" {
 #endif
 
 /* A session's state: its own numbers, its tallies, and the settings. */
-enum { EGRETFOLD_OWN = 17, EGRETFOLD_TALLIES = 2, EGRETFOLD_SHARED = 101 };
+enum { EGRETFOLD_OWN = 33, EGRETFOLD_TALLIES = 2, EGRETFOLD_SHARED = 101 };
 
 /* A replay's state besides its session's arrays: its own numbers, and what the tallies were at each midnight. */
 enum { EGRETFOLD_LOG = 10, EGRETFOLD_MARKS = 800 };

@@ -19,7 +19,8 @@ use Rattle.command.specs.Table.{headers, counts, headerOf, countOf, line
 -- what a header says of its line, computed at each line: parameters minus one in bits 29:16, the operation in 15:8, and
 -- no header before it is the same
 headerRight : ℕ → Bool
-headerRight l = eqb (headerOf l) (3 * 2 ^ 30 + (countOf l - 1) * 2 ^ 16 + (l + 7) * 2 ^ 8) and eqb (placeOf (headerOf l) headers) l and leb 1 (countOf l) and leb (countOf l) 4
+headerRight l = eqb (headerOf l) (3 * 2 ^ 30 + (countOf l - 1) * 2 ^ 16 + (l + 7) * 2 ^ 8) and eqb (placeOf (headerOf l) headers) l
+    and leb 1 (countOf l) and leb (countOf l) 4
 
 all-right : (l : ℕ) → l < 21 → headerRight l ≡ true
 unfolding headerRight headerOf countOf placeOf pick every _and_

@@ -13,12 +13,11 @@ use Rattle.laws.specs.Choice.{_and_, pick, placeOf}
 use Rattle.laws.proofs.Below.{every-at}
 use Rattle.laws.proofs.Choice.{pick-yes, and-intro, and-left, and-right}
 use Rattle.laws.proofs.Table.{NoneOf}
-use Rattle.refusal.specs.Told.{gives, refuses}
+use Rattle.refusal.specs.Told.{gives, refuses, isGiven}
 use Rattle.layout.specs.Sizes.{isSize}
 use Rattle.layout.specs.Layout.{wellFormed, windowRule, rowStep, spanOf, judgeOf}
 use Rattle.command.specs.Format.{pitchOf, tiledOf, codeOf, sizeOf, channelsOf, windowOf}
 use Rattle.command.specs.Kinds.{formatAllowed, allowed}
-use Rattle.command.specs.Rules.{isGiven}
 use Rattle.command.specs.declared.kinds.Kind.the-variants.{Base, Format, InputFormat}
 
 -- codes above 4 have no channels, and those above 7 no size

@@ -41,7 +41,7 @@ use Rattle.log.specs.Feed.{replayOf, replayPieces}
 use Rattle.log.specs.Words.{wordsIn}
 use Rattle.replay.specs.Report.{partAt}
 use Rattle.log.specs.Refusals.{RefusedTo as LogRefusedTo}
-use Rattle.replay.specs.Cells.{LogValid}
+use Rattle.replay.specs.Cells.{ReplayValid}
 use Rattle.log.proofs.Cut.{refused-byte, cut-anywhere as bytes-cut-anywhere}
 use Rattle.log.proofs.Words.{one-session}
 use Rattle.log.proofs.Days.{all-runs, all-claims}
@@ -57,8 +57,8 @@ use Rattle.score.proofs.Lines.{bounds}
 use Rattle.score.proofs.Midnights.{midnight-records}
 use Rattle.score.proofs.Promises.{line-first, dark-day, refused-with, scored-as, log-refused, log-scored, in-pieces}
 use Rattle.score.proofs.Verdicts.{full-if, full-only-if, calling}
-use Rattle.group.specs.Proc.{wants, decided, worked}
-use Rattle.group.specs.Group.{allowed, fresh, turnedIf, wishOf, overLimit, wayOf, settled, slotStep, ended, stepOf as flowStep}
+use Rattle.group.specs.Proc.{wants, decided, branched}
+use Rattle.group.specs.Group.{allowed, fresh, turnedIf, wishOf, overLimit, wayOf, settled, slotStep, ended, groupStep}
 use Rattle.flow.specs.Cases.{oneWord, c9, c10, c11, c12}
 use Rattle.demands.specs.Cases.{Agree, cases}
 
@@ -102,10 +102,10 @@ pub log-session : (r : Replay) (bs : List ℕ) → replayOf r bs .replay .sessio
 log-session = one-session
 
 -- Request 1: what ended before the first midnight and on each day adds up to the session's runs and claims.
-pub log-runs : (r : Replay) → LogValid r → sum (r .midnights + 1) (λ k. partAt r k .runs) ≡ r .session .party .tally .runs
+pub log-runs : (r : Replay) → ReplayValid r → sum (r .midnights + 1) (λ k. partAt r k .runs) ≡ r .session .party .tally .runs
 log-runs = all-runs
 
-pub log-claims : (r : Replay) → LogValid r → sum (r .midnights + 1) (λ k. partAt r k .claims) ≡ r .session .party .tally .claims
+pub log-claims : (r : Replay) → ReplayValid r → sum (r .midnights + 1) (λ k. partAt r k .claims) ≡ r .session .party .tally .claims
 log-claims = all-claims
 
 -- Request 5: a lease line that is refused gives 21, whatever the log: it comes before 18 and 19, and reads no log.
@@ -186,6 +186,6 @@ pub worked-cases : Agree cases
 unfolding
     _and_ pick placeOf isSize widthOf heightOf wellFormed unitOf rowStep tileRows spanOf inBounds windowRule judgeOf xor blockWidth
     blockHeight codeOf insideOf tiledOffset linearOffset offsetOf ifAccepted inside addressOf translateOf _or_ differ digit on pack
-    some every wants decided worked allowed fresh turnedIf wishOf overLimit wayOf settled slotStep ended flowStep oneWord c9 c10 c11 c12
+    some every wants decided branched allowed fresh turnedIf wishOf overLimit wayOf settled slotStep ended groupStep oneWord c9 c10 c11 c12
 worked-cases =
     (refl, (refl, (refl, (refl, (refl, (refl, (refl, (refl, (refl, (refl, (refl, (refl, (refl, (refl, (refl, tt)))))))))))))))

@@ -15,11 +15,11 @@ use Rattle.laws.proofs.Masks.{pack-same, least-odd, least-even}
 use Rattle.refusal.specs.declared.Refusal.the-variants.{FlowField}
 use Rattle.flow.specs.declared.Begun.{Begun}
 use Rattle.flow.specs.declared.Begun.the-variants as begun
-use Rattle.group.specs.Proc.{Proc, Active, Absent, isLive, isActive, counterBit}
+use Rattle.group.specs.Proc.{Proc, Active, Absent, isLive, isActive, counterBit, counterLimit}
 use Rattle.group.specs.Group.{fresh, isGroupSize, beginTold}
-use Rattle.group.specs.Cells.{plane, cellsWith, cellsOf, beginLeaves, Made}
+use Rattle.group.specs.Cells.{plane, cellsWith, cellsOf, beginLeaves, GroupGiven}
 use Rattle.flow.specs.Answers.{BeginDone}
-use Rattle.group.proofs.State.{made-of, fresh-sound}
+use Rattle.group.proofs.State.{given-of, fresh-sound}
 
 -- the mask of the first processors, made from the top down
 full-mask : (size : ℕ) → size ≤ 32 → 4294967295 / 2 ^ (32 - size) ≡ pack 32 (λ i. ltb i size)
@@ -75,8 +75,8 @@ module _ (size : ℕ) where
         record { told = sym (pick-yes _ _ e); left = fresh-cells k ∙ sym (pick-yes _ _ e) }
 
 -- the cells of a fresh group are such as these entries give out
-pub begin-made : (size : ℕ) → size ≤ 32 → Made (cellsOf (fresh size))
-begin-made size h = made-of (fresh size) (fresh-sound 31 size h)
+pub begin-given : (size : ℕ) → size ≤ 32 → GroupGiven (cellsOf (fresh size))
+begin-given size h = given-of (fresh size) (fresh-sound counterLimit size h)
 
 -- the loop over a mask's bits: what is found, and what is left to look at
 module _ (active rest i : ℕ) (e : least 32 (λ j. on j active) ≡ i + least (32 - i) (λ j. on j rest)) where

@@ -4,7 +4,6 @@ use mathlib.Core.Path.{_≡_, refl, sym, ap, _∙_, subst}
 use mathlib.Core.Bool.{Bool, true, false}
 use mathlib.Core.List.{List}
 use Prim.Native.Nat.{ℕ, _<_, _≤_}
-use lib.ListN.{getD}
 use borrow.Author.Tests.{le-leb}
 use Rattle.laws.specs.Masks.{on, pack}
 use Rattle.laws.proofs.Choice.{pick-yes, and-intro, by-pick}
@@ -12,53 +11,53 @@ use Rattle.laws.proofs.Masks.{on-pack}
 use Rattle.flow.specs.declared.Begun.{Begun}
 use Rattle.stepper.specs.declared.Stepped.{Stepped}
 use Rattle.flow.specs.declared.Ran.{Ran}
-use Rattle.group.specs.Proc.{Proc, Active, Idle, Absent, isLive, isActive, counterBit}
-use Rattle.group.specs.Group.{Program, Run, Makes, Breaks, isGroupSize, stepOf, runOf, ended}
-use Rattle.group.specs.Cells.{groupOf, Made, runLeaves, beginLeaves}
+use Rattle.group.specs.Proc.{Proc, Active, Idle, Absent, isLive, isActive, counterBit, mostProcessors, counterLimit}
+use Rattle.group.specs.Group.{Program, Run, Makes, Breaks, isGroupSize, groupStep, groupRun, ended}
+use Rattle.group.specs.Cells.{liveIn, activeIn, planeIn, groupOf, GroupGiven, runLeaves, beginLeaves}
 use Rattle.stepper.specs.Answers.{StepDone}
 use Rattle.flow.specs.Answers.{BeginDone, RunDone}
-use Rattle.group.proofs.State.{made-of, made-masks, left-made, step-sound}
-use Rattle.flow.proofs.Beginning.{begin-made}
+use Rattle.group.proofs.State.{given-of, given-masks, left-given, step-sound}
+use Rattle.flow.proofs.Beginning.{begin-given}
 use Rattle.flow.proofs.Running.{SoundRun, steps-sound}
 
 pub begin-gives :
-    {l leaves : List ℕ} {r : Begun} (size : ℕ) → BeginDone l leaves r size → 1 ≤ size → size ≤ 32 → Made leaves
+    {l leaves : List ℕ} {r : Begun} (size : ℕ) → BeginDone l leaves r size → 1 ≤ size → size ≤ mostProcessors → GroupGiven leaves
 unfolding beginLeaves isGroupSize
 begin-gives size d h k =
-    subst Made (sym (d .left ∙ pick-yes _ _ (and-intro (le-leb 1 size h) (le-leb size 32 k)))) (begin-made size k)
+    subst GroupGiven (sym (d .left ∙ pick-yes _ _ (and-intro (le-leb 1 size h) (le-leb size 32 k)))) (begin-given size k)
 
 pub step-gives :
-    {l leaves : List ℕ} {r : Stepped} (program : Program) (alu predicate booleans : ℕ) → Made l →
-    StepDone l leaves r (stepOf 31 program alu predicate booleans (groupOf l)) → Made leaves
+    {l leaves : List ℕ} {r : Stepped} (program : Program) (alu predicate booleans : ℕ) → GroupGiven l →
+    StepDone l leaves r (groupStep counterLimit program alu predicate booleans (groupOf l)) → GroupGiven leaves
 step-gives {l} program alu predicate booleans m d =
-    subst Made (sym (d .left))
-    (left-made l (stepOf 31 program alu predicate booleans (groupOf l)) m
-    (step-sound 31 program alu predicate booleans (groupOf l) (m .sound)))
+    subst GroupGiven (sym (d .left))
+    (left-given l (groupStep counterLimit program alu predicate booleans (groupOf l)) m
+    (step-sound counterLimit program alu predicate booleans (groupOf l) (m .sound)))
 
-run-made-left : (l : List ℕ) (o : Run) → Made l → SoundRun 31 o → Made (runLeaves l o)
-run-made-left l (Makes n g) m s = made-of g s
-run-made-left l (Breaks why) m s = m
+run-given-left : (l : List ℕ) (o : Run) → GroupGiven l → SoundRun counterLimit o → GroupGiven (runLeaves l o)
+run-given-left l (Makes n g) m s = given-of g s
+run-given-left l (Breaks why) m s = m
 
 pub run-gives :
-    {l leaves : List ℕ} {r : Ran} (program : Program) (booleans : ℕ) (masks : List ℕ) → Made l →
-    RunDone l leaves r (runOf 31 program booleans masks (groupOf l)) → Made leaves
-unfolding runOf
+    {l leaves : List ℕ} {r : Ran} (program : Program) (booleans : ℕ) (masks : List ℕ) → GroupGiven l →
+    RunDone l leaves r (groupRun counterLimit program booleans masks (groupOf l)) → GroupGiven leaves
+unfolding groupRun
 run-gives {l} program booleans masks m d =
-    subst Made (sym (d .left))
-    (run-made-left l (runOf 31 program booleans masks (groupOf l)) m
-    (by-pick (SoundRun 31) (ended program (groupOf l)) _ _ (λ e. tt)
-    (λ e. steps-sound 31 program booleans masks (groupOf l) (m .sound))))
+    subst GroupGiven (sym (d .left))
+    (run-given-left l (groupRun counterLimit program booleans masks (groupOf l)) m
+    (by-pick (SoundRun counterLimit) (ended program (groupOf l)) _ _ (λ e. tt)
+    (λ e. steps-sound counterLimit program booleans masks (groupOf l) (m .sound))))
 
 -- of the cells: an active processor is in the group; a bit of a counter is an idle processor's, so that an active one's counter
 -- is 0 and nobody outside the group has one
-module _ (l : List ℕ) (m : Made l) (i : ℕ) (h : i < 32) where
+module _ (l : List ℕ) (m : GroupGiven l) (i : ℕ) (h : i < 32) where
   here : {w : ℕ} (f : Proc → Bool) → w ≡ pack 32 (λ j. f (groupOf l .procs j)) → on i w ≡ f (groupOf l .procs i)
   here f e = ap (on i) e ∙ on-pack 32 i (λ j. f (groupOf l .procs j)) h
 
-  pub active-in-group : on i (getD l 1 0) ≡ true → on i (getD l 0 0) ≡ true
+  pub active-in-group : on i (activeIn l) ≡ true → on i (liveIn l) ≡ true
   active-in-group e =
-      here isLive (made-masks l m .live-word) ∙
-      within-group (groupOf l .procs i) (sym (here isActive (made-masks l m .active-word)) ∙ e)
+      here isLive (given-masks l m .live-word) ∙
+      within-group (groupOf l .procs i) (sym (here isActive (given-masks l m .active-word)) ∙ e)
     where
       within-group : (p : Proc) → isActive p ≡ true → isLive p ≡ true
       within-group Active q = refl
@@ -66,11 +65,11 @@ module _ (l : List ℕ) (m : Made l) (i : ℕ) (h : i < 32) where
       within-group Absent q = q
 
   pub active-counts-zero :
-      on i (getD l 1 0) ≡ true →
-      (on i (getD l 2 0) ≡ false) × (on i (getD l 3 0) ≡ false) × (on i (getD l 4 0) ≡ false) ×
-      (on i (getD l 5 0) ≡ false) × (on i (getD l 6 0) ≡ false)
+      on i (activeIn l) ≡ true →
+      (on i (planeIn 0 l) ≡ false) × (on i (planeIn 1 l) ≡ false) × (on i (planeIn 2 l) ≡ false) ×
+      (on i (planeIn 3 l) ≡ false) × (on i (planeIn 4 l) ≡ false)
   active-counts-zero e =
-      let q = made-masks l m in (
+      let q = given-masks l m in (
         here (counterBit 0) (q .word0) ∙ none 0,
         here (counterBit 1) (q .word1) ∙ none 1,
         here (counterBit 2) (q .word2) ∙ none 2,
@@ -84,14 +83,14 @@ module _ (l : List ℕ) (m : Made l) (i : ℕ) (h : i < 32) where
       clear k Absent q = refl
 
       none : (k : ℕ) → counterBit k (groupOf l .procs i) ≡ false
-      none k = clear k (groupOf l .procs i) (sym (here isActive (made-masks l m .active-word)) ∙ e)
+      none k = clear k (groupOf l .procs i) (sym (here isActive (given-masks l m .active-word)) ∙ e)
 
   pub outside-counts-zero :
-      on i (getD l 0 0) ≡ false →
-      (on i (getD l 2 0) ≡ false) × (on i (getD l 3 0) ≡ false) × (on i (getD l 4 0) ≡ false) ×
-      (on i (getD l 5 0) ≡ false) × (on i (getD l 6 0) ≡ false)
+      on i (liveIn l) ≡ false →
+      (on i (planeIn 0 l) ≡ false) × (on i (planeIn 1 l) ≡ false) × (on i (planeIn 2 l) ≡ false) ×
+      (on i (planeIn 3 l) ≡ false) × (on i (planeIn 4 l) ≡ false)
   outside-counts-zero e =
-      let q = made-masks l m in (
+      let q = given-masks l m in (
         here (counterBit 0) (q .word0) ∙ none 0,
         here (counterBit 1) (q .word1) ∙ none 1,
         here (counterBit 2) (q .word2) ∙ none 2,
@@ -105,4 +104,4 @@ module _ (l : List ℕ) (m : Made l) (i : ℕ) (h : i < 32) where
       clear k Absent q = refl
 
       none : (k : ℕ) → counterBit k (groupOf l .procs i) ≡ false
-      none k = clear k (groupOf l .procs i) (sym (here isLive (made-masks l m .live-word)) ∙ e)
+      none k = clear k (groupOf l .procs i) (sym (here isLive (given-masks l m .live-word)) ∙ e)

@@ -1,5 +1,5 @@
+pub mod Answers
 pub mod Beginning
-pub mod Cases
 pub mod Given
 pub mod Loading
 pub mod Running

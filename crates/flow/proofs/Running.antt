@@ -11,62 +11,66 @@ use lib.Seq.{drop-cons}
 use borrow.Author.Tests.{le-leb, lt-leb}
 use Rattle.laws.specs.Choice.{pick}
 use Rattle.laws.specs.Below.{count, least}
-use Rattle.laws.specs.Masks.{on}
+use Rattle.laws.specs.Masks.{digit, on}
 use Rattle.laws.proofs.Choice.{Tested, holds, fails, tested, pick-yes, pick-no, by-pick}
 use Rattle.laws.proofs.Below.{count-same, least-same}
-use Rattle.laws.proofs.Masks.{on-pack}
+use Rattle.laws.proofs.Masks.{digit-lt, on-pack}
 use Rattle.refusal.specs.Number.{numberOf}
-use Rattle.refusal.specs.Told.{gives, refuses}
+use Rattle.refusal.specs.Told.{gives}
 use Rattle.refusal.specs.declared.Refusal.{Refusal}
 use Rattle.refusal.specs.declared.Refusal.the-variants.{Ended}
 use Rattle.flow.specs.declared.Ran.{Ran}
 use Rattle.flow.specs.declared.Ran.the-variants as ran
-use Rattle.flow.specs.declared.Walked.{Walked}
-use Rattle.flow.specs.declared.Walked.the-variants as walked
-use Rattle.group.specs.Proc.{isActive}
-use Rattle.group.specs.Group.{Group, Outcome, Steps, Fails, Program, Run, Makes, Breaks, ended, stepOf, stepTold, onceMore, goOn, stepsOf, runOf, runTold, firstActive, numberActive}
-use Rattle.group.specs.Cells.{groupOf, Sound, Made, stepLeaves, runLeaves}
-use Rattle.stepper.specs.Answers.{refusalOf, answerOf, toldStepped, StepDone, programOf}
-use Rattle.flow.specs.Answers.{RunDone, walkTold, WalkDone}
-use Rattle.stepper.proofs.Stepping.{told-low, told-high}
-use Rattle.group.proofs.State.{SoundAfter, made-of, group-back, made-masks, step-sound}
+use Rattle.flow.specs.declared.StepsMade.{StepsMade}
+use Rattle.flow.specs.declared.StepsMade.the-variants as stepsMade
+use Rattle.group.specs.Proc.{isActive, counterLimit}
+use Rattle.group.specs.Group.{Group, Outcome, Steps, Fails, Program, Run, Makes, Breaks, ended, groupStep, onceMore, goOn, groupSteps, groupRun, runTold, firstActive, numberActive}
+use Rattle.group.specs.Cells.{activeIn, positionIn, groupOf, Sound, GroupGiven, runLeaves}
+use Rattle.stepper.specs.Answers.{NumberDone, programOf, stepIn, runIn}
+use Rattle.flow.specs.Answers.{refusalOf, RunDone, stepsTold, StepsDone}
+use Rattle.flow.proofs.Answers.{refusal-number, sound-here}
+use Rattle.group.proofs.State.{SoundAfter, given-of, group-back, given-masks, step-sound}
 
 -- a run of one step
 abbrev single : Outcome → Run
 single o = goOn o (λ g. Makes 0 g)
 
-module _ {l leaves : List ℕ} (m : Made l) where
-  -- the answer is no refusal
-  one-made :
-      (o : Outcome) → SoundAfter 31 o → (n p : ℕ) → gives (n ∷ p ∷ []) ≡ stepTold o → leaves ≡ stepLeaves l o →
-      WalkDone leaves (walked.Made 1) (single o)
-  one-made (Steps jump g) s n p t e =
-      record { told = ap (Makes 1) (ap groupOf e ∙ group-back g s); made = subst Made (sym e) (made-of g s) }
-  one-made (Fails why) s n p t e = let z : _≡_ {A = ℕ} 0 1 = cc in absurd (omega arith)
-
-  one-refused :
-      (o : Outcome) (why : Refusal) → refuses (numberOf why) ≡ stepTold o → leaves ≡ stepLeaves l o →
-      WalkDone leaves (walked.Refused why) (single o)
-  one-refused (Steps jump g) why t e = let z : _≡_ {A = ℕ} 0 1 = cc in absurd (omega arith)
-  one-refused (Fails n) why t e = record { told = ap Breaks (number t); made = subst Made (sym e) m }
-    where
-      number : refuses (numberOf why) ≡ refuses n → numberOf why ≡ n
-      number q = cc
-
 -- by the number that the step answered
-module _ {leaves : List ℕ} (l firsts seconds : List ℕ) (slots alu predicate booleans : ℕ) (m : Made l) (n at : ℕ)
-    (d : StepDone l leaves (answerOf n at) (stepOf 31 (programOf firsts seconds slots) alu predicate booleans (groupOf l))) where
+module _ {leaves : List ℕ} (l firsts seconds : List ℕ) (slots alu predicate booleans : ℕ) (m : GroupGiven l) {n : ℕ}
+    (d : NumberDone l leaves n (stepIn firsts seconds slots l alu predicate booleans)) where
   abbrev here : Outcome
-  here = stepOf 31 (programOf firsts seconds slots) alu predicate booleans (groupOf l)
+  here = stepIn firsts seconds slots l alu predicate booleans
 
-  pub one-went : n ≤ 1 → WalkDone leaves (walked.Made 1) (single here)
-  one-went h =
-      one-made m here (step-sound 31 (programOf firsts seconds slots) alu predicate booleans (groupOf l) (m .sound)) n at
-      (sym (told-low n at h) ∙ d .told) (d .left)
+  sound : SoundAfter counterLimit here
+  sound = sound-here l firsts seconds slots alu predicate booleans m d
 
-  pub one-stopped : {why : Refusal} → 1 < n → why ≡ refusalOf n → WalkDone leaves (walked.Refused why) (single here)
-  one-stopped {why} h e =
-      one-refused m here why (ap (λ (x : Refusal). refuses (numberOf x)) e ∙ sym (ap toldStepped (told-high n at h)) ∙ d .told) (d .left)
+  pub one-went : n ≤ 1 → StepsDone leaves (stepsMade.Number 1) (single here)
+  one-went h = by here sound d
+    where
+      by : (o : Outcome) → SoundAfter counterLimit o → NumberDone l leaves n o → StepsDone leaves (stepsMade.Number 1) (single o)
+      by (Steps jump g) s k =
+          record {
+            told = ap (Makes 1) (ap groupOf (k .left) ∙ group-back g s);
+            given = subst GroupGiven (sym (k .left)) (given-of g s);
+          }
+      by (Fails why) s k =
+          let z : n ≡ why = k .number in
+          let q : 12 < why = s .0 in
+          absurd (omega arith)
+
+  pub one-stopped : {why : Refusal} → 1 < n → why ≡ refusalOf n → StepsDone leaves (stepsMade.Refused why) (single here)
+  one-stopped {why} h e = by here sound d
+    where
+      by : (o : Outcome) → SoundAfter counterLimit o → NumberDone l leaves n o → StepsDone leaves (stepsMade.Refused why) (single o)
+      by (Steps jump g) s k =
+          let z : n ≡ digit jump = k .number in
+          let q : digit jump < 2 = digit-lt jump in
+          absurd (omega arith)
+      by (Fails j) s k =
+          record {
+            told = ap Breaks (ap numberOf (e ∙ ap refusalOf (k .number)) ∙ refusal-number j (s .0) (s .1));
+            given = subst GroupGiven (sym (k .left)) m;
+          }
 
 -- a run after so many steps
 abbrev pub plus : ℕ → Run → Run
@@ -87,16 +91,16 @@ plus-once n (Breaks why) = refl
 -- where the program has ended, or fewer than two masks are left, no step is made
 steps-ended :
     (limit : ℕ) (program : Program) (booleans : ℕ) (masks : List ℕ) (g : Group) → ended program g ≡ true →
-    stepsOf limit program booleans masks g ≡ Makes 0 g
-unfolding stepsOf
+    groupSteps limit program booleans masks g ≡ Makes 0 g
+unfolding groupSteps
 steps-ended limit program booleans [] g e = refl
 steps-ended limit program booleans (a ∷ []) g e = refl
 steps-ended limit program booleans (a ∷ (b ∷ masks)) g e = pick-yes _ _ e
 
 steps-short :
     (limit : ℕ) (program : Program) (booleans : ℕ) (masks : List ℕ) (g : Group) → length masks < 2 →
-    stepsOf limit program booleans masks g ≡ Makes 0 g
-unfolding stepsOf
+    groupSteps limit program booleans masks g ≡ Makes 0 g
+unfolding groupSteps
 steps-short limit program booleans [] g h = refl
 steps-short limit program booleans (a ∷ []) g h = refl
 steps-short limit program booleans (a ∷ (b ∷ masks)) g h = absurd (two (length masks) h)
@@ -120,40 +124,40 @@ breaks-off (Fails why) n rest e = sym e
 -- the loop: `made` steps are made, and the cells are `l` now
 module _ (firsts seconds : List ℕ) (slots booleans : ℕ) (masks : List ℕ) (g₀ : Group) (made : ℕ) (l : List ℕ)
     (inv :
-    stepsOf 31 (programOf firsts seconds slots) booleans masks g₀ ≡
-    plus made (stepsOf 31 (programOf firsts seconds slots) booleans (drop (made * 2) masks) (groupOf l)))
+    groupSteps counterLimit (programOf firsts seconds slots) booleans masks g₀ ≡
+    plus made (groupSteps counterLimit (programOf firsts seconds slots) booleans (drop (made * 2) masks) (groupOf l)))
   where
     abbrev program : Program
     program = programOf firsts seconds slots
 
     abbrev whole : Run
-    whole = stepsOf 31 program booleans masks g₀
+    whole = groupSteps counterLimit program booleans masks g₀
 
-    stands : stepsOf 31 program booleans (drop (made * 2) masks) (groupOf l) ≡ Makes 0 (groupOf l) → Makes made (groupOf l) ≡ whole
+    stands : groupSteps counterLimit program booleans (drop (made * 2) masks) (groupOf l) ≡ Makes 0 (groupOf l) → Makes made (groupOf l) ≡ whole
     stands e = sym (inv ∙ ap (plus made) e ∙ ap (λ (n : ℕ). Makes n (groupOf l)) (add-zero made))
 
-    pub walk-ended : slots ≤ getD l 7 0 → Made l → WalkDone l (walked.Made made) whole
+    pub turns-ended : slots ≤ positionIn l → GroupGiven l → StepsDone l (stepsMade.Number made) whole
     unfolding ended
-    walk-ended h m =
+    turns-ended h m =
         record {
-          told = stands (steps-ended 31 program booleans (drop (made * 2) masks) (groupOf l) (le-leb slots (getD l 7 0) h));
-          made = m;
+          told = stands (steps-ended counterLimit program booleans (drop (made * 2) masks) (groupOf l) (le-leb slots (positionIn l) h));
+          given = m;
         }
 
-    pub walk-out : length masks / 2 ≤ made → Made l → WalkDone l (walked.Made made) whole
-    walk-out h m =
+    pub turns-out : length masks / 2 ≤ made → GroupGiven l → StepsDone l (stepsMade.Number made) whole
+    turns-out h m =
         record {
           told =
               stands
-              (steps-short 31 program booleans (drop (made * 2) masks) (groupOf l)
+              (steps-short counterLimit program booleans (drop (made * 2) masks) (groupOf l)
               (omega (arith, length-drop (made * 2) masks)));
-          made = m;
+          given = m;
         }
 
     -- a turn
-    module _ (more : made < length masks / 2) (goes : getD l 7 0 < slots) where
+    module _ (more : made < length masks / 2) (goes : positionIn l < slots) where
       abbrev first : Outcome
-      first = stepOf 31 program (getD masks (made * 2) 0) (getD masks (made * 2 + 1) 0) booleans (groupOf l)
+      first = groupStep counterLimit program (getD masks (made * 2) 0) (getD masks (made * 2 + 1) 0) booleans (groupOf l)
 
       two-left : drop (made * 2) masks ≡ getD masks (made * 2) 0 ∷ (getD masks (made * 2 + 1) 0 ∷ drop ((made + 1) * 2) masks)
       two-left =
@@ -169,75 +173,75 @@ module _ (firsts seconds : List ℕ) (slots booleans : ℕ) (masks : List ℕ) (
           two n = omega arith
 
       turn :
-          stepsOf 31 program booleans (drop (made * 2) masks) (groupOf l) ≡
-          goOn first (λ g. stepsOf 31 program booleans (drop ((made + 1) * 2) masks) g)
-      unfolding stepsOf ended
+          groupSteps counterLimit program booleans (drop (made * 2) masks) (groupOf l) ≡
+          goOn first (λ g. groupSteps counterLimit program booleans (drop ((made + 1) * 2) masks) g)
+      unfolding groupSteps ended
       turn =
-          ap (λ (x : List ℕ). stepsOf 31 program booleans x (groupOf l)) two-left ∙ pick-no _ _ (lt-leb slots (getD l 7 0) goes)
+          ap (λ (x : List ℕ). groupSteps counterLimit program booleans x (groupOf l)) two-left ∙ pick-no _ _ (lt-leb slots (positionIn l) goes)
 
-      module _ {l' : List ℕ} {r : Walked} (d : WalkDone l' r (single first)) where
-        pub walk-refused : {why : Refusal} → r ≡ walked.Refused why → WalkDone l' (walked.Refused why) whole
-        walk-refused {why} e =
+      module _ {l' : List ℕ} {r : StepsMade} (d : StepsDone l' r (single first)) where
+        pub turns-refused : {why : Refusal} → r ≡ stepsMade.Refused why → StepsDone l' (stepsMade.Refused why) whole
+        turns-refused {why} e =
             record {
               told =
                   sym
                   (inv ∙ ap (plus made)
-                  (turn ∙ breaks-off first (numberOf why) _ (sym (ap (λ (x : Walked). walkTold x l') e) ∙ d .told)));
-              made = d .made;
+                  (turn ∙ breaks-off first (numberOf why) _ (sym (ap (λ (x : StepsMade). stepsTold x l') e) ∙ d .told)));
+              given = d .given;
             }
 
-        pub walk-again :
-            {n : ℕ} → r ≡ walked.Made n →
-            whole ≡ plus (made + 1) (stepsOf 31 program booleans (drop ((made + 1) * 2) masks) (groupOf l'))
-        walk-again {n} e =
+        pub turns-again :
+            {n : ℕ} → r ≡ stepsMade.Number n →
+            whole ≡ plus (made + 1) (groupSteps counterLimit program booleans (drop ((made + 1) * 2) masks) (groupOf l'))
+        turns-again {n} e =
             inv ∙
-            ap (plus made) (turn ∙ goes-on first n (groupOf l') _ (sym (ap (λ (x : Walked). walkTold x l') e) ∙ d .told)) ∙
-            plus-once made (stepsOf 31 program booleans (drop ((made + 1) * 2) masks) (groupOf l'))
+            ap (plus made) (turn ∙ goes-on first n (groupOf l') _ (sym (ap (λ (x : StepsMade). stepsTold x l') e) ∙ d .told)) ∙
+            plus-once made (groupSteps counterLimit program booleans (drop ((made + 1) * 2) masks) (groupOf l'))
 
 -- the report: the masks' count and least bit are those of the processors
-module _ (l : List ℕ) (m : Made l) where
-  active-at : (i : ℕ) → i < 32 → on i (getD l 1 0) ≡ isActive (groupOf l .procs i)
-  active-at i h = ap (on i) (made-masks l m .active-word) ∙ on-pack 32 i (λ j. isActive (groupOf l .procs j)) h
+module _ (l : List ℕ) (m : GroupGiven l) where
+  active-at : (i : ℕ) → i < 32 → on i (activeIn l) ≡ isActive (groupOf l .procs i)
+  active-at i h = ap (on i) (given-masks l m .active-word) ∙ on-pack 32 i (λ j. isActive (groupOf l .procs j)) h
 
-  pub first-is : least 32 (λ i. on i (getD l 1 0)) ≡ firstActive (groupOf l)
+  pub first-is : least 32 (λ i. on i (activeIn l)) ≡ firstActive (groupOf l)
   unfolding firstActive
   first-is = least-same 32 _ _ active-at
 
-  pub number-is : count 32 (λ i. on i (getD l 1 0)) ≡ numberActive (groupOf l)
+  pub number-is : count 32 (λ i. on i (activeIn l)) ≡ numberActive (groupOf l)
   unfolding numberActive
   number-is = count-same 32 _ _ active-at
 
 -- a whole run
 module _ (l firsts seconds : List ℕ) (slots booleans : ℕ) (masks : List ℕ) where
   abbrev wholeRun : Run
-  wholeRun = runOf 31 (programOf firsts seconds slots) booleans masks (groupOf l)
+  wholeRun = runIn firsts seconds slots l masks booleans
 
-  pub run-ended : slots ≤ getD l 7 0 → RunDone l l (ran.Refused Ended) wholeRun
-  unfolding runOf ended
+  pub run-ended : slots ≤ positionIn l → RunDone l l (ran.Refused Ended) wholeRun
+  unfolding groupRun ended
   run-ended h =
-      let e : wholeRun ≡ Breaks 16 = pick-yes _ _ (le-leb slots (getD l 7 0) h) in
+      let e : wholeRun ≡ Breaks 16 = pick-yes _ _ (le-leb slots (positionIn l) h) in
       record { told = sym (ap runTold e); left = sym (ap (runLeaves l) e) }
 
-  module _ (goes : getD l 7 0 < slots) {l' : List ℕ} {r : Walked}
-      (d : WalkDone l' r (stepsOf 31 (programOf firsts seconds slots) booleans masks (groupOf l))) where
-    is-run : walkTold r l' ≡ wholeRun
-    unfolding runOf ended
-    is-run = d .told ∙ sym (pick-no _ _ (lt-leb slots (getD l 7 0) goes))
+  module _ (goes : positionIn l < slots) {l' : List ℕ} {r : StepsMade}
+      (d : StepsDone l' r (groupSteps counterLimit (programOf firsts seconds slots) booleans masks (groupOf l))) where
+    is-run : stepsTold r l' ≡ wholeRun
+    unfolding groupRun ended
+    is-run = d .told ∙ sym (pick-no _ _ (lt-leb slots (positionIn l) goes))
 
     pub run-made :
-        {n first active : ℕ} → r ≡ walked.Made n → first ≡ least 32 (λ i. on i (getD l' 1 0)) →
-        active ≡ count 32 (λ i. on i (getD l' 1 0)) → RunDone l l' (ran.Report n first active) wholeRun
+        {n first active : ℕ} → r ≡ stepsMade.Number n → first ≡ least 32 (λ i. on i (activeIn l')) →
+        active ≡ count 32 (λ i. on i (activeIn l')) → RunDone l l' (ran.Report n first active) wholeRun
     run-made {n} {first} {active} e ef ea =
-        let o : Makes n (groupOf l') ≡ wholeRun = sym (ap (λ (x : Walked). walkTold x l') e) ∙ is-run in
+        let o : Makes n (groupOf l') ≡ wholeRun = sym (ap (λ (x : StepsMade). stepsTold x l') e) ∙ is-run in
         record {
           told =
-              ap₂ (λ (f a : ℕ). gives (n ∷ f ∷ a ∷ [])) (ef ∙ first-is l' (d .made)) (ea ∙ number-is l' (d .made)) ∙ ap runTold o;
-          left = d .made .whole ∙ ap (runLeaves l) o;
+              ap₂ (λ (f a : ℕ). gives (n ∷ f ∷ a ∷ [])) (ef ∙ first-is l' (d .given)) (ea ∙ number-is l' (d .given)) ∙ ap runTold o;
+          left = d .given .whole ∙ ap (runLeaves l) o;
         }
 
-    pub run-refused : {why : Refusal} → r ≡ walked.Refused why → RunDone l l (ran.Refused why) wholeRun
+    pub run-refused : {why : Refusal} → r ≡ stepsMade.Refused why → RunDone l l (ran.Refused why) wholeRun
     run-refused {why} e =
-        let o : Breaks (numberOf why) ≡ wholeRun = sym (ap (λ (x : Walked). walkTold x l') e) ∙ is-run in
+        let o : Breaks (numberOf why) ≡ wholeRun = sym (ap (λ (x : StepsMade). stepsTold x l') e) ∙ is-run in
         record { told = ap runTold o; left = ap (runLeaves l) o }
 
 -- a run goes on where another one left off
@@ -259,9 +263,9 @@ once-after (Breaks why) rest = refl
 -- a list of masks may be cut in two at any step: the steps are the first part's, and then the second part's from there
 pub steps-cut :
     (limit : ℕ) (program : Program) (booleans : ℕ) (a b : List ℕ) (g : Group) → length a % 2 ≡ 0 →
-    stepsOf limit program booleans (a ++ b) g ≡ afterwards (stepsOf limit program booleans a g) (λ g'. stepsOf limit program booleans b g')
-unfolding stepsOf
-steps-cut limit program booleans [] b g e = plus-zero (stepsOf limit program booleans b g)
+    groupSteps limit program booleans (a ++ b) g ≡ afterwards (groupSteps limit program booleans a g) (λ g'. groupSteps limit program booleans b g')
+unfolding groupSteps
+steps-cut limit program booleans [] b g e = plus-zero (groupSteps limit program booleans b g)
 steps-cut limit program booleans (x ∷ []) b g e = let z : _≡_ {A = ℕ} 1 0 = e in absurd (omega arith)
 steps-cut limit program booleans (x ∷ (y ∷ a)) b g e =
     by-step (steps-cut limit program booleans a b) (tested (ended program g))
@@ -270,57 +274,57 @@ steps-cut limit program booleans (x ∷ (y ∷ a)) b g e =
     even h = omega arith
 
     on-outcome :
-        ((g' : Group) → length a % 2 ≡ 0 → stepsOf limit program booleans (a ++ b) g' ≡ afterwards (stepsOf limit program booleans a g') (λ h. stepsOf limit program booleans b h)) →
+        ((g' : Group) → length a % 2 ≡ 0 → groupSteps limit program booleans (a ++ b) g' ≡ afterwards (groupSteps limit program booleans a g') (λ h. groupSteps limit program booleans b h)) →
         (o : Outcome) →
-        goOn o (λ g'. stepsOf limit program booleans (a ++ b) g') ≡
-        afterwards (goOn o (λ g'. stepsOf limit program booleans a g')) (λ h. stepsOf limit program booleans b h)
-    on-outcome ih (Steps jump g') = ap onceMore (ih g' (even e)) ∙ once-after (stepsOf limit program booleans a g') _
+        goOn o (λ g'. groupSteps limit program booleans (a ++ b) g') ≡
+        afterwards (goOn o (λ g'. groupSteps limit program booleans a g')) (λ h. groupSteps limit program booleans b h)
+    on-outcome ih (Steps jump g') = ap onceMore (ih g' (even e)) ∙ once-after (groupSteps limit program booleans a g') _
     on-outcome ih (Fails why) = refl
 
     by-step :
-        ((g' : Group) → length a % 2 ≡ 0 → stepsOf limit program booleans (a ++ b) g' ≡ afterwards (stepsOf limit program booleans a g') (λ h. stepsOf limit program booleans b h)) →
+        ((g' : Group) → length a % 2 ≡ 0 → groupSteps limit program booleans (a ++ b) g' ≡ afterwards (groupSteps limit program booleans a g') (λ h. groupSteps limit program booleans b h)) →
         Tested (ended program g) →
         pick (ended program g) (Makes 0 g)
-        (goOn (stepOf limit program x y booleans g) (λ g'. stepsOf limit program booleans (a ++ b) g')) ≡
+        (goOn (groupStep limit program x y booleans g) (λ g'. groupSteps limit program booleans (a ++ b) g')) ≡
         afterwards
         (pick (ended program g) (Makes 0 g)
-        (goOn (stepOf limit program x y booleans g) (λ g'. stepsOf limit program booleans a g')))
-        (λ h. stepsOf limit program booleans b h)
+        (goOn (groupStep limit program x y booleans g) (λ g'. groupSteps limit program booleans a g')))
+        (λ h. groupSteps limit program booleans b h)
     by-step ih (holds t) =
-        pick-yes _ _ t ∙ sym (steps-ended limit program booleans b g t) ∙ plus-zero (stepsOf limit program booleans b g) ∙
-        ap (λ (r : Run). afterwards r (λ h. stepsOf limit program booleans b h)) (sym (pick-yes _ _ t))
+        pick-yes _ _ t ∙ sym (steps-ended limit program booleans b g t) ∙ plus-zero (groupSteps limit program booleans b g) ∙
+        ap (λ (r : Run). afterwards r (λ h. groupSteps limit program booleans b h)) (sym (pick-yes _ _ t))
     by-step ih (fails t) =
-        pick-no _ _ t ∙ on-outcome ih (stepOf limit program x y booleans g) ∙
-        ap (λ (r : Run). afterwards r (λ h. stepsOf limit program booleans b h)) (sym (pick-no _ _ t))
+        pick-no _ _ t ∙ on-outcome ih (groupStep limit program x y booleans g) ∙
+        ap (λ (r : Run). afterwards r (λ h. groupSteps limit program booleans b h)) (sym (pick-no _ _ t))
 
 -- and so may a run: where the first part is made and the program hasn't ended, the second part is a run of its own; where it
 -- has, the masks left over aren't read
 pub run-cut :
     (limit : ℕ) (program : Program) (booleans : ℕ) (a b : List ℕ) (g g' : Group) (n : ℕ) → length a % 2 ≡ 0 →
-    runOf limit program booleans a g ≡ Makes n g' →
-    runOf limit program booleans (a ++ b) g ≡ pick (ended program g') (Makes n g') (plus n (runOf limit program booleans b g'))
-unfolding runOf
+    groupRun limit program booleans a g ≡ Makes n g' →
+    groupRun limit program booleans (a ++ b) g ≡ pick (ended program g') (Makes n g') (plus n (groupRun limit program booleans b g'))
+unfolding groupRun
 run-cut limit program booleans a b g g' n e made = first (tested (ended program g))
   where
     second :
         Tested (ended program g') →
-        plus n (stepsOf limit program booleans b g') ≡
-        pick (ended program g') (Makes n g') (plus n (pick (ended program g') (Breaks 16) (stepsOf limit program booleans b g')))
+        plus n (groupSteps limit program booleans b g') ≡
+        pick (ended program g') (Makes n g') (plus n (pick (ended program g') (Breaks 16) (groupSteps limit program booleans b g')))
     second (holds t) =
         ap (plus n) (steps-ended limit program booleans b g' t) ∙ ap (λ (k : ℕ). Makes k g') (add-zero n) ∙ sym (pick-yes _ _ t)
     second (fails t) = sym (pick-no _ _ t ∙ ap (plus n) (pick-no _ _ t))
 
     first :
         Tested (ended program g) →
-        pick (ended program g) (Breaks 16) (stepsOf limit program booleans (a ++ b) g) ≡
-        pick (ended program g') (Makes n g') (plus n (pick (ended program g') (Breaks 16) (stepsOf limit program booleans b g')))
+        pick (ended program g) (Breaks 16) (groupSteps limit program booleans (a ++ b) g) ≡
+        pick (ended program g') (Makes n g') (plus n (pick (ended program g') (Breaks 16) (groupSteps limit program booleans b g')))
     first (holds t) =
         let q : Breaks 16 ≡ Makes n g' = sym (pick-yes _ _ t) ∙ made in
         let z : _≡_ {A = ℕ} 0 1 = cc in
         absurd (omega arith)
     first (fails t) =
         pick-no _ _ t ∙ steps-cut limit program booleans a b g e ∙
-        ap (λ (r : Run). afterwards r (λ h. stepsOf limit program booleans b h)) (sym (pick-no _ _ t) ∙ made) ∙
+        ap (λ (r : Run). afterwards r (λ h. groupSteps limit program booleans b h)) (sym (pick-no _ _ t) ∙ made) ∙
         second (tested (ended program g'))
 
 -- a run leads from a sound group to a sound one
@@ -334,18 +338,18 @@ once-sound limit (Breaks why) s = s
 
 pub steps-sound :
     (limit : ℕ) (program : Program) (booleans : ℕ) (masks : List ℕ) (g : Group) → Sound limit g →
-    SoundRun limit (stepsOf limit program booleans masks g)
-unfolding stepsOf
+    SoundRun limit (groupSteps limit program booleans masks g)
+unfolding groupSteps
 steps-sound limit program booleans [] g s = s
 steps-sound limit program booleans (a ∷ []) g s = s
 steps-sound limit program booleans (a ∷ (b ∷ masks)) g s =
     by-pick (SoundRun limit) (ended program g) _ _ (λ e. s)
     (λ e.
-    rest (steps-sound limit program booleans masks) (stepOf limit program a b booleans g)
+    rest (steps-sound limit program booleans masks) (groupStep limit program a b booleans g)
     (step-sound limit program a b booleans g s))
   where
     rest :
-        ((g' : Group) → Sound limit g' → SoundRun limit (stepsOf limit program booleans masks g')) →
-        (o : Outcome) → SoundAfter limit o → SoundRun limit (goOn o (λ g'. stepsOf limit program booleans masks g'))
-    rest ih (Steps jump g') t = once-sound limit (stepsOf limit program booleans masks g') (ih g' t)
+        ((g' : Group) → Sound limit g' → SoundRun limit (groupSteps limit program booleans masks g')) →
+        (o : Outcome) → SoundAfter limit o → SoundRun limit (goOn o (λ g'. groupSteps limit program booleans masks g'))
+    rest ih (Steps jump g') t = once-sound limit (groupSteps limit program booleans masks g') (ih g' t)
     rest ih (Fails why) t = tt

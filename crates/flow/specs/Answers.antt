@@ -3,19 +3,27 @@
 use mathlib.Core.Path.{_≡_}
 use mathlib.Core.List.{List, [], _∷_}
 use Prim.Native.Nat.{ℕ}
+use lib.Dec.{eqb}
+use Rattle.laws.specs.Choice.{pick}
+use Rattle.refusal.specs.declared.Refusal.{Refusal}
+use Rattle.refusal.specs.declared.Refusal.the-variants.{AtLimit, PastEnd, FlowField, Ended}
 use Rattle.refusal.specs.Number.{numberOf}
 use Rattle.refusal.specs.Told.{Told, gives, refuses}
 use Rattle.group.specs.Group.{Run, Makes, Breaks, runTold, beginTold}
-use Rattle.group.specs.Cells.{groupOf, Made, runLeaves, beginLeaves}
+use Rattle.group.specs.Cells.{groupOf, GroupGiven, runLeaves, beginLeaves}
 use Rattle.flow.specs.declared.Begun.{Begun}
 use Rattle.flow.specs.declared.Begun.the-variants as begun
 use Rattle.flow.specs.declared.Loaded.{Loaded}
 use Rattle.flow.specs.declared.Loaded.the-variants as loaded
 use Rattle.flow.specs.declared.Ran.{Ran}
 use Rattle.flow.specs.declared.Ran.the-variants as ran
-use Rattle.flow.specs.declared.Walked.{Walked}
-use Rattle.flow.specs.declared.Walked.the-variants as walked
+use Rattle.flow.specs.declared.StepsMade.{StepsMade}
+use Rattle.flow.specs.declared.StepsMade.the-variants as stepsMade
 use Rattle.flow.specs.Store.{loadTold, firstsLeft, secondsLeft}
+
+-- a step's refusal by its number, 13 to 16
+unfoldable pub refusalOf : ℕ → Refusal
+refusalOf n = pick (eqb n 13) FlowField (pick (eqb n 14) AtLimit (pick (eqb n 15) PastEnd Ended))
 
 -- a fresh group tells nothing, a program its number of slots
 abbrev pub toldBegun : Begun → Told
@@ -45,10 +53,10 @@ pub record RunDone (entry leaves : List ℕ) (r : Ran) (o : Run) : Type 0 where
   pub left : leaves ≡ runLeaves entry o
 
 -- steps made one after the other, on cells that end as `leaves`
-abbrev pub walkTold : Walked → List ℕ → Run
-walkTold (walked.Made n) leaves = Makes n (groupOf leaves)
-walkTold (walked.Refused why) leaves = Breaks (numberOf why)
+abbrev pub stepsTold : StepsMade → List ℕ → Run
+stepsTold (stepsMade.Number n) leaves = Makes n (groupOf leaves)
+stepsTold (stepsMade.Refused why) leaves = Breaks (numberOf why)
 
-pub record WalkDone (leaves : List ℕ) (r : Walked) (o : Run) : Type 0 where
-  pub told : walkTold r leaves ≡ o
-  pub made : Made leaves
+pub record StepsDone (leaves : List ℕ) (r : StepsMade) (o : Run) : Type 0 where
+  pub told : stepsTold r leaves ≡ o
+  pub given : GroupGiven leaves

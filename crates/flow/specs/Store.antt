@@ -7,6 +7,7 @@ use lib.Dec.{eqb, leb}
 use lib.ListN.{length, drop, replicate}
 use Rattle.laws.specs.Choice.{_and_, pick}
 use Rattle.refusal.specs.Told.{Told, gives, refuses}
+use Rattle.group.specs.Group.{storeSlots}
 
 -- the first words of the slots, and the second ones
 unfoldable pub firstWords : List ℕ → List ℕ
@@ -21,11 +22,11 @@ secondWords (a ∷ (b ∷ words)) = b ∷ secondWords words
 
 -- "15: .. a program of 0 or over 512 slots or of an odd number of words"
 unfoldable pub isProgram : List ℕ → Bool
-isProgram words = eqb (length words % 2) 0 and leb 1 (length words / 2) and leb (length words / 2) 512
+isProgram words = eqb (length words % 2) 0 and leb 1 (length words / 2) and leb (length words / 2) storeSlots
 
 -- the store's words: plain ones, of which the first are overwritten
 unfoldable pub storeOf : ℕ → List ℕ → List ℕ
-storeOf plain words = words ++ drop (length words) (replicate 512 plain)
+storeOf plain words = words ++ drop (length words) (replicate storeSlots plain)
 
 -- "The plain slot is 00000020, 0."
 abbrev pub plainFirst : ℕ

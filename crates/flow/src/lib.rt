@@ -1,15 +1,19 @@
 // Flow words for one group of up to 32 processors: the program store, the group's state, a step and a run, as document 01
 // has them. Every routine answers an enum; a refusal (13 to 16) leaves what was lent as it was.
+use group::planes;
 use refusal::Refusal;
 use stepper::SlotNumber;
 use stepper::Stepped;
 ghost use mathlib.Core.Path.{_≡_};
+ghost use Prim.Native.Nat.{_/_};
+ghost use lib.ListN.{length};
 ghost use Rattle.laws.specs.Below.{count, least};
 ghost use Rattle.laws.specs.Masks.{on};
-ghost use Rattle.group.specs.Group.{Makes, stepOf, goOn, stepsOf, runOf};
-ghost use Rattle.group.specs.Cells.{groupOf, Made};
-ghost use Rattle.stepper.specs.Answers.{refusalOf, answerOf, StepDone, programOf};
-ghost use Rattle.flow.specs.Answers.{BeginDone, LoadDone, RunDone, WalkDone};
+ghost use Rattle.group.specs.Proc.{mostProcessors, counterLimit};
+ghost use Rattle.group.specs.Group.{Makes, goOn, groupSteps};
+ghost use Rattle.group.specs.Cells.{groupOf, GroupGiven};
+ghost use Rattle.stepper.specs.Answers.{StepDone, programOf, stepIn, runIn};
+ghost use Rattle.flow.specs.Answers.{refusalOf, BeginDone, LoadDone, RunDone, StepsDone};
 
 // A fresh group stands in the cells, or its size isn't allowed.
 pub enum Begun {
@@ -34,17 +38,17 @@ pub enum Ran {
 }
 
 // How many steps were made one after the other, or the refusal of the next.
-enum Walked {
-    Made(usize),
+enum StepsMade {
+    Number(usize),
     Refused(Refusal),
 }
 
 // The plain slot, which fills a store before its program is loaded.
-const PLAIN_FIRST: u32 = 0x20;
+pub const PLAIN_FIRST: u32 = 0x20;
 
-const PLAIN_SECOND: u32 = 0;
+pub const PLAIN_SECOND: u32 = 0;
 
-// The refusal of a step by its number.
+// The refusal of a step by its number, 13 to 16.
 fn refusal_of(number: u32) -> Refusal
     ensures { λ r. ⌜ r ≡ refusalOf number ⌝ }
 {
@@ -54,19 +58,6 @@ fn refusal_of(number: u32) -> Refusal
         15 => Refusal::PastEnd,
         _ => Refusal::Ended,
     }
-}
-
-// The answer that a step's number and the next position stand for.
-fn answer(number: u32, at: u32) -> Stepped
-    ensures { λ r. ⌜ r ≡ answerOf number at ⌝ }
-{
-    if 1 < number {
-        return Stepped::Refused(refusal_of(number));
-    }
-    if number == 1 {
-        return Stepped::Jumped(SlotNumber(at));
-    }
-    Stepped::Stayed(SlotNumber(at))
 }
 
 // A step of the group under a program: the first and second words of its slots, and how many slots run. 16 where the program
@@ -81,11 +72,18 @@ pub fn step(
     predicate: u32,
     booleans: u32,
 ) -> Stepped
-    requires { ⌜ Made (now cells) ⌝ }
-    ensures { λ r. ⌜ StepDone (now (cells .entry)) (now (cells .exit)) r (stepOf 31 (programOf (now (firsts .entry)) (now (seconds .entry)) slots) alu predicate booleans (groupOf (now (cells .entry)))) ⌝ }
+    requires { ⌜ GroupGiven (now cells) ⌝ }
+    ensures { λ r. ⌜ StepDone (now (cells .entry)) (now (cells .exit)) r (stepIn (now (firsts .entry)) (now (seconds .entry)) slots (now (cells .entry)) alu predicate booleans) ⌝ }
 {
     let number = stepper::step_number(firsts, seconds, slots, cells, alu, predicate, booleans);
-    answer(number, cells[7])
+    if 1 < number {
+        return Stepped::Refused(refusal_of(number));
+    }
+    let next = SlotNumber(cells[group::POSITION]);
+    if number == 1 {
+        return Stepped::Jumped(next);
+    }
+    Stepped::Stayed(next)
 }
 
 // A fresh group: all its processors active, position 0, no returns. 13 unless the size is from 1 to 32.
@@ -95,33 +93,14 @@ pub fn begin(size: u32, cells: &mut [u32; group::CELLS]) -> Begun
     if size < 1 {
         return Begun::Refused(Refusal::FlowField);
     }
-    if 32 < size {
+    if group::PROCESSORS < size {
         return Begun::Refused(Refusal::FlowField);
     }
     // From the top down, since 1 << 32 would not fit.
-    let live = 4294967295u32 >> (32 - size);
-    *cells = [
-        live,
-        live,
-        0,
-        0,
-        0,
-        0,
-        0,
-        0,
-        0,
-        0,
-        0,
-        0,
-        0,
-        0,
-        0,
-        0,
-        0,
-        0,
-        0,
-        0,
-    ];
+    let live = planes::EVERYBODY >> (group::PROCESSORS - size);
+    *cells = [0; group::CELLS];
+    cells[group::LIVE] = live;
+    cells[group::ACTIVE] = live;
     Begun::Ready
 }
 
@@ -141,7 +120,7 @@ pub fn load(
     if n < 1 {
         return Loaded::Refused(Refusal::PastEnd);
     }
-    if 512 < n {
+    if group::SLOTS < n {
         return Loaded::Refused(Refusal::PastEnd);
     }
     *firsts = [PLAIN_FIRST; group::SLOTS];
@@ -157,11 +136,11 @@ pub fn load(
 
 // The first active processor: the lowest bit of the mask, 32 where it has none.
 pub fn first_active(active: u32) -> u32
-    ensures { λ r. ⌜ r ≡ least 32 (λ i. on i active) ⌝ }
+    ensures { λ r. ⌜ r ≡ least mostProcessors (λ i. on i active) ⌝ }
 {
     let mut rest = active;
     let mut i = 0;
-    while i < 32 {
+    while i < group::PROCESSORS {
         if rest % 2 == 1 {
             return i;
         }
@@ -173,7 +152,7 @@ pub fn first_active(active: u32) -> u32
 
 // The number of active processors: the ones of the mask.
 pub fn number_active(active: u32) -> u32
-    ensures { λ r. ⌜ r ≡ count 32 (λ i. on i active) ⌝ }
+    ensures { λ r. ⌜ r ≡ count mostProcessors (λ i. on i active) ⌝ }
 {
     u32::count_ones(active)
 }
@@ -187,34 +166,41 @@ fn one_step(
     alu: u32,
     predicate: u32,
     booleans: u32,
-) -> Walked
-    requires { ⌜ Made (now cells) ⌝ }
-    ensures { λ r. ⌜ WalkDone (now (cells .exit)) r (goOn (stepOf 31 (programOf (now (firsts .entry)) (now (seconds .entry)) slots) alu predicate booleans (groupOf (now (cells .entry)))) (λ g. Makes 0 g)) ⌝ }
+) -> StepsMade
+    requires { ⌜ GroupGiven (now cells) ⌝ }
+    ensures { λ r. ⌜ StepsDone (now (cells .exit)) r (goOn (stepIn (now (firsts .entry)) (now (seconds .entry)) slots (now (cells .entry)) alu predicate booleans) (λ g. Makes 0 g)) ⌝ }
 {
     let number = stepper::step_number(firsts, seconds, slots, cells, alu, predicate, booleans);
     if 1 < number {
-        return Walked::Refused(refusal_of(number));
+        return StepsMade::Refused(refusal_of(number));
     }
-    Walked::Made(1)
+    StepsMade::Number(1)
 }
 
-// Steps with two masks each, up to the end of the list or of the program. A last mask without its partner isn't read.
-fn walk(
+// How many steps a list of masks is for, two masks each: a last alu without its predicate counts as the list's end.
+fn pairs_of(masks: &[u32]) -> usize
+    ensures { λ r. ⌜ r ≡ length (now (masks .entry)) / 2 ⌝ }
+{
+    masks.len() / 2
+}
+
+// Steps with two masks each, up to the end of the list or of the program.
+fn make_steps(
     firsts: &[u32; group::SLOTS],
     seconds: &[u32; group::SLOTS],
     slots: u32,
     cells: &mut [u32; group::CELLS],
     masks: &[u32],
     booleans: u32,
-) -> Walked
-    requires { ⌜ Made (now cells) ⌝ }
-    ensures { λ r. ⌜ WalkDone (now (cells .exit)) r (stepsOf 31 (programOf (now (firsts .entry)) (now (seconds .entry)) slots) booleans (now (masks .entry)) (groupOf (now (cells .entry)))) ⌝ }
+) -> StepsMade
+    requires { ⌜ GroupGiven (now cells) ⌝ }
+    ensures { λ r. ⌜ StepsDone (now (cells .exit)) r (groupSteps counterLimit (programOf (now (firsts .entry)) (now (seconds .entry)) slots) booleans (now (masks .entry)) (groupOf (now (cells .entry)))) ⌝ }
 {
-    let pairs = masks.len() / 2;
+    let pairs = pairs_of(masks);
     let mut made = 0;
     while made < pairs {
-        if slots <= cells[7] {
-            return Walked::Made(made);
+        if slots <= cells[group::POSITION] {
+            return StepsMade::Number(made);
         }
         let next = one_step(
             firsts,
@@ -225,12 +211,12 @@ fn walk(
             masks[made * 2 + 1],
             booleans,
         );
-        if let Walked::Refused(why) = next {
-            return Walked::Refused(why);
+        if let StepsMade::Refused(why) = next {
+            return StepsMade::Refused(why);
         }
         made += 1;
     }
-    Walked::Made(made)
+    StepsMade::Number(made)
 }
 
 // A run over a list of masks, alu then predicate for each step, with one word of booleans. It ends with the list or with the
@@ -244,24 +230,25 @@ pub fn run(
     masks: &[u32],
     booleans: u32,
 ) -> Ran
-    requires { ⌜ Made (now cells) ⌝ }
-    ensures { λ r. ⌜ RunDone (now (cells .entry)) (now (cells .exit)) r (runOf 31 (programOf (now (firsts .entry)) (now (seconds .entry)) slots) booleans (now (masks .entry)) (groupOf (now (cells .entry)))) ⌝ }
+    requires { ⌜ GroupGiven (now cells) ⌝ }
+    ensures { λ r. ⌜ RunDone (now (cells .entry)) (now (cells .exit)) r (runIn (now (firsts .entry)) (now (seconds .entry)) slots (now (cells .entry)) (now (masks .entry)) booleans) ⌝ }
 {
-    if slots <= cells[7] {
+    let position = cells[group::POSITION];
+    if slots <= position {
         return Ran::Refused(Refusal::Ended);
     }
     let mut trial = *cells;
-    let walked = walk(firsts, seconds, slots, &mut trial, masks, booleans);
-    match walked {
-        Walked::Made(steps) => {
+    let made = make_steps(firsts, seconds, slots, &mut trial, masks, booleans);
+    match made {
+        StepsMade::Number(steps) => {
             *cells = trial;
-            let active = trial[1];
+            let active = trial[group::ACTIVE];
             Ran::Report {
                 steps,
                 first: first_active(active),
                 active: number_active(active),
             }
         }
-        Walked::Refused(why) => Ran::Refused(why),
+        StepsMade::Refused(why) => Ran::Refused(why),
     }
 }

@@ -14,11 +14,11 @@ use Rattle.laws.specs.Below.{some, every}
 use Rattle.laws.specs.Masks.{_or_, differ, digit, on, pack, Places}
 use Rattle.laws.proofs.Below.{every-none, some-same, every-at, none-at}
 use Rattle.laws.proofs.Masks.{pack-same, and-places, or-places, xor-places, not-places, on-zero, on-suc, pack-on, on-pack, none-zero}
-use Rattle.group.specs.declared.planes.Worked.{Worked}
-use Rattle.group.specs.Proc.{Proc, Active, Idle, Absent, isLive, isActive, counterBit, within, turned, wants, decided, lowered, raised, atLimit, worked}
+use Rattle.group.specs.declared.planes.Branched.{Branched}
+use Rattle.group.specs.Proc.{Proc, Active, Idle, Absent, isLive, isActive, counterBit, within, turned, wants, decided, lowered, raised, atLimit, branched, counterLimit}
 use Rattle.group.specs.Group.{turnedIf, wishOf}
 use Rattle.group.specs.Cells.{activeMask, plane, counterOf}
-use Rattle.group.specs.Masks.{MasksOf, shownAs}
+use Rattle.group.specs.Masks.{MasksOf, shownAs, someAtLimit}
 
 -- two tests agree
 abbrev same : Bool → Bool → Bool
@@ -35,7 +35,7 @@ same-true false false e = refl
 abbrev everyProc : (Proc → Bool) → Bool
 everyProc t = t Active and (t Absent and every 32 (λ n. t (Idle n)))
 
-by-proc : (t : Proc → Bool) → everyProc t ≡ true → (p : Proc) → within 31 p ≡ true → t p ≡ true
+by-proc : (t : Proc → Bool) → everyProc t ≡ true → (p : Proc) → within counterLimit p ≡ true → t p ≡ true
 by-proc t e Active w = and-left (t Active) _ e
 by-proc t e (Idle n) w =
     let low : n ≤ 31 = leb-true n 31 w in
@@ -44,13 +44,13 @@ by-proc t e Absent w = and-left (t Absent) _ (and-right (t Active) _ e)
 
 -- so two tests that agree there agree on every processor
 agree :
-    (f g : Proc → Bool) → everyProc (λ q. same (f q) (g q)) ≡ true → (p : Proc) → within 31 p ≡ true → f p ≡ g p
+    (f g : Proc → Bool) → everyProc (λ q. same (f q) (g q)) ≡ true → (p : Proc) → within counterLimit p ≡ true → f p ≡ g p
 agree f g e p w = same-true (f p) (g p) (by-proc (λ q. same (f q) (g q)) e p w)
 
 -- the same with a number below 32 beside the processor
 agree-count :
     (f g : ℕ → Proc → Bool) → every 32 (λ k. everyProc (λ q. same (f k q) (g k q))) ≡ true →
-    (k : ℕ) → k < 32 → (p : Proc) → within 31 p ≡ true → f k p ≡ g k p
+    (k : ℕ) → k < 32 → (p : Proc) → within counterLimit p ≡ true → f k p ≡ g k p
 agree-count f g e k h = agree (f k) (g k) (every-at 32 (λ j. everyProc (λ q. same (f j q) (g j q))) e k h)
 
 -- a test holds both ways of a choice
@@ -65,7 +65,7 @@ both-at t e false = and-right (t true) (t false) e
 agree-wish :
     (f g : Bool → Bool → Proc → Bool) →
     both (λ j. both (λ w. everyProc (λ q. same (f j w q) (g j w q)))) ≡ true →
-    (jump wish : Bool) (p : Proc) → within 31 p ≡ true → f jump wish p ≡ g jump wish p
+    (jump wish : Bool) (p : Proc) → within counterLimit p ≡ true → f jump wish p ≡ g jump wish p
 agree-wish f g e jump wish =
     agree (f jump wish) (g jump wish)
     (both-at (λ w. everyProc (λ q. same (f jump w q) (g jump w q)))
@@ -77,7 +77,7 @@ isIdle q = isLive q and not (isActive q)
 
 -- B_ELSE
 turned-active :
-    (p : Proc) → within 31 p ≡ true →
+    (p : Proc) → within counterLimit p ≡ true →
     (isIdle p and not ((((counterBit 0 p or counterBit 1 p) or counterBit 2 p) or counterBit 3 p) or counterBit 4 p)) ≡ isActive (turned p)
 unfolding _and_ _or_ on every
 turned-active =
@@ -109,16 +109,16 @@ abbrev kept : ℕ → Proc → Bool
 kept k q = isIdle q and not (lent4 k q)
 
 module _ (k : ℕ) (h : k < 32) where
-  lowered-active : (p : Proc) → within 31 p ≡ true → (isActive p or (isIdle p and lent4 k p)) ≡ isActive (lowered k p)
+  lowered-active : (p : Proc) → within counterLimit p ≡ true → (isActive p or (isIdle p and lent4 k p)) ≡ isActive (lowered k p)
   unfolding _and_ _or_ differ on every pick
   lowered-active = agree-count (λ k q. isActive q or (isIdle q and lent4 k q)) (λ k q. isActive (lowered k q)) refl k h
 
-  lowered0 : (p : Proc) → within 31 p ≡ true → (differ (counterBit 0 p) (on 0 k) and kept k p) ≡ counterBit 0 (lowered k p)
+  lowered0 : (p : Proc) → within counterLimit p ≡ true → (differ (counterBit 0 p) (on 0 k) and kept k p) ≡ counterBit 0 (lowered k p)
   unfolding _and_ _or_ differ on every pick
   lowered0 = agree-count (λ k q. differ (counterBit 0 q) (on 0 k) and kept k q) (λ k q. counterBit 0 (lowered k q)) refl k h
 
   lowered1 :
-      (p : Proc) → within 31 p ≡ true →
+      (p : Proc) → within counterLimit p ≡ true →
       (differ (differ (counterBit 1 p) (on 1 k)) (lent0 k p) and kept k p) ≡ counterBit 1 (lowered k p)
   unfolding _and_ _or_ differ on every pick
   lowered1 =
@@ -126,7 +126,7 @@ module _ (k : ℕ) (h : k < 32) where
       (λ k q. counterBit 1 (lowered k q)) refl k h
 
   lowered2 :
-      (p : Proc) → within 31 p ≡ true →
+      (p : Proc) → within counterLimit p ≡ true →
       (differ (differ (counterBit 2 p) (on 2 k)) (lent1 k p) and kept k p) ≡ counterBit 2 (lowered k p)
   unfolding _and_ _or_ differ on every pick
   lowered2 =
@@ -134,7 +134,7 @@ module _ (k : ℕ) (h : k < 32) where
       (λ k q. counterBit 2 (lowered k q)) refl k h
 
   lowered3 :
-      (p : Proc) → within 31 p ≡ true →
+      (p : Proc) → within counterLimit p ≡ true →
       (differ (differ (counterBit 3 p) (on 3 k)) (lent2 k p) and kept k p) ≡ counterBit 3 (lowered k p)
   unfolding _and_ _or_ differ on every pick
   lowered3 =
@@ -142,7 +142,7 @@ module _ (k : ℕ) (h : k < 32) where
       (λ k q. counterBit 3 (lowered k q)) refl k h
 
   lowered4 :
-      (p : Proc) → within 31 p ≡ true →
+      (p : Proc) → within counterLimit p ≡ true →
       (differ (differ (counterBit 4 p) (on 4 k)) (lent3 k p) and kept k p) ≡ counterBit 4 (lowered k p)
   unfolding _and_ _or_ differ on every pick
   lowered4 =
@@ -165,29 +165,29 @@ module _ (q : Proc) where
 
 module _ (jump wish : Bool) where
   raised-active :
-      (p : Proc) → within 31 p ≡ true →
+      (p : Proc) → within counterLimit p ≡ true →
       (isActive p and not (isActive p and differ wish jump)) ≡ isActive (raised jump wish p)
   unfolding _and_ _or_ differ on every pick
   raised-active =
       agree-wish (λ j w q. isActive q and not (isActive q and differ w j)) (λ j w q. isActive (raised j w q)) refl jump wish
 
-  raised0 : (p : Proc) → within 31 p ≡ true → differ (counterBit 0 p) (isIdle p) ≡ counterBit 0 (raised jump wish p)
+  raised0 : (p : Proc) → within counterLimit p ≡ true → differ (counterBit 0 p) (isIdle p) ≡ counterBit 0 (raised jump wish p)
   unfolding _and_ _or_ differ on every pick
   raised0 = agree-wish (λ j w q. differ (counterBit 0 q) (isIdle q)) (λ j w q. counterBit 0 (raised j w q)) refl jump wish
 
-  raised1 : (p : Proc) → within 31 p ≡ true → differ (counterBit 1 p) (carry0 p) ≡ counterBit 1 (raised jump wish p)
+  raised1 : (p : Proc) → within counterLimit p ≡ true → differ (counterBit 1 p) (carry0 p) ≡ counterBit 1 (raised jump wish p)
   unfolding _and_ _or_ differ on every pick
   raised1 = agree-wish (λ j w q. differ (counterBit 1 q) (carry0 q)) (λ j w q. counterBit 1 (raised j w q)) refl jump wish
 
-  raised2 : (p : Proc) → within 31 p ≡ true → differ (counterBit 2 p) (carry1 p) ≡ counterBit 2 (raised jump wish p)
+  raised2 : (p : Proc) → within counterLimit p ≡ true → differ (counterBit 2 p) (carry1 p) ≡ counterBit 2 (raised jump wish p)
   unfolding _and_ _or_ differ on every pick
   raised2 = agree-wish (λ j w q. differ (counterBit 2 q) (carry1 q)) (λ j w q. counterBit 2 (raised j w q)) refl jump wish
 
-  raised3 : (p : Proc) → within 31 p ≡ true → differ (counterBit 3 p) (carry2 p) ≡ counterBit 3 (raised jump wish p)
+  raised3 : (p : Proc) → within counterLimit p ≡ true → differ (counterBit 3 p) (carry2 p) ≡ counterBit 3 (raised jump wish p)
   unfolding _and_ _or_ differ on every pick
   raised3 = agree-wish (λ j w q. differ (counterBit 3 q) (carry2 q)) (λ j w q. counterBit 3 (raised j w q)) refl jump wish
 
-  raised4 : (p : Proc) → within 31 p ≡ true → differ (counterBit 4 p) (carry3 p) ≡ counterBit 4 (raised jump wish p)
+  raised4 : (p : Proc) → within counterLimit p ≡ true → differ (counterBit 4 p) (carry3 p) ≡ counterBit 4 (raised jump wish p)
   unfolding _and_ _or_ differ on every pick
   raised4 = agree-wish (λ j w q. differ (counterBit 4 q) (carry3 q)) (λ j w q. counterBit 4 (raised j w q)) refl jump wish
 
@@ -323,14 +323,14 @@ module _ (active wish : ℕ) (ha : active < 2 ^ 32) (hw : wish < 2 ^ 32) where
 
 -- a counter is 31 when each of its bits is set
 full :
-    (b0 b1 b2 b3 b4 : Bool) → ((((b0 and b1) and b2) and b3) and b4) ≡ eqb (counterOf b0 b1 b2 b3 b4) 31
+    (b0 b1 b2 b3 b4 : Bool) → ((((b0 and b1) and b2) and b3) and b4) ≡ eqb (counterOf b0 b1 b2 b3 b4) counterLimit
 unfolding _and_ digit
 full b0 b1 b2 b3 b4 =
     same-true _ _
     (both-at (t5 b0 b1 b2 b3) (both-at (t4 b0 b1 b2) (both-at (t3 b0 b1) (both-at (t2 b0) (both-at t1 refl b0) b1) b2) b3) b4)
   where
     t5 : Bool → Bool → Bool → Bool → Bool → Bool
-    t5 b0 b1 b2 b3 b4 = same ((((b0 and b1) and b2) and b3) and b4) (eqb (counterOf b0 b1 b2 b3 b4) 31)
+    t5 b0 b1 b2 b3 b4 = same ((((b0 and b1) and b2) and b3) and b4) (eqb (counterOf b0 b1 b2 b3 b4) counterLimit)
 
     t4 : Bool → Bool → Bool → Bool → Bool
     t4 b0 b1 b2 b3 = both (t5 b0 b1 b2 b3)
@@ -347,7 +347,7 @@ full b0 b1 b2 b3 b4 =
 pub limit-word :
     (p0 p1 p2 p3 p4 : ℕ) → p0 < 2 ^ 32 → p1 < 2 ^ 32 → p2 < 2 ^ 32 → p3 < 2 ^ 32 → p4 < 2 ^ 32 →
     not (eqb (bitAnd (bitAnd (bitAnd (bitAnd p0 p1) p2) p3) p4) 0) ≡
-    some 32 (λ i. eqb (counterOf (on i p0) (on i p1) (on i p2) (on i p3) (on i p4)) 31)
+    someAtLimit p0 p1 p2 p3 p4
 limit-word p0 p1 p2 p3 p4 h0 h1 h2 h3 h4 =
     ap (λ (n : ℕ). not (eqb n 0))
     (and-places (and-places (and-places (and-places (own p0 h0) (own p1 h1)) (own p2 h2)) (own p3 h3)) (own p4 h4) .word) ∙
@@ -367,7 +367,7 @@ upper-word p3 p4 h3 h4 =
 
 pub upper-clear :
     (p0 p1 p2 p3 p4 : ℕ) → some 32 (λ i. on i p3 and on i p4) ≡ false →
-    some 32 (λ i. eqb (counterOf (on i p0) (on i p1) (on i p2) (on i p3) (on i p4)) 31) ≡ false
+    someAtLimit p0 p1 p2 p3 p4 ≡ false
 unfolding some _or_
 upper-clear p0 p1 p2 p3 p4 e =
     some-same 32 _ (λ i. false)
@@ -399,7 +399,7 @@ module _ (p0 p1 p2 p3 p4 c0 c1 c2 c3 c4 : ℕ) where
   borrowed4 = lendWord p4 c4 borrowed3
 
 module _ (live active p0 p1 p2 p3 p4 c0 c1 c2 c3 c4 : ℕ) where
-  abbrev pub loweredWords : Worked
+  abbrev pub loweredWords : Branched
   loweredWords =
       let kept = bitAnd (idleWord live active) (4294967295 - borrowed4 p0 p1 p2 p3 p4 c0 c1 c2 c3 c4) in
       record {
@@ -411,8 +411,8 @@ module _ (live active p0 p1 p2 p3 p4 c0 c1 c2 c3 c4 : ℕ) where
         p4 = bitAnd (bitXor (bitXor p4 c4) (borrowed3 p0 p1 p2 p3 p4 c0 c1 c2 c3 c4)) kept;
       }
 
-abbrev pub liftedWords : ℕ → ℕ → ℕ → ℕ → ℕ → ℕ → ℕ → ℕ → Worked
-liftedWords live active leave p0 p1 p2 p3 p4 =
+abbrev pub raisedWords : ℕ → ℕ → ℕ → ℕ → ℕ → ℕ → ℕ → ℕ → Branched
+raisedWords live active leave p0 p1 p2 p3 p4 =
     let c0 = bitAnd p0 (idleWord live active) in
     let c1 = bitAnd p1 c0 in
     let c2 = bitAnd p2 c1 in
@@ -435,7 +435,7 @@ shown :
     Places 32 f2 q2 → ((i : ℕ) → f2 i ≡ counterBit 2 (procs i)) →
     Places 32 f3 q3 → ((i : ℕ) → f3 i ≡ counterBit 3 (procs i)) →
     Places 32 f4 q4 → ((i : ℕ) → f4 i ≡ counterBit 4 (procs i)) →
-    _≡_ {A = Worked} (record { active = a; p0 = q0; p1 = q1; p2 = q2; p3 = q3; p4 = q4 }) (shownAs procs)
+    _≡_ {A = Branched} (record { active = a; p0 = q0; p1 = q1; p2 = q2; p3 = q3; p4 = q4 }) (shownAs procs)
 shown procs wa ea w0 e0 w1 e1 w2 e2 w3 e3 w4 e4 =
     λ j. record {
       active = (wa .word ∙ pack-same 32 _ _ (λ i h. ea i)) j;
@@ -550,9 +550,9 @@ module _ {procs : ℕ → Proc} {live active p0 p1 p2 p3 p4 : ℕ} (m : MasksOf 
               (λ i p. ap (λ (t : Bool). t and differ (on i wish) jump) (ap (on i) (m .active-word) ∙ on-pack 32 i (λ j. isActive (procs j)) p));
         }
 
-    pub lift-words :
-        liftedWords live active leave p0 p1 p2 p3 p4 ≡ shownAs (λ i. raised jump (on i wish) (procs i))
-    lift-words =
+    pub raise-words :
+        raisedWords live active leave p0 p1 p2 p3 p4 ≡ shownAs (λ i. raised jump (on i wish) (procs i))
+    raise-words =
         let c0 = and-places at0 idle in
         let c1 = and-places at1 c0 in
         let c2 = and-places at2 c1 in
@@ -567,28 +567,28 @@ module _ {procs : ℕ → Proc} {live active p0 p1 p2 p3 p4 : ℕ} (m : MasksOf 
 
 -- the branch operation by its code
 module _ (procs : ℕ → Proc) (op k wish : ℕ) (jump : Bool) where
-  pub works-lower :
-      {x : Worked} → x ≡ shownAs (λ i. lowered k (procs i)) → op ≡ 1 →
-      x ≡ shownAs (λ i. worked op k jump (on i wish) (procs i))
-  unfolding worked pick
-  works-lower q e = q ∙ sym (ap (λ (n : ℕ). shownAs (λ i. worked n k jump (on i wish) (procs i))) e)
+  pub branch-lower :
+      {x : Branched} → x ≡ shownAs (λ i. lowered k (procs i)) → op ≡ 1 →
+      x ≡ shownAs (λ i. branched op k jump (on i wish) (procs i))
+  unfolding branched pick
+  branch-lower q e = q ∙ sym (ap (λ (n : ℕ). shownAs (λ i. branched n k jump (on i wish) (procs i))) e)
 
-  pub works-lift :
-      {x : Worked} → x ≡ shownAs (λ i. raised jump (on i wish) (procs i)) → op ≡ 2 →
-      x ≡ shownAs (λ i. worked op k jump (on i wish) (procs i))
-  unfolding worked pick
-  works-lift q e = q ∙ sym (ap (λ (n : ℕ). shownAs (λ i. worked n k jump (on i wish) (procs i))) e)
+  pub branch-raise :
+      {x : Branched} → x ≡ shownAs (λ i. raised jump (on i wish) (procs i)) → op ≡ 2 →
+      x ≡ shownAs (λ i. branched op k jump (on i wish) (procs i))
+  unfolding branched pick
+  branch-raise q e = q ∙ sym (ap (λ (n : ℕ). shownAs (λ i. branched n k jump (on i wish) (procs i))) e)
 
-  pub works-none : (op ≡ 1 → ⊥) → (op ≡ 2 → ⊥) → shownAs procs ≡ shownAs (λ i. worked op k jump (on i wish) (procs i))
-  unfolding worked
-  works-none n1 n2 =
+  pub branch-none : (op ≡ 1 → ⊥) → (op ≡ 2 → ⊥) → shownAs procs ≡ shownAs (λ i. branched op k jump (on i wish) (procs i))
+  unfolding branched
+  branch-none n1 n2 =
       ap shownAs (fun-ext (λ i. sym (pick-no _ _ (ne-eqb op 1 n1) ∙ pick-no _ _ (ne-eqb op 2 n2))))
 
 -- the words themselves, where nothing is done
-pub marked :
+pub masks-shown :
     {procs : ℕ → Proc} {live active p0 p1 p2 p3 p4 : ℕ} → MasksOf procs live active p0 p1 p2 p3 p4 →
-    _≡_ {A = Worked} (record { active = active; p0 = p0; p1 = p1; p2 = p2; p3 = p3; p4 = p4 }) (shownAs procs)
-marked m =
+    _≡_ {A = Branched} (record { active = active; p0 = p0; p1 = p1; p2 = p2; p3 = p3; p4 = p4 }) (shownAs procs)
+masks-shown m =
     λ j. record {
       active = m .active-word j;
       p0 = m .word0 j;
@@ -611,15 +611,15 @@ module _ (procs : ℕ → Proc) {else : Bool} where
 -- the limit, processor by processor
 pub limit-shown :
     {procs : ℕ → Proc} {live active p0 p1 p2 p3 p4 : ℕ} → MasksOf procs live active p0 p1 p2 p3 p4 →
-    some 32 (λ i. eqb (counterOf (on i p0) (on i p1) (on i p2) (on i p3) (on i p4)) 31) ≡ some 32 (λ i. atLimit 31 (procs i))
+    someAtLimit p0 p1 p2 p3 p4 ≡ some 32 (λ i. atLimit counterLimit (procs i))
 unfolding _and_ on every digit
 limit-shown {procs} {live} {active} {p0} {p1} {p2} {p3} {p4} m =
     some-same 32 _ _
     (λ i h.
     rw (bit 0 i h (m .word0), bit 1 i h (m .word1), bit 2 i h (m .word2), bit 3 i h (m .word3), bit 4 i h (m .word4))
     (agree
-    (λ q. eqb (counterOf (counterBit 0 q) (counterBit 1 q) (counterBit 2 q) (counterBit 3 q) (counterBit 4 q)) 31)
-    (atLimit 31) refl (procs i) (m .counters i)))
+    (λ q. eqb (counterOf (counterBit 0 q) (counterBit 1 q) (counterBit 2 q) (counterBit 3 q) (counterBit 4 q)) counterLimit)
+    (atLimit counterLimit) refl (procs i) (m .counters i)))
   where
     bit : {w : ℕ} (k i : ℕ) → i < 32 → w ≡ plane k procs → on i w ≡ counterBit k (procs i)
     bit k i h e = ap (on i) e ∙ on-pack 32 i (λ j. counterBit k (procs j)) h

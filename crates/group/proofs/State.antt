@@ -14,9 +14,9 @@ use Rattle.laws.specs.Masks.{differ, digit, on, pack}
 use Rattle.laws.proofs.Choice.{Tested, holds, fails, tested, pick-no, and-left, and-right, and-intro, and-yes, by-pick, pick-same}
 use Rattle.laws.proofs.Below.{none-at, every-at}
 use Rattle.laws.proofs.Masks.{on-pack, on-above}
-use Rattle.group.specs.Proc.{Proc, Active, Idle, Absent, isLive, isActive, counterBit, within, turned, lowered, raised, atLimit, worked}
-use Rattle.group.specs.Group.{Group, Outcome, Steps, Fails, Program, Way, Goes, Stuck, field, turnedIf, overLimit, popped, wayOf, arrived, settled, slotStep, ended, stepOf, allowed, fresh}
-use Rattle.group.specs.Cells.{liveMask, activeMask, plane, counterOf, procOf, procAt, stored, groupOf, cellsOf, aReturn, areReturns, Sound, Made, stepLeaves}
+use Rattle.group.specs.Proc.{Proc, Active, Idle, Absent, isLive, isActive, counterBit, within, turned, lowered, raised, atLimit, branched, counterLimit}
+use Rattle.group.specs.Group.{Group, Outcome, Steps, Fails, Program, Way, Goes, Stuck, field, turnedIf, overLimit, popped, wayOf, arrived, settled, slotStep, ended, groupStep, allowed, fresh}
+use Rattle.group.specs.Cells.{liveIn, activeIn, planeIn, liveMask, activeMask, plane, counterOf, procOf, procAt, returnsIn, groupOf, cellsOf, aReturn, areReturns, Sound, GroupGiven, stepLeaves}
 use Rattle.group.specs.Masks.{MasksOf}
 
 -- two equal numbers, as a computed test at each counter
@@ -28,7 +28,7 @@ counted n h =
 
 -- a processor is read back from its bits
 read-back :
-    (p : Proc) → within 31 p ≡ true →
+    (p : Proc) → within counterLimit p ≡ true →
     procOf (isLive p) (isActive p)
     (counterOf (counterBit 0 p) (counterBit 1 p) (counterBit 2 p) (counterBit 3 p) (counterBit 4 p)) ≡ p
 read-back Active w = refl
@@ -68,47 +68,47 @@ shows {procs} {live} {active} {p0} {p1} {p2} {p3} {p4} m out =
         sym (out i h)
 
 -- returns are read back from four cells
-stored-one : (r : ℕ) (l : List ℕ) → aReturn r ≡ true → stored (r ∷ l) ≡ r ∷ stored l
-unfolding stored
-stored-one r l e =
+returns-one : (r : ℕ) (l : List ℕ) → aReturn r ≡ true → returnsIn (r ∷ l) ≡ r ∷ returnsIn l
+unfolding returnsIn
+returns-one r l e =
     let h : 1 ≤ r = leb-true 1 r (and-left _ _ e) in
     pick-no _ _ (ne-eqb r 0 (λ z. omega arith))
 
 -- a stored return in front of what is read back
-stored-next : (r : ℕ) (l : List ℕ) {rs : List ℕ} → aReturn r ≡ true → stored l ≡ rs → stored (r ∷ l) ≡ r ∷ rs
-stored-next r l e q = stored-one r l e ∙ ap (λ (x : List ℕ). r ∷ x) q
+returns-next : (r : ℕ) (l : List ℕ) {rs : List ℕ} → aReturn r ≡ true → returnsIn l ≡ rs → returnsIn (r ∷ l) ≡ r ∷ rs
+returns-next r l e q = returns-one r l e ∙ ap (λ (x : List ℕ). r ∷ x) q
 
-stored-back :
+returns-back :
     (rs : List ℕ) → length rs ≤ 4 → areReturns rs ≡ true →
-    stored (getD rs 0 0 ∷ getD rs 1 0 ∷ getD rs 2 0 ∷ getD rs 3 0 ∷ []) ≡ rs
-unfolding areReturns stored pick
-stored-back [] h e = refl
-stored-back (a ∷ []) h e = stored-next a (0 ∷ 0 ∷ 0 ∷ []) (and-left (aReturn a) true e) refl
-stored-back (a ∷ (b ∷ [])) h e =
+    returnsIn (getD rs 0 0 ∷ getD rs 1 0 ∷ getD rs 2 0 ∷ getD rs 3 0 ∷ []) ≡ rs
+unfolding areReturns returnsIn pick
+returns-back [] h e = refl
+returns-back (a ∷ []) h e = returns-next a (0 ∷ 0 ∷ 0 ∷ []) (and-left (aReturn a) true e) refl
+returns-back (a ∷ (b ∷ [])) h e =
     let f = and-right (aReturn a) (aReturn b and true) e in
-    stored-next a (b ∷ 0 ∷ 0 ∷ []) (and-left (aReturn a) (aReturn b and true) e)
-    (stored-next b (0 ∷ 0 ∷ []) (and-left (aReturn b) true f) refl)
-stored-back (a ∷ (b ∷ (c ∷ []))) h e =
+    returns-next a (b ∷ 0 ∷ 0 ∷ []) (and-left (aReturn a) (aReturn b and true) e)
+    (returns-next b (0 ∷ 0 ∷ []) (and-left (aReturn b) true f) refl)
+returns-back (a ∷ (b ∷ (c ∷ []))) h e =
     let f = and-right (aReturn a) (aReturn b and aReturn c and true) e in
     let g = and-right (aReturn b) (aReturn c and true) f in
-    stored-next a (b ∷ c ∷ 0 ∷ []) (and-left (aReturn a) (aReturn b and aReturn c and true) e)
-    (stored-next b (c ∷ 0 ∷ []) (and-left (aReturn b) (aReturn c and true) f)
-    (stored-next c (0 ∷ []) (and-left (aReturn c) true g) refl))
-stored-back (a ∷ (b ∷ (c ∷ (d ∷ [])))) h e =
+    returns-next a (b ∷ c ∷ 0 ∷ []) (and-left (aReturn a) (aReturn b and aReturn c and true) e)
+    (returns-next b (c ∷ 0 ∷ []) (and-left (aReturn b) (aReturn c and true) f)
+    (returns-next c (0 ∷ []) (and-left (aReturn c) true g) refl))
+returns-back (a ∷ (b ∷ (c ∷ (d ∷ [])))) h e =
     let f = and-right (aReturn a) (aReturn b and aReturn c and aReturn d and true) e in
     let g = and-right (aReturn b) (aReturn c and aReturn d and true) f in
     let k = and-right (aReturn c) (aReturn d and true) g in
-    stored-next a (b ∷ c ∷ d ∷ []) (and-left (aReturn a) (aReturn b and aReturn c and aReturn d and true) e)
-    (stored-next b (c ∷ d ∷ []) (and-left (aReturn b) (aReturn c and aReturn d and true) f)
-    (stored-next c (d ∷ []) (and-left (aReturn c) (aReturn d and true) g)
-    (stored-next d ([]) (and-left (aReturn d) true k) refl)))
-stored-back (a ∷ (b ∷ (c ∷ (d ∷ (x ∷ l))))) h e = absurd (five (length l) h)
+    returns-next a (b ∷ c ∷ d ∷ []) (and-left (aReturn a) (aReturn b and aReturn c and aReturn d and true) e)
+    (returns-next b (c ∷ d ∷ []) (and-left (aReturn b) (aReturn c and aReturn d and true) f)
+    (returns-next c (d ∷ []) (and-left (aReturn c) (aReturn d and true) g)
+    (returns-next d ([]) (and-left (aReturn d) true k) refl)))
+returns-back (a ∷ (b ∷ (c ∷ (d ∷ (x ∷ l))))) h e = absurd (five (length l) h)
   where
     five : (n : ℕ) → suc (suc (suc (suc (suc n)))) ≤ 4 → ⊥
     five n h = omega arith
 
 -- the processors of a sound group as masks
-masks-of : (g : Group) → Sound 31 g → MasksOf (g .procs) (liveMask (g .procs)) (activeMask (g .procs)) (plane 0 (g .procs)) (plane 1 (g .procs)) (plane 2 (g .procs)) (plane 3 (g .procs)) (plane 4 (g .procs))
+masks-of : (g : Group) → Sound counterLimit g → MasksOf (g .procs) (liveMask (g .procs)) (activeMask (g .procs)) (plane 0 (g .procs)) (plane 1 (g .procs)) (plane 2 (g .procs)) (plane 3 (g .procs)) (plane 4 (g .procs))
 masks-of g s =
     record {
       live-word = refl;
@@ -122,36 +122,36 @@ masks-of g s =
     }
 
 -- a sound group is read back from its cells
-pub group-back : (g : Group) → Sound 31 g → groupOf (cellsOf g) ≡ g
+pub group-back : (g : Group) → Sound counterLimit g → groupOf (cellsOf g) ≡ g
 group-back g s =
     λ j. record {
       procs = shows (masks-of g s) (s .outside) j;
       position = g .position;
-      returns = stored-back (g .returns) (s .depth) (s .slots) j;
+      returns = returns-back (g .returns) (s .depth) (s .slots) j;
     }
 
 -- so its cells are such as came from these entries
-pub made-of : (g : Group) → Sound 31 g → Made (cellsOf g)
-made-of g s =
+pub given-of : (g : Group) → Sound counterLimit g → GroupGiven (cellsOf g)
+given-of g s =
     record {
       size = refl;
-      sound = subst (Sound 31) (sym (group-back g s)) s;
+      sound = subst (Sound counterLimit) (sym (group-back g s)) s;
       whole = sym (ap cellsOf (group-back g s));
     }
 
 -- cells handed in are the masks of their processors
-pub made-masks :
-    (l : List ℕ) → Made l →
-    MasksOf (groupOf l .procs) (getD l 0 0) (getD l 1 0) (getD l 2 0) (getD l 3 0) (getD l 4 0) (getD l 5 0) (getD l 6 0)
-made-masks l m =
+pub given-masks :
+    (l : List ℕ) → GroupGiven l →
+    MasksOf (groupOf l .procs) (liveIn l) (activeIn l) (planeIn 0 l) (planeIn 1 l) (planeIn 2 l) (planeIn 3 l) (planeIn 4 l)
+given-masks l m =
     record {
-      live-word = ap (λ (x : List ℕ). getD x 0 0) (m .whole);
-      active-word = ap (λ (x : List ℕ). getD x 1 0) (m .whole);
-      word0 = ap (λ (x : List ℕ). getD x 2 0) (m .whole);
-      word1 = ap (λ (x : List ℕ). getD x 3 0) (m .whole);
-      word2 = ap (λ (x : List ℕ). getD x 4 0) (m .whole);
-      word3 = ap (λ (x : List ℕ). getD x 5 0) (m .whole);
-      word4 = ap (λ (x : List ℕ). getD x 6 0) (m .whole);
+      live-word = ap liveIn (m .whole);
+      active-word = ap activeIn (m .whole);
+      word0 = ap (planeIn 0) (m .whole);
+      word1 = ap (planeIn 1) (m .whole);
+      word2 = ap (planeIn 2) (m .whole);
+      word3 = ap (planeIn 3) (m .whole);
+      word4 = ap (planeIn 4) (m .whole);
       counters = m .sound .counters;
     }
 
@@ -159,9 +159,9 @@ made-masks l m =
 pub turned-absent : (else : Bool) {p : Proc} → p ≡ Absent → pick else (turned p) p ≡ Absent
 turned-absent else {p} e = rw e (pick-same else Absent)
 
-pub worked-absent : (op k : ℕ) (jump wish : Bool) {p : Proc} → p ≡ Absent → worked op k jump wish p ≡ Absent
-unfolding worked
-worked-absent op k jump wish {p} e = rw e (ap (pick (eqb op 1) Absent) (pick-same (eqb op 2) Absent) ∙ pick-same (eqb op 1) Absent)
+pub branched-absent : (op k : ℕ) (jump wish : Bool) {p : Proc} → p ≡ Absent → branched op k jump wish p ≡ Absent
+unfolding branched
+branched-absent op k jump wish {p} e = rw e (ap (pick (eqb op 1) Absent) (pick-same (eqb op 2) Absent) ∙ pick-same (eqb op 1) Absent)
 
 pub turned-within : (limit : ℕ) (p : Proc) → within limit p ≡ true → within limit (turned p) ≡ true
 turned-within limit Active w = le-leb 0 limit zero-le
@@ -186,11 +186,11 @@ raised-within limit jump wish (Idle n) w f =
     le-leb (n + 1) limit (omega arith)
 raised-within limit jump wish Absent w f = refl
 
-worked-within :
+branched-within :
     (limit op k : ℕ) (jump wish : Bool) (p : Proc) → within limit p ≡ true → (op ≡ 2 → atLimit limit p ≡ false) →
-    within limit (worked op k jump wish p) ≡ true
-unfolding worked
-worked-within limit op k jump wish p w f =
+    within limit (branched op k jump wish p) ≡ true
+unfolding branched
+branched-within limit op k jump wish p w f =
     by-pick (λ (q : Proc). within limit q ≡ true) (eqb op 1) _ _
     (λ e. lowered-within limit k p w)
     (λ e.
@@ -231,21 +231,22 @@ way-sound aop jump position address rs p h e =
     (λ b. (h, e))))
     (λ j. (h, e))
 
+-- what a step leads to: a sound group, or one of its refusals, 13 to 16
 abbrev pub SoundAfter : ℕ → Outcome → Type 0
 SoundAfter limit (Steps jump g) = Sound limit g
-SoundAfter limit (Fails why) = Unit {0}
+SoundAfter limit (Fails why) = (12 < why) × (why < 17)
 
 arrived-sound :
     (limit slots : ℕ) (jump : Bool) (procs : ℕ → Proc) (way : Way) → slots ≤ 512 →
     ((i : ℕ) → 32 ≤ i → procs i ≡ Absent) → ((i : ℕ) → within limit (procs i) ≡ true) → SoundWay way →
     SoundAfter limit (arrived slots jump procs way)
-arrived-sound limit slots jump procs Stuck h out low w = tt
+arrived-sound limit slots jump procs Stuck h out low w = (omega arith, omega arith)
 arrived-sound limit slots jump procs (Goes next rs) h out low w =
     by-pick (SoundAfter limit) (leb next slots) _ _
     (λ e.
     let n : next ≤ slots = leb-true next slots e in
     record { outside = out; counters = low; place = omega arith; depth = w .0; slots = w .1 })
-    (λ e. tt)
+    (λ e. (omega arith, omega arith))
 
 -- nobody at the limit, where an increment is made
 none-over :
@@ -269,21 +270,21 @@ settled-sound :
 unfolding settled
 settled-sound limit slots first second jump wish procs g hs hp hr he out low =
     let op = pick jump (field 27 26 first) (field 25 24 first) in
-    by-pick (SoundAfter limit) (overLimit limit op procs) _ _ (λ e. tt)
+    by-pick (SoundAfter limit) (overLimit limit op procs) _ _ (λ e. (omega arith, omega arith))
     (λ e.
-    arrived-sound limit slots jump (λ i. worked op (field 20 16 first) jump (wish i) (procs i))
+    arrived-sound limit slots jump (λ i. branched op (field 20 16 first) jump (wish i) (procs i))
     (wayOf (field 7 6 first) jump (g .position) (field 24 16 second) (g .returns)) hs
-    (λ i h. worked-absent op (field 20 16 first) jump (wish i) (out i h))
-    (λ i. worked-within limit op (field 20 16 first) jump (wish i) (procs i) (low i) (none-over limit op procs out e i))
+    (λ i h. branched-absent op (field 20 16 first) jump (wish i) (out i h))
+    (λ i. branched-within limit op (field 20 16 first) jump (wish i) (procs i) (low i) (none-over limit op procs out e i))
     (way-sound (field 7 6 first) jump (g .position) (field 24 16 second) (g .returns) hp hr he))
 
 -- a step leads from a sound group to a sound one
 pub step-sound :
     (limit : ℕ) (program : Program) (alu predicate booleans : ℕ) (g : Group) → Sound limit g →
-    SoundAfter limit (stepOf limit program alu predicate booleans g)
-unfolding stepOf slotStep turnedIf ended
+    SoundAfter limit (groupStep limit program alu predicate booleans g)
+unfolding groupStep slotStep turnedIf ended
 step-sound limit program alu predicate booleans g s =
-    by-pick (SoundAfter limit) (leb (program .slots) (g .position)) _ _ (λ e. tt)
+    by-pick (SoundAfter limit) (leb (program .slots) (g .position)) _ _ (λ e. (omega arith, omega arith))
     (λ e.
     let before : g .position < program .slots = leb-false (program .slots) (g .position) e in
     by-pick (SoundAfter limit) (leb (program .slots) 512) _ _
@@ -298,14 +299,14 @@ step-sound limit program alu predicate booleans g s =
     (λ i.
     by-pick (λ (p : Proc). within limit p ≡ true) (on 4 (getD (program .firsts) (g .position) 0)) _ _
     (λ u. turned-within limit (g .procs i) (s .counters i)) (λ u. s .counters i)))
-    (λ a. tt))
-    (λ t. tt))
+    (λ a. (omega arith, omega arith)))
+    (λ t. (omega arith, omega arith)))
 
 -- so do the cells that a step leaves
-pub left-made :
-    (l : List ℕ) (o : Outcome) → Made l → SoundAfter 31 o → Made (stepLeaves l o)
-left-made l (Steps jump g) m s = made-of g s
-left-made l (Fails why) m s = m
+pub left-given :
+    (l : List ℕ) (o : Outcome) → GroupGiven l → SoundAfter counterLimit o → GroupGiven (stepLeaves l o)
+left-given l (Steps jump g) m s = given-of g s
+left-given l (Fails why) m s = m
 
 -- and a fresh group is sound
 pub fresh-sound : (limit size : ℕ) → size ≤ 32 → Sound limit (fresh size)

@@ -17,18 +17,39 @@ use lib.Dec.{eqb, leb}
 use lib.ListN.{length, getD}
 use Rattle.laws.specs.Choice.{_and_, pick}
 use Rattle.laws.specs.Masks.{digit, on, pack}
-use Rattle.group.specs.Proc.{Proc, Active, Idle, Absent, isLive, isActive, counterBit, within}
-use Rattle.group.specs.Group.{Group, Outcome, Steps, Fails, Run, Makes, Breaks, fresh, isGroupSize}
+use Rattle.group.specs.Proc.{Proc, Active, Idle, Absent, isLive, isActive, counterBit, within, mostProcessors, counterLimit}
+use Rattle.group.specs.Group.{Group, Outcome, Steps, Fails, Run, Makes, Breaks, fresh, isGroupSize, mostReturns, storeSlots}
+
+-- how many cells there are, and the numbers in them by name
+abbrev pub cellCount : ℕ
+cellCount = 20
+
+abbrev pub liveIn : List ℕ → ℕ
+liveIn l = getD l 0 0
+
+abbrev pub activeIn : List ℕ → ℕ
+activeIn l = getD l 1 0
+
+-- plane `k` of the branch counters
+abbrev pub planeIn : ℕ → List ℕ → ℕ
+planeIn k l = getD l (2 + k) 0
+
+abbrev pub positionIn : List ℕ → ℕ
+positionIn l = getD l 7 0
+
+-- the cell of a return, 0 the last one
+abbrev pub returnIn : ℕ → List ℕ → ℕ
+returnIn k l = getD l (8 + k) 0
 
 -- a group of processors as masks
 abbrev pub liveMask : (ℕ → Proc) → ℕ
-liveMask procs = pack 32 (λ i. isLive (procs i))
+liveMask procs = pack mostProcessors (λ i. isLive (procs i))
 
 abbrev pub activeMask : (ℕ → Proc) → ℕ
-activeMask procs = pack 32 (λ i. isActive (procs i))
+activeMask procs = pack mostProcessors (λ i. isActive (procs i))
 
 abbrev pub plane : ℕ → (ℕ → Proc) → ℕ
-plane k procs = pack 32 (λ i. counterBit k (procs i))
+plane k procs = pack mostProcessors (λ i. counterBit k (procs i))
 
 -- the counter whose bits are given, bit 0 first
 abbrev pub counterOf : Bool → Bool → Bool → Bool → Bool → ℕ
@@ -44,21 +65,21 @@ unfoldable pub procAt : ℕ → ℕ → ℕ → ℕ → ℕ → ℕ → ℕ → 
 procAt live active p0 p1 p2 p3 p4 i =
     procOf (on i live) (on i active) (counterOf (on i p0) (on i p1) (on i p2) (on i p3) (on i p4))
 
--- the returns stored in four cells: those before the first 0
-unfoldable pub stored : List ℕ → List ℕ
-stored [] = []
-stored (r ∷ rs) = pick (eqb r 0) [] (r ∷ stored rs)
+-- the returns that four cells hold: those before the first 0
+unfoldable pub returnsIn : List ℕ → List ℕ
+returnsIn [] = []
+returnsIn (r ∷ rs) = pick (eqb r 0) [] (r ∷ returnsIn rs)
 
 -- the processors that the cells show with another word for the active ones
 abbrev pub withActive : List ℕ → ℕ → ℕ → Proc
-withActive l active = procAt (getD l 0 0) active (getD l 2 0) (getD l 3 0) (getD l 4 0) (getD l 5 0) (getD l 6 0)
+withActive l active = procAt (liveIn l) active (planeIn 0 l) (planeIn 1 l) (planeIn 2 l) (planeIn 3 l) (planeIn 4 l)
 
 abbrev pub groupOf : List ℕ → Group
 groupOf l =
     record {
-      procs = withActive l (getD l 1 0);
-      position = getD l 7 0;
-      returns = stored (getD l 8 0 ∷ getD l 9 0 ∷ getD l 10 0 ∷ getD l 11 0 ∷ []);
+      procs = withActive l (activeIn l);
+      position = positionIn l;
+      returns = returnsIn (returnIn 0 l ∷ returnIn 1 l ∷ returnIn 2 l ∷ returnIn 3 l ∷ []);
     }
 
 abbrev pub cellsWith : ℕ → ℕ → ℕ → ℕ → ℕ → ℕ → ℕ → ℕ → ℕ → ℕ → ℕ → ℕ → List ℕ
@@ -74,7 +95,7 @@ cellsOf g =
 
 -- a stored return is a slot number from 1 to 512
 abbrev pub aReturn : ℕ → Bool
-aReturn r = leb 1 r and leb r 512
+aReturn r = leb 1 r and leb r storeSlots
 
 unfoldable pub areReturns : List ℕ → Bool
 areReturns [] = true
@@ -83,30 +104,30 @@ areReturns (r ∷ rs) = aReturn r and areReturns rs
 -- what holds of every state given out: nobody is beyond the 32 places, counters are within the limit, the position is at
 -- most 512, and there are at most 4 returns, each from 1 to 512
 pub record Sound (limit : ℕ) (g : Group) : Type 0 where
-  pub outside : (i : ℕ) → 32 ≤ i → g .procs i ≡ Absent
+  pub outside : (i : ℕ) → mostProcessors ≤ i → g .procs i ≡ Absent
   pub counters : (i : ℕ) → within limit (g .procs i) ≡ true
-  pub place : g .position ≤ 512
-  pub depth : length (g .returns) ≤ 4
+  pub place : g .position ≤ storeSlots
+  pub depth : length (g .returns) ≤ mostReturns
   pub slots : areReturns (g .returns) ≡ true
 
 -- cells that came from these entries: they are just those of a sound group
-pub record Made (l : List ℕ) : Type 0 where
-  pub size : length l ≡ 20
-  pub sound : Sound 31 (groupOf l)
+pub record GroupGiven (l : List ℕ) : Type 0 where
+  pub size : length l ≡ cellCount
+  pub sound : Sound counterLimit (groupOf l)
   pub whole : l ≡ cellsOf (groupOf l)
 
 -- the same processors at another place, with other returns
 abbrev pub placedAt : List ℕ → ℕ → ℕ → ℕ → ℕ → ℕ → List ℕ
 placedAt l at r0 r1 r2 r3 =
-    cellsWith (getD l 0 0) (getD l 1 0) (getD l 2 0) (getD l 3 0) (getD l 4 0) (getD l 5 0) (getD l 6 0) at r0 r1 r2 r3
+    cellsWith (liveIn l) (activeIn l) (planeIn 0 l) (planeIn 1 l) (planeIn 2 l) (planeIn 3 l) (planeIn 4 l) at r0 r1 r2 r3
 
 abbrev pub withPlace : List ℕ → ℕ → List ℕ → List ℕ
 withPlace l at rs = placedAt l at (getD rs 0 0) (getD rs 1 0) (getD rs 2 0) (getD rs 3 0)
 
--- cells 0 to 11 as they are, the rest 0, and 20 of them
-pub record Spelled (l : List ℕ) : Type 0 where
-  pub size : length l ≡ 20
-  pub cells : l ≡ placedAt l (getD l 7 0) (getD l 8 0) (getD l 9 0) (getD l 10 0) (getD l 11 0)
+-- as many cells as a group has, those of the room 0
+pub record RoomClear (l : List ℕ) : Type 0 where
+  pub size : length l ≡ cellCount
+  pub cells : l ≡ placedAt l (positionIn l) (returnIn 0 l) (returnIn 1 l) (returnIn 2 l) (returnIn 3 l)
 
 -- the cells after a step: those of the state that it leads to; a refusal leaves them as they were
 abbrev pub stepLeaves : List ℕ → Outcome → List ℕ

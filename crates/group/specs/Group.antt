@@ -8,7 +8,7 @@ use Rattle.laws.specs.Choice.{_and_, pick}
 use Rattle.laws.specs.Below.{some, count, least}
 use Rattle.laws.specs.Masks.{digit, on}
 use Rattle.refusal.specs.Told.{Told, gives, refuses}
-use Rattle.group.specs.Proc.{Proc, Active, Absent, isActive, turned, wants, decided, atLimit, worked}
+use Rattle.group.specs.Proc.{Proc, Active, Absent, isActive, turned, wants, decided, atLimit, increment, branched, mostProcessors}
 
 -- bits `high` to `low` of a word, as document 01 writes them: 25:24
 abbrev pub field : ℕ → ℕ → ℕ → ℕ
@@ -22,7 +22,14 @@ allowed first second =
     eqb (field 3 0 first) 0 and leb (field 7 6 first) 2 and eqb (field 23 21 first) 0 and leb (field 25 24 first) 2 and
     leb (field 27 26 first) 2 and eqb (field 31 28 first) 0 and eqb (field 15 5 second) 0 and eqb (field 31 25 second) 0
 
--- the fields by name: A_OP, JUMP_FUNC, B_POP_CNT, B_OP1 on a jump and B_OP0 on a stay, boolean number, jump address
+-- the fields by name: B_ELSE, JUMP_ANY, A_OP, JUMP_FUNC, B_POP_CNT, B_OP1 on a jump and B_OP0 on a stay, boolean number, jump
+-- address
+abbrev pub bElse : ℕ → Bool
+bElse first = on 4 first
+
+abbrev pub jumpAny : ℕ → Bool
+jumpAny first = on 5 first
+
 abbrev pub aOp : ℕ → ℕ
 aOp first = field 7 6 first
 
@@ -53,7 +60,7 @@ fresh size = record { procs = λ i. pick (ltb i size) Active Absent; position = 
 
 -- the size is one that a group may have
 unfoldable pub isGroupSize : ℕ → Bool
-isGroupSize size = leb 1 size and leb size 32
+isGroupSize size = leb 1 size and leb size mostProcessors
 
 -- the answer of a step: the decision and the state after it, or the refusal
 pub data Outcome : Type 0 where
@@ -70,7 +77,7 @@ wishOf func boolean alu predicate i = wants func (on i alu) (on i predicate) boo
 
 -- 4. "Increment: each inactive counter gains 1 (from 31: 14)": one at the limit is enough
 unfoldable pub overLimit : ℕ → ℕ → (ℕ → Proc) → Bool
-overLimit limit op procs = eqb op 2 and some 32 (λ i. atLimit limit (procs i))
+overLimit limit op procs = eqb op increment and some mostProcessors (λ i. atLimit limit (procs i))
 
 -- where a step goes on, with the returns stored then; or the return stack is at its limit
 pub data Way : Type 0 where
@@ -82,17 +89,28 @@ abbrev pub popped : List ℕ → Way
 popped [] = Stuck
 popped (r ∷ rs) = Goes r rs
 
--- "push stores position + 1 (full: 14)"; the stack has "at most 4 returns"
+-- "empty stack of at most 4 returns"
+abbrev pub mostReturns : ℕ
+mostReturns = 4
+
+-- "push stores position + 1 (full: 14)"
 abbrev pub pushed : ℕ → ℕ → List ℕ → Way
 pushed position address returns =
-    pick (ltb (length returns) 4) (Goes address ((position + 1) ∷ returns)) Stuck
+    pick (ltb (length returns) mostReturns) (Goes address ((position + 1) ∷ returns)) Stuck
+
+-- A_OP's codes: "0 none, 1 pop, 2 push"
+abbrev pub popOp : ℕ
+popOp = 1
+
+abbrev pub pushOp : ℕ
+pushOp = 2
 
 -- 5. "On a jump: push stores position + 1 (full: 14); pop goes to the stored place (empty: 14). On a stay neither happens."
 unfoldable pub wayOf : ℕ → Bool → ℕ → ℕ → List ℕ → Way
 wayOf aop jump position address returns =
     pick jump
-    (pick (eqb aop 1) (popped returns)
-    (pick (eqb aop 2) (pushed position address returns) (Goes address returns)))
+    (pick (eqb aop popOp) (popped returns)
+    (pick (eqb aop pushOp) (pushed position address returns) (Goes address returns)))
     (Goes (position + 1) returns)
 
 -- 6. "The next position may equal N, which ends the program; above N is 15."
@@ -106,17 +124,21 @@ unfoldable pub settled : ℕ → ℕ → ℕ → ℕ → Bool → (ℕ → Bool)
 settled limit slots first second jump wish procs g =
     let op = branchOp jump first in
     pick (overLimit limit op procs) (Fails 14)
-    (arrived slots jump (λ i. worked op (popCount first) jump (wish i) (procs i))
+    (arrived slots jump (λ i. branched op (popCount first) jump (wish i) (procs i))
     (wayOf (aOp first) jump (g .position) (jumpAddress second) (g .returns)))
 
 -- 1. to 3., on the slot's two words
 unfoldable pub slotStep : ℕ → ℕ → ℕ → ℕ → ℕ → ℕ → ℕ → Group → Outcome
 slotStep limit slots first second alu predicate booleans g =
-    let procs = turnedIf (on 4 first) (g .procs) in
+    let procs = turnedIf (bElse first) (g .procs) in
     let wish = wishOf (jumpFunc first) (on (booleanNumber second) booleans) alu predicate in
     pick (allowed first second)
-    (settled limit slots first second (decided (on 5 first) (λ i. isActive (procs i)) wish) wish procs g)
+    (settled limit slots first second (decided (jumpAny first) (λ i. isActive (procs i)) wish) wish procs g)
     (Fails 13)
+
+-- "A program is a store of 512 slots"
+abbrev pub storeSlots : ℕ
+storeSlots = 512
 
 -- a program: the first and the second words of its slots, and how many slots run (document 01's N)
 pub record Program : Type 0 where
@@ -130,10 +152,10 @@ ended program g = leb (program .slots) (g .position)
 
 -- "Order: 16, 13, 14, 15." A store has 512 slots: where more are to run, that is no program and gets 15 (house; `load`
 -- gives no such number).
-unfoldable pub stepOf : ℕ → Program → ℕ → ℕ → ℕ → Group → Outcome
-stepOf limit program alu predicate booleans g =
+unfoldable pub groupStep : ℕ → Program → ℕ → ℕ → ℕ → Group → Outcome
+groupStep limit program alu predicate booleans g =
     pick (ended program g) (Fails 16)
-    (pick (leb (program .slots) 512)
+    (pick (leb (program .slots) storeSlots)
     (slotStep limit (program .slots) (getD (program .firsts) (g .position) 0) (getD (program .seconds) (g .position) 0) alu predicate booleans g)
     (Fails 15))
 
@@ -152,24 +174,24 @@ goOn (Fails why) rest = Breaks why
 
 -- "a list of masks, alu then predicate for each step (a last alu without its predicate counts as the list's end)"; "It ends
 -- with the list or with the program; masks left over aren't read. If any step is refused, the whole run gets that number"
-unfoldable pub stepsOf : ℕ → Program → ℕ → List ℕ → Group → Run
-stepsOf limit program booleans [] g = Makes 0 g
-stepsOf limit program booleans (alu ∷ []) g = Makes 0 g
-stepsOf limit program booleans (alu ∷ (predicate ∷ masks)) g =
+unfoldable pub groupSteps : ℕ → Program → ℕ → List ℕ → Group → Run
+groupSteps limit program booleans [] g = Makes 0 g
+groupSteps limit program booleans (alu ∷ []) g = Makes 0 g
+groupSteps limit program booleans (alu ∷ (predicate ∷ masks)) g =
     pick (ended program g) (Makes 0 g)
-    (goOn (stepOf limit program alu predicate booleans g) (λ g'. stepsOf limit program booleans masks g'))
+    (goOn (groupStep limit program alu predicate booleans g) (λ g'. groupSteps limit program booleans masks g'))
 
 -- "it then gets 16, whatever the list"
-unfoldable pub runOf : ℕ → Program → ℕ → List ℕ → Group → Run
-runOf limit program booleans masks g =
-    pick (ended program g) (Breaks 16) (stepsOf limit program booleans masks g)
+unfoldable pub groupRun : ℕ → Program → ℕ → List ℕ → Group → Run
+groupRun limit program booleans masks g =
+    pick (ended program g) (Breaks 16) (groupSteps limit program booleans masks g)
 
 -- "the first active processor (32 if none) and the number of processors active"
 unfoldable pub firstActive : Group → ℕ
-firstActive g = least 32 (λ i. isActive (g .procs i))
+firstActive g = least mostProcessors (λ i. isActive (g .procs i))
 
 unfoldable pub numberActive : Group → ℕ
-numberActive g = count 32 (λ i. isActive (g .procs i))
+numberActive g = count mostProcessors (λ i. isActive (g .procs i))
 
 -- what a step and a run tell: 1 for a jump, 0 for a stay, and the next position; steps made, first active, number active
 abbrev pub stepTold : Outcome → Told

@@ -7,6 +7,14 @@ use Rattle.laws.specs.Choice.{_and_, pick}
 use Rattle.laws.specs.Below.{some, every}
 use Rattle.laws.specs.Masks.{_or_, differ, digit, on}
 
+-- "A group has 1 to 32 processors": as many places has a mask
+abbrev pub mostProcessors : ℕ
+mostProcessors = 32
+
+-- "Each inactive processor has a branch counter 0 to 31": the limit of the counters
+abbrev pub counterLimit : ℕ
+counterLimit = 31
+
 -- "Each inactive processor has a branch counter 0 to 31; an active one's counter is 0": a processor is active, or idle with
 -- its counter, or not in the group
 pub data Proc : Type 0 where
@@ -51,7 +59,7 @@ wants func alu predicate boolean = on (4 * digit alu + 2 * digit predicate + dig
 -- 3. "JUMP_ANY 0: jump if every active one wants to, so also if none is active. JUMP_ANY 1: jump if some active one wants to."
 unfoldable pub decided : Bool → (ℕ → Bool) → (ℕ → Bool) → Bool
 decided any active wants =
-    pick any (some 32 (λ i. active i and wants i)) (every 32 (λ i. not (active i) or wants i))
+    pick any (some mostProcessors (λ i. active i and wants i)) (every mostProcessors (λ i. not (active i) or wants i))
 
 -- 4. "Decrement: each inactive counter loses B_POP_CNT; one that would go below zero becomes active."
 abbrev pub lowered : ℕ → Proc → Proc
@@ -72,6 +80,12 @@ atLimit limit Active = false
 atLimit limit (Idle n) = leb limit n
 atLimit limit Absent = false
 
--- "0 none, 1 decrement, 2 increment": what the operation does to a processor
-unfoldable pub worked : ℕ → ℕ → Bool → Bool → Proc → Proc
-worked op k jump wish p = pick (eqb op 1) (lowered k p) (pick (eqb op 2) (raised jump wish p) p)
+-- "0 none, 1 decrement, 2 increment": the branch operations, and what each does to a processor
+abbrev pub decrement : ℕ
+decrement = 1
+
+abbrev pub increment : ℕ
+increment = 2
+
+unfoldable pub branched : ℕ → ℕ → Bool → Bool → Proc → Proc
+branched op k jump wish p = pick (eqb op decrement) (lowered k p) (pick (eqb op increment) (raised jump wish p) p)

@@ -10,3 +10,36 @@ pub mod planes;
 pub const CELLS: usize = 20;
 
 pub const SLOTS: usize = 512;
+
+// The most processors that a group has: the bits of a word.
+pub const PROCESSORS: u32 = 32;
+
+// Places of the cells.
+pub const LIVE: usize = 0;
+
+pub const ACTIVE: usize = 1;
+
+pub const PLANE_0: usize = 2;
+
+pub const PLANE_1: usize = 3;
+
+pub const PLANE_2: usize = 4;
+
+pub const PLANE_3: usize = 5;
+
+pub const PLANE_4: usize = 6;
+
+pub const POSITION: usize = 7;
+
+pub const RETURN_0: usize = 8;
+
+pub const RETURN_1: usize = 9;
+
+pub const RETURN_2: usize = 10;
+
+pub const RETURN_3: usize = 11;
+
+// The branch operations; 0 is none.
+pub const DECREMENT: u32 = 1;
+
+pub const INCREMENT: u32 = 2;

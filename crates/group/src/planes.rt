@@ -3,17 +3,17 @@
 ghost use mathlib.Core.Path.{_≡_};
 ghost use Prim.Native.Nat.{_<_};
 ghost use lib.Dec.{eqb};
-ghost use lib.ListN.{length, getD};
+ghost use lib.ListN.{length};
 ghost use Rattle.laws.specs.Choice.{_and_};
 ghost use Rattle.laws.specs.Below.{some};
 ghost use Rattle.laws.specs.Masks.{differ, on, pack};
-ghost use Rattle.group.specs.Proc.{turned, lowered, raised, worked, decided};
+ghost use Rattle.group.specs.Proc.{turned, lowered, raised, decided, increment, mostProcessors};
 ghost use Rattle.group.specs.Group.{turnedIf, wishOf};
-ghost use Rattle.group.specs.Cells.{procAt, withActive, activeMask, counterOf};
-ghost use Rattle.group.specs.Masks.{Marks, MarksIn, shownAs};
+ghost use Rattle.group.specs.Cells.{cellCount, procAt, withActive, activeMask};
+ghost use Rattle.group.specs.Masks.{OwnMasks, OwnMasksIn, shownAs, someAtLimit, someAtLimitIn};
 
 // The active processors and the five planes that a branch operation leaves.
-pub struct Worked {
+pub struct Branched {
     pub active: u32,
     pub p0: u32,
     pub p1: u32,
@@ -25,24 +25,27 @@ pub struct Worked {
 // The active processors once B_ELSE has done its work: those that were idle with counter 0. The planes stay as they are,
 // since an active processor's counter is 0 already.
 pub fn turn(live: u32, active: u32, p0: u32, p1: u32, p2: u32, p3: u32, p4: u32) -> u32
-    requires { ⌜ Marks live active p0 p1 p2 p3 p4 ⌝ }
+    requires { ⌜ OwnMasks live active p0 p1 p2 p3 p4 ⌝ }
     ensures { λ r. ⌜ r ≡ activeMask (λ i. turned (procAt live active p0 p1 p2 p3 p4 i)) ⌝ }
 {
     live & !active & !(p0 | p1 | p2 | p3 | p4)
 }
 
+// A word with a bit for each processor that a group may have.
+pub const EVERYBODY: u32 = 0xFFFFFFFF;
+
 // One bit at all 32 places.
 pub fn spread(bit: u32) -> u32
     requires { ⌜ bit < 2 ⌝ }
-    ensures { λ r. ⌜ r ≡ pack 32 (λ i. eqb bit 1) ⌝ }
+    ensures { λ r. ⌜ r ≡ pack mostProcessors (λ i. eqb bit 1) ⌝ }
 {
-    bit * 4294967295
+    bit * EVERYBODY
 }
 
 // The processors that want to jump. The boolean is one bit for all of them, so it picks four of JUMP_FUNC's eight bits.
 pub fn wishes(func: u32, boolean: u32, alu: u32, predicate: u32) -> u32
     requires { ⌜ boolean < 2 ⌝ }
-    ensures { λ r. ⌜ r ≡ pack 32 (wishOf func (eqb boolean 1) alu predicate) ⌝ }
+    ensures { λ r. ⌜ r ≡ pack mostProcessors (wishOf func (eqb boolean 1) alu predicate) ⌝ }
 {
     let rule = func >> boolean;
     let neither = spread(rule % 2);
@@ -65,29 +68,35 @@ pub fn decides(any: bool, active: u32, wish: u32) -> bool
     }
 }
 
-// Whether some processor's counter is 31, so that none can be added.
+// Whether some processor's counter is at its limit of 31, so that none can be added.
 pub fn at_limit(p0: u32, p1: u32, p2: u32, p3: u32, p4: u32) -> bool
-    ensures { λ r. ⌜ r ≡ some 32 (λ i. eqb (counterOf (on i p0) (on i p1) (on i p2) (on i p3) (on i p4)) 31) ⌝ }
+    ensures { λ r. ⌜ r ≡ someAtLimit p0 p1 p2 p3 p4 ⌝ }
 {
     p0 & p1 & p2 & p3 & p4 != 0
 }
 
 // Whether some counter has both upper bits, as 31 has.
 pub fn upper_bits(p3: u32, p4: u32) -> bool
-    ensures { λ r. ⌜ r ≡ some 32 (λ i. on i p3 and on i p4) ⌝ }
+    ensures { λ r. ⌜ r ≡ some mostProcessors (λ i. on i p3 and on i p4) ⌝ }
 {
     p3 & p4 != 0
 }
 
-// Whether the operation is an increment that a counter of 31 forbids. Few groups have a counter with both upper bits, so that
+// Whether the operation is an increment that a counter at its limit forbids. Few groups have a counter with both upper bits, so that
 // test is first: the processor can predict it, which it often can't the operation.
 pub fn over_limit(op: u32, cells: &[u32; crate::CELLS]) -> bool
-    requires { ⌜ length (now cells) ≡ 20 ⌝ }
-    ensures { λ r. ⌜ r ≡ (eqb op 2 and some 32 (λ i. eqb (counterOf (on i (getD (now (cells .entry)) 2 0)) (on i (getD (now (cells .entry)) 3 0)) (on i (getD (now (cells .entry)) 4 0)) (on i (getD (now (cells .entry)) 5 0)) (on i (getD (now (cells .entry)) 6 0))) 31)) ⌝ }
+    requires { ⌜ length (now cells) ≡ cellCount ⌝ }
+    ensures { λ r. ⌜ r ≡ (eqb op increment and someAtLimitIn (now (cells .entry))) ⌝ }
 {
-    if upper_bits(cells[5], cells[6]) {
-        if op == 2 {
-            return at_limit(cells[2], cells[3], cells[4], cells[5], cells[6]);
+    if upper_bits(cells[crate::PLANE_3], cells[crate::PLANE_4]) {
+        if op == crate::INCREMENT {
+            return at_limit(
+                cells[crate::PLANE_0],
+                cells[crate::PLANE_1],
+                cells[crate::PLANE_2],
+                cells[crate::PLANE_3],
+                cells[crate::PLANE_4],
+            );
         }
         return false;
     }
@@ -96,18 +105,18 @@ pub fn over_limit(op: u32, cells: &[u32; crate::CELLS]) -> bool
 
 // The active processors as the wishes see them: turned by B_ELSE where the slot has it. The planes are read for that alone.
 pub fn turn_if(otherwise: bool, active: u32, cells: &[u32; crate::CELLS]) -> u32
-    requires { ⌜ (length (now cells) ≡ 20) × MarksIn (now cells) active ⌝ }
+    requires { ⌜ (length (now cells) ≡ cellCount) × OwnMasksIn (now cells) active ⌝ }
     ensures { λ r. ⌜ r ≡ activeMask (turnedIf otherwise (withActive (now (cells .entry)) active)) ⌝ }
 {
     if otherwise {
         return turn(
-            cells[0],
+            cells[crate::LIVE],
             active,
-            cells[2],
-            cells[3],
-            cells[4],
-            cells[5],
-            cells[6],
+            cells[crate::PLANE_0],
+            cells[crate::PLANE_1],
+            cells[crate::PLANE_2],
+            cells[crate::PLANE_3],
+            cells[crate::PLANE_4],
         );
     }
     active
@@ -125,8 +134,8 @@ pub fn lower(
     p2: u32,
     p3: u32,
     p4: u32,
-) -> Worked
-    requires { ⌜ (count < 32) × Marks live active p0 p1 p2 p3 p4 ⌝ }
+) -> Branched
+    requires { ⌜ (count < 32) × OwnMasks live active p0 p1 p2 p3 p4 ⌝ }
     ensures { λ r. ⌜ r ≡ shownAs (λ i. lowered count (procAt live active p0 p1 p2 p3 p4 i)) ⌝ }
 {
     let c0 = spread(count % 2);
@@ -141,7 +150,7 @@ pub fn lower(
     let b4 = b3 ^ (p4 ^ c4) & (b3 ^ c4);
     let idle = live & !active;
     let kept = idle & !b4;
-    Worked {
+    Branched {
         active: active | idle & b4,
         p0: (p0 ^ c0) & kept,
         p1: (p1 ^ c1 ^ b0) & kept,
@@ -153,13 +162,13 @@ pub fn lower(
 
 // The active processors whose wish differs from the decision.
 pub fn leaving(jump: bool, active: u32, wish: u32) -> u32
-    ensures { λ r. ⌜ r ≡ pack 32 (λ i. on i active and differ (on i wish) jump) ⌝ }
+    ensures { λ r. ⌜ r ≡ pack mostProcessors (λ i. on i active and differ (on i wish) jump) ⌝ }
 {
     if jump { active & !wish } else { active & wish }
 }
 
 // Increment: idle counters gain 1, plane by plane with a carry; those who leave become idle with counter 0.
-pub fn lift(
+pub fn raise(
     jump: bool,
     live: u32,
     active: u32,
@@ -169,8 +178,8 @@ pub fn lift(
     p2: u32,
     p3: u32,
     p4: u32,
-) -> Worked
-    requires { ⌜ Marks live active p0 p1 p2 p3 p4 ⌝ }
+) -> Branched
+    requires { ⌜ OwnMasks live active p0 p1 p2 p3 p4 ⌝ }
     ensures { λ r. ⌜ r ≡ shownAs (λ i. raised jump (on i wish) (procAt live active p0 p1 p2 p3 p4 i)) ⌝ }
 {
     let leave = leaving(jump, active, wish);
@@ -179,7 +188,7 @@ pub fn lift(
     let c1 = p1 & c0;
     let c2 = p2 & c1;
     let c3 = p3 & c2;
-    Worked {
+    Branched {
         active: active & !leave,
         p0: p0 ^ idle,
         p1: p1 ^ c0,

@@ -4,10 +4,10 @@ use mathlib.Core.Path.{_≡_, refl, sym, ap, _∙_, subst}
 use mathlib.Core.Bool.{Bool, true, false}
 use mathlib.Core.List.{List, [], _∷_}
 use Prim.Native.Nat.{ℕ, zero, suc, _<_}
-use native.Mathlib.Nat.{not-suc-le-zero}
+use native.Mathlib.Nat.{not-suc-le-zero, le-of-suc-le-suc}
 use native.Mathlib.Omega.{arith}
 use lib.Dec.{eqb, ltb}
-use lib.ListN.{length}
+use lib.ListN.{length, getD}
 use borrow.Author.Tests.{eqb-true, eqb-false, ne-eqb, le-ltb}
 use Rattle.laws.specs.Choice.{pick, placeOf}
 use Rattle.laws.specs.Below.{every}
@@ -47,6 +47,13 @@ none-placed [] N x r = refl
 none-placed (k ∷ ks) N x r =
     pick-no 0 (suc (placeOf x ks)) (ne-eqb x k (none-before (N × (x ≡ k → ⊥)) ks x r .1)) ∙
     ap suc (none-placed ks (N × (x ≡ k → ⊥)) x r)
+
+-- so it isn't the number at any place of the list
+pub none-at :
+    (ks : List ℕ) (N : Type 0) (x i : ℕ) → NoneOf N ks x → i < length ks → x ≡ getD ks i 0 → ⊥
+none-at [] N x i r h e = not-suc-le-zero h
+none-at (k ∷ ks) N x zero r h e = none-before (N × (x ≡ k → ⊥)) ks x r .1 e
+none-at (k ∷ ks) N x (suc i) r h e = none-at ks (N × (x ≡ k → ⊥)) x i r (le-of-suc-le-suc h) e
 
 -- the number is in the list, or the test holds of it
 unfoldable pub namedOr : List ℕ → (ℕ → Bool) → ℕ → Bool

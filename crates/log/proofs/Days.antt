@@ -17,7 +17,7 @@ use Rattle.replay.specs.State.{OpenRecord, Replay}
 use Rattle.replay.specs.Step.{opening, isKind, ofKind, withByte, mayBegin, afterMidnight}
 use Rattle.replay.specs.Report.{noTally, beganWith, endedWith, less, partOf, partAt, dayAt}
 use Rattle.log.specs.Feed.{Fed, ahead, replayOf}
-use Rattle.replay.specs.Cells.{LogValid}
+use Rattle.replay.specs.Cells.{ReplayValid}
 use Rattle.log.specs.Unfinished.{OpenOnly, openOnly}
 use Rattle.replay.proofs.Marks.{ended-past, ended-now}
 use Rattle.log.proofs.Records.{Ready, took, kind-byte, next-byte}
@@ -38,11 +38,11 @@ module _ (r : Replay) (day : ℕ) (e : mayBegin (r .midnights) (r .lastDay) day 
           (sym (pick-no _ _ (ne-eqb (r .midnights) 0 (λ z. omega arith))) ∙ and-right _ _ e)
 
 -- so the days are consecutive: each part from the second day on is one day after the part before it
-pub consecutive : (r : Replay) → LogValid r → (k : ℕ) → 0 < k → dayAt r (k + 1) ≡ dayAt r k + 1
+pub consecutive : (r : Replay) → ReplayValid r → (k : ℕ) → 0 < k → dayAt r (k + 1) ≡ dayAt r k + 1
 consecutive r v k h = omega (arith, v .days-number)
 
 -- all parts together
-module _ (r : Replay) (v : LogValid r) where
+module _ (r : Replay) (v : ReplayValid r) where
   abbrev now : Tally
   now = r .session .party .tally
 

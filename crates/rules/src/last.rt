@@ -5,9 +5,10 @@ use command::kinds::Checked;
 use layout;
 use refusal::Refusal;
 ghost use mathlib.Core.Path.{_≡_};
+ghost use Rattle.refusal.specs.Told.{isGiven};
 ghost use Rattle.command.specs.Format.{windowOf};
 ghost use Rattle.command.specs.Kinds.{toldChecked};
-ghost use Rattle.command.specs.Rules.{isGiven, domainKept, windowKept, lastRuleOf};
+ghost use Rattle.rules.specs.Rules.{domainKept, windowKept, lastRuleOf};
 
 // Whether a domain's ends are in order.
 fn domain_kept(command: Command) -> bool

@@ -10,7 +10,7 @@ use Rattle.laws.specs.Below.{every, sum}
 use Rattle.replay.specs.State.{Replay, newReplay}
 use Rattle.replay.specs.Report.{partAt}
 use Rattle.log.specs.Feed.{replayOf}
-use Rattle.score.specs.Lease.{Lease, isLease}
+use Rattle.score.specs.Lease.{Lease, isLease, mostDays}
 use Rattle.score.specs.declared.month.Verdict.{Verdict}
 use Rattle.score.specs.declared.month.Verdict.the-variants.{Full, Short, NothingOwed}
 use Rattle.score.specs.declared.month.Totals.{Totals}
@@ -57,7 +57,7 @@ numbersOf (suc n) f = f zero ∷ numbersOf n (λ k. f (suc k))
 
 -- a number for each day of a lease, in a room for the longest one: 0 past the last day
 unfoldable pub roomFor : ℕ → (ℕ → ℕ) → List ℕ
-roomFor days f = numbersOf 31 (λ k. pick (ltb k days) (f k) 0)
+roomFor days f = numbersOf mostDays (λ k. pick (ltb k days) (f k) 0)
 
 pub record Month : Type 0 where
   pub claimed : List ℕ

@@ -9,14 +9,13 @@ use lib.ListN.{take}
 use borrow.Author.Tests.{eqb-true, eq-eqb, ne-eqb, lt-ltb, le-ltb, lt-leb}
 use Rattle.laws.specs.Choice.{pick, placeOf}
 use Rattle.laws.proofs.Choice.{pick-yes, pick-no, by-pick}
-use Rattle.refusal.specs.Told.{Told, gives, refuses}
+use Rattle.refusal.specs.Told.{Told, gives, refuses, thenTold}
 use Rattle.command.specs.Table.{headers}
-use Rattle.command.specs.Writer.{thenTold}
 use Rattle.command.specs.declared.commands.Command.{Command}
 use Rattle.command.specs.declared.commands.Command.the-variants as command
 use Rattle.command.proofs.Headers.{Accepted, listed, place-of-line}
-use Rattle.command.proofs.Judging.{Fault, three, four, fault}
-use Rattle.command.proofs.Rule.{Ruled, fine, five, six, ruled}
+use Rattle.rules.proofs.Judging.{Fault, three, four, fault}
+use Rattle.rules.proofs.Rule.{Ruled, fine, five, six, ruled}
 use Rattle.state.specs.State.{Open, Session, none}
 use Rattle.state.specs.Start.{readyOf}
 use Rattle.state.specs.Effects.{limit}

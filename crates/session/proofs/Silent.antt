@@ -21,8 +21,8 @@ use Rattle.command.specs.Table.{countOf}
 use Rattle.command.specs.Format.{channelsOf, codeOf}
 use Rattle.command.specs.Kinds.{formatAllowed, allowed, faultOf, kindOf}
 use Rattle.command.specs.Commands.{lineOf, fieldsOf, wordsOf, EachAllowed}
-use Rattle.command.specs.Rules.{domainKept, windowKept, lastRuleOf}
-use Rattle.command.specs.Writer.{spares, allSpare, fieldsSpare, judgeCommandOf}
+use Rattle.rules.specs.Rules.{domainKept, windowKept, lastRuleOf}
+use Rattle.rules.specs.Writer.{unrefused, allUnrefused, fieldsUnrefused, judgeCommandOf}
 use Rattle.command.specs.declared.commands.Stored.the-variants as stored
 use Rattle.command.specs.declared.commands.Command.{Command}
 use Rattle.command.specs.declared.commands.Command.the-variants as command
@@ -96,7 +96,7 @@ module _ (s : Session) (i : Idle s) (room : s .party .taken + 2 ≤ limit) (q : 
   start-passes = ready-silent (s .shared .mask) (s .shared .outputs) (q .all-silent) (s .party .domain) (s .party .instructions) complete-silent
 
   start-writes : judgeCommandOf command.Start ≡ gives []
-  unfolding judgeCommandOf fieldsSpare allSpare spares faultOf lineOf fieldsOf lastRuleOf domainKept windowKept pick _and_ allowed
+  unfolding judgeCommandOf fieldsUnrefused allUnrefused unrefused faultOf lineOf fieldsOf lastRuleOf domainKept windowKept pick _and_ allowed
   start-writes = refl
 
   start-read : feedOf s startWords ≡

@@ -13,7 +13,7 @@ use Rattle.laws.proofs.Table.{each, _&_}
 use Rattle.refusal.specs.Told.{gives}
 use Rattle.command.specs.Table.{headers, headerOf, countOf}
 use Rattle.command.specs.Commands.{wordsOf}
-use Rattle.command.specs.Rules.{lastRuleOf}
+use Rattle.rules.specs.Rules.{lastRuleOf}
 use Rattle.command.specs.declared.commands.Command.{Command}
 use Rattle.command.proofs.Headers.{listed}
 use Rattle.state.specs.State.{Open, Session, none, newSession}

@@ -13,7 +13,9 @@ use Rattle.laws.specs.Below.{some, every, sum, count}
 use Rattle.laws.specs.Choice.{_and_, pick}
 use Rattle.laws.specs.Masks.{_or_, digit}
 use Rattle.laws.proofs.Choice.{pick-yes, pick-no, and-left, and-yes, and-no-left}
+use Rattle.refusal.specs.Number.{IsNumber}
 use Rattle.refusal.specs.Told.{Told, gives, refuses}
+use Rattle.refusal.specs.declared.Refusal.the-variants.{StartUnset, DomainOutside, SpansShared}
 use Rattle.layout.specs.Layout.{wellFormed, rowStep, spanOf, windowRule, judgeOf}
 use Rattle.layout.proofs.Window.{judged-malformed, judged-broken, judged-accepted}
 use Rattle.command.specs.Format.{pitchOf, tiledOf, codeOf, sizeOf, windowOf}
@@ -36,6 +38,8 @@ use Rattle.state.specs.Start.{
   covered,
   disjoint,
   readyOf,
+  numberTold,
+  readinessOf,
   pairsOf,
   claimOf,
 }
@@ -51,7 +55,7 @@ use Rattle.start.specs.Windows.{
   someSet,
   eachHolds,
   eachApart,
-  verdictOf,
+  firstOf,
 }
 use Rattle.start.proofs.Channels.{from-own}
 
@@ -225,21 +229,31 @@ module _ (a b c d : Output) where
 
 -- 7, 8 and 9
 module _ (x y z : Bool) where
-  pub verdict-seven : x ≡ false → refuses 7 ≡ verdictOf x y z
-  unfolding verdictOf
-  verdict-seven e = sym (pick-no _ _ e)
+  pub first-seven : x ≡ false → 7 ≡ firstOf x y z
+  unfolding firstOf
+  first-seven e = sym (pick-no _ _ e)
 
-  pub verdict-eight : x ≡ true → y ≡ false → refuses 8 ≡ verdictOf x y z
-  unfolding verdictOf
-  verdict-eight e f = sym (pick-yes _ _ e ∙ pick-no _ _ f)
+  pub first-eight : x ≡ true → y ≡ false → 8 ≡ firstOf x y z
+  unfolding firstOf
+  first-eight e f = sym (pick-yes _ _ e ∙ pick-no _ _ f)
 
-  pub verdict-nine : x ≡ true → y ≡ true → z ≡ false → refuses 9 ≡ verdictOf x y z
-  unfolding verdictOf
-  verdict-nine e f g = sym (pick-yes _ _ e ∙ (pick-yes _ _ f ∙ pick-no _ _ g))
+  pub first-nine : x ≡ true → y ≡ true → z ≡ false → 9 ≡ firstOf x y z
+  unfolding firstOf
+  first-nine e f g = sym (pick-yes _ _ e ∙ (pick-yes _ _ f ∙ pick-no _ _ g))
 
-  pub verdict-fine : x ≡ true → y ≡ true → z ≡ true → gives [] ≡ verdictOf x y z
-  unfolding verdictOf
-  verdict-fine e f g = sym (pick-yes _ _ e ∙ (pick-yes _ _ f ∙ pick-yes _ _ g))
+  pub first-fine : x ≡ true → y ≡ true → z ≡ true → 0 ≡ firstOf x y z
+  unfolding firstOf
+  first-fine e f g = sym (pick-yes _ _ e ∙ (pick-yes _ _ f ∙ pick-yes _ _ g))
+
+abbrev toldFirst : Bool → Bool → Bool → Told
+toldFirst x y z = pick x (pick y (pick z (gives []) (refuses 9)) (refuses 8)) (refuses 7)
+
+told-first : (x y z : Bool) → firstOf x y z ≡ numberTold (toldFirst x y z)
+unfolding firstOf numberTold pick
+told-first true true true = refl
+told-first true true false = refl
+told-first true false z = refl
+told-first false y z = refl
 
 -- the four outputs that the shared cells hold, each with the mask's bits from its own on, and the tests on them as a start has them
 module _ (shared : List ℕ) where
@@ -335,12 +349,49 @@ module _ (shared : List ℕ) where
         (holds-of m0 (at 21) i j, holds-of m1 (at 25) i j, holds-of m2 (at 29) i j, holds-of m3 (at 33) i j, counts-0, counts-1, counts-2, counts-3)
         (each-of-four (has 0) (has 1) (has 2) (has 3))
 
-    pub ready-told : {e f g h : Output} {t : Told} {set p x y z : Bool} → e ≡ a → f ≡ b → g ≡ c → h ≡ d →
-        set ≡ someSet e f g h → p ≡ (eqb (getD own 13 0) 1 and set) → x ≡ (eqb (getD own 8 0) 1 and p) →
-        y ≡ eachHolds e f g h (getD own 11 0) (getD own 12 0) → z ≡ eachApart e f g h → t ≡ verdictOf x y z →
-        t ≡ readyOf domain instructions mask outputs
-    unfolding readyOf verdictOf
-    ready-told ea eb ec ed es ep ex ey ez et = cc (complete-seen, covered-seen, disjoint-seen)
+    pub ready-told : {e f g h : Output} {t : ℕ} {some p x y z : Bool} → e ≡ a → f ≡ b → g ≡ c → h ≡ d →
+        some ≡ someSet e f g h → p ≡ (eqb (getD own 13 0) 1 and some) → x ≡ (eqb (getD own 8 0) 1 and p) →
+        y ≡ eachHolds e f g h (getD own 11 0) (getD own 12 0) → z ≡ eachApart e f g h → t ≡ firstOf x y z →
+        t ≡ readinessOf domain instructions mask outputs
+    unfolding readinessOf readyOf
+    ready-told {x = x} {y = y} {z = z} ea eb ec ed es ep ex ey ez et =
+        cc (complete-seen, covered-seen, disjoint-seen, told-first x y z)
+
+-- the number and the answer tell the same
+first-given : (x y z : Bool) → numberTold (toldFirst x y z) ≡ 0 → toldFirst x y z ≡ gives []
+unfolding numberTold pick
+first-given true true true e = refl
+first-given true true false e = absurd (omega arith)
+first-given true false z e = absurd (omega arith)
+first-given false y z e = absurd (omega arith)
+
+first-refused : (x y z : Bool) → (numberTold (toldFirst x y z) ≡ 0 → ⊥) → toldFirst x y z ≡ refuses (numberTold (toldFirst x y z))
+unfolding numberTold pick
+first-refused true true true n = absurd (n refl)
+first-refused true true false n = refl
+first-refused true false z n = refl
+first-refused false y z n = refl
+
+first-number : (x y z : Bool) → (numberTold (toldFirst x y z) ≡ 0 → ⊥) → IsNumber (numberTold (toldFirst x y z))
+unfolding numberTold pick
+first-number true true true n = absurd (n refl)
+first-number true true false n = record { refusal = SpansShared; number = refl }
+first-number true false z n = record { refusal = DomainOutside; number = refl }
+first-number false y z n = record { refusal = StartUnset; number = refl }
+
+module _ (d : Domain) (i : Buffer) (m : ℕ) (o : List Buffer) where
+  pub number-given : readinessOf d i m o ≡ 0 → readyOf d i m o ≡ gives []
+  unfolding readinessOf readyOf
+  number-given e = first-given _ _ _ e
+
+  pub number-refused : (readinessOf d i m o ≡ 0 → ⊥) → readyOf d i m o ≡ refuses (readinessOf d i m o)
+  unfolding readinessOf readyOf
+  number-refused n = first-refused _ _ _ n
+
+  -- so it is the number of a refusal where it isn't 0
+  pub readiness-number : (readinessOf d i m o ≡ 0 → ⊥) → IsNumber (readinessOf d i m o)
+  unfolding readinessOf readyOf
+  readiness-number n = first-number _ _ _ n
 
 -- what a start claims
 module _ (bits flag format : ℕ) {t : Bool} (c : t ≡ countsBy bits flag format) where

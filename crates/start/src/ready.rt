@@ -1,23 +1,18 @@
-// What a start asks of the settings alone, 7, 8 and 9, and how many elements it claims. Nothing here changes a cell.
+// What a start asks of the settings alone: 7, 8 and 9. Nothing here changes a cell.
 use command::format;
-use command::kinds::Checked;
 use layout;
-use refusal::Refusal;
 use state::own;
 use state::settings;
 ghost use mathlib.Core.Path.{_≡_};
 ghost use mathlib.Core.Bool.{true};
 ghost use mathlib.Core.List.{[]};
-ghost use Prim.Native.Nat.{_+_, _-_, _*_, _%_, _^_, _<_, _≤_};
+ghost use Prim.Native.Nat.{_%_, _^_, _<_};
 ghost use lib.ListN.{length};
 ghost use Rattle.laws.specs.Choice.{_and_, pick};
 ghost use Rattle.command.specs.Format.{channelsOf, windowOf};
-ghost use Rattle.command.specs.Kinds.{toldChecked};
-ghost use Rattle.state.specs.Cells.{bufferAt, partyOf, sharedOf};
-ghost use Rattle.laws.specs.Below.{count};
-ghost use Rattle.state.specs.Start.{claimOf, counts, readyOf, unmasked};
-ghost use Rattle.state.specs.Valid.{DomainValid};
-ghost use Rattle.start.specs.Windows.{cellsBuffer, countsBy, eachApart, eachHolds, holdsPair, keepsApart, outputOf, someSet, spansApart, verdictOf, windowSeen};
+ghost use Rattle.state.specs.Cells.{bufferAt, partyOf, sharedOf, ownLength, sharedLength};
+ghost use Rattle.state.specs.Start.{readinessOf, unmasked};
+ghost use Rattle.start.specs.Windows.{cellsBuffer, countsBy, eachApart, eachHolds, holdsPair, keepsApart, outputOf, firstOf, someSet, spansApart, windowSeen};
 
 // An output as a start sees it: whether it is set, whether it counts, and its window. A window that is refused has row step
 // and span 0.
@@ -53,7 +48,7 @@ fn is_unmasked(bits: u32, format: u32) -> bool
 }
 
 // Whether the output counts: it is set and isn't silent.
-fn is_counted(bits: u32, flag: u32, format: u32) -> bool
+pub fn is_counted(bits: u32, flag: u32, format: u32) -> bool
     ensures { λ r. ⌜ r ≡ countsBy bits flag format ⌝ }
 {
     if flag == 1 {
@@ -117,7 +112,7 @@ fn output_of(bits: u32, flag: u32, base: u32, format: u32, height: u32) -> Outpu
 
 // The output whose cells begin at a place.
 pub fn output_at(bits: u32, shared: &[u32; state::SHARED_CELLS], at: usize) -> Output
-    requires { ⌜ (length (now shared) ≡ 101) × (at < 98) ⌝ }
+    requires { ⌜ (length (now shared) ≡ sharedLength) × (at < 98) ⌝ }
     ensures { λ r. ⌜ r ≡ outputOf bits (bufferAt (now (shared .entry)) at) ⌝ }
 {
     output_of(
@@ -201,27 +196,23 @@ fn each_apart(a: Output, b: Output, c: Output, d: Output) -> bool
     both(both(second, third), fourth)
 }
 
-// 7 before 8 before 9.
-fn verdict(complete: bool, covered: bool, disjoint: bool) -> Checked
-    ensures { λ r. ⌜ toldChecked r ≡ verdictOf complete covered disjoint ⌝ }
+// The first of 7, 8 and 9 that is given, 0 where none is.
+fn first_of(complete: bool, covered: bool, disjoint: bool) -> u32
+    ensures { λ r. ⌜ r ≡ firstOf complete covered disjoint ⌝ }
 {
     if !complete {
-        return Checked::Refused(Refusal::StartUnset);
+        return 7;
     }
     if !covered {
-        return Checked::Refused(Refusal::DomainOutside);
+        return 8;
     }
-    if disjoint {
-        Checked::Fine
-    } else {
-        Checked::Refused(Refusal::SpansShared)
-    }
+    if disjoint { 0 } else { 9 }
 }
 
-// Whether the settings alone let a start pass: fine, 7, 8 or 9.
-pub fn ready(own: &[u32; state::OWN_CELLS], shared: &[u32; state::SHARED_CELLS]) -> Checked
-    requires { ⌜ (length (now own) ≡ 17) × (length (now shared) ≡ 101) ⌝ }
-    ensures { λ r. ⌜ toldChecked r ≡ readyOf (partyOf (now (own .entry)) [] .domain) (partyOf (now (own .entry)) [] .instructions) (sharedOf (now (shared .entry)) .mask) (sharedOf (now (shared .entry)) .outputs) ⌝ }
+// Which of 7, 8 and 9 the settings alone give a start, 0 where they let it pass.
+pub fn readiness(own: &[u32; state::OWN_CELLS], shared: &[u32; state::SHARED_CELLS]) -> u32
+    requires { ⌜ (length (now own) ≡ ownLength) × (length (now shared) ≡ sharedLength) ⌝ }
+    ensures { λ r. ⌜ r ≡ readinessOf (partyOf (now (own .entry)) [] .domain) (partyOf (now (own .entry)) [] .instructions) (sharedOf (now (shared .entry)) .mask) (sharedOf (now (shared .entry)) .outputs) ⌝ }
 {
     let mask = shared[settings::MASK];
     let a = output_at(mask, shared, settings::OUTPUT_0);
@@ -233,53 +224,5 @@ pub fn ready(own: &[u32; state::OWN_CELLS], shared: &[u32; state::SHARED_CELLS])
         both(own[own::INSTRUCTIONS] == 1, some_set(a, b, c, d)),
     );
     let covered = each_holds(a, b, c, d, own[own::DOMAIN_I1], own[own::DOMAIN_J1]);
-    verdict(complete, covered, each_apart(a, b, c, d))
-}
-
-// The number of pairs of a domain.
-fn pairs(i0: u32, j0: u32, i1: u32, j1: u32) -> u64
-    requires { ⌜ ((i0 ≤ i1) × (i1 < 4096)) × ((j0 ≤ j1) × (j1 < 4096)) ⌝ }
-    ensures { λ r. ⌜ (r ≡ (i1 - i0 + 1) * (j1 - j0 + 1)) × (r ≤ 16777216) ⌝ }
-{
-    let columns = (i1 - i0 + 1) as u64;
-    let rows = (j1 - j0 + 1) as u64;
-    columns * rows
-}
-
-// 1 for an output that counts, its cells from a place on.
-fn one_at(bits: u32, shared: &[u32; state::SHARED_CELLS], at: usize) -> u64
-    requires { ⌜ (length (now shared) ≡ 101) × (at < 98) ⌝ }
-    ensures { λ r. ⌜ (r ≡ pick (countsBy bits (bufferAt (now (shared .entry)) at .isSet) (bufferAt (now (shared .entry)) at .format)) 1 0) × (r ≤ 1) ⌝ }
-{
-    if is_counted(bits, shared[at], shared[at + 2]) {
-        1
-    } else {
-        0
-    }
-}
-
-// The number of outputs that count.
-fn counted_outputs(shared: &[u32; state::SHARED_CELLS]) -> u64
-    requires { ⌜ length (now shared) ≡ 101 ⌝ }
-    ensures { λ r. ⌜ (r ≡ count 4 (counts (sharedOf (now (shared .entry)) .mask) (sharedOf (now (shared .entry)) .outputs))) × (r ≤ 4) ⌝ }
-{
-    let mask = shared[settings::MASK];
-    one_at(mask, shared, settings::OUTPUT_0)
-        + one_at(mask / 16, shared, settings::OUTPUT_1)
-        + one_at(mask / 256, shared, settings::OUTPUT_2)
-        + one_at(mask / 4096, shared, settings::OUTPUT_3)
-}
-
-// The elements that a start claims: the domain's pairs, for each output that counts.
-pub fn claim(own: &[u32; state::OWN_CELLS], shared: &[u32; state::SHARED_CELLS]) -> u64
-    requires { ⌜ ((length (now own) ≡ 17) × (length (now shared) ≡ 101)) × DomainValid (partyOf (now own) [] .domain) ⌝ }
-    ensures { λ r. ⌜ (r ≡ claimOf (partyOf (now (own .entry)) [] .domain) (sharedOf (now (shared .entry)) .mask) (sharedOf (now (shared .entry)) .outputs)) × (r ≤ 67108864) ⌝ }
-{
-    pairs(
-        own[own::DOMAIN_I0],
-        own[own::DOMAIN_J0],
-        own[own::DOMAIN_I1],
-        own[own::DOMAIN_J1],
-    )
-        * counted_outputs(shared)
+    first_of(complete, covered, each_apart(a, b, c, d))
 }

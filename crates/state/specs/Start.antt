@@ -75,6 +75,15 @@ readyOf d instructions mask outputs =
     (pick (covered mask outputs d) (pick (disjoint mask outputs) (gives []) (refuses 9)) (refuses 8))
     (refuses 7)
 
+-- an answer as one number, 0 where nothing is refused
+unfoldable pub numberTold : Told → ℕ
+numberTold (gives values) = 0
+numberTold (refuses n) = n
+
+-- the same as one number: 0, 7, 8 or 9
+unfoldable pub readinessOf : Domain → Buffer → ℕ → List Buffer → ℕ
+readinessOf d instructions mask outputs = numberTold (readyOf d instructions mask outputs)
+
 -- "the number of pairs in the domain"
 unfoldable pub pairsOf : Domain → ℕ
 pairsOf d = (d .i1 - d .i0 + 1) * (d .j1 - d .j0 + 1)

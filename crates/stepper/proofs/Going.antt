@@ -6,61 +6,61 @@ use mathlib.Core.List.{List}
 use Prim.Native.Nat.{ℕ, _<_, _≤_}
 use native.Mathlib.Omega.{arith}
 use lib.Dec.{leb}
-use lib.ListN.{getD, set}
+use lib.ListN.{set}
 use borrow.Author.Tests.{le-leb, lt-leb}
 use Rattle.laws.specs.Masks.{digit}
 use Rattle.laws.proofs.Choice.{Tested, holds, fails, tested, pick-yes, pick-no}
-use Rattle.group.specs.declared.planes.Worked.{Worked}
+use Rattle.group.specs.declared.planes.Branched.{Branched}
 use Rattle.group.specs.Group.{Way, Goes, Stuck}
-use Rattle.group.specs.Cells.{groupOf, placedAt, withPlace, Made, Spelled}
-use Rattle.group.specs.Masks.{MarksIn, withMarks}
+use Rattle.group.specs.Cells.{planeIn, positionIn, returnIn, groupOf, placedAt, withPlace, GroupGiven, RoomClear}
+use Rattle.group.specs.Masks.{OwnMasksIn, withMasks}
 use Rattle.stepper.specs.Answers.{Stack, GoDone, goneNumber, goneCells}
 use Rattle.stepper.proofs.Words.{Went}
 
 -- the cells of the returns, as the code takes them
-pub made-stack :
-    (l : List ℕ) → Made l →
-    Stack (groupOf l .returns) (getD l 8 0) (getD l 9 0) (getD l 10 0) (getD l 11 0)
-made-stack l m =
+pub given-stack :
+    (l : List ℕ) → GroupGiven l →
+    Stack (groupOf l .returns) (returnIn 0 l) (returnIn 1 l) (returnIn 2 l) (returnIn 3 l)
+given-stack l m =
     record {
-      cell0 = ap (λ (x : List ℕ). getD x 8 0) (m .whole);
-      cell1 = ap (λ (x : List ℕ). getD x 9 0) (m .whole);
-      cell2 = ap (λ (x : List ℕ). getD x 10 0) (m .whole);
-      cell3 = ap (λ (x : List ℕ). getD x 11 0) (m .whole);
+      return0 = ap (returnIn 0) (m .whole);
+      return1 = ap (returnIn 1) (m .whole);
+      return2 = ap (returnIn 2) (m .whole);
+      return3 = ap (returnIn 3) (m .whole);
       depth = m .sound .depth;
       slots = m .sound .slots;
     }
 
--- made cells are spelled out by their first twelve
-pub made-spelled : (l : List ℕ) → Made l → Spelled l
-made-spelled l m =
+-- given cells are 0 from the twelfth on
+pub given-clear : (l : List ℕ) → GroupGiven l → RoomClear l
+given-clear l m =
     record {
       size = m .size;
       cells =
           m .whole ∙
-          sym (ap (λ (x : List ℕ). placedAt x (getD x 7 0) (getD x 8 0) (getD x 9 0) (getD x 10 0) (getD x 11 0)) (m .whole));
+          sym (ap (λ (x : List ℕ). placedAt x (positionIn x) (returnIn 0 x) (returnIn 1 x) (returnIn 2 x) (returnIn 3 x)) (m .whole));
     }
 
 -- what is written, cell by cell
-module _ (l : List ℕ) (s : Spelled l) where
-  pub put-cells :
-      (w : Worked) →
-      set (set (set (set (set (set l 1 (w .active)) 2 (w .p0)) 3 (w .p1)) 4 (w .p2)) 5 (w .p3)) 6 (w .p4) ≡ withMarks l w
-  put-cells w =
+module _ (l : List ℕ) (s : RoomClear l) where
+  pub masks-cells :
+      (w : Branched) →
+      set (set (set (set (set (set l 1 (w .active)) 2 (w .p0)) 3 (w .p1)) 4 (w .p2)) 5 (w .p3)) 6 (w .p4) ≡ withMasks l w
+  masks-cells w =
       ap (λ (x : List ℕ). set (set (set (set (set (set x 1 (w .active)) 2 (w .p0)) 3 (w .p1)) 4 (w .p2)) 5 (w .p3)) 6 (w .p4)) (s .cells)
 
   pub active-cell :
-      (active : ℕ) {w : Worked} →
-      record { active = active; p0 = getD l 2 0; p1 = getD l 3 0; p2 = getD l 4 0; p3 = getD l 5 0; p4 = getD l 6 0 } ≡ w →
-      set l 1 active ≡ withMarks l w
-  active-cell active e = ap (λ (x : List ℕ). set x 1 active) (s .cells) ∙ ap (withMarks l) e
+      (active : ℕ) {w : Branched} →
+      record { active = active; p0 = planeIn 0 l; p1 = planeIn 1 l; p2 = planeIn 2 l; p3 = planeIn 3 l; p4 = planeIn 4 l } ≡ w →
+      set l 1 active ≡ withMasks l w
+  active-cell active e = ap (λ (x : List ℕ). set x 1 active) (s .cells) ∙ ap (withMasks l) e
 
-  pub stand-cells :
+  pub place-cells :
       (at r0 r1 r2 r3 : ℕ) → set (set (set (set (set l 7 at) 8 r0) 9 r1) 10 r2) 11 r3 ≡ placedAt l at r0 r1 r2 r3
-  stand-cells at r0 r1 r2 r3 =
+  place-cells at r0 r1 r2 r3 =
       ap (λ (x : List ℕ). set (set (set (set (set x 7 at) 8 r0) 9 r1) 10 r2) 11 r3) (s .cells)
 
-  pub position-cell : (at : ℕ) → set l 7 at ≡ placedAt l at (getD l 8 0) (getD l 9 0) (getD l 10 0) (getD l 11 0)
+  pub position-cell : (at : ℕ) → set l 7 at ≡ placedAt l at (returnIn 0 l) (returnIn 1 l) (returnIn 2 l) (returnIn 3 l)
   position-cell at = ap (λ (x : List ℕ). set x 7 at) (s .cells)
 
 -- going on, as far as the tests on the way decide it
@@ -85,7 +85,7 @@ module _ (l : List ℕ) (slots : ℕ) (jump : Bool) {w : Way} {n : ℕ} where
           number = en ∙ sym (ap (goneNumber slots jump) (t .goes) ∙ pick-yes _ _ (le-leb at slots h));
           left =
               written ∙
-              (λ j. placedAt l at (t .cell0 j) (t .cell1 j) (t .cell2 j) (t .cell3 j)) ∙
+              (λ j. placedAt l at (t .return0 j) (t .return1 j) (t .return2 j) (t .return3 j)) ∙
               sym (ap (goneCells slots l) (t .goes) ∙ pick-yes _ _ (le-leb at slots h));
         }
 
@@ -122,8 +122,8 @@ went-on {l} {l'} {n} {slots} {jump} (Goes at rs) d h = by (tested (leb at slots)
 went-on {n = n} Stuck d h = let z : n ≡ 14 = d .number in absurd (omega arith)
 
 module _ {l l' : List ℕ} {n slots : ℕ} {jump : Bool} (w : Way) (d : GoDone l l' n slots jump w) (h : n ≤ 1) where
-  pub gone-spelled : Spelled l'
-  gone-spelled = subst Spelled (sym (went-on w d h .left)) (record { size = refl; cells = refl })
+  pub gone-clear : RoomClear l'
+  gone-clear = subst RoomClear (sym (went-on w d h .left)) (record { size = refl; cells = refl })
 
-  pub gone-marks : (active : ℕ) → MarksIn l active → MarksIn l' active
-  gone-marks active k = subst (λ (x : List ℕ). MarksIn x active) (sym (went-on w d h .left)) k
+  pub gone-masks : (active : ℕ) → OwnMasksIn l active → OwnMasksIn l' active
+  gone-masks active k = subst (λ (x : List ℕ). OwnMasksIn x active) (sym (went-on w d h .left)) k

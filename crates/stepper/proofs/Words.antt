@@ -92,30 +92,30 @@ past (a ∷ (b ∷ (c ∷ (d ∷ l)))) h = absurd (four (length l) h)
 pub record Went (w : Way) (at r0 r1 r2 r3 : ℕ) : Type 0 where
   pub rest : List ℕ
   pub goes : w ≡ Goes at rest
-  pub cell0 : r0 ≡ getD rest 0 0
-  pub cell1 : r1 ≡ getD rest 1 0
-  pub cell2 : r2 ≡ getD rest 2 0
-  pub cell3 : r3 ≡ getD rest 3 0
+  pub return0 : r0 ≡ getD rest 0 0
+  pub return1 : r1 ≡ getD rest 1 0
+  pub return2 : r2 ≡ getD rest 2 0
+  pub return3 : r3 ≡ getD rest 3 0
 
 -- pop: the first cell tells an empty stack
 pub pop-empty : (rs : List ℕ) {r0 r1 r2 r3 : ℕ} → Stack rs r0 r1 r2 r3 → r0 ≡ 0 → popped rs ≡ Stuck
 pop-empty [] s z = refl
 pop-empty (r ∷ rs) {r0} s z =
     let p : 1 ≤ r = return-positive r rs (s .slots) in
-    let q : r0 ≡ r = s .cell0 in
+    let q : r0 ≡ r = s .return0 in
     absurd (omega arith)
 
 pub pop-last :
     (rs : List ℕ) {r0 r1 r2 r3 : ℕ} → Stack rs r0 r1 r2 r3 → (r0 ≡ 0 → ⊥) → Went (popped rs) r0 r1 r2 r3 0
-pop-last [] s n = absurd (n (s .cell0))
+pop-last [] s n = absurd (n (s .return0))
 pop-last (r ∷ rs) s n =
     record {
       rest = rs;
-      goes = ap (λ (at : ℕ). Goes at rs) (sym (s .cell0));
-      cell0 = s .cell1;
-      cell1 = s .cell2;
-      cell2 = s .cell3;
-      cell3 = sym (past rs (shorter (length rs) (s .depth)));
+      goes = ap (λ (at : ℕ). Goes at rs) (sym (s .return0));
+      return0 = s .return1;
+      return1 = s .return2;
+      return2 = s .return3;
+      return3 = sym (past rs (shorter (length rs) (s .depth)));
     }
   where
     shorter : (n : ℕ) → suc n ≤ 4 → n ≤ 3
@@ -148,23 +148,23 @@ fourth-free (a ∷ (b ∷ (c ∷ (d ∷ l)))) e z =
 
 module _ (position address : ℕ) (rs : List ℕ) {r0 r1 r2 r3 : ℕ} (s : Stack rs r0 r1 r2 r3) where
   pub push-full : (r3 ≡ 0 → ⊥) → pushed position address rs ≡ Stuck
-  push-full n = pick-no _ _ (le-ltb (length rs) 4 (fourth-taken rs (λ z. n (s .cell3 ∙ z))))
+  push-full n = pick-no _ _ (le-ltb (length rs) 4 (fourth-taken rs (λ z. n (s .return3 ∙ z))))
 
   pub push-last : r3 ≡ 0 → Went (pushed position address rs) address (position + 1) r0 r1 r2
   push-last z =
       record {
         rest = (position + 1) ∷ rs;
-        goes = pick-yes _ _ (lt-ltb (length rs) 4 (fourth-free rs (s .slots) (sym (s .cell3) ∙ z)));
-        cell0 = refl;
-        cell1 = s .cell0;
-        cell2 = s .cell1;
-        cell3 = s .cell2;
+        goes = pick-yes _ _ (lt-ltb (length rs) 4 (fourth-free rs (s .slots) (sym (s .return3) ∙ z)));
+        return0 = refl;
+        return1 = s .return0;
+        return2 = s .return1;
+        return3 = s .return2;
       }
 
 -- the cells as they stand
-pub standing : (at : ℕ) (rs : List ℕ) {r0 r1 r2 r3 : ℕ} → Stack rs r0 r1 r2 r3 → Went (Goes at rs) at r0 r1 r2 r3
-standing at rs s =
-    record { rest = rs; goes = refl; cell0 = s .cell0; cell1 = s .cell1; cell2 = s .cell2; cell3 = s .cell3 }
+pub same-returns : (at : ℕ) (rs : List ℕ) {r0 r1 r2 r3 : ℕ} → Stack rs r0 r1 r2 r3 → Went (Goes at rs) at r0 r1 r2 r3
+same-returns at rs s =
+    record { rest = rs; goes = refl; return0 = s .return0; return1 = s .return1; return2 = s .return2; return3 = s .return3 }
 
 -- the way, by the decision and the operation
 module _ (op position address : ℕ) {jump : Bool} (rs : List ℕ) where

@@ -3,16 +3,15 @@ use mathlib.Core.Path.{_≡_}
 use mathlib.Core.Bool.{Bool, true}
 use mathlib.Core.List.{List, [], _∷_}
 use Prim.Native.Nat.{ℕ, _≤_}
-use lib.Dec.{eqb, leb, ltb}
+use lib.Dec.{leb}
 use lib.ListN.{length, getD}
 use Rattle.laws.specs.Choice.{pick}
 use Rattle.laws.specs.Masks.{digit}
-use Rattle.refusal.specs.declared.Refusal.{Refusal}
-use Rattle.refusal.specs.declared.Refusal.the-variants.{AtLimit, PastEnd, FlowField, Ended}
 use Rattle.refusal.specs.Number.{numberOf}
 use Rattle.refusal.specs.Told.{Told, gives, refuses}
-use Rattle.group.specs.Group.{Outcome, Program, Way, Goes, Stuck, stepTold}
-use Rattle.group.specs.Cells.{areReturns, withPlace, stepLeaves}
+use Rattle.group.specs.Proc.{counterLimit}
+use Rattle.group.specs.Group.{Outcome, Steps, Fails, Program, Way, Goes, Stuck, Run, mostReturns, groupStep, groupRun, stepTold}
+use Rattle.group.specs.Cells.{groupOf, areReturns, withPlace, stepLeaves}
 use Rattle.stepper.specs.declared.Stepped.{Stepped}
 use Rattle.stepper.specs.declared.Stepped.the-variants as stepped
 
@@ -22,14 +21,14 @@ toldStepped (stepped.Jumped p) = gives (1 ∷ p .0 ∷ [])
 toldStepped (stepped.Stayed p) = gives (0 ∷ p .0 ∷ [])
 toldStepped (stepped.Refused why) = refuses (numberOf why)
 
--- a step's answer in one number: the refusal's, or 1 for a jump and 0 for a stay to the place that the cells then show
-unfoldable pub refusalOf : ℕ → Refusal
-refusalOf n = pick (eqb n 13) FlowField (pick (eqb n 14) AtLimit (pick (eqb n 15) PastEnd Ended))
+-- a step's answer in one number: 1 for a jump and 0 for a stay, or the refusal's
+abbrev pub stepNumber : Outcome → ℕ
+stepNumber (Steps jump g) = digit jump
+stepNumber (Fails why) = why
 
-unfoldable pub answerOf : ℕ → ℕ → Stepped
-answerOf n at =
-    pick (ltb 1 n) (stepped.Refused (refusalOf n))
-    (pick (eqb n 1) (stepped.Jumped (record { 0 = at })) (stepped.Stayed (record { 0 = at })))
+pub record NumberDone (entry leaves : List ℕ) (r : ℕ) (o : Outcome) : Type 0 where
+  pub number : r ≡ stepNumber o
+  pub left : leaves ≡ stepLeaves entry o
 
 -- a step is told as its outcome says, and leaves the cells that its outcome leads to
 pub record StepDone (entry leaves : List ℕ) (r : Stepped) (o : Outcome) : Type 0 where
@@ -38,11 +37,11 @@ pub record StepDone (entry leaves : List ℕ) (r : Stepped) (o : Outcome) : Type
 
 -- the returns in four cells
 pub record Stack (rs : List ℕ) (r0 r1 r2 r3 : ℕ) : Type 0 where
-  pub cell0 : r0 ≡ getD rs 0 0
-  pub cell1 : r1 ≡ getD rs 1 0
-  pub cell2 : r2 ≡ getD rs 2 0
-  pub cell3 : r3 ≡ getD rs 3 0
-  pub depth : length rs ≤ 4
+  pub return0 : r0 ≡ getD rs 0 0
+  pub return1 : r1 ≡ getD rs 1 0
+  pub return2 : r2 ≡ getD rs 2 0
+  pub return3 : r3 ≡ getD rs 3 0
+  pub depth : length rs ≤ mostReturns
   pub slots : areReturns rs ≡ true
 
 -- going on by a way: 14 where the stack is at its limit, 15 past the end, else 1 for a jump and 0 for a stay, at the new place
@@ -61,3 +60,12 @@ pub record GoDone (entry leaves : List ℕ) (r slots : ℕ) (jump : Bool) (w : W
 -- a program in its two lent arrays
 abbrev pub programOf : List ℕ → List ℕ → ℕ → Program
 programOf firsts seconds slots = record { firsts = firsts; seconds = seconds; slots = slots }
+
+-- the step, and the run, of the group in these cells under the program in these arrays, with the limit of its counters
+abbrev pub stepIn : List ℕ → List ℕ → ℕ → List ℕ → ℕ → ℕ → ℕ → Outcome
+stepIn firsts seconds slots cells alu predicate booleans =
+    groupStep counterLimit (programOf firsts seconds slots) alu predicate booleans (groupOf cells)
+
+abbrev pub runIn : List ℕ → List ℕ → ℕ → List ℕ → List ℕ → ℕ → Run
+runIn firsts seconds slots cells masks booleans =
+    groupRun counterLimit (programOf firsts seconds slots) booleans masks (groupOf cells)

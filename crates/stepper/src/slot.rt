@@ -1,43 +1,94 @@
-// The two words of a slot.
+// The two words of a slot, and their fields by name.
 ghost use mathlib.Core.Path.{_≡_};
-ghost use Rattle.laws.specs.Choice.{pick};
-ghost use Rattle.group.specs.Group.{field, allowed as allowedWords};
+ghost use Rattle.group.specs.Group.{allowed as allowedWords, branchOp};
+
+// A field is its word divided by the field's lowest bit, and of that what is left of the number of the field's values. First
+// word: op, B_ELSE, JUMP_ANY, A_OP, JUMP_FUNC, B_POP_CNT, bits that must be 0, B_OP0, B_OP1, bits that must be 0.
+const OPS: u32 = 16;
+
+pub const B_ELSE: u32 = 0x10;
+
+pub const JUMP_ANY: u32 = 0x20;
+
+pub const A_OP: u32 = 0x40;
+
+pub const JUMP_FUNC: u32 = 0x100;
+
+pub const JUMP_FUNCS: u32 = 256;
+
+pub const B_POP_CNT: u32 = 0x10000;
+
+pub const B_POP_CNTS: u32 = 32;
+
+const LOW_GAP: u32 = 0x200000;
+
+const LOW_GAPS: u32 = 8;
+
+const B_OP0: u32 = 0x1000000;
+
+const B_OP1: u32 = 0x4000000;
+
+const HIGH_GAP: u32 = 0x10000000;
+
+const HIGH_GAPS: u32 = 16;
+
+// A flag has two values; A_OP, B_OP0 and B_OP1 have four, of which 0 to 2 are codes.
+pub const FLAGS: u32 = 2;
+
+pub const CODES: u32 = 4;
+
+const LAST_CODE: u32 = 2;
+
+// Second word: boolean number, bits that must be 0, jump address, bits that must be 0.
+pub const BOOLEANS: u32 = 32;
+
+const SECOND_GAP: u32 = 0x20;
+
+const SECOND_GAPS: u32 = 2048;
+
+pub const ADDRESS: u32 = 0x10000;
+
+pub const ADDRESSES: u32 = 512;
+
+const TOP_GAP: u32 = 0x2000000;
+
+const TOP_GAPS: u32 = 128;
 
 // Whether every field of the two words has an allowed value and every other bit is 0, used or not.
 pub fn allowed(first: u32, second: u32) -> bool
     ensures { λ r. ⌜ r ≡ allowedWords first second ⌝ }
 {
-    if first % 16 != 0 {
+    if first % OPS != 0 {
         return false;
     }
-    if 2 < first / 64 % 4 {
+    if LAST_CODE < first / A_OP % CODES {
         return false;
     }
-    if first / 2097152 % 8 != 0 {
+    if first / LOW_GAP % LOW_GAPS != 0 {
         return false;
     }
-    if 2 < first / 16777216 % 4 {
+    if LAST_CODE < first / B_OP0 % CODES {
         return false;
     }
-    if 2 < first / 67108864 % 4 {
+    if LAST_CODE < first / B_OP1 % CODES {
         return false;
     }
-    if first / 268435456 % 16 != 0 {
+    if first / HIGH_GAP % HIGH_GAPS != 0 {
         return false;
     }
-    if second / 32 % 2048 != 0 {
+    if second / SECOND_GAP % SECOND_GAPS != 0 {
         return false;
     }
-    second / 33554432 % 128 == 0
+    second / TOP_GAP % TOP_GAPS == 0
 }
 
 // The branch operation that the decision picks: B_OP1 on a jump, B_OP0 on a stay.
 pub fn branch_op(first: u32, jump: bool) -> u32
-    ensures { λ r. ⌜ r ≡ pick jump (field 27 26 first) (field 25 24 first) ⌝ }
+    ensures { λ r. ⌜ r ≡ branchOp jump first ⌝ }
 {
     if jump {
-        first / 67108864 % 4
+        first / B_OP1 % CODES
     } else {
-        first / 16777216 % 4
+        first / B_OP0 % CODES
     }
 }

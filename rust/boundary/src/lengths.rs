@@ -3,7 +3,7 @@
 //! product's source.
 
 /// A session's own numbers.
-pub const OWN: usize = 17;
+pub const OWN: usize = 33;
 
 /// A session's tallies.
 pub const TALLIES: usize = 2;

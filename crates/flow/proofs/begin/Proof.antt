@@ -6,18 +6,30 @@ use Rattle.flow.proofs.begin.Statement.{statement}
 use Rattle.flow.proofs.begin.Tie as tie
 
 returns : tie.Need-returns
-returns c = begin-small (c .before .args .size) (now (c .before .args .cells)) (c .if1 .taken)
+returns c =
+    let entry = c .before in
+    begin-small (entry .args .size) (now (entry .args .cells)) (c .if1 .taken)
 
 returns-2 : tie.Need-returns-2
-returns-2 c = begin-large (c .before .before .args .size) (now (c .before .before .args .cells)) (c .if2 .taken)
+returns-2 c =
+    let entry = c .before .before in
+    begin-large (entry .args .size) (now (entry .args .cells)) (c .if2 .taken)
 
 shr-live : tie.Need-shr-live
 shr-live c = search needs
 
+element-write-cells : tie.Need-element-write-cells
+element-write-cells c = search needs
+
+element-write-cells-2 : tie.Need-element-write-cells-2
+element-write-cells-2 c = search needs
+
 returns-3 : tie.Need-returns-3
 returns-3 c =
-    let s = c .before .before .before in
-    begin-ready (s .args .size) (now (s .args .cells)) (c .before .before .if1 .left) (c .before .if2 .left)
+    let at-if2 = c .before in
+    let at-if1 = at-if2 .before in
+    let entry = at-if1 .before in
+    begin-ready (entry .args .size) (now (entry .args .cells)) (at-if1 .if1 .left) (at-if2 .if2 .left)
 
 pub begin-spec : {M : Type 1} → statement M
-begin-spec = tie.close (tie.spec returns returns-2 shr-live returns-3)
+begin-spec = tie.close (tie.spec returns returns-2 shr-live element-write-cells element-write-cells-2 returns-3)

@@ -12,10 +12,19 @@ refusal-of-requires : tie.Need-refusal-of-requires
 refusal-of-requires c κs = search needs
 
 returns : tie.Need-returns
-returns c = one-stopped (now (c .before .before .before .before .args .cells)) (now (c .before .before .before .before .args .firsts)) (now (c .before .before .before .before .args .seconds)) (c .before .before .before .before .args .slots) (c .before .before .before .before .args .alu) (c .before .before .before .before .args .predicate) (c .before .before .before .before .args .booleans) (c .before .before .before .before .pre) _ _ (c .before .before .step-number .ensures) (c .before .if1 .taken) (c .refusal-of .ensures)
+returns c =
+    let at-if1 = c .before in
+    let at-step-number = at-if1 .before in
+    let entry = at-step-number .before .before in
+    one-stopped (now (entry .args .cells)) (now (entry .args .firsts)) (now (entry .args .seconds)) (entry .args .slots) (entry .args .alu)
+    (entry .args .predicate) (entry .args .booleans) (entry .pre) (at-step-number .step-number .ensures) (at-if1 .if1 .taken) (c .refusal-of .ensures)
 
 returns-2 : tie.Need-returns-2
-returns-2 c = one-went (now (c .before .before .before .args .cells)) (now (c .before .before .before .args .firsts)) (now (c .before .before .before .args .seconds)) (c .before .before .before .args .slots) (c .before .before .before .args .alu) (c .before .before .before .args .predicate) (c .before .before .before .args .booleans) (c .before .before .before .pre) _ _ (c .before .step-number .ensures) (c .if1 .left)
+returns-2 c =
+    let at-step-number = c .before in
+    let entry = at-step-number .before .before in
+    one-went (now (entry .args .cells)) (now (entry .args .firsts)) (now (entry .args .seconds)) (entry .args .slots) (entry .args .alu)
+    (entry .args .predicate) (entry .args .booleans) (entry .pre) (at-step-number .step-number .ensures) (c .if1 .left)
 
 pub one-step-spec : {M : Type 1} → statement M
 one-step-spec = tie.close (tie.spec step-number-requires refusal-of-requires returns returns-2)

@@ -3,7 +3,7 @@ use mathlib.Core.Path.{sym, ap, _∙_}
 use borrow.Author.Tests.{ne-eqb}
 use Rattle.laws.specs.Choice.{pick}
 use Rattle.laws.proofs.Choice.{pick-no}
-use Rattle.stepper.specs.Answers.{refusalOf}
+use Rattle.flow.specs.Answers.{refusalOf}
 use Rattle.flow.proofs.refusal_of.Statement.{statement}
 use Rattle.flow.proofs.refusal_of.Tie as tie
 

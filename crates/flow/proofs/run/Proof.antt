@@ -5,20 +5,20 @@ use borrow.Author.Needs.{needs}
 use Rattle.flow.proofs.run.Statement.{statement}
 use Rattle.flow.proofs.run.Tie as tie
 
-element-copy-out-if1 : tie.Need-element-copy-out-if1
-element-copy-out-if1 c = search needs
+element-copy-out-position : tie.Need-element-copy-out-position
+element-copy-out-position c = search needs
 
 returns : tie.Need-returns
 returns c =
-    let s = c .before .before .before in
-    run-ended (now (s .args .cells)) (now (s .args .firsts)) (now (s .args .seconds)) (s .args .slots)
-    (s .args .booleans) (now (s .args .masks)) (c .if1 .taken)
+    let entry = c .before .before .before in
+    run-ended (now (entry .args .cells)) (now (entry .args .firsts)) (now (entry .args .seconds)) (entry .args .slots) (entry .args .booleans)
+    (now (entry .args .masks)) (c .if1 .taken)
 
-walk-requires : tie.Need-walk-requires
-walk-requires c κs = search needs
+make-steps-requires : tie.Need-make-steps-requires
+make-steps-requires c κs = search needs
 
-enum-known-walked : tie.Need-enum-known-walked
-enum-known-walked c = search needs
+enum-known-made : tie.Need-enum-known-made
+enum-known-made c = search needs
 
 array-read-active : tie.Need-array-read-active
 array-read-active c = search needs
@@ -29,36 +29,40 @@ first-active-requires c κs = search needs
 number-active-requires : tie.Need-number-active-requires
 number-active-requires c κs = search needs
 
-enum-known-walked-2 : tie.Need-enum-known-walked-2
-enum-known-walked-2 c = search needs
+enum-known-made-2 : tie.Need-enum-known-made-2
+enum-known-made-2 c = search needs
 
 returns-2 : tie.Need-returns-2
 returns-2 c =
-    let s = c .before .before .before .before .before .before .before .before .before .before .before in
-    run-made (now (s .args .cells)) (now (s .args .firsts)) (now (s .args .seconds)) (s .args .slots)
-    (s .args .booleans) (now (s .args .masks))
-    (c .before .before .before .before .before .before .before .before .if1 .left)
-    (c .before .before .before .before .before .walk .ensures) (c .before .before .before .walked .given .1)
-    (c .before .first-active .ensures) (c .number-active .ensures)
+    let at-first-active = c .before in
+    let at-made = at-first-active .before .before in
+    let at-make-steps = at-made .before .before in
+    let at-if1 = at-make-steps .before .before .before in
+    let entry = at-if1 .before .before .before in
+    run-made (now (entry .args .cells)) (now (entry .args .firsts)) (now (entry .args .seconds)) (entry .args .slots) (entry .args .booleans)
+    (now (entry .args .masks)) (at-if1 .if1 .left) (at-make-steps .make-steps .ensures) (at-made .made .given .1)
+    (at-first-active .first-active .ensures) (c .number-active .ensures)
 
 returns-3 : tie.Need-returns-3
 returns-3 c =
-    let s = c .before .before .before .before .before .before .before .before .before in
-    run-refused (now (s .args .cells)) (now (s .args .firsts)) (now (s .args .seconds)) (s .args .slots)
-    (s .args .booleans) (now (s .args .masks)) (c .before .before .before .before .before .before .if1 .left)
-    (c .before .before .before .walk .ensures) (c .before .walked2 .given .1)
+    let at-made2 = c .before in
+    let at-make-steps = at-made2 .before .before in
+    let at-if1 = at-make-steps .before .before .before in
+    let entry = at-if1 .before .before .before in
+    run-refused (now (entry .args .cells)) (now (entry .args .firsts)) (now (entry .args .seconds)) (entry .args .slots) (entry .args .booleans)
+    (now (entry .args .masks)) (at-if1 .if1 .left) (at-make-steps .make-steps .ensures) (at-made2 .made2 .given .1)
 
 pub run-spec : {M : Type 1} → statement M
 run-spec =
     tie.close
     (tie.spec
-    element-copy-out-if1
+    element-copy-out-position
     returns
-    walk-requires
-    enum-known-walked
+    make-steps-requires
+    enum-known-made
     array-read-active
     first-active-requires
     number-active-requires
-    enum-known-walked-2
+    enum-known-made-2
     returns-2
     returns-3)

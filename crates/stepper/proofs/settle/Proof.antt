@@ -1,10 +1,9 @@
 -- `stepper::settle` meets its contract: each return is the outcome as far as the tests on the way decide it. Assumes nothing.
 use denote.Ref.{now}
-use lib.ListN.{getD}
 use native.Mathlib.Omega.{arith}
-use Rattle.group.specs.Group.{field, wayOf}
-use Rattle.group.specs.Cells.{groupOf}
-use Rattle.stepper.proofs.Going.{gone-spelled, gone-marks}
+use Rattle.group.specs.Group.{aOp, jumpAddress, wayOf}
+use Rattle.group.specs.Cells.{positionIn, groupOf}
+use Rattle.stepper.proofs.Going.{gone-clear, gone-masks}
 use Rattle.stepper.proofs.Stepping.{settle-over, settle-refused, settle-made}
 use borrow.Author.Needs.{needs}
 use Rattle.stepper.proofs.settle.Statement.{statement}
@@ -20,19 +19,54 @@ number-requires : tie.Need-number-requires
 number-requires c κs = search needs
 
 returns : tie.Need-returns
-returns c = settle-over (now (c .before .before .before .before .before .args .cells)) (c .before .before .before .before .before .args .first) (c .before .before .before .before .before .args .second) (c .before .before .before .before .before .args .slots) (c .before .before .before .before .before .args .active) (c .before .before .before .before .before .args .wish) (c .before .before .before .before .before .args .jump) (c .before .before .before .before .before .pre .0) (c .before .before .before .before .before .pre .3) (c .before .before .before .before .branch-op .ensures) (c .before .before .over-limit .ensures) _ _ (c .number .ensures) (c .before .if1 .taken)
+returns c =
+    let at-if1 = c .before in
+    let at-over-limit = at-if1 .before in
+    let at-branch-op = at-over-limit .before .before in
+    let entry = at-branch-op .before in
+    settle-over (now (entry .args .cells)) (entry .args .first) (entry .args .second) (entry .args .slots) (entry .args .active)
+    (entry .args .wish) (entry .args .jump) (entry .pre .0) (entry .pre .3) (at-branch-op .branch-op .ensures) (at-over-limit .over-limit .ensures)
+    (c .number .ensures) (at-if1 .if1 .taken)
 
 go-requires : tie.Need-go-requires
 go-requires c κs = search needs
 
 returns-2 : tie.Need-returns-2
-returns-2 c = settle-refused (now (c .before .before .before .before .before .before .before .args .cells)) (c .before .before .before .before .before .before .before .args .first) (c .before .before .before .before .before .before .before .args .second) (c .before .before .before .before .before .before .before .args .slots) (c .before .before .before .before .before .before .before .args .active) (c .before .before .before .before .before .before .before .args .wish) (c .before .before .before .before .before .before .before .args .jump) (c .before .before .before .before .before .before .before .pre .0) (c .before .before .before .before .before .before .before .pre .3) (c .before .before .before .before .before .before .branch-op .ensures) (c .before .before .before .before .over-limit .ensures) (c .before .before .before .if1 .left) _ _ (c .before .go .ensures) (c .if2 .taken)
+returns-2 c =
+    let at-go = c .before in
+    let at-if1 = at-go .before .before in
+    let at-over-limit = at-if1 .before in
+    let at-branch-op = at-over-limit .before .before in
+    let entry = at-branch-op .before in
+    settle-refused (now (entry .args .cells)) (entry .args .first) (entry .args .second) (entry .args .slots) (entry .args .active)
+    (entry .args .wish) (entry .args .jump) (entry .pre .0) (entry .pre .3) (at-branch-op .branch-op .ensures) (at-over-limit .over-limit .ensures)
+    (at-if1 .if1 .left) _ _ (at-go .go .ensures) (c .if2 .taken)
 
-mark-requires : tie.Need-mark-requires
-mark-requires c κs = (gone-spelled (wayOf (field 7 6 (c .before .before .before .before .before .before .before .before .args .first)) (c .before .before .before .before .before .before .before .before .args .jump) (getD (now (c .before .before .before .before .before .before .before .before .args .cells)) 7 0) (field 24 16 (c .before .before .before .before .before .before .before .before .args .second)) (groupOf (now (c .before .before .before .before .before .before .before .before .args .cells)) .returns)) (c .before .before .go .ensures) (c .before .if2 .left), omega arith, gone-marks (wayOf (field 7 6 (c .before .before .before .before .before .before .before .before .args .first)) (c .before .before .before .before .before .before .before .before .args .jump) (getD (now (c .before .before .before .before .before .before .before .before .args .cells)) 7 0) (field 24 16 (c .before .before .before .before .before .before .before .before .args .second)) (groupOf (now (c .before .before .before .before .before .before .before .before .args .cells)) .returns)) (c .before .before .go .ensures) (c .before .if2 .left) (c .before .before .before .before .before .before .before .before .args .active) (c .before .before .before .before .before .before .before .before .pre .3))
+branch-requires : tie.Need-branch-requires
+branch-requires c κs =
+    let at-if2 = c .before in
+    let at-go = at-if2 .before in
+    let at-branch-op = at-go .before .before .before .before .before in
+    let entry = at-branch-op .before in
+    let cells = now (entry .args .cells) in
+    let way = (wayOf (aOp (entry .args .first)) (entry .args .jump) (positionIn cells) (jumpAddress (entry .args .second))
+    (groupOf cells .returns)) in (
+      gone-clear way (at-go .go .ensures) (at-if2 .if2 .left),
+      omega arith,
+      gone-masks way (at-go .go .ensures) (at-if2 .if2 .left) (entry .args .active) (entry .pre .3),
+    )
 
 returns-3 : tie.Need-returns-3
-returns-3 c = settle-made (now (c .before .before .before .before .before .before .before .before .before .args .cells)) (c .before .before .before .before .before .before .before .before .before .args .first) (c .before .before .before .before .before .before .before .before .before .args .second) (c .before .before .before .before .before .before .before .before .before .args .slots) (c .before .before .before .before .before .before .before .before .before .args .active) (c .before .before .before .before .before .before .before .before .before .args .wish) (c .before .before .before .before .before .before .before .before .before .args .jump) (c .before .before .before .before .before .before .before .before .before .pre .0) (c .before .before .before .before .before .before .before .before .before .pre .3) (c .before .before .before .before .before .before .before .before .branch-op .ensures) (c .before .before .before .before .before .before .over-limit .ensures) (c .before .before .before .before .before .if1 .left) _ _ _ (c .before .before .before .go .ensures) (c .before .before .if2 .left) (c .mark .ensures)
+returns-3 c =
+    let at-if2 = c .before .before in
+    let at-go = at-if2 .before in
+    let at-if1 = at-go .before .before in
+    let at-over-limit = at-if1 .before in
+    let at-branch-op = at-over-limit .before .before in
+    let entry = at-branch-op .before in
+    settle-made (now (entry .args .cells)) (entry .args .first) (entry .args .second) (entry .args .slots) (entry .args .active)
+    (entry .args .wish) (entry .args .jump) (entry .pre .0) (entry .pre .3) (at-branch-op .branch-op .ensures) (at-over-limit .over-limit .ensures)
+    (at-if1 .if1 .left) _ _ _ (at-go .go .ensures) (at-if2 .if2 .left) (c .branch .ensures)
 
 pub settle-spec : {M : Type 1} → statement M
 settle-spec =
@@ -44,5 +78,5 @@ settle-spec =
     returns
     go-requires
     returns-2
-    mark-requires
+    branch-requires
     returns-3)

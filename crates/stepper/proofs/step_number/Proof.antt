@@ -12,13 +12,22 @@ number-requires : tie.Need-number-requires
 number-requires c κs = search needs
 
 returns : tie.Need-returns
-returns c = step-ended (now (c .before .before .before .args .cells)) (now (c .before .before .before .args .firsts)) (now (c .before .before .before .args .seconds)) (c .before .before .before .args .slots) (c .before .before .before .args .alu) (c .before .before .before .args .predicate) (c .before .before .before .args .booleans) _ _ (c .number .ensures) (c .before .if1 .taken)
+returns c =
+    let at-if1 = c .before in
+    let entry = at-if1 .before .before in
+    step-ended (now (entry .args .cells)) (now (entry .args .firsts)) (now (entry .args .seconds)) (entry .args .slots) (entry .args .alu)
+    (entry .args .predicate) (entry .args .booleans) (c .number .ensures) (at-if1 .if1 .taken)
 
 number-requires-2 : tie.Need-number-requires-2
 number-requires-2 c κs = search needs
 
 returns-2 : tie.Need-returns-2
-returns-2 c = step-many (now (c .before .before .before .before .args .cells)) (now (c .before .before .before .before .args .firsts)) (now (c .before .before .before .before .args .seconds)) (c .before .before .before .before .args .slots) (c .before .before .before .before .args .alu) (c .before .before .before .before .args .predicate) (c .before .before .before .before .args .booleans) _ _ (c .number2 .ensures) (c .before .before .if1 .left) (c .before .if2 .taken)
+returns-2 c =
+    let at-if2 = c .before in
+    let at-if1 = at-if2 .before in
+    let entry = at-if1 .before .before in
+    step-many (now (entry .args .cells)) (now (entry .args .firsts)) (now (entry .args .seconds)) (entry .args .slots) (entry .args .alu)
+    (entry .args .predicate) (entry .args .booleans) (c .number2 .ensures) (at-if1 .if1 .left) (at-if2 .if2 .taken)
 
 cast-at : tie.Need-cast-at
 cast-at c = search needs
@@ -39,7 +48,12 @@ step-slot-requires : tie.Need-step-slot-requires
 step-slot-requires c κs = search needs
 
 returns-3 : tie.Need-returns-3
-returns-3 c = step-done (now (c .before .before .before .before .before .before .before .args .cells)) (now (c .before .before .before .before .before .before .before .args .firsts)) (now (c .before .before .before .before .before .before .before .args .seconds)) (c .before .before .before .before .before .before .before .args .slots) (c .before .before .before .before .before .before .before .args .alu) (c .before .before .before .before .before .before .before .args .predicate) (c .before .before .before .before .before .before .before .args .booleans) (c .before .before .before .before .before .if1 .left) (c .before .before .before .before .if2 .left) (c .step-slot .ensures)
+returns-3 c =
+    let at-if2 = c .before .before .before .before in
+    let at-if1 = at-if2 .before in
+    let entry = at-if1 .before .before in
+    step-done (now (entry .args .cells)) (now (entry .args .firsts)) (now (entry .args .seconds)) (entry .args .slots) (entry .args .alu)
+    (entry .args .predicate) (entry .args .booleans) (at-if1 .if1 .left) (at-if2 .if2 .left) (c .step-slot .ensures)
 
 pub step-number-spec : {M : Type 1} → statement M
 step-number-spec =

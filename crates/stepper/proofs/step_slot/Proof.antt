@@ -1,7 +1,7 @@
 -- `stepper::step_slot` meets its contract: the first half of the step, and the second by its callee. Assumes nothing.
 use denote.Ref.{now}
-use Rattle.group.proofs.State.{made-masks}
-use Rattle.stepper.proofs.Stepping.{slot-refused, slot-marks, slot-done}
+use Rattle.group.proofs.State.{given-masks}
+use Rattle.stepper.proofs.Stepping.{slot-refused, slot-masks, slot-done}
 use borrow.Author.Needs.{needs}
 use Rattle.stepper.proofs.step_slot.Statement.{statement}
 use Rattle.stepper.proofs.step_slot.Tie as tie
@@ -13,7 +13,9 @@ element-copy-out-was : tie.Need-element-copy-out-was
 element-copy-out-was c = search needs
 
 turn-if-requires : tie.Need-turn-if-requires
-turn-if-requires c κs = (c .before .before .before .before .pre .0 .size, made-masks (now (c .before .before .before .before .args .cells)) (c .before .before .before .before .pre .0))
+turn-if-requires c κs =
+    let entry = c .before .before .before .before in
+    (entry .pre .0 .size, given-masks (now (entry .args .cells)) (entry .pre .0))
 
 shr-boolean : tie.Need-shr-boolean
 shr-boolean c = search needs
@@ -25,16 +27,40 @@ decides-requires : tie.Need-decides-requires
 decides-requires c κs = search needs
 
 settle-requires : tie.Need-settle-requires
-settle-requires c κs = (c .before .before .before .before .before .before .before .before .pre .0, c .before .before .before .before .before .before .before .before .pre .1, c .before .before .before .before .before .before .before .before .pre .2, slot-marks (now (c .before .before .before .before .before .before .before .before .args .cells)) (c .before .before .before .before .before .before .before .before .args .first) (c .before .before .before .before .before .before .before .before .args .second) (c .before .before .before .before .before .before .before .before .args .slots) (c .before .before .before .before .before .before .before .before .args .alu) (c .before .before .before .before .before .before .before .before .args .predicate) (c .before .before .before .before .before .before .before .before .args .booleans) (c .before .before .before .before .before .before .before .before .pre .0) (c .before .before .before .before .before .before .before .allowed .ensures) (c .before .before .before .turn-if .ensures))
+settle-requires c κs =
+    let at-turn-if = c .before .before .before in
+    let at-allowed = at-turn-if .before .before .before .before in
+    let entry = at-allowed .before in (
+      entry .pre .0,
+      entry .pre .1,
+      entry .pre .2,
+      slot-masks (now (entry .args .cells)) (entry .args .first) (entry .args .second) (entry .args .slots) (entry .args .alu)
+          (entry .args .predicate) (entry .args .booleans) (entry .pre .0) (at-allowed .allowed .ensures) (at-turn-if .turn-if .ensures),
+    )
 
 returns : tie.Need-returns
-returns c = slot-done (now (c .before .before .before .before .before .before .before .before .before .args .cells)) (c .before .before .before .before .before .before .before .before .before .args .first) (c .before .before .before .before .before .before .before .before .before .args .second) (c .before .before .before .before .before .before .before .before .before .args .slots) (c .before .before .before .before .before .before .before .before .before .args .alu) (c .before .before .before .before .before .before .before .before .before .args .predicate) (c .before .before .before .before .before .before .before .before .before .args .booleans) (c .before .before .before .before .before .before .before .before .before .pre .0) (c .before .before .before .before .before .before .before .before .allowed .ensures) (c .before .before .before .before .turn-if .ensures) (c .before .before .before .before .before .before .before .if1 .taken) (c .before .before .before .wishes .ensures) (c .before .before .decides .ensures) (c .settle .ensures)
+returns c =
+    let at-decides = c .before .before in
+    let at-wishes = at-decides .before in
+    let at-turn-if = at-wishes .before in
+    let at-if1 = at-turn-if .before .before .before in
+    let at-allowed = at-if1 .before in
+    let entry = at-allowed .before in
+    slot-done (now (entry .args .cells)) (entry .args .first) (entry .args .second) (entry .args .slots) (entry .args .alu)
+    (entry .args .predicate) (entry .args .booleans) (entry .pre .0) (at-allowed .allowed .ensures)
+    (at-turn-if .turn-if .ensures) (at-if1 .if1 .taken) (at-wishes .wishes .ensures) (at-decides .decides .ensures) (c .settle .ensures)
 
 number-requires : tie.Need-number-requires
 number-requires c κs = search needs
 
 returns-2 : tie.Need-returns-2
-returns-2 c = slot-refused (now (c .before .before .before .args .cells)) (c .before .before .before .args .first) (c .before .before .before .args .second) (c .before .before .before .args .slots) (c .before .before .before .args .alu) (c .before .before .before .args .predicate) (c .before .before .before .args .booleans) (c .before .before .before .pre .0) (c .before .before .allowed .ensures) _ _ (c .number .ensures) (c .before .if1 .left)
+returns-2 c =
+    let at-if1 = c .before in
+    let at-allowed = at-if1 .before in
+    let entry = at-allowed .before in
+    slot-refused (now (entry .args .cells)) (entry .args .first) (entry .args .second) (entry .args .slots) (entry .args .alu)
+    (entry .args .predicate) (entry .args .booleans) (entry .pre .0) (at-allowed .allowed .ensures)
+    (c .number .ensures) (at-if1 .if1 .left)
 
 pub step-slot-spec : {M : Type 1} → statement M
 step-slot-spec =

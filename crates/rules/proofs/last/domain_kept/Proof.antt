@@ -1,7 +1,7 @@
 -- `rules::last::domain_kept` meets its contract: a domain by its ends, any other command by the definition.
 -- Assumes nothing.
 use borrow.Author.Needs.{needs}
-use Rattle.command.proofs.Rule.{domain-ordered, domain-crossed, domain-other}
+use Rattle.rules.proofs.Rule.{domain-ordered, domain-crossed, domain-other}
 use Rattle.rules.proofs.last.domain_kept.Statement.{statement}
 use Rattle.rules.proofs.last.domain_kept.Tie as tie
 

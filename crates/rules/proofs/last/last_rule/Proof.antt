@@ -2,7 +2,7 @@
 use mathlib.Core.Path.{sym, _∙_}
 use borrow.Author.Needs.{needs}
 use borrow.Author.Tests.{not-true, not-false}
-use Rattle.command.proofs.Rule.{rule-five, rule-six, rule-fine}
+use Rattle.rules.proofs.Rule.{rule-five, rule-six, rule-fine}
 use Rattle.rules.proofs.last.last_rule.Statement.{statement}
 use Rattle.rules.proofs.last.last_rule.Tie as tie
 

@@ -1,7 +1,7 @@
 -- `rules::last::window_kept` meets its contract: each arm by the definition at that variant. Assumes nothing.
 use mathlib.Core.Path.{sym, ap, _∙_}
 use borrow.Author.Needs.{needs}
-use Rattle.command.specs.Rules.{windowKept}
+use Rattle.rules.specs.Rules.{windowKept}
 use Rattle.rules.proofs.last.window_kept.Statement.{statement}
 use Rattle.rules.proofs.last.window_kept.Tie as tie
 

@@ -3,14 +3,13 @@ use denote.Ref.{now}
 use mathlib.Core.Path.{refl, sym, ap, _∙_, subst}
 use mathlib.Core.Bool.{Bool, true, false}
 use native.Mathlib.Omega.{arith}
-use lib.ListN.{getD}
 use Prim.Native.Nat.{_+_}
 use Rattle.laws.specs.Masks.{digit}
 use Rattle.group.specs.Group.{Way, wayOf}
-use Rattle.group.specs.Cells.{groupOf}
+use Rattle.group.specs.Cells.{positionIn, groupOf}
 use Rattle.stepper.specs.Answers.{GoDone}
-use Rattle.stepper.proofs.Words.{standing, way-pop, way-push, way-address, way-on}
-use Rattle.stepper.proofs.Going.{made-stack, made-spelled, position-cell, gone-there, gone-by}
+use Rattle.stepper.proofs.Words.{same-returns, way-pop, way-push, way-address, way-on}
+use Rattle.stepper.proofs.Going.{given-stack, given-clear, position-cell, gone-there, gone-by}
 use borrow.Author.Needs.{needs}
 use Rattle.stepper.proofs.place.go.Statement.{statement}
 use Rattle.stepper.proofs.place.go.Tie as tie
@@ -21,17 +20,38 @@ pop-requires c κs = search needs
 push-requires : tie.Need-push-requires
 push-requires c κs = search needs
 
-leap-requires : tie.Need-leap-requires
-leap-requires c κs = search needs
+jump-to-requires : tie.Need-jump-to-requires
+jump-to-requires c κs = search needs
 
 returns : tie.Need-returns
-returns c = gone-by (now (c .before .before .before .before .args .cells)) (c .before .before .before .before .args .slots) (c .before .before .before .if1 .taken) (way-pop (c .before .before .before .before .args .op) (getD (now (c .before .before .before .before .args .cells)) 7 0) (c .before .before .before .before .args .address) (groupOf (now (c .before .before .before .before .args .cells)) .returns) (c .before .before .before .if1 .taken) (c .before .before .match .keys1)) (c .pop .ensures)
+returns c =
+    let at-match = c .before .before in
+    let at-if1 = at-match .before in
+    let entry = at-if1 .before in
+    let cells = now (entry .args .cells) in
+    gone-by cells (entry .args .slots) (at-if1 .if1 .taken)
+    (way-pop (entry .args .op) (positionIn cells) (entry .args .address .0) (groupOf cells .returns)
+    (at-if1 .if1 .taken) (at-match .match .keys1)) (c .pop .ensures)
 
 returns-2 : tie.Need-returns-2
-returns-2 c = gone-by (now (c .before .before .before .before .args .cells)) (c .before .before .before .before .args .slots) (c .before .before .before .if1 .taken) (way-push (c .before .before .before .before .args .op) (getD (now (c .before .before .before .before .args .cells)) 7 0) (c .before .before .before .before .args .address) (groupOf (now (c .before .before .before .before .args .cells)) .returns) (c .before .before .before .if1 .taken) (c .before .before .match .keys2)) (c .push .ensures)
+returns-2 c =
+    let at-match = c .before .before in
+    let at-if1 = at-match .before in
+    let entry = at-if1 .before in
+    let cells = now (entry .args .cells) in
+    gone-by cells (entry .args .slots) (at-if1 .if1 .taken)
+    (way-push (entry .args .op) (positionIn cells) (entry .args .address .0) (groupOf cells .returns)
+    (at-if1 .if1 .taken) (at-match .match .keys2)) (c .push .ensures)
 
 returns-3 : tie.Need-returns-3
-returns-3 c = gone-by (now (c .before .before .before .before .args .cells)) (c .before .before .before .before .args .slots) (c .before .before .before .if1 .taken) (way-address (c .before .before .before .before .args .op) (getD (now (c .before .before .before .before .args .cells)) 7 0) (c .before .before .before .before .args .address) (groupOf (now (c .before .before .before .before .args .cells)) .returns) (c .before .before .before .if1 .taken) (c .before .before .match .rest .0 .1) (c .before .before .match .rest .1)) (c .leap .ensures)
+returns-3 c =
+    let at-match = c .before .before in
+    let at-if1 = at-match .before in
+    let entry = at-if1 .before in
+    let cells = now (entry .args .cells) in
+    gone-by cells (entry .args .slots) (at-if1 .if1 .taken)
+    (way-address (entry .args .op) (positionIn cells) (entry .args .address .0) (groupOf cells .returns)
+    (at-if1 .if1 .taken) (at-match .match .rest .0 .1) (at-match .match .rest .1)) (c .jump-to .ensures)
 
 element-copy-out-position : tie.Need-element-copy-out-position
 element-copy-out-position c = search needs
@@ -44,7 +64,17 @@ element-write-cells c = search needs
 
 returns-4 : tie.Need-returns-4
 unfolding digit
-returns-4 c = gone-by (now (c .before .before .args .cells)) (c .before .before .args .slots) (c .before .if1 .left) (way-on (c .before .before .args .op) (getD (now (c .before .before .args .cells)) 7 0) (c .before .before .args .address) (groupOf (now (c .before .before .args .cells)) .returns) (c .before .if1 .left)) (gone-there (now (c .before .before .args .cells)) (c .before .before .args .slots) false (standing (getD (now (c .before .before .args .cells)) 7 0 + 1) (groupOf (now (c .before .before .args .cells)) .returns) (made-stack (now (c .before .before .args .cells)) (c .before .before .pre .0))) (position-cell (now (c .before .before .args .cells)) (made-spelled (now (c .before .before .args .cells)) (c .before .before .pre .0)) (getD (now (c .before .before .args .cells)) 7 0 + 1)) (omega (arith, c .before .before .pre .1)) refl)
+returns-4 c =
+    let at-if1 = c .before in
+    let entry = at-if1 .before in
+    let cells = now (entry .args .cells) in
+    gone-by cells (entry .args .slots) (at-if1 .if1 .left)
+    (way-on (entry .args .op) (positionIn cells) (entry .args .address .0) (groupOf cells .returns)
+    (at-if1 .if1 .left))
+    (gone-there cells (entry .args .slots) false
+    (same-returns (positionIn cells + 1) (groupOf cells .returns) (given-stack cells (entry .pre .0)))
+    (position-cell cells (given-clear cells (entry .pre .0)) (positionIn cells + 1))
+    (omega (arith, entry .pre .1)) refl)
 
 pub go-spec : {M : Type 1} → statement M
 go-spec =
@@ -52,7 +82,7 @@ go-spec =
     (tie.spec
     pop-requires
     push-requires
-    leap-requires
+    jump-to-requires
     returns
     returns-2
     returns-3

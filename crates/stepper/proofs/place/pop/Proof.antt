@@ -5,7 +5,7 @@ use mathlib.Core.Bool.{true}
 use Rattle.laws.specs.Masks.{digit}
 use Rattle.group.specs.Cells.{groupOf}
 use Rattle.stepper.proofs.Words.{pop-empty, pop-last}
-use Rattle.stepper.proofs.Going.{made-stack, made-spelled, gone-stuck, gone-past, gone-there}
+use Rattle.stepper.proofs.Going.{given-stack, given-clear, gone-stuck, gone-past, gone-there}
 use borrow.Author.Needs.{needs}
 use Rattle.stepper.proofs.place.pop.Statement.{statement}
 use Rattle.stepper.proofs.place.pop.Tie as tie
@@ -17,13 +17,24 @@ number-requires : tie.Need-number-requires
 number-requires c κs = search needs
 
 returns : tie.Need-returns
-returns c = gone-stuck (now (c .before .before .before .args .cells)) (c .before .before .before .args .slots) true (pop-empty (groupOf (now (c .before .before .before .args .cells)) .returns) (made-stack (now (c .before .before .before .args .cells)) (c .before .before .before .pre)) (c .before .if1 .taken)) (c .number .ensures)
+returns c =
+    let at-if1 = c .before in
+    let entry = at-if1 .before .before in
+    let cells = now (entry .args .cells) in
+    gone-stuck cells (entry .args .slots) true
+    (pop-empty (groupOf cells .returns) (given-stack cells (entry .pre)) (at-if1 .if1 .taken)) (c .number .ensures)
 
 number-requires-2 : tie.Need-number-requires-2
 number-requires-2 c κs = search needs
 
 returns-2 : tie.Need-returns-2
-returns-2 c = gone-past (now (c .before .before .before .before .args .cells)) (c .before .before .before .before .args .slots) true (pop-last (groupOf (now (c .before .before .before .before .args .cells)) .returns) (made-stack (now (c .before .before .before .before .args .cells)) (c .before .before .before .before .pre)) (c .before .before .if1 .left)) (c .before .if2 .taken) (c .number2 .ensures)
+returns-2 c =
+    let at-if2 = c .before in
+    let at-if1 = at-if2 .before in
+    let entry = at-if1 .before .before in
+    let cells = now (entry .args .cells) in
+    gone-past cells (entry .args .slots) true
+    (pop-last (groupOf cells .returns) (given-stack cells (entry .pre)) (at-if1 .if1 .left)) (at-if2 .if2 .taken) (c .number2 .ensures)
 
 element-copy-out-r1 : tie.Need-element-copy-out-r1
 element-copy-out-r1 c = search needs
@@ -34,12 +45,21 @@ element-copy-out-r2 c = search needs
 element-copy-out-r3 : tie.Need-element-copy-out-r3
 element-copy-out-r3 c = search needs
 
-stand-requires : tie.Need-stand-requires
-stand-requires c κs = made-spelled (now (c .before .before .before .before .before .before .before .args .cells)) (c .before .before .before .before .before .before .before .pre)
+put-place-requires : tie.Need-put-place-requires
+put-place-requires c κs =
+    let at-if1 = c .before .before .before .before .before in
+    let entry = at-if1 .before .before in
+    given-clear (now (entry .args .cells)) (entry .pre)
 
 returns-3 : tie.Need-returns-3
 unfolding digit
-returns-3 c = gone-there (now (c .before .before .before .before .before .before .before .before .args .cells)) (c .before .before .before .before .before .before .before .before .args .slots) true (pop-last (groupOf (now (c .before .before .before .before .before .before .before .before .args .cells)) .returns) (made-stack (now (c .before .before .before .before .before .before .before .before .args .cells)) (c .before .before .before .before .before .before .before .before .pre)) (c .before .before .before .before .before .before .if1 .left)) (c .stand .ensures) (c .before .before .before .before .before .if2 .left) refl
+returns-3 c =
+    let at-if2 = c .before .before .before .before .before in
+    let at-if1 = at-if2 .before in
+    let entry = at-if1 .before .before in
+    let cells = now (entry .args .cells) in
+    gone-there cells (entry .args .slots) true
+    (pop-last (groupOf cells .returns) (given-stack cells (entry .pre)) (at-if1 .if1 .left)) (c .put-place .ensures) (at-if2 .if2 .left) refl
 
 pub pop-spec : {M : Type 1} → statement M
 pop-spec =
@@ -53,5 +73,5 @@ pop-spec =
     element-copy-out-r1
     element-copy-out-r2
     element-copy-out-r3
-    stand-requires
+    put-place-requires
     returns-3)

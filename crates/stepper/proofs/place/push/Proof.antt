@@ -2,11 +2,10 @@
 use denote.Ref.{now}
 use mathlib.Core.Path.{refl}
 use mathlib.Core.Bool.{true}
-use lib.ListN.{getD}
 use Rattle.laws.specs.Masks.{digit}
-use Rattle.group.specs.Cells.{groupOf}
+use Rattle.group.specs.Cells.{positionIn, groupOf}
 use Rattle.stepper.proofs.Words.{push-full, push-last}
-use Rattle.stepper.proofs.Going.{made-stack, made-spelled, gone-stuck, gone-past, gone-there}
+use Rattle.stepper.proofs.Going.{given-stack, given-clear, gone-stuck, gone-past, gone-there}
 use borrow.Author.Needs.{needs}
 use Rattle.stepper.proofs.place.push.Statement.{statement}
 use Rattle.stepper.proofs.place.push.Tie as tie
@@ -18,13 +17,26 @@ number-requires : tie.Need-number-requires
 number-requires c κs = search needs
 
 returns : tie.Need-returns
-returns c = gone-stuck (now (c .before .before .before .args .cells)) (c .before .before .before .args .slots) true (push-full (getD (now (c .before .before .before .args .cells)) 7 0) (c .before .before .before .args .address) (groupOf (now (c .before .before .before .args .cells)) .returns) (made-stack (now (c .before .before .before .args .cells)) (c .before .before .before .pre .0)) (c .before .if1 .taken)) (c .number .ensures)
+returns c =
+    let at-if1 = c .before in
+    let entry = at-if1 .before .before in
+    let cells = now (entry .args .cells) in
+    gone-stuck cells (entry .args .slots) true
+    (push-full (positionIn cells) (entry .args .address .0) (groupOf cells .returns)
+    (given-stack cells (entry .pre .0)) (at-if1 .if1 .taken)) (c .number .ensures)
 
 number-requires-2 : tie.Need-number-requires-2
 number-requires-2 c κs = search needs
 
 returns-2 : tie.Need-returns-2
-returns-2 c = gone-past (now (c .before .before .before .before .args .cells)) (c .before .before .before .before .args .slots) true (push-last (getD (now (c .before .before .before .before .args .cells)) 7 0) (c .before .before .before .before .args .address) (groupOf (now (c .before .before .before .before .args .cells)) .returns) (made-stack (now (c .before .before .before .before .args .cells)) (c .before .before .before .before .pre .0)) (c .before .before .if1 .left)) (c .before .if2 .taken) (c .number2 .ensures)
+returns-2 c =
+    let at-if2 = c .before in
+    let at-if1 = at-if2 .before in
+    let entry = at-if1 .before .before in
+    let cells = now (entry .args .cells) in
+    gone-past cells (entry .args .slots) true
+    (push-last (positionIn cells) (entry .args .address .0) (groupOf cells .returns)
+    (given-stack cells (entry .pre .0)) (at-if1 .if1 .left)) (at-if2 .if2 .taken) (c .number2 .ensures)
 
 element-copy-out-position : tie.Need-element-copy-out-position
 element-copy-out-position c = search needs
@@ -38,15 +50,26 @@ element-copy-out-r1 c = search needs
 element-copy-out-r2 : tie.Need-element-copy-out-r2
 element-copy-out-r2 c = search needs
 
-add-stand : tie.Need-add-stand
-add-stand c = search needs
+add-put-place : tie.Need-add-put-place
+add-put-place c = search needs
 
-stand-requires : tie.Need-stand-requires
-stand-requires c κs = made-spelled (now (c .before .before .before .before .before .before .before .before .args .cells)) (c .before .before .before .before .before .before .before .before .pre .0)
+put-place-requires : tie.Need-put-place-requires
+put-place-requires c κs =
+    let at-if2 = c .before .before .before .before .before in
+    let entry = at-if2 .before .before .before in
+    given-clear (now (entry .args .cells)) (entry .pre .0)
 
 returns-3 : tie.Need-returns-3
 unfolding digit
-returns-3 c = gone-there (now (c .before .before .before .before .before .before .before .before .before .args .cells)) (c .before .before .before .before .before .before .before .before .before .args .slots) true (push-last (getD (now (c .before .before .before .before .before .before .before .before .before .args .cells)) 7 0) (c .before .before .before .before .before .before .before .before .before .args .address) (groupOf (now (c .before .before .before .before .before .before .before .before .before .args .cells)) .returns) (made-stack (now (c .before .before .before .before .before .before .before .before .before .args .cells)) (c .before .before .before .before .before .before .before .before .before .pre .0)) (c .before .before .before .before .before .before .before .if1 .left)) (c .stand .ensures) (c .before .before .before .before .before .before .if2 .left) refl
+returns-3 c =
+    let at-position = c .before .before .before .before .before in
+    let at-if2 = at-position .before in
+    let at-if1 = at-if2 .before in
+    let entry = at-if1 .before .before in
+    let cells = now (entry .args .cells) in
+    gone-there cells (entry .args .slots) true
+    (push-last (positionIn cells) (entry .args .address .0) (groupOf cells .returns)
+    (given-stack cells (entry .pre .0)) (at-if1 .if1 .left)) (c .put-place .ensures) (at-if2 .if2 .left) refl
 
 pub push-spec : {M : Type 1} → statement M
 push-spec =
@@ -61,6 +84,6 @@ push-spec =
     element-copy-out-r0
     element-copy-out-r1
     element-copy-out-r2
-    add-stand
-    stand-requires
+    add-put-place
+    put-place-requires
     returns-3)

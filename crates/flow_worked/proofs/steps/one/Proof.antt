@@ -1,0 +1,17 @@
+-- `flow_worked::steps::one` meets its contract: a step gives out what may be handed in. Assumes nothing.
+use Rattle.flow.proofs.Given.{step-gives}
+use borrow.Author.Needs.{needs}
+use Rattle.flow_worked.proofs.steps.one.Statement.{statement}
+use Rattle.flow_worked.proofs.steps.one.Tie as tie
+
+step-requires : tie.Need-step-requires
+step-requires c κs = search needs
+
+told-requires : tie.Need-told-requires
+told-requires c κs = search needs
+
+returns : tie.Need-returns
+returns c = step-gives _ _ _ _ (c .before .before .before .before .before .pre) (c .before .step .ensures)
+
+pub one-spec : {M : Type 1} → statement M
+one-spec = tie.close (tie.spec step-requires told-requires returns)
