@@ -4,6 +4,7 @@ use mathlib.Core.Path.{_≡_, refl, _∙_}
 use mathlib.Core.Bool.{true, false}
 use mathlib.Core.List.{List, [], _++_}
 use Prim.Native.Nat.{ℕ, _+_, _≤_}
+use lib.Count.{ones, trailingZeros}
 use lib.ListN.{length}
 use Rattle.laws.specs.Bits.{xor}
 use Rattle.laws.specs.Choice.{_and_, pick, placeOf}
@@ -57,8 +58,10 @@ use Rattle.score.proofs.Lines.{bounds}
 use Rattle.score.proofs.Midnights.{midnight-records}
 use Rattle.score.proofs.Promises.{line-first, dark-day, refused-with, scored-as, log-refused, log-scored, in-pieces}
 use Rattle.score.proofs.Verdicts.{full-if, full-only-if, calling}
-use Rattle.group.specs.Proc.{wants, decided, branched}
-use Rattle.group.specs.Group.{allowed, fresh, turnedIf, wishOf, overLimit, wayOf, settled, slotStep, ended, groupStep}
+use Rattle.group.specs.Proc.{mostProcessors, wants, decided, branched}
+use Rattle.group.specs.Group.{Group, firstActive, numberActive, allowed, fresh, turnedIf, wishOf, overLimit, wayOf, settled, slotStep, ended, groupStep}
+use Rattle.group.specs.Cells.{activeMask}
+use Rattle.flow.proofs.Counting.{mask-count, mask-first, mask-none}
 use Rattle.flow.specs.Cases.{oneWord, c9, c10, c11, c12}
 use Rattle.demands.specs.Cases.{Agree, cases}
 
@@ -180,6 +183,17 @@ silent-run = silent-start
 -- Request 2: whatever words a new session was fed, where its mask is 65535 it judges a start, and counts its claim, as document 01 does.
 pub full-mask : (ws : List ℕ) → feedOf newSession ws .session .shared .mask ≡ 65535 → AsBefore (feedOf newSession ws .session)
 full-mask = as-before
+
+-- Request 3: for every mask, and every group whose active processors it shows, the mask's count of ones is document 01's number of
+-- processors active.
+pub mask-ones : (mask : ℕ) (g : Group) → mask ≡ activeMask (g .procs) → ones mask ≡ numberActive g
+mask-ones = mask-count
+
+-- Request 3: and its trailing zeros are the first active processor, 32 for the empty mask.
+pub mask-zeros :
+    (mask : ℕ) (g : Group) → mask ≡ activeMask (g .procs) →
+    (trailingZeros mostProcessors mask ≡ firstActive g) × (mask ≡ 0 → firstActive g ≡ 32)
+mask-zeros mask g shown = (mask-first mask g shown, mask-none mask g shown)
 
 -- The worked cases C1 to C12 of document 01, all together.
 pub worked-cases : Agree cases
