@@ -415,6 +415,19 @@ silent-run = silent-start
 pub full-mask : (ws : List ℕ) → feedOf newSession ws .session .shared .mask ≡ 65535 → AsBefore (feedOf newSession ws .session)
 full-mask = as-before
 
+-- REQUEST 3, "The mask count in the stepper's hot path"
+
+-- For every mask, and every group whose active processors it shows, the mask's count of ones is document 01's number of
+-- processors active.
+pub mask-ones : (mask : ℕ) (g : Group) → mask ≡ activeMask (g .procs) → ones mask ≡ numberActive g
+mask-ones = mask-count
+
+-- And its trailing zeros are the first active processor, 32 for the empty mask.
+pub mask-zeros :
+    (mask : ℕ) (g : Group) → mask ≡ activeMask (g .procs) →
+    (trailingZeros mostProcessors mask ≡ firstActive g) × (mask ≡ 0 → firstActive g ≡ 32)
+mask-zeros mask g shown = (mask-first mask g shown, mask-none mask g shown)
+
 -- REQUEST 5, "Monthly score"
 
 -- A lease line that is refused gives 21, whatever the log: it comes before 18 and 19, and reads no log.
@@ -477,19 +490,6 @@ pub score-calls :
     ScoreCrosses l (a' .log) (a' .marks) (a' .tallies) r claimed served month claimed' served' month' →
     MonthCrosses (scoreOfLog l (uncut ps)) r claimed served month claimed' served' month'
 score-calls = score-from-log
-
--- REQUEST 3
-
--- For every mask, and every group whose active processors it shows, the mask's count of ones is document 01's number of
--- processors active.
-pub mask-ones : (mask : ℕ) (g : Group) → mask ≡ activeMask (g .procs) → ones mask ≡ numberActive g
-mask-ones = mask-count
-
--- And its trailing zeros are the first active processor, 32 for the empty mask.
-pub mask-zeros :
-    (mask : ℕ) (g : Group) → mask ≡ activeMask (g .procs) →
-    (trailingZeros mostProcessors mask ≡ firstActive g) × (mask ≡ 0 → firstActive g ≡ 32)
-mask-zeros mask g shown = (mask-first mask g shown, mask-none mask g shown)
 
 -- THE WORKED CASES
 
