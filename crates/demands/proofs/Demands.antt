@@ -1,4 +1,4 @@
--- The page of top theorems, in the order of the demands: 1, 2, 3, then elements, flow, and the requests 1, 2 and 5. Each statement has
+-- The page of top theorems, in the order of the demands: 1, 2, 3, then elements, flow, and the requests 1, 2, 3 and 5. Each statement has
 -- its sentence above it and a proof that only cites the file that has it. What a statement asks for is what its sentence says or what an
 -- entry asks for: a session, a replay or a group's cells that came from the entries (`Reached`, `Handed`), and bytes that are bytes.
 -- Assumes nothing.
@@ -6,6 +6,7 @@ use mathlib.Core.Path.{_≡_, refl, _∙_}
 use mathlib.Core.Bool.{Bool, true, false}
 use mathlib.Core.List.{List, [], _∷_, _++_}
 use Prim.Native.Nat.{ℕ, _+_, _<_, _≤_}
+use lib.Count.{ones, trailingZeros}
 use lib.ListN.{length, take}
 use Rattle.laws.specs.Bits.{xor}
 use Rattle.laws.specs.Choice.{_and_, pick, placeOf}
@@ -71,12 +72,14 @@ use Rattle.score.proofs.Lines.{bounds}
 use Rattle.score.proofs.Midnights.{midnight-records}
 use Rattle.score.proofs.Promises.{line-first, dark-day, refused-with, scored-as, log-refused, log-scored, in-pieces}
 use Rattle.score.proofs.Verdicts.{full-if, full-only-if, calling}
-use Rattle.group.specs.Proc.{wants, decided, branched}
+use Rattle.group.specs.Proc.{mostProcessors, wants, decided, branched}
 use Rattle.group.specs.Group.{
   Program,
   Group,
   Steps,
   Fails,
+  firstActive,
+  numberActive,
   allowed,
   fresh,
   turnedIf,
@@ -90,6 +93,8 @@ use Rattle.group.specs.Group.{
   groupStep as flowStep,
 }
 use Rattle.group.specs.Cells as cells
+use Rattle.group.specs.Cells.{activeMask}
+use Rattle.flow.proofs.Counting.{mask-count, mask-first, mask-none}
 use Rattle.flow.specs.Cases.{oneWord, c9, c10, c11, c12}
 use Rattle.element_rooms.specs.Rooms.{WriteCrosses}
 use Rattle.session_rooms.specs.Rooms.{WordCrosses, FeedCrosses}
@@ -409,6 +414,19 @@ silent-run = silent-start
 -- Whatever words a new session was fed, where its mask is 65535 it judges a start, and counts its claim, as document 01 does.
 pub full-mask : (ws : List ℕ) → feedOf newSession ws .session .shared .mask ≡ 65535 → AsBefore (feedOf newSession ws .session)
 full-mask = as-before
+
+-- REQUEST 3, "The mask count in the stepper's hot path"
+
+-- For every mask, and every group whose active processors it shows, the mask's count of ones is document 01's number of
+-- processors active.
+pub mask-ones : (mask : ℕ) (g : Group) → mask ≡ activeMask (g .procs) → ones mask ≡ numberActive g
+mask-ones = mask-count
+
+-- And its trailing zeros are the first active processor, 32 for the empty mask.
+pub mask-zeros :
+    (mask : ℕ) (g : Group) → mask ≡ activeMask (g .procs) →
+    (trailingZeros mostProcessors mask ≡ firstActive g) × (mask ≡ 0 → firstActive g ≡ 32)
+mask-zeros mask g shown = (mask-first mask g shown, mask-none mask g shown)
 
 -- REQUEST 5, "Monthly score"
 
