@@ -5,7 +5,8 @@ The documents are not in this repository. The list has a line for each sentence 
   01 2 31 8 0123456789abcdef A refused word    document, section and number; words; checksum; at most its first three words
     3-5 0123456789abcdef                       a part that rows quote: its first and last word, and its own checksum
 
-and before each document's a line with their number and one checksum over theirs, so that a lost line shows. A checksum is the
+and before each document's a line with their number and one checksum over theirs, so that a lost line shows. Those of document 02 are
+the requests' that have a note in docs/landings. A checksum is the
 first 16 digits of SHA-256 of the words with one space between them, without points, commas, colons, brackets and quotation
 marks at both ends.
 
@@ -20,13 +21,14 @@ import hashlib
 import pathlib
 import re
 
-LIST = pathlib.Path(__file__).resolve().parent.parent / "docs/sentences.txt"
+DOCS = pathlib.Path(__file__).resolve().parent.parent / "docs"
+LIST = DOCS / "sentences.txt"
+NAMES = ("00-demands.md", "01-scope.md", "02-change-requests.md")
 HEAD = """\
 # The sentences that docs/AUDIT.md owes a row, by their checksums: tools/sentences.py says how to read this.
 # Made by `tools/audit --documents FOLDER --write` from the folder of the documents.
 """
-# The requests of document 02 that have landed.
-LANDED = ("1", "2", "3", "5")
+# Document 00's demands that are statements of the product.
 DEMANDS = ("1", "2", "3")
 # A sentence ends at a point before a capital, a digit, a command's name or a path; the points of `...` and `..` end none.
 END = re.compile(r'(?<=[^.]\.)\s+(?=["(]?[A-Z0-9]|\w+[_/]\w)')
@@ -35,6 +37,12 @@ EDGES = " .,:;()\""
 
 # A run of words of a sentence: its key, its first and its last word, counted from 1.
 Run = collections.namedtuple("Run", "key first last")
+
+
+def landed():
+    """The numbers of document 02's requests that have landed: those with a note, docs/landings/NN-NAME.md."""
+    numbers = (int(note.name[:2]) for note in DOCS.glob("landings/[0-9][0-9]-*.md"))
+    return [str(number) for number in sorted(numbers) if number]
 
 
 def words_of(text):
@@ -69,10 +77,10 @@ def blocks(text):
 
 def read_documents(folder):
     """Every sentence by its key, from the documents in the folder."""
-    demands, rules, requests = ((folder / name).read_text() for name in ("00-demands.md", "01-scope.md", "02-change-requests.md"))
+    demands, rules, requests = ((folder / name).read_text() for name in NAMES)
     found = [("00", number, text) for number, text in re.findall(r"(?m)^> (\d+)\. (.*)$", demands) if number in DEMANDS]
     found += [("01", str(section), text) for section, text in blocks(rules)]
-    found += [("02", number, text) for number, text in re.findall(r"(?m)^(\d+)\) \*\*.*?\*\* (.*)$", requests) if number in LANDED]
+    found += [("02", number, text) for number, text in re.findall(r"(?m)^(\d+)\) \*\*.*?\*\* (.*)$", requests) if number in landed()]
     sentences, numbers = {}, collections.Counter()
     for document, section, text in found:
         for sentence in split(text):
@@ -155,6 +163,9 @@ class Sentences:
             self.faults.append(f"{LIST.name} lists no sentence")
         elif listed(rows, parts) != text:
             self.faults.append(f"{LIST.name} isn't whole: its lines, their order or a document's checksum")
+        for number in landed():
+            if f"02 {number} 1" not in self.words:
+                self.faults.append(f"{LIST.name} lists no sentence of request {number}, which has landed")
 
     def of_parts(self, parts):
         """The runs, each in one sentence, that have these parts in this order."""
@@ -180,10 +191,10 @@ class Sentences:
     def left(self):
         """The sentences without a row, whole or in part, and the listed parts that no row quotes."""
         for key, words in self.words.items():
-            missing = sorted(set(range(1, words + 1)) - self.reached[key])
+            missing = [word for word in range(1, words + 1) if word not in self.reached[key]]
             if missing:
-                which = "the sentence" if len(missing) == words else f"words {', '.join(map(str, missing))} of the {words}"
-                yield f"no row for {which} of {key}, “{self.first_words[key]} ...”"
+                which = "sentence" if len(missing) == words else f"{len(missing)} of the {words} words, the first being word {missing[0]}, of"
+                yield f"no row for {which} {key}, “{self.first_words[key]} ...”"
         for mark, runs in self.parts.items():
             if mark not in self.quoted and all(run.last - run.first + 1 < self.words[run.key] for run in runs):
                 yield f"{LIST.name} has a part of {runs[0].key} that no row quotes: {runs[0].first}-{runs[0].last}"
