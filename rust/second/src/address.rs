@@ -7,8 +7,12 @@
 //! tiles and then the tile (tiled), whose bytes hold the address, and tries only
 //! the pairs there. The unit tests compare it with a search of the whole window.
 
+mod run;
+
 use crate::layout::{judge, tile_of, Layout, Tile, Window, TILE_BYTES};
 use crate::Answer;
+
+pub use run::{translate_run, Translated};
 
 /// What one bit of the place inside a tile is made of. The numbers are bit
 /// numbers of the whole x and y, also above the tile.
