@@ -1,13 +1,15 @@
 //! Document 01, "Stepping a group": a program of flow words, a group of
-//! processors, one step in its six numbered parts, and a run. The loops of
-//! document 02's request 4 have a file of their own.
+//! processors, one step in its six numbered parts, and a run. What document 02
+//! adds to the stepper has files of its own.
 
 mod loops;
+mod mode;
 
 use crate::{bits, Answer};
 use loops::{Integer, Op};
 
 pub use loops::Loop;
+pub use mode::Mode;
 
 /// The slots of a program's store.
 const STORE: usize = 512;
@@ -17,9 +19,6 @@ const PLAIN: [u32; 2] = [0x0000_0020, 0];
 
 /// The most returns that the stack holds.
 const MOST_RETURNS: usize = 4;
-
-/// The most that a branch counter holds.
-const MOST_COUNTER: u32 = 31;
 
 /// One processor of a group; an inactive one has its branch counter. An active
 /// one's counter is 0 and isn't written down.
@@ -41,6 +40,8 @@ pub struct Program {
 /// its open loops, outermost first.
 #[derive(Clone, Debug, PartialEq, Eq)]
 pub struct Group {
+    /// Chosen at the start.
+    pub mode: Mode,
     pub processors: Vec<Processor>,
     pub position: u32,
     pub returns: Vec<u32>,
@@ -229,12 +230,13 @@ fn decrement(processors: &mut [Processor], b_pop_cnt: u32) {
     }
 }
 
-/// Part 4, increment: inactive counters gain 1 (14 from 31); active processors
-/// whose wish differs from the decision become inactive with counter 0.
-fn increment(processors: &mut [Processor], wishes: &[bool], jump: bool) -> Answer<()> {
+/// Part 4, increment: inactive counters gain 1 (14 from the most that the mode
+/// allows); active processors whose wish differs from the decision become
+/// inactive with counter 0.
+fn increment(processors: &mut [Processor], wishes: &[bool], jump: bool, most: u32) -> Answer<()> {
     for (processor, wish) in processors.iter_mut().zip(wishes) {
         *processor = match *processor {
-            Processor::Inactive(counter) if counter >= MOST_COUNTER => return Err(14),
+            Processor::Inactive(counter) if counter >= most => return Err(14),
             Processor::Inactive(counter) => Processor::Inactive(counter + 1),
             Processor::Active if *wish != jump => Processor::Inactive(0),
             Processor::Active => Processor::Active,
@@ -260,13 +262,14 @@ fn jump_target(slot: &Slot, position: u32, returns: &mut Vec<u32>) -> Answer<u32
 }
 
 impl Group {
-    /// A group at its start: all active, position 0, no returns. 13 for a size
-    /// other than 1 to 32.
+    /// A group at its start in full mode: all active, position 0, no returns. 13
+    /// for a size other than 1 to 32.
     pub fn begin(size: u32) -> Answer<Group> {
         if !(1..=32).contains(&size) {
             return Err(13);
         }
         Ok(Group {
+            mode: Mode::Full,
             processors: vec![Processor::Active; size as usize],
             position: 0,
             returns: Vec::new(),
@@ -312,6 +315,7 @@ impl Group {
             return Err(16);
         }
         let slot = Slot::of(program.slots[self.position as usize])?;
+        self.mode.judge(&slot)?;
         let integer = Integer::asked_by(slot.op, slot.integer, integers)?;
         let mut next = self.clone();
         let jumped = next.work(&slot, integer, alu, predicate, booleans)?;
@@ -354,7 +358,10 @@ impl Group {
         match b_op {
             BranchOp::Nothing => {}
             BranchOp::Decrement => decrement(&mut self.processors, slot.b_pop_cnt),
-            BranchOp::Increment => increment(&mut self.processors, &wishes, jump)?,
+            BranchOp::Increment => {
+                let most = self.mode.most_counter();
+                increment(&mut self.processors, &wishes, jump, most)?;
+            }
         }
         // 5. On a stay neither push nor pop happens.
         self.position = if jump {

@@ -33,6 +33,7 @@ fn single(first: u32) -> Program {
 
 fn group(processors: &[Processor]) -> Group {
     Group {
+        mode: Mode::Full,
         processors: processors.to_vec(),
         position: 0,
         returns: Vec::new(),
