@@ -2,12 +2,15 @@
 //! processors, one step in its six numbered parts, and a run. What document 02
 //! adds to the stepper has files of its own.
 
+mod floats;
+mod kill;
 mod loops;
 mod mode;
 
 use crate::{bits, Answer};
 use loops::{Integer, Op};
 
+pub use floats::{choice, is_less, maximum, Register};
 pub use loops::Loop;
 pub use mode::Mode;
 
@@ -46,6 +49,9 @@ pub struct Group {
     pub position: u32,
     pub returns: Vec<u32>,
     pub loops: Vec<Loop>,
+    /// The mask of the killed. Each stands among the processors, inactive with
+    /// counter 0, so that the others keep their numbers.
+    pub killed: u32,
 }
 
 /// What a step decided, and the position after it.
@@ -274,6 +280,7 @@ impl Group {
             position: 0,
             returns: Vec::new(),
             loops: Vec::new(),
+            killed: 0,
         })
     }
 
@@ -317,13 +324,15 @@ impl Group {
         let slot = Slot::of(program.slots[self.position as usize])?;
         self.mode.judge(&slot)?;
         let integer = Integer::asked_by(slot.op, slot.integer, integers)?;
-        let mut next = self.clone();
+        // The killed "count as not in the group", so the living alone are worked.
+        let mut next = self.living();
+        let (alu, predicate) = (self.mask_of_living(alu), self.mask_of_living(predicate));
         let jumped = next.work(&slot, integer, alu, predicate, booleans)?;
         // 6. The next position may be N, which ends the program.
         if next.position > program.running {
             return Err(15);
         }
-        *self = next;
+        *self = self.with_living(next);
         Ok(Stepped {
             jumped,
             position: self.position,

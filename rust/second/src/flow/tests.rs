@@ -38,6 +38,7 @@ fn group(processors: &[Processor]) -> Group {
         position: 0,
         returns: Vec::new(),
         loops: Vec::new(),
+        killed: 0,
     }
 }
 
