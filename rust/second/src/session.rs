@@ -3,6 +3,8 @@
 //! of command words. Starts are document 02's, whose request 2 passes over silent
 //! outputs.
 
+mod readiness;
+
 use crate::command::{format_of, judge_together, judge_word, layout_of, line_of, Command, Line};
 use crate::command::{
     SET_COND_OUT_FMT, SET_COND_OUT_MASK, SET_COND_TEST, SET_CONSTB_FMT, SET_CONSTF_FMT,
