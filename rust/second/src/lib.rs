@@ -13,6 +13,7 @@
 //!   loops of document 02's request 4;
 //! * [`log`]: a station's log over midnight, from document 02's request 1;
 //! * `silent`: outputs that a start passes over, from document 02's request 2;
+//! * `edition`: what a pair is credited, from document 02's request 10;
 //! * [`score`]: a month of a log scored against its lease line, from document
 //!   02's request 5.
 //!
@@ -22,6 +23,7 @@
 
 pub mod address;
 pub mod command;
+mod edition;
 pub mod flow;
 pub mod layout;
 pub mod log;

@@ -11,6 +11,7 @@ use crate::command::{
     SET_CONSTI_FMT, SET_DOMAIN, SET_INP_FMT, SET_INST_FMT, SET_OUT_FMT, SET_OUT_MASK,
     START_PROGRAM,
 };
+use crate::edition::Edition;
 use crate::layout::judge;
 use crate::silent::is_silent;
 use crate::Answer;
@@ -55,9 +56,11 @@ struct OpenCommand {
     parameters: Vec<u32>,
 }
 
-/// Everything that commands set, and the two tallies.
+/// Everything that commands set, the two tallies, and the edition by which the
+/// second is counted.
 #[derive(Clone, Debug, PartialEq, Eq)]
 struct Settings {
+    edition: Edition,
     domain: Option<[u32; 4]>,
     instructions: Option<Format>,
     floats: Option<Format>,
@@ -93,6 +96,7 @@ impl Settings {
     /// "A new session has nothing set and mask 65535."
     fn new() -> Settings {
         Settings {
+            edition: Edition::First,
             domain: None,
             instructions: None,
             floats: None,
@@ -168,15 +172,26 @@ impl Settings {
         judge_spans(&outputs)
     }
 
-    /// One run more, and a claimed element for each pair of the domain in each
-    /// set output that isn't silent.
+    /// One run more, and for each pair of the domain what the edition credits for
+    /// the set outputs.
     fn count_start(&mut self) {
         if let Some([i0, j0, i1, j1]) = self.domain {
             let columns = u64::from(i1) - u64::from(i0) + 1;
             let rows = u64::from(j1) - u64::from(j0) + 1;
             self.runs += 1;
-            self.claims += columns * rows * self.counted_outputs().len() as u64;
+            self.claims += columns * rows * self.credit();
         }
+    }
+
+    /// What one pair of the domain is credited for all set outputs together.
+    fn credit(&self) -> u64 {
+        let mut credit = 0;
+        for (number, output) in self.outputs.iter().enumerate() {
+            if let Some(format) = output {
+                credit += self.edition.credit(self.output_mask, number as u32, format);
+            }
+        }
+        credit
     }
 }
 
@@ -217,6 +232,15 @@ impl Session {
     /// A session that has taken no word yet.
     pub fn new() -> Session {
         Session::new_after(0)
+    }
+
+    /// The same under this edition of the lease rule, 1 or 2; 3 for any other.
+    /// [`Session::new`] is under edition 1.
+    pub fn new_in(edition: u32) -> Answer<Session> {
+        let edition = Edition::of(edition)?;
+        let mut session = Session::new();
+        session.settings.edition = edition;
+        Ok(session)
     }
 
     /// A session as [`Session::new`] gives it, but with this many words already
