@@ -6,6 +6,7 @@
 //!
 //! * [`command`]: the command table, the bits of each parameter, the writer;
 //! * [`session`]: the reader of command words, its settings and its tallies;
+//! * [`lessees`]: a session that two parties share, from document 02's request 9;
 //! * [`layout`]: what a layout is, the row step, the span, the window rule;
 //! * [`address`]: a pair's address, and the way back by search;
 //! * [`memory`]: elements read and written in lent memory, the superfine read;
@@ -26,6 +27,7 @@ pub mod command;
 mod edition;
 pub mod flow;
 pub mod layout;
+pub mod lessees;
 pub mod log;
 pub mod memory;
 pub mod score;

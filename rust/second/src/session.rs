@@ -17,10 +17,10 @@ use crate::silent::is_silent;
 use crate::Answer;
 
 /// A session takes this many words and no more.
-const MOST_WORDS: u64 = 1_000_000_000;
+pub(crate) const MOST_WORDS: u64 = 1_000_000_000;
 
 /// The output mask of a new session.
-const FIRST_MASK: u32 = 65_535;
+pub(crate) const FIRST_MASK: u32 = 65_535;
 
 /// What an accepted word answers.
 #[derive(Clone, Copy, Debug, PartialEq, Eq)]
@@ -197,7 +197,7 @@ impl Settings {
 
 /// Whether each pair of the domain is inside the output's window: i goes with
 /// the row step and j with the height. Both ends belong to the domain.
-fn domain_is_inside(domain: &[u32; 4], output: &Format) -> Answer<bool> {
+pub(crate) fn domain_is_inside(domain: &[u32; 4], output: &Format) -> Answer<bool> {
     let layout = layout_of(output.base, output.format, output.height).ok_or(3u32)?;
     let window = judge(&layout)?;
     let [_, _, i1, j1] = *domain;
@@ -206,7 +206,7 @@ fn domain_is_inside(domain: &[u32; 4], output: &Format) -> Answer<bool> {
 
 /// 9 where the spans of two outputs share a byte. Whole spans are compared, also
 /// bytes that no pair owns.
-fn judge_spans(outputs: &[Format]) -> Answer<()> {
+pub(crate) fn judge_spans(outputs: &[Format]) -> Answer<()> {
     for (place, one) in outputs.iter().enumerate() {
         for other in &outputs[place + 1..] {
             let (one, other) = (span_of(one)?, span_of(other)?);
