@@ -13,6 +13,7 @@
 //! * [`flow`]: programs of flow words, and a group stepped through them, with the
 //!   loops of document 02's request 4;
 //! * [`log`]: a station's log over midnight, from document 02's request 1;
+//! * [`survey`]: conditional output tests, from document 02's request 12;
 //! * `silent`: outputs that a start passes over, from document 02's request 2;
 //! * `edition`: what a pair is credited, from document 02's request 10;
 //! * [`score`]: a month of a log scored against its lease line, from document
@@ -33,6 +34,7 @@ pub mod memory;
 pub mod score;
 pub mod session;
 mod silent;
+pub mod survey;
 
 /// What an entry answers: its result, or document 01's refusal number.
 pub type Answer<T> = Result<T, u32>;
