@@ -9,6 +9,7 @@
 //! * [`lessees`]: a session that two parties share, from document 02's request 9;
 //! * [`layout`]: what a layout is, the row step, the span, the window rule;
 //! * [`address`]: a pair's address, and the way back by search;
+//! * [`picture`]: whole rectangles of elements, from document 02's request 13;
 //! * [`memory`]: elements read and written in lent memory, the superfine read;
 //! * [`flow`]: programs of flow words, and a group stepped through them, with the
 //!   loops of document 02's request 4;
@@ -31,6 +32,7 @@ pub mod layout;
 pub mod lessees;
 pub mod log;
 pub mod memory;
+pub mod picture;
 pub mod score;
 pub mod session;
 mod silent;
