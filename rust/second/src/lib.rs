@@ -18,7 +18,9 @@
 //! * `silent`: outputs that a start passes over, from document 02's request 2;
 //! * `edition`: what a pair is credited, from document 02's request 10;
 //! * [`score`]: a month of a log scored against its lease line, from document
-//!   02's request 5.
+//!   02's request 5;
+//! * [`fleet`]: the months of up to 64 stations in one report, from document 02's
+//!   request 14.
 //!
 //! Every refusal is document 01's number, as the `Err` of an [`Answer`].
 
@@ -27,6 +29,7 @@
 pub mod address;
 pub mod command;
 mod edition;
+pub mod fleet;
 pub mod flow;
 pub mod layout;
 pub mod lessees;
