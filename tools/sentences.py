@@ -201,5 +201,7 @@ class Sentences:
 
 
 def differences(made, kept):
-    changed = difflib.unified_diff(kept.splitlines(), made.splitlines(), LIST.name, "the documents", n=0, lineterm="")
-    return [line for line in changed if not line.startswith("@@")]
+    """Where the list as it is kept differs from the one that the documents give."""
+    told = {"- ": f"{LIST.name} has, and the documents haven't", "+ ": f"the documents have, and {LIST.name} hasn't"}
+    changed = difflib.ndiff(kept.splitlines(), made.splitlines())
+    return [f"{told[line[:2]]}: {line[2:].strip()}" for line in changed if line[:2] in told]
