@@ -5,10 +5,10 @@ The documents are not in this repository. The list has a line for each sentence 
   01 2 31 8 0123456789abcdef A refused word    document, section and number; words; checksum; at most its first three words
     3-5 0123456789abcdef                       a part that rows quote: its first and last word, and its own checksum
 
-and before each document's a line with their number and one checksum over theirs, so that a lost line shows. Those of document 02 are
-the requests' that have a note in docs/landings. A checksum is the
-first 16 digits of SHA-256 of the words with one space between them, without points, commas, colons, brackets and quotation
-marks at both ends.
+and before each document's a line with their number and one checksum over theirs, so that a lost line shows. Document 01 is there with
+all but headings and heads of tables, a line of a table being a sentence; document 00 with demands 1 to 3; document 02 with the
+requests that have a note in docs/landings. A checksum is the first 16 digits of SHA-256 of the words with one space between
+them, without points, commas, colons, brackets and quotation marks at both ends.
 
 A row quotes between “ and ”: whole sentences, or parts of them; `...` between two parts stands for the words between them. A
 quote is the documents' own where the list has each part's checksum, all in one sentence and in its order. A sentence has its rows
@@ -45,16 +45,12 @@ def landed():
     return [str(number) for number in sorted(numbers) if number]
 
 
-def words_of(text):
-    return text.split()
-
-
 def checksum(text):
-    return hashlib.sha256(" ".join(words_of(text)).strip(EDGES).encode()).hexdigest()[:16]
+    return hashlib.sha256(" ".join(text.split()).strip(EDGES).encode()).hexdigest()[:16]
 
 
 def split(text):
-    return [sentence for sentence in END.split(" ".join(words_of(text))) if sentence]
+    return [sentence for sentence in END.split(" ".join(text.split())) if sentence]
 
 
 def blocks(text):
@@ -91,7 +87,7 @@ def read_documents(folder):
 
 def runs_in(sentences, part):
     """Where the part stands in the documents' own text."""
-    wanted, length = checksum(part), len(words_of(part))
+    wanted, length = checksum(part), len(part.split())
     return [
         Run(key, first + 1, first + length)
         for key, words in sentences.items()
@@ -123,17 +119,17 @@ def listed(sentences, parts):
 def make(folder, quotes):
     """The list that the documents in the folder and the page's quotes give."""
     texts = read_documents(folder)
-    lengths = {key: words_of(sentence) for key, sentence in texts.items()}
+    words_in = {key: sentence.split() for key, sentence in texts.items()}
     parts = set()
     for quote in quotes:
         for sentence in parts_of(quote):
             for part in sentence:
-                runs = runs_in(lengths, part)
+                runs = runs_in(words_in, part)
                 # what is a whole sentence is that one, wherever else its words stand
-                if all(run.last - run.first + 1 < len(lengths[run.key]) for run in runs):
+                if all(run.last - run.first + 1 < len(words_in[run.key]) for run in runs):
                     parts.update((run, checksum(part)) for run in runs)
     rows = []
-    for key, words in lengths.items():
+    for key, words in words_in.items():
         # at most three words, and never more than half of a sentence
         rows.append((key, len(words), checksum(texts[key]), " ".join(words[:min(3, len(words) // 2)])))
     return listed(rows, parts)
@@ -201,5 +197,7 @@ class Sentences:
 
 
 def differences(made, kept):
-    changed = difflib.unified_diff(kept.splitlines(), made.splitlines(), LIST.name, "the documents", n=0, lineterm="")
-    return [line for line in changed if not line.startswith("@@")]
+    """Where the list as it is kept differs from the one that the documents give."""
+    told = {"- ": f"{LIST.name} has, and the documents haven't", "+ ": f"the documents have, and {LIST.name} hasn't"}
+    changed = difflib.ndiff(kept.splitlines(), made.splitlines())
+    return [f"{told[line[:2]]}: {line[2:].strip()}" for line in changed if line[:2] in told]
