@@ -35,7 +35,8 @@ use Rattle.accept.specs.AtWord.{atWord}
 use Rattle.state.specs.Asked.{Given, Held, HeldOwn, OwnAsked}
 use Rattle.state.specs.Cells.{Sized, partyOf, partyCells, tallyCells, sharedOf, sharedCells, sessionOf, setBuffer, ownLength, sharedLength}
 use Rattle.state.specs.Effects.{tookWords}
-use Rattle.accept.specs.Whole.{Ready, RoomFor, Denied, byWords, byFields, bySettings, Tried, untaken, accepted, Begun, begun, unbegun, OwnTried, SharedTried, KeptAt, everyWord}
+use Rattle.accept.specs.Whole.{Ready, RoomFor, Denied, byWords, byFields, bySettings, Tried, untaken, accepted, Begun, begun, unbegun}
+use Rattle.accept.specs.Whole.{OwnTried, SharedTried, KeptAt, everyWord}
 use Rattle.state.proofs.OwnPuts.{
   stored-cells,
   own-instructions,
@@ -211,7 +212,8 @@ module _ (l l1 : List ℕ) (m : ℕ) (e : l1 ≡ partyCells (tookWords m (partyO
         (store-own l1 sized t (z .tallies-length) (sharedOf h) what b f (constants-own what at b f a))
         (p ∙ constants-shared what at b f a (z .shared-length))
 
-    pub mask-tried : (n : ℕ) → judgeCommandOf (command.OutputMask n) ≡ gives [] → h1 ≡ set h 0 n → SharedTried (command.OutputMask n) (headerOf 18 ∷ n ∷ []) m m l h l1 h1
+    pub mask-tried : (n : ℕ) → judgeCommandOf (command.OutputMask n) ≡ gives [] → h1 ≡ set h 0 n
+        → SharedTried (command.OutputMask n) (headerOf 18 ∷ n ∷ []) m m l h l1 h1
     unfolding wordsOf lineOf fieldsOf startRuleOf
     mask-tried n fine p t rest z =
         tried (command.OutputMask n) m l t h l1 e rest _ refl fine refl l1 t h1
@@ -224,7 +226,8 @@ module _ (l l1 : List ℕ) (m : ℕ) (e : l1 ≡ partyCells (tookWords m (partyO
         tried (command.ConditionalMask n) m l t h l1 e rest _ refl fine refl l1 t h1
         (conditional-mask-own l1 sized t (z .tallies-length) (sharedOf h) n) (p ∙ conditional-mask-shared h (z .shared-length) n)
 
-    pub test-tried : (n : ℕ) → judgeCommandOf (command.Test n) ≡ gives [] → h1 ≡ set (set h 3 1) 4 n → SharedTried (command.Test n) (headerOf 20 ∷ n ∷ []) m m l h l1 h1
+    pub test-tried : (n : ℕ) → judgeCommandOf (command.Test n) ≡ gives [] → h1 ≡ set (set h 3 1) 4 n
+        → SharedTried (command.Test n) (headerOf 20 ∷ n ∷ []) m m l h l1 h1
     unfolding wordsOf lineOf fieldsOf startRuleOf
     test-tried n fine p t rest z =
         tried (command.Test n) m l t h l1 e rest _ refl fine refl l1 t h1

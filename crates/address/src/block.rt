@@ -14,14 +14,16 @@ pub struct Block {
 // The exclusive or of two bits.
 fn flip(a: u32, b: u32) -> u32
     requires { ⌜ (a < 2) × (b < 2) ⌝ }
-    ensures { λ r. ⌜ (r ≡ xor a b) × (r < 2) ⌝ }
+    ensures value { λ r. ⌜ r ≡ xor a b ⌝ }
+    ensures most { λ r. ⌜ r < 2 ⌝ }
 {
     a ^ b
 }
 
 // Bits 10 to 5 of the place inside a tile, for the block at this column and row of the window.
 pub fn code(column: u32, row: u32) -> u32
-    ensures { λ r. ⌜ (r ≡ codeOf column row) × (r < 64) ⌝ }
+    ensures value { λ r. ⌜ r ≡ codeOf column row ⌝ }
+    ensures most { λ r. ⌜ r < 64 ⌝ }
 {
     // what the column puts in, and what the row does, each with all its bits at once: X2 and Y2 stand twice
     let by_column = column / 4 % 4 * 16 + column / 2 % 4 * 4 + column % 2;
@@ -32,7 +34,8 @@ pub fn code(column: u32, row: u32) -> u32
 // The block with this code in the tile at this column and row of tiles.
 pub fn find(column: u32, row: u32, code: u32) -> Block
     requires { ⌜ (column < 2 ^ 24) × (row < 2 ^ 24) ⌝ }
-    ensures { λ r. ⌜ (r .column ≡ blockX column row code) × (r .row ≡ blockY column row code) ⌝ }
+    ensures column { λ r. ⌜ r .column ≡ blockX column row code ⌝ }
+    ensures row { λ r. ⌜ r .row ≡ blockY column row code ⌝ }
 {
     let x2 = flip(code / 16 % 2, row % 2);
     let y2 = flip(code / 32 % 2, column % 2);

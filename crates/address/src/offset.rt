@@ -63,7 +63,8 @@ pub fn offset(tiled: bool, size: u32, stride: u32, x: u32, y: u32) -> u32
 // The pair of an offset where blocks are p wide and q high.
 fn back_in_tiles(p: u32, q: u32, size: u32, stride: u32, o: u32) -> Pair
     requires { ⌜ BlockAsked p q size (stride / size) × (0 < stride / size / widthOf size) ⌝ }
-    ensures { λ r. ⌜ (r .x ≡ tiledX size (stride / size) o) × (r .y ≡ tiledY size (stride / size) o) ⌝ }
+    ensures column { λ r. ⌜ r .x ≡ tiledX size (stride / size) o ⌝ }
+    ensures row { λ r. ⌜ r .y ≡ tiledY size (stride / size) o ⌝ }
 {
     let step = stride / size;
     let columns = step / (p * TILE_SIDE);
@@ -82,7 +83,8 @@ fn back_in_tiles(p: u32, q: u32, size: u32, stride: u32, o: u32) -> Pair
 
 fn tiled_back(size: u32, stride: u32, o: u32) -> Pair
     requires { ⌜ StepAsked true size (stride / size) ⌝ }
-    ensures { λ r. ⌜ (r .x ≡ tiledX size (stride / size) o) × (r .y ≡ tiledY size (stride / size) o) ⌝ }
+    ensures column { λ r. ⌜ r .x ≡ tiledX size (stride / size) o ⌝ }
+    ensures row { λ r. ⌜ r .y ≡ tiledY size (stride / size) o ⌝ }
 {
     match size {
         1 => back_in_tiles(8, 4, 1, stride, o),
@@ -110,7 +112,8 @@ fn elements(size: u32, o: u32) -> u32
 // The pair of an offset; its row may be past the window's last.
 pub fn back(tiled: bool, size: u32, stride: u32, o: u32) -> Pair
     requires { ⌜ StepAsked tiled size (stride / size) × (stride / size * size ≡ stride) ⌝ }
-    ensures { λ r. ⌜ (r .x ≡ xOf tiled size (stride / size) o) × (r .y ≡ yOf tiled size (stride / size) o) ⌝ }
+    ensures column { λ r. ⌜ r .x ≡ xOf tiled size (stride / size) o ⌝ }
+    ensures row { λ r. ⌜ r .y ≡ yOf tiled size (stride / size) o ⌝ }
 {
     if tiled {
         tiled_back(size, stride, o)

@@ -178,4 +178,5 @@ pub fn run() {
     Tally::new()
         .with(again() == 16)
         .print(b"a run after the end");
+    counts();
 }

@@ -154,7 +154,8 @@ fn stride_logs(tiled: bool) -> u64
 // The power of what the strides of a size are multiples of.
 fn stride_log(size: u32, tiled: bool) -> u32
     requires { ⌜ isSize size ≡ true ⌝ }
-    ensures { λ r. ⌜ (r ≤ 12) × (2 ^ r ≡ unitOf tiled size * size) ⌝ }
+    ensures most { λ r. ⌜ r ≤ 12 ⌝ }
+    ensures power { λ r. ⌜ 2 ^ r ≡ unitOf tiled size * size ⌝ }
 {
     power_at(stride_logs(tiled), size) + LINEAR_UNIT_LOG
 }
@@ -169,7 +170,8 @@ fn rows_logs(tiled: bool) -> u64
 // The power of what the rows of a window's bytes are a multiple of.
 fn rows_log(size: u32, tiled: bool) -> u32
     requires { ⌜ isSize size ≡ true ⌝ }
-    ensures { λ r. ⌜ (r ≤ 7) × (2 ^ r ≡ pick tiled (heightOf size) 1) ⌝ }
+    ensures most { λ r. ⌜ r ≤ 7 ⌝ }
+    ensures power { λ r. ⌜ 2 ^ r ≡ pick tiled (heightOf size) 1 ⌝ }
 {
     power_at(rows_logs(tiled), size)
 }

@@ -12,7 +12,8 @@ use Rattle.session.proofs.Kept.{new-valid}
 use Rattle.session.proofs.Refusals.{fed-valid}
 use Rattle.session.proofs.Tallies.{tallied}
 use Rattle.replay.specs.State.{OpenRecord, Replay, newReplay}
-use Rattle.replay.specs.Step.{Reply, taken, refused, StopNumber, byKind, byDay, Stepped, opening, stopped, ofKind, kindStep, withByte, afterWord, mayBegin, afterMidnight, midnightStep}
+use Rattle.replay.specs.Step.{Reply, taken, refused, StopNumber, byKind, byDay, Stepped, opening, stopped, ofKind, kindStep, withByte}
+use Rattle.replay.specs.Step.{afterWord, mayBegin, afterMidnight, midnightStep}
 use Rattle.log.specs.Bytes.{recordStep, openStep, byteStep}
 use Rattle.replay.specs.Report.{beganWith, endedWith}
 use Rattle.log.specs.Feed.{Fed, proceed, replayOf, afterWords}
@@ -41,7 +42,8 @@ new-replay-valid =
     }
   where
     nothing-yet : (k : ℕ) → k ≡ 0 → Grows (replicate 800 0) 0 0 0 k
-    nothing-yet k e = subst (λ (j : ℕ). Grows (replicate 800 0) 0 0 0 j) (sym e) (unfold beganWith endedWith pick in record { runs-grow = omega arith; claims-grow = omega arith })
+    nothing-yet k e = subst (λ (j : ℕ). Grows (replicate 800 0) 0 0 0 j) (sym e)
+        (unfold beganWith endedWith pick in record { runs-grow = omega arith; claims-grow = omega arith })
 
 module _ (r : Replay) (v : ReplayValid r) where
   -- a replay that stops

@@ -21,7 +21,8 @@ use Rattle.session.specs.Feed.{First, nothing, first, feedOf, proceed as feedin
 use Rattle.session.specs.Feed as pieces
 use Rattle.session.proofs.Refusals.{refused-word, stopped-for-good, stopped-piece}
 use Rattle.replay.specs.State.{OpenRecord, WordRefused, Replay, noRecord}
-use Rattle.replay.specs.Step.{taken, refused, Stepped, opening, taking, isKind, ofKind, kindStep, withByte, numberFrom, noted, notedReply, withWords, afterWord, afterMidnight, midnightStep}
+use Rattle.replay.specs.Step.{taken, refused, Stepped, opening, taking, isKind, ofKind, kindStep, withByte, numberFrom, noted, notedReply}
+use Rattle.replay.specs.Step.{withWords, afterWord, afterMidnight, midnightStep}
 use Rattle.log.specs.Bytes.{recordStep, openStep, byteStep}
 use Rattle.log.specs.Feed.{Fed, ahead, proceed, replayOf, recordBytes, wordRecords, notedFirst, afterWords}
 use Rattle.log.specs.Asked.{Gathered, Words32}

@@ -30,7 +30,8 @@ use Rattle.session.proofs.stream.Answer.{the-type}
 use Rattle.session.proofs.Handed.{piece-given}
 use Rattle.session.proofs.Refusals.{fed-valid}
 use Rattle.replay.specs.State.{WordRefused, Replay, noRecord}
-use Rattle.replay.specs.Step.{StopNumber, byKind, byDay, Reply, taken, refused, Stepped, opening, taking, ofKind, isKind, kindStep, withByte, numberFrom, notedReply, withWords, afterWord, midnightStep}
+use Rattle.replay.specs.Step.{StopNumber, byKind, byDay, Reply, taken, refused, Stepped, opening, taking, ofKind, isKind, kindStep}
+use Rattle.replay.specs.Step.{withByte, numberFrom, notedReply, withWords, afterWord, midnightStep}
 use Rattle.log.specs.Bytes.{recordStep, openStep, byteStep}
 use Rattle.log.specs.Feed.{notedFirst, afterWords}
 use Rattle.replay.specs.Cells.{viewed, replayIn, ReplayGiven}
@@ -45,7 +46,8 @@ abbrev told : Reply → Replay → Stepped
 told reply r = record { reply = reply; replay = r }
 
 -- words of records
-module _ (ws l own tallies shared l1 own1 tallies1 shared1 : List ℕ) (g : Given own tallies shared) (r : declared.Fed) (p : WordsFed (feedOf (sessionOf own tallies shared) ws) r own1 tallies1 shared1) where
+module _ (ws l own tallies shared l1 own1 tallies1 shared1 : List ℕ) (g : Given own tallies shared) (r : declared.Fed)
+    (p : WordsFed (feedOf (sessionOf own tallies shared) ws) r own1 tallies1 shared1) where
   abbrev fed : pieces.Fed
   fed = feedOf (sessionOf own tallies shared) ws
 
@@ -54,7 +56,8 @@ module _ (ws l own tallies shared l1 own1 tallies1 shared1 : List ℕ) (g : Give
 
   -- the replay after words with this first refusal
   after-first : (f : First) → f ≡ fed .refusal → (marks : List ℕ) →
-      withWords (sessionOf own1 tallies1 shared1) (notedFirst f (getD l 3 0) (record { number = getD l 1 0; midnights = getD l 2 0 })) (replayIn l marks own tallies shared) ≡
+      withWords (sessionOf own1 tallies1 shared1) (notedFirst f (getD l 3 0) (record { number = getD l 1 0; midnights = getD l 2 0 }))
+      (replayIn l marks own tallies shared) ≡
       afterWords (replayIn l marks own tallies shared) ws
   unfolding afterWords viewed
   after-first f e marks =

@@ -17,7 +17,8 @@ use Rattle.session.specs.Feed as pieces
 use Rattle.session.proofs.Cut.{cut}
 use Rattle.session.proofs.Refusals.{refused-word}
 use Rattle.replay.specs.State.{WordRefused, Replay}
-use Rattle.replay.specs.Step.{refused, Stepped, opening, taking, isKind, kindStep, withByte, numberFrom, noted, notedReply, afterWord, mayBegin, afterMidnight, midnightStep}
+use Rattle.replay.specs.Step.{refused, Stepped, opening, taking, isKind, kindStep, withByte, numberFrom, noted, notedReply, afterWord}
+use Rattle.replay.specs.Step.{mayBegin, afterMidnight, midnightStep}
 use Rattle.log.specs.Bytes.{recordStep, openStep, byteStep}
 use Rattle.log.specs.Feed.{proceed, replayOf}
 use Rattle.log.specs.Words.{wordBy, reported, onTaken, wordsIn}

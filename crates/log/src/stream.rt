@@ -110,7 +110,8 @@ fn open_byte(
 
 // A byte as a wider number.
 fn wide(byte: u8) -> u32
-    ensures { λ r. ⌜ (r ≡ byte) × (r < 256) ⌝ }
+    ensures value { λ r. ⌜ r ≡ byte ⌝ }
+    ensures most { λ r. ⌜ r < 256 ⌝ }
 {
     byte as u32
 }
@@ -153,7 +154,8 @@ fn read_byte(
 // for; and how many they are.
 fn gather(bytes: &[u8], at: usize, words: &mut [u32; BATCH]) -> usize
     requires { ⌜ (at ≤ length (now bytes)) × (length (now words) ≡ batch) ⌝ }
-    ensures { λ n. ⌜ Gathered (drop at (now (bytes .entry))) n (now (words .exit)) × (length (now (words .exit)) ≡ batch) ⌝ }
+    ensures gathered { λ n. ⌜ Gathered (drop at (now (bytes .entry))) n (now (words .exit)) ⌝ }
+    ensures room { λ _. ⌜ length (now (words .exit)) ≡ batch ⌝ }
 {
     let mut n: usize = 0;
     while n < BATCH {

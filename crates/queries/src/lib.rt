@@ -1,6 +1,5 @@
 // Queries of a session's settings and tallies. They read the cells and change nothing, stopped or not.
 use state::own;
-use state::own::WordPosition;
 use state::settings;
 ghost use mathlib.Core.Path.{_≡_};
 ghost use mathlib.Core.List.{[]};
@@ -26,19 +25,6 @@ pub struct Bounds {
     pub j0: u32,
     pub i1: u32,
     pub j1: u32,
-}
-
-fn wide(n: u32) -> u64
-    ensures { λ r. ⌜ r ≡ n ⌝ }
-{
-    n as u64
-}
-
-// Words taken since the session began.
-pub fn taken(own: &[u32; state::OWN_CELLS]) -> WordPosition
-    ensures { λ r. ⌜ r .0 ≡ partyOf (now (own .entry)) [] .taken ⌝ }
-{
-    WordPosition(wide(own[own::TAKEN]))
 }
 
 pub fn is_stopped(own: &[u32; state::OWN_CELLS]) -> bool

@@ -9,7 +9,8 @@ use Rattle.state.specs.Cells.{sessionOf, Sized}
 use Rattle.state.specs.Asked.{Held}
 use Rattle.state.specs.Valid as sessions
 use Rattle.replay.specs.State.{OpenRecord, Replay, noRecord, mostMidnights, marksLength}
-use Rattle.replay.specs.Places.{logLength, stoppedByPlace, refusedPlace, refusedAfterPlace, midnightsPlace, lastDayPlace, countPlace, kindPlace, lowPlace, secondPlace, thirdPlace}
+use Rattle.replay.specs.Places.{logLength, stoppedByPlace, refusedPlace, refusedAfterPlace, midnightsPlace, lastDayPlace, countPlace}
+use Rattle.replay.specs.Places.{kindPlace, lowPlace, secondPlace, thirdPlace}
 use Rattle.replay.specs.Step.{StopNumber}
 use Rattle.replay.specs.Report.{beganWith, endedWith}
 

@@ -339,10 +339,38 @@ store-decided base format what =
     (λ e. sym (fine-given (Conditional base format 1) (conditional-fits base format 1 (back what e))))
   where
     back : (what : Stored) → judgeCommandOf (Store what base format) ≡ gives [] → WindowFits base format 1
-    back Instructions e = unfold lineOf storedLine fieldsOf countOf kindOf windowKept allowed in (record { base-allowed = field-allowed (Store Instructions base format) e 0 (omega arith); format-allowed = field-allowed (Store Instructions base format) e 1 (omega arith); height-allowed = refl; window-given = both-kept (Store Instructions base format) e .1 })
-    back Floats e = unfold lineOf storedLine fieldsOf countOf kindOf windowKept allowed in (record { base-allowed = field-allowed (Store Floats base format) e 0 (omega arith); format-allowed = field-allowed (Store Floats base format) e 1 (omega arith); height-allowed = refl; window-given = both-kept (Store Floats base format) e .1 })
-    back Integers e = unfold lineOf storedLine fieldsOf countOf kindOf windowKept allowed in (record { base-allowed = field-allowed (Store Integers base format) e 0 (omega arith); format-allowed = field-allowed (Store Integers base format) e 1 (omega arith); height-allowed = refl; window-given = both-kept (Store Integers base format) e .1 })
-    back Booleans e = unfold lineOf storedLine fieldsOf countOf kindOf windowKept allowed in (record { base-allowed = field-allowed (Store Booleans base format) e 0 (omega arith); format-allowed = field-allowed (Store Booleans base format) e 1 (omega arith); height-allowed = refl; window-given = both-kept (Store Booleans base format) e .1 })
+    back Instructions e = unfold lineOf storedLine fieldsOf countOf kindOf windowKept allowed in
+        (record {
+          base-allowed = field-allowed (Store Instructions base format) e 0 (omega arith);
+          format-allowed = field-allowed
+              (Store Instructions base format) e 1 (omega arith);
+          height-allowed = refl;
+          window-given = both-kept (Store Instructions base format) e .1;
+        })
+    back Floats e = unfold lineOf storedLine fieldsOf countOf kindOf windowKept allowed in
+        (record {
+          base-allowed = field-allowed (Store Floats base format) e 0 (omega arith);
+          format-allowed = field-allowed
+              (Store Floats base format) e 1 (omega arith);
+          height-allowed = refl;
+          window-given = both-kept (Store Floats base format) e .1;
+        })
+    back Integers e = unfold lineOf storedLine fieldsOf countOf kindOf windowKept allowed in
+        (record {
+          base-allowed = field-allowed (Store Integers base format) e 0 (omega arith);
+          format-allowed = field-allowed
+              (Store Integers base format) e 1 (omega arith);
+          height-allowed = refl;
+          window-given = both-kept (Store Integers base format) e .1;
+        })
+    back Booleans e = unfold lineOf storedLine fieldsOf countOf kindOf windowKept allowed in
+        (record {
+          base-allowed = field-allowed (Store Booleans base format) e 0 (omega arith);
+          format-allowed = field-allowed
+              (Store Booleans base format) e 1 (omega arith);
+          height-allowed = refl;
+          window-given = both-kept (Store Booleans base format) e .1;
+        })
 
 -- masks and the test by their bounds
 module _ (n : ℕ) where

@@ -88,7 +88,8 @@ all-allowed (k ∷ ks) [] a b i h g = absurd (not-suc-le-zero g)
 all-allowed (k ∷ ks) (w ∷ ws) a b zero h g =
     is-allowed k w (and-left (unrefused 3 k w) (allUnrefused 3 ks ws) a) (and-left (unrefused 4 k w) (allUnrefused 4 ks ws) b)
 all-allowed (k ∷ ks) (w ∷ ws) a b (suc i) h g =
-    all-allowed ks ws (and-right (unrefused 3 k w) (allUnrefused 3 ks ws) a) (and-right (unrefused 4 k w) (allUnrefused 4 ks ws) b) i (le-of-suc-le-suc h) (le-of-suc-le-suc g)
+    all-allowed ks ws (and-right (unrefused 3 k w) (allUnrefused 3 ks ws) a) (and-right (unrefused 4 k w) (allUnrefused 4 ks ws) b) i
+    (le-of-suc-le-suc h) (le-of-suc-le-suc g)
 
 allowed-unrefused :
     (n : ℕ) (ks : List Kind) (ws : List ℕ) →

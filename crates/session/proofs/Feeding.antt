@@ -93,7 +93,8 @@ module _ (s : Session) (ws l t c : List ℕ) (i n : ℕ) (f : Fold s ws l t c i 
   -- the piece's end
   pub fold-ends : length ws ≤ i → PieceLeft (feedOf s ws) (answered i n firstly.Nothing) l t c
   fold-ends h =
-      subst (λ (x : piece.Fed). PieceLeft x (answered i n firstly.Nothing) l t c) (sym (f .rest ∙ ap (λ (r : List ℕ). ahead i (f .done) (feedOf (sessionOf l t c) r)) (drop-of-length-le ws h)))
+      subst (λ (x : piece.Fed). PieceLeft x (answered i n firstly.Nothing) l t c)
+      (sym (f .rest ∙ ap (λ (r : List ℕ). ahead i (f .done) (feedOf (sessionOf l t c) r)) (drop-of-length-le ws h)))
       (unfold feedOf in
       record {
         taken = sym (add-zero i);

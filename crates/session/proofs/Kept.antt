@@ -55,7 +55,8 @@ new-valid =
 -- the parameters after one more
 parameter-at : (o : Open) (w k : ℕ) → o .count < 4 → k < 4 →
     getD (parametersOf (withParameter o w)) k 0 ≡ pick (eqb (o .count) k) w (getD (parametersOf o) k 0)
-parameter-at o w k h = each (λ k. getD (parametersOf (withParameter o w)) k 0 ≡ pick (eqb (o .count) k) w (getD (parametersOf o) k 0)) 4 (tt & refl & refl & refl & refl) k
+parameter-at o w k h = each (λ k. getD (parametersOf (withParameter o w)) k 0 ≡ pick (eqb (o .count) k) w (getD (parametersOf o) k 0)) 4
+    (tt & refl & refl & refl & refl) k
 
 -- an open command that takes an allowed parameter: every parameter so far is allowed
 pub allowed-more : (o : Open) (w : ℕ) → o .count < 4 → OpenValid o → allowed (kindOf (o .line) (o .count)) w ≡ true →

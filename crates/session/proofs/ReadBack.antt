@@ -108,7 +108,8 @@ module _ (s : Session) (c : Command) (i : Idle s) (writes : judgeCommandOf c ≡
         go (q ∷ qs) e =
             header-first (q ∷ qs) (omega arith) ∙
             ap (onward [])
-            (rest s (i .unstopped) c all-allowed (s .party .taken + suc (length qs)) (omega (arith, ap length e)) qs q [] (s .party .taken + 1) (sym e) (omega arith) ∙
+            (rest s (i .unstopped) c all-allowed (s .party .taken + suc (length qs)) (omega (arith, ap length e)) qs q []
+            (s .party .taken + 1) (sym e) (omega arith) ∙
             ap (λ (t : Told). lastly (length qs) (judged t c (atWord s (s .party .taken + suc (length qs)) none))) told-start)
 
     -- it is read back: the command, as `after` says, with all its words taken

@@ -19,7 +19,8 @@ use Rattle.rules.proofs.Rule.{Ruled, fine, five, six, ruled}
 use Rattle.state.specs.State.{Open, Session, none}
 use Rattle.state.specs.Start.{readyOf}
 use Rattle.state.specs.Effects.{limit}
-use Rattle.session.specs.Step.{Reply, stillOpen, completed, refused, Stepped, refusing, startRuleOf, judged, completing, placing, parameterStep, headerStep, stepOf}
+use Rattle.session.specs.Step.{Reply, stillOpen, completed, refused, Stepped, refusing, startRuleOf, judged, completing, placing}
+use Rattle.session.specs.Step.{parameterStep, headerStep, stepOf}
 use Rattle.session.specs.Feed.{nothing, first, Fed, ended, proceed, feedOf}
 use Rattle.state.specs.Valid.{Valid}
 use Rattle.session.specs.Refusals.{StopNumber, low, full, RefusedTo, unchanged, stopping}
@@ -186,4 +187,5 @@ module _ (s : Session) (w : ℕ) (i : Idle s) (room : s .party .taken < limit) w
   unfolding headerStep
   header-refused none =
       at-header ∙
-      pick-no _ _ (le-ltb (placeOf w headers) 21 (let k : placeOf w headers < 21 → ⊥ = λ h. none (placeOf w headers) (record { line = h; header = listed w h }) in omega arith))
+      pick-no _ _ (le-ltb (placeOf w headers) 21
+      (let k : placeOf w headers < 21 → ⊥ = λ h. none (placeOf w headers) (record { line = h; header = listed w h }) in omega arith))

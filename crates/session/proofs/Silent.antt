@@ -221,7 +221,10 @@ coded-fed s (w ∷ ws) v a =
 
 none-set : Coded (newSession .shared .outputs)
 unfolding isSet output codeOf
-none-set = record { code-most = λ n h e. each (λ n. codeOf (getD (newSession .shared .outputs) n unset .format) ≤ 4) 4 (tt & unset-code & unset-code & unset-code & unset-code) n h }
+none-set = record {
+  code-most = λ n h e. each (λ n. codeOf (getD (newSession .shared .outputs) n unset .format) ≤ 4) 4
+      (tt & unset-code & unset-code & unset-code & unset-code) n h;
+}
   where
     unset-code : codeOf 0 ≤ 4
     unset-code = omega arith

@@ -77,7 +77,8 @@ moved s w (ends p l c e u v r q) = whole c _ (one s c)
 module _ (s u : Session) (cs : List Command) (f : Session) (r : Tallied u cs f) where
   after-none : (n : ℕ) → None s n u → Tallied s cs f
   after-none n e =
-      let k : claimsOf cs (u .party .domain) (u .shared .mask) (u .shared .outputs) ≡ claimsOf cs (s .party .domain) (s .shared .mask) (s .shared .outputs) = λ j. claimsOf cs (e .domain j) (e .mask j) (e .outputs j) in
+      let k : claimsOf cs (u .party .domain) (u .shared .mask) (u .shared .outputs)
+      ≡ claimsOf cs (s .party .domain) (s .shared .mask) (s .shared .outputs) = λ j. claimsOf cs (e .domain j) (e .mask j) (e .outputs j) in
       record { runs = omega (arith, r .runs, e .runs); claims = omega (arith, r .claims, e .claims) }
 
   after-one : (c : Command) → One s c u → Tallied s (c ∷ cs) f

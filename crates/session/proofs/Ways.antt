@@ -16,7 +16,8 @@ use Rattle.rules.specs.Rules.{lastRuleOf}
 use Rattle.command.specs.declared.commands.Command.{Command}
 use Rattle.state.specs.State.{Open, Party, Shared, Session, none}
 use Rattle.state.specs.Effects.{limit, opening, took, stop, withParameter, after}
-use Rattle.session.specs.Step.{Reply, stillOpen, completed, refused, Stepped, refusing, startRuleOf, judged, completing, placing, parameterStep, headerStep, stepOf}
+use Rattle.session.specs.Step.{Reply, stillOpen, completed, refused, Stepped, refusing, startRuleOf, judged, completing, placing}
+use Rattle.session.specs.Step.{parameterStep, headerStep, stepOf}
 
 -- the command that an open command with all its parameters is
 abbrev pub whole : Open → Command

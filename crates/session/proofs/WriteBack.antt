@@ -56,7 +56,8 @@ module _ (s : Session) (w : ℕ) (v : Valid s) where
       heldOf (s .party .opened) ++ (w ∷ []) ≡ headerOf (o .line) ∷ take (o .count) (parametersOf o)
   held-more p =
       ap (λ (l : List ℕ). l ++ (w ∷ [])) (some-held (s .party .opened) (p .isOpen)) ∙
-      ap {B = List ℕ} (λ (l : List ℕ). headerOf (s .party .opened .line) ∷ l) (more (s .party .opened .line) (s .party .opened .count) _ _ _ _ w (count-lt s w v p))
+      ap {B = List ℕ} (λ (l : List ℕ). headerOf (s .party .opened .line) ∷ l)
+      (more (s .party .opened .line) (s .party .opened .count) _ _ _ _ w (count-lt s w v p))
 
   -- the words of the command that a last parameter completes
   held-whole : (p : Placed s w) → ltb (o .count) (countOf (o .line)) ≡ false → (c : Command) → c ≡ whole o →
@@ -162,14 +163,16 @@ module _ (s : Session) (w : ℕ) (ws : List ℕ) where
   alone-word : (r : Reply) → stepOf s w .reply ≡ r → Alone u ws (feedOf u ws) → Alone s (w ∷ ws) (proceed r u (feedOf u ws))
   unfolding proceed feedOf
   alone-word stillOpen e a =
-      let p : feedOf s (w ∷ take (feedOf u ws .taken) ws) ≡ onward [] (feedOf u (take (feedOf u ws .taken) ws)) = first-word s w (take (feedOf u ws .taken) ws) stillOpen e in
+      let p : feedOf s (w ∷ take (feedOf u ws .taken) ws) ≡ onward [] (feedOf u (take (feedOf u ws .taken) ws)) =
+      first-word s w (take (feedOf u ws .taken) ws) stillOpen e in
       record {
         same-count = ap (λ (f : Fed). f .taken) p ∙ ap suc (a .same-count);
         same-commands = ap (λ (f : Fed). f .commands) p ∙ a .same-commands;
         unrefused = ap (λ (f : Fed). f .refusal) p ∙ a .unrefused;
       }
   alone-word (completed c) e a =
-      let p : feedOf s (w ∷ take (feedOf u ws .taken) ws) ≡ onward (c ∷ []) (feedOf u (take (feedOf u ws .taken) ws)) = first-word s w (take (feedOf u ws .taken) ws) (completed c) e in
+      let p : feedOf s (w ∷ take (feedOf u ws .taken) ws) ≡ onward (c ∷ []) (feedOf u (take (feedOf u ws .taken) ws)) =
+      first-word s w (take (feedOf u ws .taken) ws) (completed c) e in
       record {
         same-count = ap (λ (f : Fed). f .taken) p ∙ ap suc (a .same-count);
         same-commands = ap (λ (f : Fed). f .commands) p ∙ ap (λ (cs : List Command). c ∷ cs) (a .same-commands);

@@ -281,8 +281,18 @@ module _ (shared : List ℕ) where
   unfolding eachApart disjoint every output sharedOf _and_
   disjoint-seen =
       let keep : ℕ → ℕ → Bool = λ n m. pick (counts mask outputs n and counts mask outputs m) (apart (output outputs n) (output outputs m)) true in
-      rw
-      (apart-of m1 m0 (at 25) (at 21), apart-of m2 m0 (at 29) (at 21), apart-of m2 m1 (at 29) (at 25), apart-of m3 m0 (at 33) (at 21), apart-of m3 m1 (at 33) (at 25), apart-of m3 m2 (at 33) (at 29), counts-0, counts-1, counts-2, counts-3)
+      rw (
+        apart-of m1 m0 (at 25) (at 21),
+        apart-of m2 m0 (at 29) (at 21),
+        apart-of m2 m1 (at 29) (at 25),
+        apart-of m3 m0 (at 33) (at 21),
+        apart-of m3 m1 (at 33) (at 25),
+        apart-of m3 m2 (at 33) (at 29),
+        counts-0,
+        counts-1,
+        counts-2,
+        counts-3,
+      )
       (pairs-of-four (keep 1 0) (keep 2 0) (keep 2 1) (keep 3 0) (keep 3 1) (keep 3 2))
 
   pub counted-outputs : {w x y z : ℕ} →

@@ -19,7 +19,8 @@ ghost use Rattle.start.specs.Windows.{countsBy};
 // The number of pairs of a domain.
 fn pairs(i0: u32, j0: u32, i1: u32, j1: u32) -> u64
     requires { ⌜ ((i0 ≤ i1) × (i1 < 4096)) × ((j0 ≤ j1) × (j1 < 4096)) ⌝ }
-    ensures { λ r. ⌜ (r ≡ (i1 - i0 + 1) * (j1 - j0 + 1)) × (r ≤ mostPairs) ⌝ }
+    ensures value { λ r. ⌜ r ≡ (i1 - i0 + 1) * (j1 - j0 + 1) ⌝ }
+    ensures most { λ r. ⌜ r ≤ mostPairs ⌝ }
 {
     let columns = (i1 - i0 + 1) as u64;
     let rows = (j1 - j0 + 1) as u64;
@@ -29,7 +30,8 @@ fn pairs(i0: u32, j0: u32, i1: u32, j1: u32) -> u64
 // 1 for an output that counts, its cells from a place on.
 fn one_at(bits: u32, shared: &[u32; state::SHARED_CELLS], at: usize) -> u64
     requires { ⌜ (length (now shared) ≡ sharedLength) × (at < 98) ⌝ }
-    ensures { λ r. ⌜ (r ≡ pick (countsBy bits (bufferAt (now (shared .entry)) at .isSet) (bufferAt (now (shared .entry)) at .format)) 1 0) × (r ≤ 1) ⌝ }
+    ensures value { λ r. ⌜ r ≡ pick (countsBy bits (bufferAt (now (shared .entry)) at .isSet) (bufferAt (now (shared .entry)) at .format)) 1 0 ⌝ }
+    ensures most { λ r. ⌜ r ≤ 1 ⌝ }
 {
     if ready::is_counted(bits, shared[at], shared[at + 2]) {
         1
@@ -41,7 +43,8 @@ fn one_at(bits: u32, shared: &[u32; state::SHARED_CELLS], at: usize) -> u64
 // The number of outputs that count.
 fn counted_outputs(shared: &[u32; state::SHARED_CELLS]) -> u64
     requires { ⌜ length (now shared) ≡ sharedLength ⌝ }
-    ensures { λ r. ⌜ (r ≡ count 4 (counts (sharedOf (now (shared .entry)) .mask) (sharedOf (now (shared .entry)) .outputs))) × (r ≤ 4) ⌝ }
+    ensures value { λ r. ⌜ r ≡ count 4 (counts (sharedOf (now (shared .entry)) .mask) (sharedOf (now (shared .entry)) .outputs)) ⌝ }
+    ensures most { λ r. ⌜ r ≤ 4 ⌝ }
 {
     let mask = shared[settings::MASK];
     one_at(mask, shared, settings::OUTPUT_0)
@@ -53,7 +56,8 @@ fn counted_outputs(shared: &[u32; state::SHARED_CELLS]) -> u64
 // The elements that a start claims: the domain's pairs, for each output that counts.
 fn claim(own: &[u32; state::OWN_CELLS], shared: &[u32; state::SHARED_CELLS]) -> u64
     requires { ⌜ ((length (now own) ≡ ownLength) × (length (now shared) ≡ sharedLength)) × DomainValid (partyOf (now own) [] .domain) ⌝ }
-    ensures { λ r. ⌜ (r ≡ claimOf (partyOf (now (own .entry)) [] .domain) (sharedOf (now (shared .entry)) .mask) (sharedOf (now (shared .entry)) .outputs)) × (r ≤ mostClaim) ⌝ }
+    ensures value { λ r. ⌜ r ≡ claimOf (partyOf (now (own .entry)) [] .domain) (sharedOf (now (shared .entry)) .mask) (sharedOf (now (shared .entry)) .outputs) ⌝ }
+    ensures most { λ r. ⌜ r ≤ mostClaim ⌝ }
 {
     pairs(
         own[own::DOMAIN_I0],

@@ -7,8 +7,14 @@
 //! tiles and then the tile (tiled), whose bytes hold the address, and tries only
 //! the pairs there. The unit tests compare it with a search of the whole window.
 
+mod places;
+mod run;
+
 use crate::layout::{judge, tile_of, Layout, Tile, Window, TILE_BYTES};
 use crate::Answer;
+
+pub use places::{place_by_table, places};
+pub use run::{translate_run, Translated};
 
 /// What one bit of the place inside a tile is made of. The numbers are bit
 /// numbers of the whole x and y, also above the tile.

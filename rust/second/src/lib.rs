@@ -6,14 +6,21 @@
 //!
 //! * [`command`]: the command table, the bits of each parameter, the writer;
 //! * [`session`]: the reader of command words, its settings and its tallies;
+//! * [`lessees`]: a session that two parties share, from document 02's request 9;
 //! * [`layout`]: what a layout is, the row step, the span, the window rule;
 //! * [`address`]: a pair's address, and the way back by search;
+//! * [`picture`]: whole rectangles of elements, from document 02's request 13;
 //! * [`memory`]: elements read and written in lent memory, the superfine read;
-//! * [`flow`]: programs of flow words, and a group stepped through them;
+//! * [`flow`]: programs of flow words, and a group stepped through them, with the
+//!   loops of document 02's request 4;
 //! * [`log`]: a station's log over midnight, from document 02's request 1;
+//! * [`survey`]: conditional output tests, from document 02's request 12;
 //! * `silent`: outputs that a start passes over, from document 02's request 2;
+//! * `edition`: what a pair is credited, from document 02's request 10;
 //! * [`score`]: a month of a log scored against its lease line, from document
-//!   02's request 5.
+//!   02's request 5;
+//! * [`fleet`]: the months of up to 64 stations in one report, from document 02's
+//!   request 14.
 //!
 //! Every refusal is document 01's number, as the `Err` of an [`Answer`].
 
@@ -21,13 +28,18 @@
 
 pub mod address;
 pub mod command;
+mod edition;
+pub mod fleet;
 pub mod flow;
 pub mod layout;
+pub mod lessees;
 pub mod log;
 pub mod memory;
+pub mod picture;
 pub mod score;
 pub mod session;
 mod silent;
+pub mod survey;
 
 /// What an entry answers: its result, or document 01's refusal number.
 pub type Answer<T> = Result<T, u32>;

@@ -78,6 +78,11 @@ impl Replay {
         Replay::new_with(Session::new())
     }
 
+    /// The same under this edition of the lease rule, 1 or 2; 3 for any other.
+    pub fn new_in(edition: u32) -> Answer<Replay> {
+        Ok(Replay::new_with(Session::new_in(edition)?))
+    }
+
     /// The same with this session, so that refusal 17 can be tried.
     pub fn new_with(session: Session) -> Replay {
         Replay {

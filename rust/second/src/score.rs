@@ -46,11 +46,17 @@ pub struct Month {
     pub verdict: Verdict,
 }
 
-/// The score of a log: 21 for the lease line, before a byte of the log is read;
-/// then 18 or 19 from the log.
+/// The score of a log under edition 1: 21 for the lease line, before a byte of the
+/// log is read; then 18 or 19 from the log.
 pub fn score(lease: &Lease, log: &[u8]) -> Answer<Month> {
+    score_in(1, lease, log)
+}
+
+/// The score under an edition of the lease rule, 1 or 2: 3 for any other before
+/// all else.
+pub fn score_in(edition: u32, lease: &Lease, log: &[u8]) -> Answer<Month> {
+    let mut replay = Replay::new_in(edition)?;
     lease.judge()?;
-    let mut replay = Replay::new();
     replay.feed(log);
     lease.month(&replay)
 }

@@ -3,21 +3,24 @@
 //! of command words. Starts are document 02's, whose request 2 passes over silent
 //! outputs.
 
+mod readiness;
+
 use crate::command::{format_of, judge_together, judge_word, layout_of, line_of, Command, Line};
 use crate::command::{
     SET_COND_OUT_FMT, SET_COND_OUT_MASK, SET_COND_TEST, SET_CONSTB_FMT, SET_CONSTF_FMT,
     SET_CONSTI_FMT, SET_DOMAIN, SET_INP_FMT, SET_INST_FMT, SET_OUT_FMT, SET_OUT_MASK,
     START_PROGRAM,
 };
+use crate::edition::Edition;
 use crate::layout::judge;
 use crate::silent::is_silent;
 use crate::Answer;
 
 /// A session takes this many words and no more.
-const MOST_WORDS: u64 = 1_000_000_000;
+pub(crate) const MOST_WORDS: u64 = 1_000_000_000;
 
 /// The output mask of a new session.
-const FIRST_MASK: u32 = 65_535;
+pub(crate) const FIRST_MASK: u32 = 65_535;
 
 /// What an accepted word answers.
 #[derive(Clone, Copy, Debug, PartialEq, Eq)]
@@ -53,9 +56,11 @@ struct OpenCommand {
     parameters: Vec<u32>,
 }
 
-/// Everything that commands set, and the two tallies.
+/// Everything that commands set, the two tallies, and the edition by which the
+/// second is counted.
 #[derive(Clone, Debug, PartialEq, Eq)]
 struct Settings {
+    edition: Edition,
     domain: Option<[u32; 4]>,
     instructions: Option<Format>,
     floats: Option<Format>,
@@ -91,6 +96,7 @@ impl Settings {
     /// "A new session has nothing set and mask 65535."
     fn new() -> Settings {
         Settings {
+            edition: Edition::First,
             domain: None,
             instructions: None,
             floats: None,
@@ -166,21 +172,32 @@ impl Settings {
         judge_spans(&outputs)
     }
 
-    /// One run more, and a claimed element for each pair of the domain in each
-    /// set output that isn't silent.
+    /// One run more, and for each pair of the domain what the edition credits for
+    /// the set outputs.
     fn count_start(&mut self) {
         if let Some([i0, j0, i1, j1]) = self.domain {
             let columns = u64::from(i1) - u64::from(i0) + 1;
             let rows = u64::from(j1) - u64::from(j0) + 1;
             self.runs += 1;
-            self.claims += columns * rows * self.counted_outputs().len() as u64;
+            self.claims += columns * rows * self.credit();
         }
+    }
+
+    /// What one pair of the domain is credited for all set outputs together.
+    fn credit(&self) -> u64 {
+        let mut credit = 0;
+        for (number, output) in self.outputs.iter().enumerate() {
+            if let Some(format) = output {
+                credit += self.edition.credit(self.output_mask, number as u32, format);
+            }
+        }
+        credit
     }
 }
 
 /// Whether each pair of the domain is inside the output's window: i goes with
 /// the row step and j with the height. Both ends belong to the domain.
-fn domain_is_inside(domain: &[u32; 4], output: &Format) -> Answer<bool> {
+pub(crate) fn domain_is_inside(domain: &[u32; 4], output: &Format) -> Answer<bool> {
     let layout = layout_of(output.base, output.format, output.height).ok_or(3u32)?;
     let window = judge(&layout)?;
     let [_, _, i1, j1] = *domain;
@@ -189,7 +206,7 @@ fn domain_is_inside(domain: &[u32; 4], output: &Format) -> Answer<bool> {
 
 /// 9 where the spans of two outputs share a byte. Whole spans are compared, also
 /// bytes that no pair owns.
-fn judge_spans(outputs: &[Format]) -> Answer<()> {
+pub(crate) fn judge_spans(outputs: &[Format]) -> Answer<()> {
     for (place, one) in outputs.iter().enumerate() {
         for other in &outputs[place + 1..] {
             let (one, other) = (span_of(one)?, span_of(other)?);
@@ -215,6 +232,15 @@ impl Session {
     /// A session that has taken no word yet.
     pub fn new() -> Session {
         Session::new_after(0)
+    }
+
+    /// The same under this edition of the lease rule, 1 or 2; 3 for any other.
+    /// [`Session::new`] is under edition 1.
+    pub fn new_in(edition: u32) -> Answer<Session> {
+        let edition = Edition::of(edition)?;
+        let mut session = Session::new();
+        session.settings.edition = edition;
+        Ok(session)
     }
 
     /// A session as [`Session::new`] gives it, but with this many words already

@@ -15,8 +15,11 @@ set-domain-requires c κs = counted-length _ _ _ (c .before .count-words .ensure
 
 returns : tie.Need-returns
 returns c =
-    let at-test = c .before .before .before .before in
-    domain-tried _ _ _ (c .before .before .count-words .ensures) _ _ _ _ (fine _ (at-test .before .domain .ensures) (at-test .if1 .taken)) _ (c .set-domain .ensures)
+    let at-count-words = c .before .before in
+    let at-test = at-count-words .before .before in
+    let at-domain = at-test .before in
+    domain-tried _ _ _ (at-count-words .count-words .ensures) _ _ _ _ (fine _ (at-domain .domain .ensures) (at-test .if1 .taken)) _
+    (c .set-domain .ensures)
 
 returns-2 : tie.Need-returns-2
 returns-2 c t h rest z = denied (c .before .domain .ensures) (c .if1 .left)

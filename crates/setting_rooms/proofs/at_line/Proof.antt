@@ -5,7 +5,8 @@ use Rattle.laws.proofs.Choice.{pick-yes, pick-no}
 use Rattle.refusal.specs.Told.{gives}
 use Rattle.queries.specs.declared.Setting.{Setting}
 use Rattle.setting_rooms.specs.Rooms.{formatNumbers}
-use Rattle.setting_rooms.proofs.Formats.{booleans-line, conditional-line, floats-line, inputs-line, instructions-line, integers-line, other-line, outputs-line}
+use Rattle.setting_rooms.proofs.Formats.{booleans-line, conditional-line, floats-line, inputs-line, instructions-line, integers-line}
+use Rattle.setting_rooms.proofs.Formats.{other-line, outputs-line}
 use borrow.Author.Needs.{needs}
 use Rattle.setting_rooms.proofs.at_line.Statement.{statement}
 use Rattle.setting_rooms.proofs.at_line.Tie as tie

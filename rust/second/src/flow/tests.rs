@@ -33,9 +33,12 @@ fn single(first: u32) -> Program {
 
 fn group(processors: &[Processor]) -> Group {
     Group {
+        mode: Mode::Full,
         processors: processors.to_vec(),
         position: 0,
         returns: Vec::new(),
+        loops: Vec::new(),
+        killed: 0,
     }
 }
 

@@ -23,7 +23,11 @@ add-requires : tie.Need-add-requires
 add-requires c κs = search needs
 
 returns-3 : tie.Need-returns-3
-returns-3 c = grown _ (added _ _ _ (c .before .before .before .before .before .if1 .left) (omega (arith, c .before .before .before .if2 .left)) (c .before .before .if3 .taken) (c .add .ensures))
+returns-3 c =
+    let at-if3 = c .before .before in
+    let at-if2 = at-if3 .before in
+    let at-if1 = at-if2 .before .before in
+    grown _ (added _ _ _ (at-if1 .if1 .left) (omega (arith, at-if2 .if2 .left)) (at-if3 .if3 .taken) (c .add .ensures))
 
 is-kind-requires : tie.Need-is-kind-requires
 is-kind-requires c κs = search needs
@@ -32,7 +36,13 @@ open-requires : tie.Need-open-requires
 open-requires c κs = search needs
 
 returns-4 : tie.Need-returns-4
-returns-4 c = grown _ (opened _ _ _ (c .before .before .before .before .before .before .before .if1 .left) (omega (arith, c .before .before .before .before .if3 .left)) (sym (c .before .before .before .is-kind .ensures) ∙ c .before .before .if4 .taken) (c .«open» .ensures))
+returns-4 c =
+    let at-if4 = c .before .before in
+    let at-is-kind = at-if4 .before in
+    let at-if3 = at-is-kind .before in
+    let at-if1 = at-if3 .before .before .before in
+    grown _ (opened _ _ _ (at-if1 .if1 .left) (omega (arith, at-if3 .if3 .left)) (sym (at-is-kind .is-kind .ensures) ∙ at-if4 .if4 .taken)
+    (c .«open» .ensures))
 
 returns-5 : tie.Need-returns-5
 returns-5 c = ungrown

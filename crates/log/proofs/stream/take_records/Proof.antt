@@ -32,13 +32,23 @@ array-share-prefix-words : tie.Need-array-share-prefix-words
 array-share-prefix-words c = search needs
 
 slice-aggregate-take-words : tie.Need-slice-aggregate-take-words
-slice-aggregate-take-words c = sym (length-take-le _ _ (c .before .before .before .before .before .before .gather .ensures .0 .room))
+slice-aggregate-take-words c =
+    let at-if4 = c .before .before .before .before .before in
+    let at-gather = at-if4 .before in
+    sym (length-take-le _ _ (at-gather .gather .ensures .0 .room))
 
 take-words-requires : tie.Need-take-words-requires
 take-words-requires c κs = search needs
 
 returns-4 : tie.Need-returns-4
-returns-4 c = records-left _ _ _ _ _ _ _ _ _ _ _ (record { running = c .before .before .before .before .before .before .before .before .before .before .before .if2 .left; unopened = c .before .before .before .before .before .before .before .before .before .if3 .left }) (c .before .before .before .before .before .before .before .gather .ensures .0) (c .take-words .ensures)
+returns-4 c =
+    let at-words2 = c .before in
+    let at-if4 = at-words2 .before .before .before .before .before in
+    let at-gather = at-if4 .before in
+    let at-if3 = at-gather .before .before in
+    let at-if2 = at-if3 .before .before in
+    records-left _ _ _ _ _ _ _ _ _ _ _ (record { running = at-if2 .if2 .left; unopened = at-if3 .if3 .left })
+    (at-gather .gather .ensures .0) (c .take-words .ensures)
 
 returns-5 : tie.Need-returns-5
 returns-5 c = none-left _ _ _ _ _ _ (c .if4 .left)

@@ -20,10 +20,22 @@ note-requires : tie.Need-note-requires
 note-requires c κs = search needs
 
 returns : tie.Need-returns
-returns c = word-noted _ _ _ _ _ _ _ _ _ (c .before .before .before .before .before .before .before .before .before .before .before .before .pre .session-given) _ (c .before .before .before .before .before .before .before .before .word .ensures) (c .before .before .before .before .before .before .close .ensures) _ _ (c .note .ensures) _ (c .before .before .before .before .answer .given .1) (c .before .number .ensures)
+returns c =
+    let at-number = c .before in
+    let at-answer = at-number .before .before .before in
+    let at-close = at-answer .before .before in
+    let at-word = at-close .before .before in
+    let entry = at-word .before .before .before .before in
+    word-noted _ _ _ _ _ _ _ _ _ (entry .pre .session-given) _ (at-word .word .ensures) (at-close .close .ensures) _ _ (c .note .ensures) _
+    (at-answer .answer .given .1) (at-number .number .ensures)
 
 returns-2 : tie.Need-returns-2
-returns-2 c = word-fine _ _ _ _ _ _ _ _ _ (c .before .before .before .before .before .before .before .pre .session-given) (c .before .before .before .word .result) (c .before .before .before .word .ensures) (c .before .close .ensures) (c .match .keys2)
+returns-2 c =
+    let at-close = c .before in
+    let at-word = at-close .before .before in
+    let entry = at-word .before .before .before .before in
+    word-fine _ _ _ _ _ _ _ _ _ (entry .pre .session-given) (at-word .word .result) (at-word .word .ensures) (at-close .close .ensures)
+    (c .match .keys2)
 
 pub take-word-spec : {M : Type 1} → statement M
 take-word-spec =

@@ -26,10 +26,17 @@ enum-told : tie.Need-enum-told
 enum-told c = search needs
 
 returns : tie.Need-returns
-returns c = words-noted _ _ _ _ _ _ _ _ _ (c .before .before .before .before .before .before .before .before .before .before .before .before .before .pre .session-given) _ (c .before .before .before .before .before .before .before .before .feed .ensures) _ _ (c .before .before .before .before .before .before .close .ensures) (c .note .ensures) (ap first (c .before .number .ensures) ∙ sym (ap firstOf (c .before .before .before .before .first .given .1)) ∙ c .before .before .before .before .before .before .before .before .feed .ensures .refusal)
+returns c = words-noted _ _ _ _ _ _ _ _ _
+    (c .before .before .before .before .before .before .before .before .before .before .before .before .before .pre .session-given) _
+    (c .before .before .before .before .before .before .before .before .feed .ensures) _ _
+    (c .before .before .before .before .before .before .close .ensures) (c .note .ensures)
+    (ap first (c .before .number .ensures) ∙ sym (ap firstOf (c .before .before .before .before .first .given .1))
+    ∙ c .before .before .before .before .before .before .before .before .feed .ensures .refusal)
 
 returns-2 : tie.Need-returns-2
-returns-2 c = words-fine _ _ _ _ _ _ _ _ _ (c .before .before .before .before .before .before .before .before .before .pre .session-given) _ (c .before .before .before .before .feed .ensures) (c .before .before .close .ensures) (sym (ap firstOf (c .enum-told .given .1)) ∙ c .before .before .before .before .feed .ensures .refusal)
+returns-2 c = words-fine _ _ _ _ _ _ _ _ _ (c .before .before .before .before .before .before .before .before .before .pre .session-given) _
+    (c .before .before .before .before .feed .ensures) (c .before .before .close .ensures)
+    (sym (ap firstOf (c .enum-told .given .1)) ∙ c .before .before .before .before .feed .ensures .refusal)
 
 pub take-words-spec : {M : Type 1} → statement M
 take-words-spec =

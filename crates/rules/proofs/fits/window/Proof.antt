@@ -21,8 +21,12 @@ is-window-requires c κs = search needs
 -- all three are allowed, so the window decides
 returns-3 : tie.Need-returns-3
 returns-3 c =
-    let at-format = c .before .before in
-    window-decides _ _ _ (at-format .before .before .if1 .left) (at-format .before .if2 .left) _ (at-format .format-allowed .ensures) (c .before .if3 .taken) _ (c .is-window .ensures)
+    let at-if3 = c .before in
+    let at-format = at-if3 .before in
+    let at-if2 = at-format .before in
+    let at-if1 = at-if2 .before in
+    window-decides _ _ _ (at-if1 .if1 .left) (at-if2 .if2 .left) _ (at-format .format-allowed .ensures) (at-if3 .if3 .taken) _
+    (c .is-window .ensures)
 
 -- the format isn't allowed
 returns-4 : tie.Need-returns-4

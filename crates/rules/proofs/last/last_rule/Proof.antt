@@ -16,10 +16,20 @@ window-kept-requires : tie.Need-window-kept-requires
 window-kept-requires c κs = search needs
 
 returns-2 : tie.Need-returns-2
-returns-2 c = sym (rule-fine _ (sym (c .before .before .before .domain-kept .ensures) ∙ not-false _ (c .before .before .if1 .left)) (sym (c .before .window-kept .ensures) ∙ c .if2 .taken))
+returns-2 c =
+    let at-window-kept = c .before in
+    let at-if1 = at-window-kept .before in
+    let at-domain-kept = at-if1 .before in
+    let domain-kept-told = sym (at-domain-kept .domain-kept .ensures) ∙ not-false _ (at-if1 .if1 .left) in
+    sym (rule-fine _ domain-kept-told (sym (at-window-kept .window-kept .ensures) ∙ c .if2 .taken))
 
 returns-3 : tie.Need-returns-3
-returns-3 c = sym (rule-six _ (sym (c .before .before .before .domain-kept .ensures) ∙ not-false _ (c .before .before .if1 .left)) (sym (c .before .window-kept .ensures) ∙ c .if2 .left))
+returns-3 c =
+    let at-window-kept = c .before in
+    let at-if1 = at-window-kept .before in
+    let at-domain-kept = at-if1 .before in
+    let domain-kept-told = sym (at-domain-kept .domain-kept .ensures) ∙ not-false _ (at-if1 .if1 .left) in
+    sym (rule-six _ domain-kept-told (sym (at-window-kept .window-kept .ensures) ∙ c .if2 .left))
 
 pub last-rule-spec : {M : Type 1} → statement M
 last-rule-spec =

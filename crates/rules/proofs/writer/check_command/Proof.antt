@@ -23,13 +23,24 @@ enum-told-2 : tie.Need-enum-told-2
 enum-told-2 c = search needs
 
 returns : tie.Need-returns
-returns c = command-refused _ _ (c .before .before .before .before .fields .result) _ (c .before .before .before .line .ensures) (c .before .before .before .before .fields .ensures) (c .before .before .check-places .ensures) _ (ap toldChecked (c .enum-told2 .given .1))
+returns c =
+    let at-check-places = c .before .before in
+    let at-line = at-check-places .before in
+    let at-fields = at-line .before in
+    command-refused _ _ (at-fields .fields .result) _ (at-line .line .ensures) (at-fields .fields .ensures)
+    (at-check-places .check-places .ensures) _ (ap toldChecked (c .enum-told2 .given .1))
 
 last-rule-requires : tie.Need-last-rule-requires
 last-rule-requires c κs = search needs
 
 returns-2 : tie.Need-returns-2
-returns-2 c = command-ruled _ _ (c .before .before .before .before .before .fields .result) _ (c .before .before .before .before .line .ensures) (c .before .before .before .before .before .fields .ensures) (c .before .before .before .check-places .ensures) _ (ap toldChecked (c .before .enum-told .given .1)) (c .last-rule .ensures)
+returns-2 c =
+    let at-enum-told = c .before in
+    let at-check-places = at-enum-told .before .before in
+    let at-line = at-check-places .before in
+    let at-fields = at-line .before in
+    command-ruled _ _ (at-fields .fields .result) _ (at-line .line .ensures) (at-fields .fields .ensures)
+    (at-check-places .check-places .ensures) _ (ap toldChecked (at-enum-told .enum-told .given .1)) (c .last-rule .ensures)
 
 pub check-command-spec : {M : Type 1} → statement M
 check-command-spec =

@@ -21,8 +21,12 @@ enum-told-2 c = search needs
 
 returns : tie.Need-returns
 returns c =
-    let a = c .before .before .before .before .args in
-    refused-second (a .line) (a .p0) (a .p1) (a .p2) (a .p3) _ (c .before .before .check .ensures ∙ ap (λ (k : Kind). checkOf k (a .p1)) (c .before .before .before .kind-at .ensures)) _ (ap toldChecked (c .enum-told2 .given .1))
+    let at-check = c .before .before in
+    let at-kind-at = at-check .before in
+    let args = at-kind-at .before .args in
+    refused-second (args .line) (args .p0) (args .p1) (args .p2) (args .p3) _
+    (at-check .check .ensures ∙ ap (λ (k : Kind). checkOf k (args .p1)) (at-kind-at .kind-at .ensures)) _
+    (ap toldChecked (c .enum-told2 .given .1))
 
 kind-at-requires-2 : tie.Need-kind-at-requires-2
 kind-at-requires-2 c κs = search needs
@@ -38,8 +42,17 @@ enum-told-4 c = search needs
 
 returns-2 : tie.Need-returns-2
 returns-2 c =
-    let a = c .before .before .before .before .before .before .before .before .args in
-    refused-third (a .line) (a .p0) (a .p1) (a .p2) (a .p3) _ (c .before .before .before .before .before .before .check .ensures ∙ ap (λ (k : Kind). checkOf k (a .p1)) (c .before .before .before .before .before .before .before .kind-at .ensures)) (ap toldChecked (c .before .before .before .before .enum-told .given .1)) _ (c .before .before .check2 .ensures ∙ ap (λ (k : Kind). checkOf k (a .p2)) (c .before .before .before .kind-at2 .ensures)) _ (ap toldChecked (c .enum-told4 .given .1))
+    let at-check2 = c .before .before in
+    let at-kind-at2 = at-check2 .before in
+    let at-enum-told = at-kind-at2 .before in
+    let at-check = at-enum-told .before .before in
+    let at-kind-at = at-check .before in
+    let args = at-kind-at .before .args in
+    refused-third (args .line) (args .p0) (args .p1) (args .p2) (args .p3) _
+    (at-check .check .ensures ∙ ap (λ (k : Kind). checkOf k (args .p1)) (at-kind-at .kind-at .ensures))
+    (ap toldChecked (at-enum-told .enum-told .given .1)) _
+    (at-check2 .check2 .ensures ∙ ap (λ (k : Kind). checkOf k (args .p2)) (at-kind-at2 .kind-at2 .ensures)) _
+    (ap toldChecked (c .enum-told4 .given .1))
 
 kind-at-requires-3 : tie.Need-kind-at-requires-3
 kind-at-requires-3 c κs = search needs
@@ -55,8 +68,22 @@ enum-told-6 c = search needs
 
 returns-3 : tie.Need-returns-3
 returns-3 c =
-    let a = c .before .before .before .before .before .before .before .before .before .before .before .before .args in
-    refused-fourth (a .line) (a .p0) (a .p1) (a .p2) (a .p3) _ (c .before .before .before .before .before .before .before .before .before .before .check .ensures ∙ ap (λ (k : Kind). checkOf k (a .p1)) (c .before .before .before .before .before .before .before .before .before .before .before .kind-at .ensures)) (ap toldChecked (c .before .before .before .before .before .before .before .before .enum-told .given .1)) _ (c .before .before .before .before .before .before .check2 .ensures ∙ ap (λ (k : Kind). checkOf k (a .p2)) (c .before .before .before .before .before .before .before .kind-at2 .ensures)) (ap toldChecked (c .before .before .before .before .enum-told3 .given .1)) _ (c .before .before .check3 .ensures ∙ ap (λ (k : Kind). checkOf k (a .p3)) (c .before .before .before .kind-at3 .ensures)) _ (ap toldChecked (c .enum-told6 .given .1))
+    let at-check3 = c .before .before in
+    let at-kind-at3 = at-check3 .before in
+    let at-enum-told3 = at-kind-at3 .before in
+    let at-check2 = at-enum-told3 .before .before in
+    let at-kind-at2 = at-check2 .before in
+    let at-enum-told = at-kind-at2 .before in
+    let at-check = at-enum-told .before .before in
+    let at-kind-at = at-check .before in
+    let args = at-kind-at .before .args in
+    refused-fourth (args .line) (args .p0) (args .p1) (args .p2) (args .p3) _
+    (at-check .check .ensures ∙ ap (λ (k : Kind). checkOf k (args .p1)) (at-kind-at .kind-at .ensures))
+    (ap toldChecked (at-enum-told .enum-told .given .1)) _
+    (at-check2 .check2 .ensures ∙ ap (λ (k : Kind). checkOf k (args .p2)) (at-kind-at2 .kind-at2 .ensures))
+    (ap toldChecked (at-enum-told3 .enum-told3 .given .1)) _
+    (at-check3 .check3 .ensures ∙ ap (λ (k : Kind). checkOf k (args .p3)) (at-kind-at3 .kind-at3 .ensures)) _
+    (ap toldChecked (c .enum-told6 .given .1))
 
 kind-at-requires-4 : tie.Need-kind-at-requires-4
 kind-at-requires-4 c κs = search needs
@@ -66,8 +93,25 @@ check-requires-4 c κs = search needs
 
 returns-4 : tie.Need-returns-4
 returns-4 c =
-    let a = c .before .before .before .before .before .before .before .before .before .before .before .before .before .before .args in
-    judged-first (a .line) (a .p0) (a .p1) (a .p2) (a .p3) _ (c .before .before .before .before .before .before .before .before .before .before .before .before .check .ensures ∙ ap (λ (k : Kind). checkOf k (a .p1)) (c .before .before .before .before .before .before .before .before .before .before .before .before .before .kind-at .ensures)) (ap toldChecked (c .before .before .before .before .before .before .before .before .before .before .enum-told .given .1)) _ (c .before .before .before .before .before .before .before .before .check2 .ensures ∙ ap (λ (k : Kind). checkOf k (a .p2)) (c .before .before .before .before .before .before .before .before .before .kind-at2 .ensures)) (ap toldChecked (c .before .before .before .before .before .before .enum-told3 .given .1)) _ (c .before .before .before .before .check3 .ensures ∙ ap (λ (k : Kind). checkOf k (a .p3)) (c .before .before .before .before .before .kind-at3 .ensures)) (ap toldChecked (c .before .before .enum-told5 .given .1)) _ (c .check4 .ensures ∙ ap (λ (k : Kind). checkOf k (a .p0)) (c .before .kind-at4 .ensures))
+    let at-kind-at4 = c .before in
+    let at-enum-told5 = at-kind-at4 .before in
+    let at-check3 = at-enum-told5 .before .before in
+    let at-kind-at3 = at-check3 .before in
+    let at-enum-told3 = at-kind-at3 .before in
+    let at-check2 = at-enum-told3 .before .before in
+    let at-kind-at2 = at-check2 .before in
+    let at-enum-told = at-kind-at2 .before in
+    let at-check = at-enum-told .before .before in
+    let at-kind-at = at-check .before in
+    let args = at-kind-at .before .args in
+    judged-first (args .line) (args .p0) (args .p1) (args .p2) (args .p3) _
+    (at-check .check .ensures ∙ ap (λ (k : Kind). checkOf k (args .p1)) (at-kind-at .kind-at .ensures))
+    (ap toldChecked (at-enum-told .enum-told .given .1)) _
+    (at-check2 .check2 .ensures ∙ ap (λ (k : Kind). checkOf k (args .p2)) (at-kind-at2 .kind-at2 .ensures))
+    (ap toldChecked (at-enum-told3 .enum-told3 .given .1)) _
+    (at-check3 .check3 .ensures ∙ ap (λ (k : Kind). checkOf k (args .p3)) (at-kind-at3 .kind-at3 .ensures))
+    (ap toldChecked (at-enum-told5 .enum-told5 .given .1)) _
+    (c .check4 .ensures ∙ ap (λ (k : Kind). checkOf k (args .p0)) (at-kind-at4 .kind-at4 .ensures))
 
 pub check-places-spec : {M : Type 1} → statement M
 check-places-spec =

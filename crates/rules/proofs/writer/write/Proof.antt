@@ -32,22 +32,47 @@ add-words : tie.Need-add-words
 add-words c = search needs
 
 returns-2 : tie.Need-returns-2
-returns-2 c = write-short _ _ (sym (c .before .before .before .before .before .check-command .ensures) ∙ ap toldChecked (c .before .before .before .enum-told .given .1)) _ _ (c .before .before .line .ensures) (c .before .parameters .ensures) (c .if1 .taken)
+returns-2 c =
+    let at-parameters = c .before in
+    let at-line = at-parameters .before in
+    let at-enum-told = at-line .before in
+    let at-check-command = at-enum-told .before .before in
+    write-short _ _ (sym (at-check-command .check-command .ensures) ∙ ap toldChecked (at-enum-told .enum-told .given .1)) _ _
+    (at-line .line .ensures) (at-parameters .parameters .ensures) (c .if1 .taken)
 
 fields-requires : tie.Need-fields-requires
 fields-requires c κs = search needs
 
 header-requires : tie.Need-header-requires
-header-requires c κs = rw (c .before .before .before .before .line .ensures) (lined (c .before .before .before .before .before .before .before .before .before .args .command) .line-most)
+header-requires c κs =
+    let at-line = c .before .before .before .before in
+    let entry = at-line .before .before .before .before .before in
+    rw (at-line .line .ensures) (lined (entry .args .command) .line-most)
 
 put-requires : tie.Need-put-requires
-put-requires c κs = room-fits (c .before .before .before .before .before .before .before .before .before .before .args .command) _ _ _ (c .before .before .before .before .before .line .ensures) (c .before .before .before .before .parameters .ensures) (c .before .before .before .if1 .left)
+put-requires c κs =
+    let at-if1 = c .before .before .before in
+    let at-parameters = at-if1 .before in
+    let at-line = at-parameters .before in
+    let entry = at-line .before .before .before .before .before in
+    room-fits (entry .args .command) _ _ _ (at-line .line .ensures) (at-parameters .parameters .ensures) (at-if1 .if1 .left)
 
 same-length : tie.Need-same-length
 same-length c = search needs
 
 returns-3 : tie.Need-returns-3
-returns-3 c = write-done _ _ (sym (c .before .before .before .before .before .before .before .before .before .before .before .check-command .ensures) ∙ ap toldChecked (c .before .before .before .before .before .before .before .before .before .enum-told .given .1)) _ _ (c .before .before .before .before .before .before .before .before .line .ensures) (c .before .before .before .before .before .before .before .parameters .ensures) _ _ (c .before .before .before .before .before .fields .result) (c .before .before .before .before .before .before .if1 .left) (c .before .before .before .header .ensures) (c .before .before .before .before .before .fields .ensures) (c .before .before .put .ensures)
+returns-3 c =
+    let at-put = c .before .before in
+    let at-header = at-put .before in
+    let at-fields = at-header .before .before in
+    let at-if1 = at-fields .before in
+    let at-parameters = at-if1 .before in
+    let at-line = at-parameters .before in
+    let at-enum-told = at-line .before in
+    let at-check-command = at-enum-told .before .before in
+    write-done _ _ (sym (at-check-command .check-command .ensures) ∙ ap toldChecked (at-enum-told .enum-told .given .1)) _ _
+    (at-line .line .ensures) (at-parameters .parameters .ensures) _ _ (at-fields .fields .result) (at-if1 .if1 .left)
+    (at-header .header .ensures) (at-fields .fields .ensures) (at-put .put .ensures)
 
 pub write-spec : {M : Type 1} → statement M
 write-spec =

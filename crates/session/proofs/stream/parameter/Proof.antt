@@ -11,16 +11,34 @@ element-copy-out-count : tie.Need-element-copy-out-count
 element-copy-out-count c = search needs
 
 place-allowed-requires : tie.Need-place-allowed-requires
-place-allowed-requires c κs = kind-asked (c .before .before .args .own .now) (c .before .before .args .tallies .now) (c .before .before .args .shared .now) (c .before .before .args .word) (c .before .before .pre)
+place-allowed-requires c κs =
+    let entry = c .before .before in
+    let args = entry .args in
+    kind-asked (args .own .now) (args .tallies .now) (args .shared .now) (args .word) (entry .pre)
 
 placed-requires : tie.Need-placed-requires
-placed-requires c κs = parameter-asked (c .before .before .before .before .before .before .before .args .own .now) (c .before .before .before .before .before .before .before .args .tallies .now) (c .before .before .before .before .before .before .before .args .shared .now) (c .before .before .before .before .before .before .before .args .word) (c .before .before .before .before .before .before .before .pre) _ (c .before .before .before .before .place-allowed .ensures) (c .before .before .before .if1 .taken)
+placed-requires c κs =
+    let at-if1 = c .before .before .before in
+    let at-place-allowed = at-if1 .before in
+    let entry = at-place-allowed .before .before .before in
+    let args = entry .args in
+    parameter-asked (args .own .now) (args .tallies .now) (args .shared .now) (args .word) (entry .pre) _
+    (at-place-allowed .place-allowed .ensures) (at-if1 .if1 .taken)
 
 returns : tie.Need-returns
-returns c = kind-passed (c .before .before .before .before .before .before .before .before .args .own .now) (c .before .before .before .before .before .before .before .before .args .tallies .now) (c .before .before .before .before .before .before .before .before .args .shared .now) (c .before .before .before .before .before .before .before .before .args .word) (c .before .before .before .before .before .before .before .before .pre) _ (c .before .before .before .before .before .place-allowed .ensures) (c .before .before .before .before .if1 .taken) _ _ _ _ (c .placed .ensures)
+returns c =
+    let at-if1 = c .before .before .before .before in
+    let at-place-allowed = at-if1 .before in
+    let entry = at-place-allowed .before .before .before in
+    let args = entry .args in
+    kind-passed (args .own .now) (args .tallies .now) (args .shared .now) (args .word) (entry .pre) _
+    (at-place-allowed .place-allowed .ensures) (at-if1 .if1 .taken) _ _ _ _ (c .placed .ensures)
 
 kind-at-requires : tie.Need-kind-at-requires
-kind-at-requires c κs = kind-asked (c .before .before .before .before .args .own .now) (c .before .before .before .before .args .tallies .now) (c .before .before .before .before .args .shared .now) (c .before .before .before .before .args .word) (c .before .before .before .before .pre)
+kind-at-requires c κs =
+    let entry = c .before .before .before .before in
+    let args = entry .args in
+    kind-asked (args .own .now) (args .tallies .now) (args .shared .now) (args .word) (entry .pre)
 
 stop-requires : tie.Need-stop-requires
 stop-requires c κs = search needs
@@ -29,7 +47,16 @@ fault-requires : tie.Need-fault-requires
 fault-requires c κs = search needs
 
 returns-2 : tie.Need-returns-2
-returns-2 c = kind-refused (c .before .before .before .before .before .before .before .before .args .own .now) (c .before .before .before .before .before .before .before .before .args .tallies .now) (c .before .before .before .before .before .before .before .before .args .shared .now) (c .before .before .before .before .before .before .before .before .args .word) (c .before .before .before .before .before .before .before .before .pre) _ (c .before .before .before .before .before .place-allowed .ensures) (c .before .before .before .before .if1 .left) _ (c .before .before .before .kind-at .ensures) _ (c .fault .ensures) _ (c .before .stop .ensures)
+returns-2 c =
+    let at-stop = c .before in
+    let at-kind-at = at-stop .before .before in
+    let at-if1 = at-kind-at .before in
+    let at-place-allowed = at-if1 .before in
+    let entry = at-place-allowed .before .before .before in
+    let args = entry .args in
+    kind-refused (args .own .now) (args .tallies .now) (args .shared .now) (args .word) (entry .pre) _
+    (at-place-allowed .place-allowed .ensures) (at-if1 .if1 .left) _ (at-kind-at .kind-at .ensures) _ (c .fault .ensures) _
+    (at-stop .stop .ensures)
 
 pub parameter-spec : {M : Type 1} → statement M
 parameter-spec =

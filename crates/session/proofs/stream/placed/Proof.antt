@@ -11,25 +11,56 @@ element-copy-out-count : tie.Need-element-copy-out-count
 element-copy-out-count c = search needs
 
 place-requires : tie.Need-place-requires
-place-requires c κs = place-asked (c .before .before .before .args .own .now) (c .before .before .before .args .tallies .now) (c .before .before .before .args .shared .now) (c .before .before .before .args .word) (c .before .before .before .pre)
+place-requires c κs =
+    let entry = c .before .before .before in
+    let args = entry .args in
+    place-asked (args .own .now) (args .tallies .now) (args .shared .now) (args .word) (entry .pre)
 
 add-if1 : tie.Need-add-if1
-add-if1 c = record { fits = count-fits (c .before .before .before .before .args .own .now) (c .before .before .before .before .args .tallies .now) (c .before .before .before .before .args .shared .now) (c .before .before .before .before .args .word) (c .before .before .before .before .pre) }
+add-if1 c =
+    let entry = c .before .before .before .before in
+    let args = entry .args in
+    record { fits = count-fits (args .own .now) (args .tallies .now) (args .shared .now) (args .word) (entry .pre) }
 
 parameters-requires : tie.Need-parameters-requires
 parameters-requires c κs = search needs
 
 count-word-requires : tie.Need-count-word-requires
-count-word-requires c κs = placed-asked (c .before .before .before .before .before .before .before .args .own .now) (c .before .before .before .before .before .before .before .args .tallies .now) (c .before .before .before .before .before .before .before .args .shared .now) (c .before .before .before .before .before .before .before .args .word) (c .before .before .before .before .before .before .before .pre) _ (c .before .before .before .place .ensures)
+count-word-requires c κs =
+    let at-place = c .before .before .before in
+    let entry = at-place .before .before .before .before in
+    let args = entry .args in
+    placed-asked (args .own .now) (args .tallies .now) (args .shared .now) (args .word) (entry .pre) _ (at-place .place .ensures)
 
 returns : tie.Need-returns
-returns c = placed-open (c .before .before .before .before .before .before .before .before .args .own .now) (c .before .before .before .before .before .before .before .before .args .tallies .now) (c .before .before .before .before .before .before .before .before .args .shared .now) (c .before .before .before .before .before .before .before .before .args .word) (c .before .before .before .before .before .before .before .before .pre) _ (c .before .before .before .before .place .ensures) (rw (← (c .before .before .before .parameters .ensures)) (c .before .before .if1 .taken)) _ (c .count-word .ensures)
+returns c =
+    let at-if1 = c .before .before in
+    let at-parameters = at-if1 .before in
+    let at-place = at-parameters .before in
+    let entry = at-place .before .before .before .before in
+    let args = entry .args in
+    placed-open (args .own .now) (args .tallies .now) (args .shared .now) (args .word) (entry .pre) _ (at-place .place .ensures)
+    (rw (← (at-parameters .parameters .ensures)) (at-if1 .if1 .taken)) _ (c .count-word .ensures)
 
 complete-requires : tie.Need-complete-requires
-complete-requires c κs = complete-asked (c .before .before .before .before .before .before .before .before .before .args .own .now) (c .before .before .before .before .before .before .before .before .before .args .tallies .now) (c .before .before .before .before .before .before .before .before .before .args .shared .now) (c .before .before .before .before .before .before .before .before .before .args .word) (c .before .before .before .before .before .before .before .before .before .pre) _ (c .before .before .before .before .before .place .ensures) (rw (← (c .before .before .before .before .parameters .ensures)) (c .before .before .before .if1 .left))
+complete-requires c κs =
+    let at-if1 = c .before .before .before in
+    let at-parameters = at-if1 .before in
+    let at-place = at-parameters .before in
+    let entry = at-place .before .before .before .before in
+    let args = entry .args in
+    complete-asked (args .own .now) (args .tallies .now) (args .shared .now) (args .word) (entry .pre) _ (at-place .place .ensures)
+    (rw (← (at-parameters .parameters .ensures)) (at-if1 .if1 .left))
 
 returns-2 : tie.Need-returns-2
-returns-2 c = placed-whole (c .before .before .before .before .before .before .before .before .before .before .args .own .now) (c .before .before .before .before .before .before .before .before .before .before .args .tallies .now) (c .before .before .before .before .before .before .before .before .before .before .args .shared .now) (c .before .before .before .before .before .before .before .before .before .before .args .word) (c .before .before .before .before .before .before .before .before .before .before .pre) _ (c .before .before .before .before .before .before .place .ensures) (rw (← (c .before .before .before .before .before .parameters .ensures)) (c .before .before .before .before .if1 .left)) _ _ _ _ (c .complete .ensures)
+returns-2 c =
+    let at-if1 = c .before .before .before .before in
+    let at-parameters = at-if1 .before in
+    let at-place = at-parameters .before in
+    let entry = at-place .before .before .before .before in
+    let args = entry .args in
+    placed-whole (args .own .now) (args .tallies .now) (args .shared .now) (args .word) (entry .pre) _ (at-place .place .ensures)
+    (rw (← (at-parameters .parameters .ensures)) (at-if1 .if1 .left)) _ _ _ _ (c .complete .ensures)
 
 pub placed-spec : {M : Type 1} → statement M
 placed-spec =

@@ -10,7 +10,10 @@ element-copy-out-if1 : tie.Need-element-copy-out-if1
 element-copy-out-if1 c = search needs
 
 returns : tie.Need-returns
-returns c = word-stopped (c .before .before .args .own .now) (c .before .before .args .tallies .now) (c .before .before .args .shared .now) (c .before .before .args .word) (c .before .before .pre) (c .if1 .taken)
+returns c =
+    let entry = c .before .before in
+    let args = entry .args in
+    word-stopped (args .own .now) (args .tallies .now) (args .shared .now) (args .word) (entry .pre) (c .if1 .taken)
 
 element-copy-out-if2 : tie.Need-element-copy-out-if2
 element-copy-out-if2 c = search needs
@@ -19,16 +22,36 @@ stop-requires : tie.Need-stop-requires
 stop-requires c κs = search needs
 
 returns-2 : tie.Need-returns-2
-returns-2 c = word-full (c .before .before .before .before .before .before .args .own .now) (c .before .before .before .before .before .before .args .tallies .now) (c .before .before .before .before .before .before .args .shared .now) (c .before .before .before .before .before .before .args .word) (c .before .before .before .before .before .before .pre) (c .before .before .before .before .if1 .left) (c .before .before .if2 .taken) _ (c .stop .ensures)
+returns-2 c =
+    let at-if2 = c .before .before in
+    let at-if1 = at-if2 .before .before in
+    let entry = at-if1 .before .before in
+    let args = entry .args in
+    word-full (args .own .now) (args .tallies .now) (args .shared .now) (args .word) (entry .pre) (at-if1 .if1 .left) (at-if2 .if2 .taken) _
+    (c .stop .ensures)
 
 element-copy-out-if3 : tie.Need-element-copy-out-if3
 element-copy-out-if3 c = search needs
 
 parameter-requires : tie.Need-parameter-requires
-parameter-requires c κs = open-asked (c .before .before .before .before .before .before .before .before .before .args .own .now) (c .before .before .before .before .before .before .before .before .before .args .tallies .now) (c .before .before .before .before .before .before .before .before .before .args .shared .now) (c .before .before .before .before .before .before .before .before .before .args .word) (c .before .before .before .before .before .before .before .before .before .pre) (c .before .before .before .before .before .before .before .if1 .left) (c .before .before .before .before .before .if2 .left) (c .before .before .before .if3 .taken)
+parameter-requires c κs =
+    let at-if3 = c .before .before .before in
+    let at-if2 = at-if3 .before .before in
+    let at-if1 = at-if2 .before .before in
+    let entry = at-if1 .before .before in
+    let args = entry .args in
+    open-asked (args .own .now) (args .tallies .now) (args .shared .now) (args .word) (entry .pre) (at-if1 .if1 .left) (at-if2 .if2 .left)
+    (at-if3 .if3 .taken)
 
 returns-3 : tie.Need-returns-3
-returns-3 c = word-parameter (c .before .before .before .before .before .before .before .before .before .before .args .own .now) (c .before .before .before .before .before .before .before .before .before .before .args .tallies .now) (c .before .before .before .before .before .before .before .before .before .before .args .shared .now) (c .before .before .before .before .before .before .before .before .before .before .args .word) (c .before .before .before .before .before .before .before .before .before .before .pre) (c .before .before .before .before .before .before .before .before .if1 .left) (c .before .before .before .before .before .before .if2 .left) (c .before .before .before .before .if3 .taken) _ _ _ _ (c .parameter .ensures)
+returns-3 c =
+    let at-if3 = c .before .before .before .before in
+    let at-if2 = at-if3 .before .before in
+    let at-if1 = at-if2 .before .before in
+    let entry = at-if1 .before .before in
+    let args = entry .args in
+    word-parameter (args .own .now) (args .tallies .now) (args .shared .now) (args .word) (entry .pre) (at-if1 .if1 .left)
+    (at-if2 .if2 .left) (at-if3 .if3 .taken) _ _ _ _ (c .parameter .ensures)
 
 line-of-requires : tie.Need-line-of-requires
 line-of-requires c κs = search needs
@@ -43,13 +66,38 @@ enum-known-line : tie.Need-enum-known-line
 enum-known-line c = search needs
 
 open-line-requires : tie.Need-open-line-requires
-open-line-requires c κs = line-asked (c .before .before .before .before .before .before .before .before .before .before .before .args .own .now) (c .before .before .before .before .before .before .before .before .before .before .before .args .tallies .now) (c .before .before .before .before .before .before .before .before .before .before .before .args .shared .now) (c .before .before .before .before .before .before .before .before .before .before .before .args .word) (c .before .before .before .before .before .before .before .before .before .before .before .pre) (c .before .before .before .before .before .before .before .before .before .if1 .left) (c .before .before .before .before .before .before .before .if2 .left) (c .before .before .before .before .before .if3 .left)
+open-line-requires c κs =
+    let at-if3 = c .before .before .before .before .before in
+    let at-if2 = at-if3 .before .before in
+    let at-if1 = at-if2 .before .before in
+    let entry = at-if1 .before .before in
+    let args = entry .args in
+    line-asked (args .own .now) (args .tallies .now) (args .shared .now) (args .word) (entry .pre) (at-if1 .if1 .left) (at-if2 .if2 .left)
+    (at-if3 .if3 .left)
 
 returns-4 : tie.Need-returns-4
-returns-4 c = word-unknown (c .before .before .before .before .before .before .before .before .before .before .before .args .own .now) (c .before .before .before .before .before .before .before .before .before .before .before .args .tallies .now) (c .before .before .before .before .before .before .before .before .before .before .before .args .shared .now) (c .before .before .before .before .before .before .before .before .before .before .before .args .word) (c .before .before .before .before .before .before .before .before .before .before .before .pre) (c .before .before .before .before .before .before .before .before .before .if1 .left) (c .before .before .before .before .before .before .before .if2 .left) (c .before .before .before .before .before .if3 .left) (sym (c .before .before .before .before .line-of .ensures) ∙ ap toldLine (c .before .before .enum-told .given .1)) _ (c .stop2 .ensures)
+returns-4 c =
+    let at-enum-told = c .before .before in
+    let at-line-of = at-enum-told .before .before in
+    let at-if3 = at-line-of .before in
+    let at-if2 = at-if3 .before .before in
+    let at-if1 = at-if2 .before .before in
+    let entry = at-if1 .before .before in
+    let args = entry .args in
+    word-unknown (args .own .now) (args .tallies .now) (args .shared .now) (args .word) (entry .pre) (at-if1 .if1 .left) (at-if2 .if2 .left)
+    (at-if3 .if3 .left) (sym (at-line-of .line-of .ensures) ∙ ap toldLine (at-enum-told .enum-told .given .1)) _ (c .stop2 .ensures)
 
 returns-5 : tie.Need-returns-5
-returns-5 c = word-header (c .before .before .before .before .before .before .before .before .before .before .before .before .args .own .now) (c .before .before .before .before .before .before .before .before .before .before .before .before .args .tallies .now) (c .before .before .before .before .before .before .before .before .before .before .before .before .args .shared .now) (c .before .before .before .before .before .before .before .before .before .before .before .before .args .word) (c .before .before .before .before .before .before .before .before .before .before .before .before .pre) (c .before .before .before .before .before .before .before .before .before .before .if1 .left) (c .before .before .before .before .before .before .before .before .if2 .left) (c .before .before .before .before .before .before .if3 .left) _ (sym (c .before .before .before .before .before .line-of .ensures) ∙ ap toldLine (c .before .before .before .line .given .1)) _ (c .open-line .ensures)
+returns-5 c =
+    let at-line = c .before .before .before in
+    let at-line-of = at-line .before .before in
+    let at-if3 = at-line-of .before in
+    let at-if2 = at-if3 .before .before in
+    let at-if1 = at-if2 .before .before in
+    let entry = at-if1 .before .before in
+    let args = entry .args in
+    word-header (args .own .now) (args .tallies .now) (args .shared .now) (args .word) (entry .pre) (at-if1 .if1 .left) (at-if2 .if2 .left)
+    (at-if3 .if3 .left) _ (sym (at-line-of .line-of .ensures) ∙ ap toldLine (at-line .line .given .1)) _ (c .open-line .ensures)
 
 pub word-spec : {M : Type 1} → statement M
 word-spec =

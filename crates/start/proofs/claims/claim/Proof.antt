@@ -31,11 +31,9 @@ mul-result c = omega (arith, claim-fits (c .before .pairs .ensures .1) (c .count
 
 returns : tie.Need-returns
 returns c =
-    claim-told
-    (c .before .before .before .before .before .before .args .own .now)
-    (c .before .before .before .before .before .before .args .shared .now)
-    (c .before .pairs .ensures)
-    (c .counted-outputs .ensures)
+    let at-pairs = c .before in
+    let entry = at-pairs .before .before .before .before .before in
+    claim-told (entry .args .own .now) (entry .args .shared .now) (at-pairs .pairs .ensures) (c .counted-outputs .ensures)
 
 pub claim-spec : {M : Type 1} → statement M
 claim-spec =

@@ -27,13 +27,28 @@ element-copy-out-tallies-2 c = search needs
 
 add-tallies-2 : tie.Need-add-tallies-2
 unfolding partyOf
-add-tallies-2 c = omega (arith, second-tally (c .before .before .before .args .own .now) (c .before .before .before .pre .sized .own-length) (c .before .before .before .args .tallies .now) (c .before .before .before .pre .sized .tallies-length) (getD (c .before .before .before .args .tallies .now) 0 0 + 1), c .before .before .claim .ensures .1, c .before .before .before .pre .claims)
+add-tallies-2 c =
+    let at-claim = c .before .before in
+    let entry = at-claim .before in
+    let args = entry .args in
+    omega (
+      arith,
+      second-tally (args .own .now) (entry .pre .sized .own-length) (args .tallies .now) (entry .pre .sized .tallies-length)
+          (getD (args .tallies .now) 0 0 + 1),
+      at-claim .claim .ensures .1,
+      entry .pre .claims,
+    )
 
 element-write-tallies-2 : tie.Need-element-write-tallies-2
 element-write-tallies-2 c = search needs
 
 returns : tie.Need-returns
-returns c = start-tallies (c .before .before .before .args .own .now) (c .before .before .before .pre .sized .own-length) (c .before .before .before .args .tallies .now) (c .before .before .before .pre .sized .tallies-length) (sharedOf (c .before .before .before .args .shared .now)) _ (c .before .before .claim .ensures .0)
+returns c =
+    let at-claim = c .before .before in
+    let entry = at-claim .before in
+    let args = entry .args in
+    start-tallies (args .own .now) (entry .pre .sized .own-length) (args .tallies .now) (entry .pre .sized .tallies-length)
+    (sharedOf (args .shared .now)) _ (at-claim .claim .ensures .0)
 
 pub count-start-spec : {M : Type 1} → statement M
 count-start-spec =

@@ -39,22 +39,21 @@ both-requires-5 c κs = search needs
 
 returns : tie.Need-returns
 returns c =
-    each-apart
-    (c .before .before .before .before .before .before .before .before .before .before .before .args .a)
-    (c .before .before .before .before .before .before .before .before .before .before .before .args .b)
-    (c .before .before .before .before .before .before .before .before .before .before .before .args .c)
-    (c .before .before .before .before .before .before .before .before .before .before .before .args .d)
-    (c .before .before .before .before .before .before .before .before .before .before .keeps-apart .ensures)
-    (c .before .before .before .before .before .before .before .before .before .keeps-apart2 .ensures)
-    (c .before .before .before .before .before .before .before .before .keeps-apart3 .ensures)
-    (c .before .before .before .before .before .before .before .both .ensures)
-    (c .before .before .before .before .before .before .keeps-apart4 .ensures)
-    (c .before .before .before .before .before .keeps-apart5 .ensures)
-    (c .before .before .before .before .both2 .ensures)
-    (c .before .before .before .keeps-apart6 .ensures)
-    (c .before .before .both3 .ensures)
-    (c .before .both4 .ensures)
-    (c .both5 .ensures)
+    let at-both4 = c .before in
+    let at-both3 = at-both4 .before in
+    let at-keeps-apart6 = at-both3 .before in
+    let at-both2 = at-keeps-apart6 .before in
+    let at-keeps-apart5 = at-both2 .before in
+    let at-keeps-apart4 = at-keeps-apart5 .before in
+    let at-both = at-keeps-apart4 .before in
+    let at-keeps-apart3 = at-both .before in
+    let at-keeps-apart2 = at-keeps-apart3 .before in
+    let at-keeps-apart = at-keeps-apart2 .before in
+    let args = at-keeps-apart .before .args in
+    each-apart (args .a) (args .b) (args .c) (args .d) (at-keeps-apart .keeps-apart .ensures) (at-keeps-apart2 .keeps-apart2 .ensures)
+    (at-keeps-apart3 .keeps-apart3 .ensures) (at-both .both .ensures) (at-keeps-apart4 .keeps-apart4 .ensures)
+    (at-keeps-apart5 .keeps-apart5 .ensures) (at-both2 .both2 .ensures) (at-keeps-apart6 .keeps-apart6 .ensures) (at-both3 .both3 .ensures)
+    (at-both4 .both4 .ensures) (c .both5 .ensures)
 
 pub each-apart-spec : {M : Type 1} → statement M
 each-apart-spec =

@@ -27,17 +27,15 @@ both-requires-3 c κs = search needs
 
 returns : tie.Need-returns
 returns c =
-    each-holds
-    (c .before .before .before .before .before .before .before .args .a)
-    (c .before .before .before .before .before .before .before .args .b)
-    (c .before .before .before .before .before .before .before .args .c)
-    (c .before .before .before .before .before .before .before .args .d) _ _
-    (c .before .before .before .before .before .before .holds-pair .ensures)
-    (c .before .before .before .before .before .holds-pair2 .ensures)
-    (c .before .before .before .before .both .ensures)
-    (c .before .before .before .holds-pair3 .ensures)
-    (c .before .before .both2 .ensures)
-    (c .before .holds-pair4 .ensures)
+    let at-holds-pair4 = c .before in
+    let at-both2 = at-holds-pair4 .before in
+    let at-holds-pair3 = at-both2 .before in
+    let at-both = at-holds-pair3 .before in
+    let at-holds-pair2 = at-both .before in
+    let at-holds-pair = at-holds-pair2 .before in
+    let args = at-holds-pair .before .args in
+    each-holds (args .a) (args .b) (args .c) (args .d) _ _ (at-holds-pair .holds-pair .ensures) (at-holds-pair2 .holds-pair2 .ensures)
+    (at-both .both .ensures) (at-holds-pair3 .holds-pair3 .ensures) (at-both2 .both2 .ensures) (at-holds-pair4 .holds-pair4 .ensures)
     (c .both3 .ensures)
 
 pub each-holds-spec : {M : Type 1} → statement M

@@ -51,19 +51,19 @@ first-of-requires c κs = search needs
 
 returns : tie.Need-returns
 returns c =
-    ready-told
-    (c .before .before .before .before .before .before .before .before .before .before .before .before .before .before .before .args .shared .now)
-    (c .before .before .before .before .before .before .before .before .before .before .before .before .before .before .before .args .own .now)
-    (c .before .before .before .before .before .before .before .before .before .before .before .before .before .output-at .ensures)
-    (c .before .before .before .before .before .before .before .before .before .before .before .before .output-at2 .ensures)
-    (c .before .before .before .before .before .before .before .before .before .before .before .output-at3 .ensures)
-    (c .before .before .before .before .before .before .before .before .before .before .output-at4 .ensures)
-    (c .before .before .before .before .before .before .before .some-set .ensures)
-    (c .before .before .before .before .before .before .both .ensures)
-    (c .before .before .before .before .before .both2 .ensures)
-    (c .before .before .each-holds .ensures)
-    (c .before .each-apart .ensures)
-    (c .first-of .ensures)
+    let at-each-apart = c .before in
+    let at-each-holds = at-each-apart .before in
+    let at-both2 = at-each-holds .before .before .before in
+    let at-both = at-both2 .before in
+    let at-some-set = at-both .before in
+    let at-output-at4 = at-some-set .before .before .before in
+    let at-output-at3 = at-output-at4 .before in
+    let at-output-at2 = at-output-at3 .before in
+    let at-output-at = at-output-at2 .before in
+    let entry = at-output-at .before .before in
+    ready-told (entry .args .shared .now) (entry .args .own .now) (at-output-at .output-at .ensures) (at-output-at2 .output-at2 .ensures)
+    (at-output-at3 .output-at3 .ensures) (at-output-at4 .output-at4 .ensures) (at-some-set .some-set .ensures) (at-both .both .ensures)
+    (at-both2 .both2 .ensures) (at-each-holds .each-holds .ensures) (at-each-apart .each-apart .ensures) (c .first-of .ensures)
 
 pub readiness-spec : {M : Type 1} → statement M
 readiness-spec =
