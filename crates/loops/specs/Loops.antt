@@ -15,7 +15,7 @@ use Rattle.laws.specs.Choice.{_and_, pick}
 use Rattle.laws.specs.Masks.{digit}
 use Rattle.loops.specs.declared.Turned.{Turned}
 
--- bits `high` to `low` of a word, as the requests write them: 23:16
+-- bits `high` to `low` of a word, as document 01 and the requests write them: 23:16
 abbrev pub field : ℕ → ℕ → ℕ → ℕ
 field high low w = w / 2 ^ low % 2 ^ (high - low + 1)
 
