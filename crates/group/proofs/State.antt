@@ -13,11 +13,11 @@ use Rattle.laws.specs.Masks.{differ, digit, on, pack, some, every}
 use Rattle.laws.proofs.Choice.{Tested, holds, fails, tested, pick-yes, pick-no, and-left, and-right, and-intro, and-yes}
 use Rattle.laws.proofs.Split.{by-test, pick-same}
 use Rattle.laws.proofs.Masks.{on-pack, on-above, none-at, every-at}
-use Rattle.loops.specs.Loops.{field, Opened, Turn, Turns, NoRoom, NoWord, wordAt, areOpened, Held}
-use Rattle.loops.proofs.Stack.{four-back, TurnSound, opening-sound, closing-sound}
+use Rattle.loops.specs.Loops.{field, Opened, Turn, Turns, NoRoom, NoWord, wordAt, turnOf, areOpened, Held}
+use Rattle.loops.proofs.Stack.{four-back, TurnSound, turn-of-sound}
 use Rattle.group.specs.Proc.{Proc, Active, Idle, Absent, isLive, isActive, counterBit, within, turned, lowered, raised, atLimit, branched, counterLimit}
 use Rattle.group.specs.Group.{Group, Outcome, Steps, Fails, Program, Way, Goes, Stuck, opOf, bElse, jumpFunc, booleanNumber, integerNumber, turnedIf, wishOf, overLimit, popped, wayOf, arrived, settled}
-use Rattle.group.specs.Group.{allowed, allowedLoop, jumpStep, turnOf, onTurn, withLoops, loopStep, slotStep, ended, groupStep, fresh}
+use Rattle.group.specs.Group.{allowed, allowedLoop, jumpStep, onTurn, withLoops, loopStep, slotStep, ended, groupStep, fresh}
 use Rattle.group.specs.Cells.{liveIn, activeIn, planeIn, loopIn, liveMask, activeMask, plane, counterOf, procOf, procAt, returnsIn, groupOf, cellsOf, aReturn, areReturns, Sound, GroupGiven, stepLeaves}
 use Rattle.group.specs.Masks.{MasksOf}
 
@@ -328,16 +328,13 @@ module _ (limit slots first second alu predicate booleans : ℕ) (g : Group) (s 
   turn-sound NoRoom q wish = (omega arith, omega arith)
   turn-sound NoWord q wish = (omega arith, omega arith)
 
-  loop-sound : (word : ℕ) → SoundAfter limit (loopStep limit slots word first second alu predicate booleans g)
-  unfolding loopStep turnOf
+  pub loop-sound : (word : ℕ) → SoundAfter limit (loopStep limit slots word first second alu predicate booleans g)
+  unfolding loopStep
   loop-sound word =
       by-test (SoundAfter limit) (allowedLoop first second)
       (λ a.
       turn-sound (turnOf (opOf first) word (g .loops))
-      (by-test TurnSound (eqb (opOf first) 1) (λ e. opening-sound (g .loops) (s .nested) (s .opened) true word)
-      (λ e.
-      by-test TurnSound (eqb (opOf first) 3) (λ f. opening-sound (g .loops) (s .nested) (s .opened) false word)
-      (λ f. closing-sound (eqb (opOf first) 2) (g .loops) (s .nested) (s .opened))))
+      (turn-of-sound (opOf first) word (g .loops) (s .nested) (s .opened))
       (wishOf (jumpFunc first) (on (booleanNumber second) booleans) alu predicate))
       (λ a. (omega arith, omega arith))
 

@@ -1,6 +1,6 @@
 -- Document 01, "Stepping a group", and request 4, "Loops in the stepper": the words of a slot, the state of a group, a step and a
 -- run. Assumes nothing.
-use mathlib.Core.Bool.{Bool, true, false}
+use mathlib.Core.Bool.{Bool, true}
 use mathlib.Core.List.{List, [], _∷_}
 use Prim.Native.Nat.{ℕ, suc, _+_}
 use lib.Dec.{eqb, leb, ltb}
@@ -8,7 +8,7 @@ use lib.ListN.{length, getD}
 use Rattle.laws.specs.Choice.{_and_, pick}
 use Rattle.laws.specs.Masks.{digit, on, some, count, least}
 use Rattle.refusal.specs.Told.{Told, gives, refuses}
-use Rattle.loops.specs.Loops.{field, Opened, Turn, Turns, NoRoom, NoWord, wordAt, opening, closing}
+use Rattle.loops.specs.Loops.{field, Opened, Turn, Turns, NoRoom, NoWord, wordAt, turnOf}
 use Rattle.group.specs.Proc.{Proc, Active, Absent, isActive, turned, wants, decided, atLimit, increment, branched, mostProcessors}
 
 -- "First word: op 3:0 (only 0, JUMP, here), B_ELSE 4, JUMP_ANY 5, A_OP 7:6 (0 none, 1 pop, 2 push), JUMP_FUNC 15:8, B_POP_CNT
@@ -25,6 +25,10 @@ unfoldable pub fitsFirst : ℕ → Bool
 fitsFirst first =
     leb (field 7 6 first) 2 and eqb (field 23 21 first) 0 and leb (field 25 24 first) 2 and leb (field 27 26 first) 2 and
     eqb (field 31 28 first) 0
+
+-- the second word of op 0, and of ops 1 to 4
+unfoldable pub plainSecond : ℕ → Bool
+plainSecond second = eqb (field 15 5 second) 0 and eqb (field 31 25 second) 0
 
 unfoldable pub fitsSecond : Bool → ℕ → Bool
 fitsSecond opens second =
@@ -156,12 +160,6 @@ jumpStep limit slots first second alu predicate booleans g =
     pick (allowed first second)
     (settled limit slots first second (decided (jumpAny first) (λ i. isActive (procs i)) wish) wish procs g)
     (Fails 13)
-
--- "1 LOOP, 2 ENDLOOP, 3 REP, 4 ENDREP": what the op makes of the open loops, an opening with an integer word
-unfoldable pub turnOf : ℕ → ℕ → List Opened → Turn
-turnOf op word loops =
-    pick (eqb op 1) (opening true word loops)
-    (pick (eqb op 3) (opening false word loops) (closing (eqb op 2) loops))
 
 -- the refusals of a turn, 14 and 13, or what its decision and its loops lead to
 abbrev pub onTurn : Turn → (Bool → List Opened → Outcome) → Outcome

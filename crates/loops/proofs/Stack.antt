@@ -13,7 +13,7 @@ use Rattle.laws.specs.Masks.{digit}
 use Rattle.laws.proofs.Choice.{Tested, holds, fails, tested, pick-yes, pick-no, and-left, and-right, and-intro}
 use Rattle.laws.proofs.Split.{by-test}
 use Rattle.loops.specs.declared.Turned.{Turned}
-use Rattle.loops.specs.Loops.{Opened, Looping, Repeating, Turn, Turns, NoRoom, NoWord, field, entryOf, entering, opening, noWord, wordAt, loopTold, placesTold, loopsTold, kindAt, stays, movedTo, closing, shownAL, loopCell, loopAt, loopsIn, loopsOf, cellAt, isOpened, areOpened, Held, turned}
+use Rattle.loops.specs.Loops.{Opened, Looping, Repeating, Turn, Turns, NoRoom, NoWord, field, entryOf, entering, opening, noWord, wordAt, loopTold, placesTold, loopsTold, kindAt, stays, movedTo, closing, turnOf, shownAL, loopCell, loopAt, loopsIn, loopsOf, cellAt, isOpened, areOpened, Held, turned}
 
 -- the bounds of an open loop
 pub record Bounds (n al step : ℕ) : Type 0 where
@@ -482,6 +482,13 @@ closing-sound true (Looping n al step ∷ ls) h s =
   where
     shorter : (n : ℕ) → suc n ≤ 4 → n ≤ 4
     shorter n h = omega arith
+
+pub turn-of-sound : (op word : ℕ) (ls : List Opened) → length ls ≤ 4 → areOpened ls ≡ true → TurnSound (turnOf op word ls)
+unfolding turnOf
+turn-of-sound op word ls h s =
+    by-test TurnSound (eqb op 1) (λ e. opening-sound ls h s true word)
+    (λ e.
+    by-test TurnSound (eqb op 3) (λ f. opening-sound ls h s false word) (λ f. closing-sound (eqb op 2) ls h s))
 
 -- what is told of each loop, from its cell
 cell-told : (o : Opened) (told : List ℕ) → isOpened o ≡ true → kindAt (loopCell o) ∷ loopCell o % 256 ∷ loopCell o / 256 % 256 ∷ told ≡ loopTold o ++ told

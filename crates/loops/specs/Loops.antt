@@ -79,6 +79,24 @@ closing false (Looping n al step ∷ ls) = NoRoom
 closing true (Repeating n ∷ ls) = NoRoom
 closing false (Repeating n ∷ ls) = pick (ltb 1 n) (Turns true (Repeating (n - 1) ∷ ls)) (Turns false ls)
 
+abbrev pub loopOp : ℕ
+loopOp = 1
+
+abbrev pub endloopOp : ℕ
+endloopOp = 2
+
+abbrev pub repOp : ℕ
+repOp = 3
+
+abbrev pub endrepOp : ℕ
+endrepOp = 4
+
+-- "1 LOOP, 2 ENDLOOP, 3 REP, 4 ENDREP": what the op makes of the open loops, an opening with an integer word
+unfoldable pub turnOf : ℕ → ℕ → List Opened → Turn
+turnOf op word loops =
+    pick (eqb op loopOp) (opening true word loops)
+    (pick (eqb op repOp) (opening false word loops) (closing (eqb op endloopOp) loops))
+
 -- "The aL shown is the innermost open LOOP's, 0 if none."
 abbrev pub shownAL : List Opened → ℕ
 shownAL [] = 0
@@ -87,8 +105,8 @@ shownAL (Repeating n ∷ ls) = shownAL ls
 
 -- what is told of a loop: its kind by the op that opens it, the turns left, and its aL (a REP has none: 0)
 abbrev pub loopTold : Opened → List ℕ
-loopTold (Looping n al step) = 1 ∷ n ∷ al ∷ []
-loopTold (Repeating n) = 3 ∷ n ∷ 0 ∷ []
+loopTold (Looping n al step) = loopOp ∷ n ∷ al ∷ []
+loopTold (Repeating n) = repOp ∷ n ∷ 0 ∷ []
 
 -- of so many loops, the innermost first; zeros where there is none
 abbrev pub placesTold : ℕ → List Opened → List ℕ
@@ -113,7 +131,7 @@ loopAt w = pick (eqb (w / loopMark) 1) (Looping (w % 256) (w / 256 % 256) (w / 6
 
 -- a loop's kind by its cell
 unfoldable pub kindAt : ℕ → ℕ
-kindAt c = pick (eqb c 0) 0 (pick (leb loopMark c) 1 3)
+kindAt c = pick (eqb c 0) 0 (pick (leb loopMark c) loopOp repOp)
 
 -- the loops that cells hold: those before the first 0
 unfoldable pub loopsIn : List ℕ → List Opened

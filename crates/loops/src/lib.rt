@@ -4,7 +4,7 @@
 ghost use mathlib.Core.Path.{_≡_};
 ghost use mathlib.Core.Bool.{true, false};
 ghost use Prim.Native.Nat.{_<_};
-ghost use Rattle.loops.specs.Loops.{loopsOf, loopCell, entryOf, wordAt, entering, opening, closing, shownAL, stays, movedTo, kindAt, HeldIn, turned};
+ghost use Rattle.loops.specs.Loops.{loopsOf, loopCell, entryOf, wordAt, entering, opening, closing, turnOf, shownAL, stays, movedTo, kindAt, HeldIn, turned};
 
 // The decision or the refusal, and the four cells then.
 pub struct Turned {
@@ -36,10 +36,12 @@ const AT_LIMIT: u32 = 14;
 // No integer word: its bits 31:24 aren't 0.
 const NO_WORD: u32 = 0xFFFFFFFF;
 
-// What a loop's kind is told as: the op that opens it, 1 LOOP or 3 REP.
-const KIND_LOOP: u32 = 1;
+// The ops that open a loop, which its kind is told as, and the one that closes a LOOP; 4 closes a REP.
+const LOOP_OP: u32 = 1;
 
-const KIND_REP: u32 = 3;
+const ENDLOOP_OP: u32 = 2;
+
+const REP_OP: u32 = 3;
 
 // The integer word of a number, or one that no opening allows where the list has none.
 pub fn word_at(number: u32, words: &[u32]) -> u32
@@ -96,7 +98,7 @@ fn enter(looping: bool, word: u32, l0: u32, l1: u32, l2: u32, l3: u32) -> Turned
 }
 
 // Opens a LOOP or a REP with an integer word: 13 where the word isn't allowed, whatever its count, and before 14.
-pub fn open(looping: bool, word: u32, l0: u32, l1: u32, l2: u32, l3: u32) -> Turned
+fn open(looping: bool, word: u32, l0: u32, l1: u32, l2: u32, l3: u32) -> Turned
     requires { ⌜ HeldIn l0 l1 l2 l3 ⌝ }
     ensures { λ r. ⌜ r ≡ turned l0 l1 l2 l3 (opening looping word (loopsOf l0 l1 l2 l3)) ⌝ }
 {
@@ -135,7 +137,7 @@ fn moved(al: u32, step: u32) -> u32
 }
 
 // Closes a REP: 14 where none is open or the innermost loop is a LOOP.
-pub fn close_rep(l0: u32, l1: u32, l2: u32, l3: u32) -> Turned
+fn close_rep(l0: u32, l1: u32, l2: u32, l3: u32) -> Turned
     requires { ⌜ HeldIn l0 l1 l2 l3 ⌝ }
     ensures { λ r. ⌜ r ≡ turned l0 l1 l2 l3 (closing false (loopsOf l0 l1 l2 l3)) ⌝ }
 {
@@ -176,7 +178,7 @@ pub fn close_rep(l0: u32, l1: u32, l2: u32, l3: u32) -> Turned
 }
 
 // Closes a LOOP: 14 where none is open or the innermost loop is a REP, and where a jump would lead aL out of 0 to 255.
-pub fn close_loop(l0: u32, l1: u32, l2: u32, l3: u32) -> Turned
+fn close_loop(l0: u32, l1: u32, l2: u32, l3: u32) -> Turned
     requires { ⌜ HeldIn l0 l1 l2 l3 ⌝ }
     ensures { λ r. ⌜ r ≡ turned l0 l1 l2 l3 (closing true (loopsOf l0 l1 l2 l3)) ⌝ }
 {
@@ -220,6 +222,23 @@ pub fn close_loop(l0: u32, l1: u32, l2: u32, l3: u32) -> Turned
     }
 }
 
+// What the op of a slot makes of the open loops, an opening with its integer word.
+pub fn turn(op: u32, word: u32, l0: u32, l1: u32, l2: u32, l3: u32) -> Turned
+    requires { ⌜ HeldIn l0 l1 l2 l3 ⌝ }
+    ensures { λ r. ⌜ r ≡ turned l0 l1 l2 l3 (turnOf op word (loopsOf l0 l1 l2 l3)) ⌝ }
+{
+    if op == LOOP_OP {
+        return open(true, word, l0, l1, l2, l3);
+    }
+    if op == REP_OP {
+        return open(false, word, l0, l1, l2, l3);
+    }
+    if op == ENDLOOP_OP {
+        return close_loop(l0, l1, l2, l3);
+    }
+    close_rep(l0, l1, l2, l3)
+}
+
 // The aL shown: the innermost open LOOP's, 0 if none is open. A REP hides no LOOP.
 pub fn shown(l0: u32, l1: u32, l2: u32, l3: u32) -> u32
     requires { ⌜ HeldIn l0 l1 l2 l3 ⌝ }
@@ -248,7 +267,7 @@ pub fn kind(cell: u32) -> u32
         return 0;
     }
     if LOOPING <= cell {
-        return KIND_LOOP;
+        return LOOP_OP;
     }
-    KIND_REP
+    REP_OP
 }
