@@ -16,9 +16,9 @@ pub struct Turned {
 }
 
 // A field of an integer word, and of a LOOP's cell, is divided by its lowest bit: the count, aL, its step. Each is a byte.
-const BYTES: u32 = 256;
+pub const BYTES: u32 = 256;
 
-const AL: u32 = 0x100;
+pub const AL: u32 = 0x100;
 
 const STEP: u32 = 0x10000;
 
