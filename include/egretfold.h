@@ -43,7 +43,7 @@ extern "C" {
 #endif
 
 /* A session's state: its own numbers, its tallies, and the settings. */
-enum { EGRETFOLD_OWN = 17, EGRETFOLD_TALLIES = 2, EGRETFOLD_SHARED = 101 };
+enum { EGRETFOLD_OWN = 33, EGRETFOLD_TALLIES = 2, EGRETFOLD_SHARED = 101 };
 
 /* A replay's state besides its session's arrays: its own numbers, and what the tallies were at each midnight. */
 enum { EGRETFOLD_LOG = 10, EGRETFOLD_MARKS = 800 };
@@ -57,42 +57,46 @@ enum { EGRETFOLD_LOG = 10, EGRETFOLD_MARKS = 800 };
  *   12 to 19 zeros */
 enum { EGRETFOLD_SLOTS = 512, EGRETFOLD_CELLS = 20 };
 
+/* The most days of a lease line. */
+enum { EGRETFOLD_DAYS = 31 };
+
 /* ---- Sessions ---- */
 
 /* A new session: nothing set, mask 65535. Returns 0. */
-uint32_t egretfold_session_begin(uint32_t own[17], uint64_t tallies[2], uint32_t shared[101]);
+uint32_t egretfold_session_begin(uint32_t own[EGRETFOLD_OWN], uint64_t tallies[EGRETFOLD_TALLIES],
+                                 uint32_t shared[EGRETFOLD_SHARED]);
 
 /* One word. command: 0 where a command is still open, else 1; then the completed command's header and its four parameters,
  * 0 past its last (and all 0 where a command is open). 1 to 9 or 17; all but 1 stop the session and drop the open command. */
-uint32_t egretfold_session_word(uint32_t own[17], uint64_t tallies[2], uint32_t shared[101], uint32_t word,
-                                uint32_t command[6]);
+uint32_t egretfold_session_word(uint32_t own[EGRETFOLD_OWN], uint64_t tallies[EGRETFOLD_TALLIES],
+                                uint32_t shared[EGRETFOLD_SHARED], uint32_t word, uint32_t command[6]);
 
 /* A piece of words, one after another up to the first refused one. Returns that word's refusal, or 0. fed, written in any
  * case: the words taken (where a word is refused, its place in the piece) and the commands that they completed. */
-uint32_t egretfold_session_feed(uint32_t own[17], uint64_t tallies[2], uint32_t shared[101], const uint32_t *words,
-                                size_t length, uint64_t fed[2]);
+uint32_t egretfold_session_feed(uint32_t own[EGRETFOLD_OWN], uint64_t tallies[EGRETFOLD_TALLIES],
+                                uint32_t shared[EGRETFOLD_SHARED], const uint32_t *words, size_t length, uint64_t fed[2]);
 
 /* status: the words taken since the session began; 1 if it is stopped, else 0; the open command's header, 0 if none is open;
  * and how many of its parameters were taken. Returns 0. */
-uint32_t egretfold_session_status(const uint32_t own[17], uint32_t status[4]);
+uint32_t egretfold_session_status(const uint32_t own[EGRETFOLD_OWN], uint32_t status[4]);
 
 /* counts: runs (starts that passed) and the elements that they claimed: the pairs of the domain, times the set outputs that
  * are not silent at the start. An output is silent when no mask bit is set for a channel that its format has: bit 4n + c is
  * for output n, channel c, and codes 0 to 4 have one, four, one, two and four channels. Returns 0. */
-uint32_t egretfold_session_tallies(const uint64_t tallies[2], uint64_t counts[2]);
+uint32_t egretfold_session_tallies(const uint64_t tallies[EGRETFOLD_TALLIES], uint64_t counts[2]);
 
 /* domain: 1 if it is set, else 0; then i0, j0, i1, j1, both ends included. Returns 0. */
-uint32_t egretfold_session_domain(const uint32_t own[17], uint32_t domain[5]);
+uint32_t egretfold_session_domain(const uint32_t own[EGRETFOLD_OWN], uint32_t domain[5]);
 
 /* The format that the command with this header set (set_inst_fmt, set_inp_fmt, set_out_fmt, set_cond_out_fmt,
  * set_constf_fmt, set_consti_fmt or set_constb_fmt; for inputs and outputs the one with this number, else the number is not
  * looked at). format: 1 if it is set, else 0; then base, format word and height. 2 for any other header; 4. */
-uint32_t egretfold_session_format(const uint32_t own[17], const uint32_t shared[101], uint32_t header, uint32_t number,
-                                  uint32_t format[4]);
+uint32_t egretfold_session_format(const uint32_t own[EGRETFOLD_OWN], const uint32_t shared[EGRETFOLD_SHARED],
+                                  uint32_t header, uint32_t number, uint32_t format[4]);
 
 /* masks: the output mask; 1 if the conditional mask is set, else 0, and the mask; 1 if the test is set, else 0, and the
  * test. Returns 0. */
-uint32_t egretfold_session_masks(const uint32_t shared[101], uint32_t masks[5]);
+uint32_t egretfold_session_masks(const uint32_t shared[EGRETFOLD_SHARED], uint32_t masks[5]);
 
 /* ---- A station's log over midnight: records of five bytes, one of kind and four of a number, low byte first ----
  *
@@ -100,31 +104,32 @@ uint32_t egretfold_session_masks(const uint32_t shared[101], uint32_t masks[5]);
  * midnights, which lies in own, tallies and shared: the functions above that change nothing may be asked about it. */
 
 /* A new replay, with a new session. Returns 0. */
-uint32_t egretfold_log_begin(uint32_t log[10], uint64_t marks[800], uint32_t own[17], uint64_t tallies[2],
-                             uint32_t shared[101]);
+uint32_t egretfold_log_begin(uint32_t log[EGRETFOLD_LOG], uint64_t marks[EGRETFOLD_MARKS], uint32_t own[EGRETFOLD_OWN],
+                             uint64_t tallies[EGRETFOLD_TALLIES], uint32_t shared[EGRETFOLD_SHARED]);
 
 /* A piece of bytes, one after another up to the first refused one; it may be cut inside a record. Returns that byte's
  * refusal, or 0. taken, written in any case: the bytes taken (where a byte is refused, its place in the piece). 18 for a
  * record's first byte, 19 for a midnight's last one; both stop the replay and drop the open record, and every later byte
  * gets the same number. What came before stands. The bytes of a word that the session refuses are taken. */
-uint32_t egretfold_log_feed(uint32_t log[10], uint64_t marks[800], uint32_t own[17], uint64_t tallies[2],
-                            uint32_t shared[101], const uint8_t *bytes, size_t length, uint64_t taken[1]);
+uint32_t egretfold_log_feed(uint32_t log[EGRETFOLD_LOG], uint64_t marks[EGRETFOLD_MARKS], uint32_t own[EGRETFOLD_OWN],
+                            uint64_t tallies[EGRETFOLD_TALLIES], uint32_t shared[EGRETFOLD_SHARED], const uint8_t *bytes,
+                            size_t length, uint64_t taken[1]);
 
 /* The same for one byte, and faster than a piece of one. Returns its refusal, or 0 where it was taken. */
-uint32_t egretfold_log_byte(uint32_t log[10], uint64_t marks[800], uint32_t own[17], uint64_t tallies[2],
-                            uint32_t shared[101], uint8_t byte);
+uint32_t egretfold_log_byte(uint32_t log[EGRETFOLD_LOG], uint64_t marks[EGRETFOLD_MARKS], uint32_t own[EGRETFOLD_OWN],
+                            uint64_t tallies[EGRETFOLD_TALLIES], uint32_t shared[EGRETFOLD_SHARED], uint8_t byte);
 
 /* status: 18 or 19 if it stopped the replay, else 0; the first refused word's refusal, 0 if none was refused; how many
  * midnights came before that word; how many midnights came; the first day and the last one (0 before the first midnight);
  * and how many bytes of an unfinished record stand, 0 to 4. Returns 0.
  * The first refused word stands in the record whose number, counted from 0, is the words that the session has taken plus
  * the midnights before that word. */
-uint32_t egretfold_log_status(const uint32_t log[10], uint32_t status[7]);
+uint32_t egretfold_log_status(const uint32_t log[EGRETFOLD_LOG], uint32_t status[7]);
 
 /* counts: runs and claimed elements of a part of the log. Part 0 is what ended before the first midnight, part k the k-th
  * day; 0 and 0 past the last day. Returns 0. */
-uint32_t egretfold_log_part(const uint32_t log[10], const uint64_t marks[800], const uint64_t tallies[2], uint32_t part,
-                            uint64_t counts[2]);
+uint32_t egretfold_log_part(const uint32_t log[EGRETFOLD_LOG], const uint64_t marks[EGRETFOLD_MARKS],
+                            const uint64_t tallies[EGRETFOLD_TALLIES], uint32_t part, uint64_t counts[2]);
 
 /* ---- A station's monthly score, by its lease line and the replay of its log ----
  *
@@ -139,9 +144,9 @@ uint32_t egretfold_score_lease(uint32_t first_day, uint32_t days, uint32_t owed)
  * last day goes on to the log's end. served[k] is the same, capped at the owed number. month: served and owed in all, and the
  * verdict: 0 full (every day owes more than 0 and is served in full), 1 short, 2 nothing owed. 21 for the lease line, then 18
  * or 19 where it stopped the replay. Refused words and an unfinished record refuse nothing. */
-uint32_t egretfold_score_month(const uint32_t log[10], const uint64_t marks[800], const uint64_t tallies[2],
-                               uint32_t first_day, uint32_t days, uint32_t owed, uint64_t claimed[31], uint64_t served[31],
-                               uint64_t month[3]);
+uint32_t egretfold_score_month(const uint32_t log[EGRETFOLD_LOG], const uint64_t marks[EGRETFOLD_MARKS],
+                               const uint64_t tallies[EGRETFOLD_TALLIES], uint32_t first_day, uint32_t days, uint32_t owed,
+                               uint64_t claimed[EGRETFOLD_DAYS], uint64_t served[EGRETFOLD_DAYS], uint64_t month[3]);
 
 /* ---- Commands by themselves ---- */
 
@@ -188,21 +193,23 @@ uint32_t egretfold_element_superfine(uint32_t base, uint32_t format, uint32_t he
 /* ---- Flow words for one group ---- */
 
 /* Loads a program, two words a slot, into a store of 512 slots. slots: how many of them run. 15. */
-uint32_t egretfold_program_load(const uint32_t *words, size_t length, uint32_t firsts[512], uint32_t seconds[512],
-                                uint32_t slots[1]);
+uint32_t egretfold_program_load(const uint32_t *words, size_t length, uint32_t firsts[EGRETFOLD_SLOTS],
+                                uint32_t seconds[EGRETFOLD_SLOTS], uint32_t slots[1]);
 
 /* A fresh group of 1 to 32 processors. 13. */
-uint32_t egretfold_group_begin(uint32_t size, uint32_t cells[20]);
+uint32_t egretfold_group_begin(uint32_t size, uint32_t cells[EGRETFOLD_CELLS]);
 
 /* One step under a program of `slots` running slots. taken: 1 for a jump, 0 for a stay; and the next position. 13 to 16. */
-uint32_t egretfold_group_step(const uint32_t firsts[512], const uint32_t seconds[512], uint32_t slots, uint32_t cells[20],
-                              uint32_t alu, uint32_t predicate, uint32_t booleans, uint32_t taken[2]);
+uint32_t egretfold_group_step(const uint32_t firsts[EGRETFOLD_SLOTS], const uint32_t seconds[EGRETFOLD_SLOTS],
+                              uint32_t slots, uint32_t cells[EGRETFOLD_CELLS], uint32_t alu, uint32_t predicate,
+                              uint32_t booleans, uint32_t taken[2]);
 
 /* Steps up to the end of the list of masks (alu, then predicate, for each step) or of the program. report: the steps made,
  * the first active processor (32 if none), and how many are active. 13 to 16; a refused step leaves the group as it was
  * before the run. */
-uint32_t egretfold_group_run(const uint32_t firsts[512], const uint32_t seconds[512], uint32_t slots, uint32_t cells[20],
-                             const uint32_t *masks, size_t length, uint32_t booleans, uint64_t report[3]);
+uint32_t egretfold_group_run(const uint32_t firsts[EGRETFOLD_SLOTS], const uint32_t seconds[EGRETFOLD_SLOTS],
+                             uint32_t slots, uint32_t cells[EGRETFOLD_CELLS], const uint32_t *masks, size_t length,
+                             uint32_t booleans, uint64_t report[3]);
 
 #ifdef __cplusplus
 }

@@ -1,40 +1,41 @@
 -- A command that is taken whole, cell by cell as the code takes it, is the definition's session after all its words.
 -- Assumes nothing.
 use mathlib.Core.Path.{_≡_, refl, sym, ap, ap₂, _∙_, subst}
-use mathlib.Core.Bool.{Bool, true}
+use mathlib.Core.Bool.{Bool, true, false}
 use mathlib.Core.List.{List, [], _∷_, _++_}
 use Prim.Native.Nat.{ℕ, _+_, _-_, _*_, _<_, _≤_, _^_}
 use native.Mathlib.Numerals.{add-one}
 use native.Mathlib.Omega.{arith}
-use lib.Dec.{eqb}
-use lib.ListN.{length, getD, drop, set}
+use lib.Dec.{eqb, ltb}
+use lib.ListN.{length, getD, drop, set, length-drop}
 use lib.Seq.{drop-cons}
-use borrow.Author.Tests.{eqb-true}
+use borrow.Author.Tests.{eqb-true, lt-ltb, le-ltb}
 use Rattle.laws.specs.Choice.{_and_, pick, placeOf}
-use Rattle.laws.proofs.Table.{NoneOf, everyBelow, namedOr, otherwise}
-use Rattle.refusal.specs.Told.{Told, gives}
+use Rattle.laws.specs.Below.{every}
+use Rattle.laws.proofs.Table.{NoneOf, namedOr, otherwise}
+use Rattle.refusal.specs.Told.{Told, gives, refuses, isGiven}
 use Rattle.command.specs.Table.{headerOf, lineWith}
 use Rattle.command.specs.Commands.{noEffectLine, storedLine, lineOf, fieldsOf, wordsOf, commandOf}
-use Rattle.command.specs.Fits.{WindowFits}
-use Rattle.command.specs.Writer.{judgeCommandOf}
+use Rattle.rules.specs.Writer.{judgeCommandOf}
 use Rattle.command.specs.declared.commands.NoEffect.{NoEffect}
 use Rattle.command.specs.declared.commands.NoEffect.the-variants as quiet
 use Rattle.command.specs.declared.commands.Stored.{Stored}
 use Rattle.command.specs.declared.commands.Stored.the-variants as stored
 use Rattle.command.specs.declared.commands.Command.{Command}
 use Rattle.command.specs.declared.commands.Command.the-variants as command
-use Rattle.command.proofs.Fitting.{conditional-fits, store-fits, start-fits, quiet-fits, mask-fits, conditional-mask-fits, test-fits}
-use Rattle.command.proofs.Headers.{accepted-stands}
-use Rattle.command.proofs.Readable.{readable}
-use Rattle.state.specs.State.{Party, Shared, Session}
-use Rattle.state.specs.Start.{readyOf}
+use Rattle.rules.proofs.Fitting.{start-fits, quiet-fits, store-decided, mask-decided, conditional-mask-decided, test-decided, given-fine}
+use Rattle.command.proofs.Headers.{accepted-listed}
+use Rattle.rules.proofs.Readable.{readable}
+use Rattle.state.specs.State.{Open, Party, Shared, Session}
+use Rattle.state.specs.Start.{readyOf, readinessOf}
 use Rattle.state.specs.Effects.{limit, buffer, domainFrom, withDomain, withInstructions, ownAfter, sharedAfter, after}
 use Rattle.start.specs.Rules.{startRuleOf}
+use Rattle.start.proofs.Readiness.{number-given, number-refused}
 use Rattle.accept.specs.Standing.{standing}
 use Rattle.state.specs.Asked.{Given, Held, HeldOwn, OwnAsked}
-use Rattle.state.specs.Cells.{Sized, partyOf, partyCells, tallyCells, sharedOf, sharedCells, sessionOf, setBuffer}
+use Rattle.state.specs.Cells.{Sized, partyOf, partyCells, tallyCells, sharedOf, sharedCells, sessionOf, setBuffer, ownLength, sharedLength}
 use Rattle.state.specs.Effects.{tookWords}
-use Rattle.accept.specs.Whole.{Ready, Roomy, Tried, accepted, Begun, begun, OwnTried, SharedTried, KeptAt}
+use Rattle.accept.specs.Whole.{Ready, RoomFor, Denied, byWords, byFields, bySettings, Tried, untaken, accepted, Begun, begun, unbegun, OwnTried, SharedTried, KeptAt, everyWord}
 use Rattle.state.proofs.OwnPuts.{
   stored-cells,
   own-instructions,
@@ -110,7 +111,7 @@ module _ (c : Command) (n : ℕ) (l t h l1 : List ℕ) (e1 : l1 ≡ partyCells (
         kept : Held left l2 t2 h2
         kept = record { own-cells = own-held .own-cells; tally-cells = own-held .tally-cells; shared-cells = e }
 
-pub counted-length : (l l1 : List ℕ) (n : ℕ) → l1 ≡ partyCells (tookWords n (partyOf l [])) → length l1 ≡ 17
+pub counted-length : (l l1 : List ℕ) (n : ℕ) → l1 ≡ partyCells (tookWords n (partyOf l [])) → length l1 ≡ ownLength
 unfolding partyCells
 counted-length l l1 n e = ap length e
 
@@ -129,7 +130,7 @@ input-place n b f k e = omega (arith, input-most n b f k e)
 
 -- the commands by their arms: own cells `l`, and `l1` after `m` words were counted
 module _ (l l1 : List ℕ) (m : ℕ) (e : l1 ≡ partyCells (tookWords m (partyOf l []))) where
-  abbrev sized : length l1 ≡ 17
+  abbrev sized : length l1 ≡ ownLength
   sized = counted-length l l1 m e
 
   pub domain-tried : (i0 j0 i1 j1 : ℕ) → judgeCommandOf (command.Domain i0 j0 i1 j1) ≡ gives [] →
@@ -150,22 +151,22 @@ module _ (l l1 : List ℕ) (m : ℕ) (e : l1 ≡ partyCells (tookWords m (partyO
       (quiet-own l1 sized t (z .tallies-length) (sharedOf h) what)
       (quiet-shared h (z .shared-length) what)
 
-  pub instructions-tried : (b f : ℕ) → WindowFits b f 1 → (l2 : List ℕ) →
+  pub instructions-tried : (b f : ℕ) → judgeCommandOf (command.Store stored.Instructions b f) ≡ gives [] → (l2 : List ℕ) →
       l2 ≡ partyCells (withInstructions (buffer b f 1) (partyOf l1 [])) →
       OwnTried (command.Store stored.Instructions b f) (headerOf 3 ∷ b ∷ f ∷ []) m m l l2
   unfolding wordsOf lineOf storedLine fieldsOf startRuleOf
-  instructions-tried b f w l2 e2 t h rest z =
-      tried (command.Store stored.Instructions b f) m l t h l1 e rest _ refl (store-fits b f w stored.Instructions) refl l2 t h
+  instructions-tried b f fine l2 e2 t h rest z =
+      tried (command.Store stored.Instructions b f) m l t h l1 e rest _ refl fine refl l2 t h
       (store-own l1 sized t (z .tallies-length) (sharedOf h) stored.Instructions b f (e2 ∙ own-instructions l1 sized b f))
       (instructions-shared h (z .shared-length) b f)
 
   -- commands that change shared cells, `h` to `h1`
   module _ (h h1 : List ℕ) where
-    pub conditional-tried : (b f k : ℕ) → WindowFits b f k → h1 ≡ setBuffer h 17 (buffer b f k) →
+    pub conditional-tried : (b f k : ℕ) → judgeCommandOf (command.Conditional b f k) ≡ gives [] → h1 ≡ setBuffer h 17 (buffer b f k) →
         SharedTried (command.Conditional b f k) (headerOf 6 ∷ b ∷ f ∷ k ∷ []) m m l h l1 h1
     unfolding wordsOf lineOf fieldsOf startRuleOf
-    conditional-tried b f k w p t rest z =
-        tried (command.Conditional b f k) m l t h l1 e rest _ refl (conditional-fits b f k w) refl l1 t h1
+    conditional-tried b f k fine p t rest z =
+        tried (command.Conditional b f k) m l t h l1 e rest _ refl fine refl l1 t h1
         (conditional-own l1 sized t (z .tallies-length) (sharedOf h) b f k)
         (p ∙ conditional-shared h (z .shared-length) b f k)
 
@@ -188,7 +189,7 @@ module _ (l l1 : List ℕ) (m : ℕ) (e : l1 ≡ partyCells (tookWords m (partyO
         (p ∙ input-shared h (z .shared-length) n b f k (input-most n b f k fine))
 
     -- a constants' format, whichever it is
-    constants-shared : (what : Stored) (at b f : ℕ) → KeptAt what at → length h ≡ 101 →
+    constants-shared : (what : Stored) (at b f : ℕ) → KeptAt what at → length h ≡ sharedLength →
         setBuffer h at (buffer b f 1) ≡ sharedCells (sharedAfter (command.Store what b f) (sharedOf h))
     constants-shared stored.Instructions at b f a z = absurd a
     constants-shared stored.Floats at b f a z = ap (λ (k : ℕ). setBuffer h k (buffer b f 1)) a ∙ floats-shared h z b f
@@ -201,32 +202,32 @@ module _ (l l1 : List ℕ) (m : ℕ) (e : l1 ≡ partyCells (tookWords m (partyO
     constants-own stored.Integers at b f a = own-integers l1 sized b f
     constants-own stored.Booleans at b f a = own-booleans l1 sized b f
 
-    pub constants-tried : (at b f : ℕ) → WindowFits b f 1 → h1 ≡ setBuffer h at (buffer b f 1) →
-        (what : Stored) → KeptAt what at →
+    pub constants-tried : (at b f : ℕ) → ((what : Stored) → judgeCommandOf (command.Store what b f) ≡ gives []) →
+        h1 ≡ setBuffer h at (buffer b f 1) → (what : Stored) → KeptAt what at →
         SharedTried (command.Store what b f) (headerOf (storedLine what) ∷ b ∷ f ∷ []) m m l h l1 h1
     unfolding wordsOf lineOf fieldsOf startRuleOf
-    constants-tried at b f w p what a t rest z =
-        tried (command.Store what b f) m l t h l1 e rest _ refl (store-fits b f w what) refl l1 t h1
+    constants-tried at b f fine p what a t rest z =
+        tried (command.Store what b f) m l t h l1 e rest _ refl (fine what) refl l1 t h1
         (store-own l1 sized t (z .tallies-length) (sharedOf h) what b f (constants-own what at b f a))
         (p ∙ constants-shared what at b f a (z .shared-length))
 
-    pub mask-tried : (n : ℕ) → n < 65536 → h1 ≡ set h 0 n → SharedTried (command.OutputMask n) (headerOf 18 ∷ n ∷ []) m m l h l1 h1
+    pub mask-tried : (n : ℕ) → judgeCommandOf (command.OutputMask n) ≡ gives [] → h1 ≡ set h 0 n → SharedTried (command.OutputMask n) (headerOf 18 ∷ n ∷ []) m m l h l1 h1
     unfolding wordsOf lineOf fieldsOf startRuleOf
-    mask-tried n k p t rest z =
-        tried (command.OutputMask n) m l t h l1 e rest _ refl (mask-fits n k) refl l1 t h1
+    mask-tried n fine p t rest z =
+        tried (command.OutputMask n) m l t h l1 e rest _ refl fine refl l1 t h1
         (mask-own l1 sized t (z .tallies-length) (sharedOf h) n) (p ∙ mask-shared h (z .shared-length) n)
 
-    pub conditional-mask-tried : (n : ℕ) → n < 2 → h1 ≡ set (set h 1 1) 2 n →
+    pub conditional-mask-tried : (n : ℕ) → judgeCommandOf (command.ConditionalMask n) ≡ gives [] → h1 ≡ set (set h 1 1) 2 n →
         SharedTried (command.ConditionalMask n) (headerOf 19 ∷ n ∷ []) m m l h l1 h1
     unfolding wordsOf lineOf fieldsOf startRuleOf
-    conditional-mask-tried n k p t rest z =
-        tried (command.ConditionalMask n) m l t h l1 e rest _ refl (conditional-mask-fits n k) refl l1 t h1
+    conditional-mask-tried n fine p t rest z =
+        tried (command.ConditionalMask n) m l t h l1 e rest _ refl fine refl l1 t h1
         (conditional-mask-own l1 sized t (z .tallies-length) (sharedOf h) n) (p ∙ conditional-mask-shared h (z .shared-length) n)
 
-    pub test-tried : (n : ℕ) → n < 8 → h1 ≡ set (set h 3 1) 4 n → SharedTried (command.Test n) (headerOf 20 ∷ n ∷ []) m m l h l1 h1
+    pub test-tried : (n : ℕ) → judgeCommandOf (command.Test n) ≡ gives [] → h1 ≡ set (set h 3 1) 4 n → SharedTried (command.Test n) (headerOf 20 ∷ n ∷ []) m m l h l1 h1
     unfolding wordsOf lineOf fieldsOf startRuleOf
-    test-tried n k p t rest z =
-        tried (command.Test n) m l t h l1 e rest _ refl (test-fits n k) refl l1 t h1
+    test-tried n fine p t rest z =
+        tried (command.Test n) m l t h l1 e rest _ refl fine refl l1 t h1
         (test-own l1 sized t (z .tallies-length) (sharedOf h) n) (p ∙ test-shared h (z .shared-length) n)
 
   -- a start, where the settings let it pass
@@ -247,30 +248,99 @@ module _ (l l1 : List ℕ) (m : ℕ) (e : l1 ≡ partyCells (tookWords m (partyO
           claims = a .claims;
         })
 
-    pub start-tried : (n : ℕ) → n ≡ 0 → (r : Told) → r ≡ readyOf (partyOf l [] .domain) (partyOf l [] .instructions) (sharedOf h .mask) (sharedOf h .outputs) →
-        r ≡ gives [] → (t1 : List ℕ) → t1 ≡ tallyCells (ownAfter command.Start (sharedOf h) (partyOf l1 t)) →
+    pub start-tried : (n : ℕ) → n ≡ 0 → (r : ℕ) → r ≡ readinessOf (partyOf l [] .domain) (partyOf l [] .instructions) (sharedOf h .mask) (sharedOf h .outputs) →
+        r ≡ 0 → (t1 : List ℕ) → t1 ≡ tallyCells (ownAfter command.Start (sharedOf h) (partyOf l1 t)) →
         (rest : List ℕ) → Tried command.Start (headerOf 1 ∷ n ∷ rest) m l t h m l1 t1 h
     unfolding wordsOf lineOf fieldsOf startRuleOf partyOf
     start-tried n none r told fine t1 e1 rest =
         tried command.Start m l t h l1 e rest _ (ap {B = List ℕ} (λ (x : ℕ). headerOf 1 ∷ x ∷ rest) none) start-fits
-        (sym told ∙ fine) l1 t1 h
+        (number-given _ _ _ _ (sym told ∙ fine)) l1 t1 h
         (start-own l1 sized t (a .sized .tallies-length) (sharedOf h) e1)
         (start-shared h (a .sized .shared-length))
 
--- by the line of the table
-module _ {l t h : List ℕ} (y : Ready l t h) where
-  pub roomy : (n : ℕ) → n ≤ 5 → Roomy n l
-  unfolding partyOf
-  roomy n k = record { own-length = y .given .sized .own-length; room = omega (arith, y .room, k) }
+-- a command that isn't taken
+pub denied : {c : Command} {ws l t h : List ℕ} {m : ℕ} {r : Bool} → r ≡ isGiven (judgeCommandOf c) → r ≡ false →
+    Tried c ws m l t h 0 l t h
+denied e n = untaken (byFields (sym e ∙ n))
 
-  pub own-asked : OwnAsked l t h
-  own-asked =
-      record {
-        sized = y .given .sized;
-        domain = y .given .valid .domain;
-        runs = omega (arith, y .given .valid .tally, y .given .valid .full);
-        claims = omega (arith, y .given .valid .tally, y .given .valid .full);
-      }
+pub fine : (c : Command) {r : Bool} → r ≡ isGiven (judgeCommandOf c) → r ≡ true → judgeCommandOf c ≡ gives []
+fine c e y = given-fine c (sym e ∙ y)
+
+-- a format of height 1
+pub stored-judged : (b f : ℕ) {r : Bool} → r ≡ isGiven (judgeCommandOf (command.Conditional b f 1)) → (what : Stored) →
+    r ≡ isGiven (judgeCommandOf (command.Store what b f))
+stored-judged b f e what = e ∙ store-decided b f what
+
+-- masks and the test by their bounds
+module _ {n : ℕ} where
+  pub mask-below : n < 65536 → judgeCommandOf (command.OutputMask n) ≡ gives []
+  mask-below h = fine (command.OutputMask n) (mask-decided n) (lt-ltb n 65536 h)
+
+  pub conditional-mask-below : n < 2 → judgeCommandOf (command.ConditionalMask n) ≡ gives []
+  conditional-mask-below h = fine (command.ConditionalMask n) (conditional-mask-decided n) (lt-ltb n 2 h)
+
+  pub test-below : n < 8 → judgeCommandOf (command.Test n) ≡ gives []
+  test-below h = fine (command.Test n) (test-decided n) (lt-ltb n 8 h)
+
+  module _ {ws l t h : List ℕ} {m : ℕ} where
+    pub mask-past : 65536 ≤ n → Tried (command.OutputMask n) ws m l t h 0 l t h
+    mask-past k = denied (mask-decided n) (le-ltb n 65536 k)
+
+    pub conditional-mask-past : 2 ≤ n → Tried (command.ConditionalMask n) ws m l t h 0 l t h
+    conditional-mask-past k = denied (conditional-mask-decided n) (le-ltb n 2 k)
+
+    pub test-past : 8 ≤ n → Tried (command.Test n) ws m l t h 0 l t h
+    test-past k = denied (test-decided n) (le-ltb n 8 k)
+
+-- a reserved parameter that isn't 0
+other-words : (c : Command) (n : ℕ) (ws : List ℕ) → fieldsOf c ≡ 0 ∷ [] → (n ≡ 0 → ⊥) → (rest : List ℕ) →
+    headerOf (lineOf c) ∷ n ∷ ws ≡ wordsOf c ++ rest → ⊥
+unfolding wordsOf
+other-words c n ws e ne rest q =
+    ne (ap (λ (x : List ℕ). getD x 1 0) (q ∙ ap {B = List ℕ} (λ (fs : List ℕ). headerOf (lineOf c) ∷ (fs ++ rest)) e))
+
+module _ {l t h : List ℕ} {m : ℕ} (n : ℕ) (ne : n ≡ 0 → ⊥) where
+  pub start-denied : (rest : List ℕ) → Tried command.Start (headerOf 1 ∷ n ∷ rest) m l t h 0 l t h
+  unfolding lineOf fieldsOf
+  start-denied rest = untaken (byWords (other-words command.Start n rest refl ne))
+
+  pub quiet-denied : (what : NoEffect) (rest : List ℕ) →
+      Tried (command.Quiet what) (headerOf (noEffectLine what) ∷ n ∷ rest) m l t h 0 l t h
+  unfolding lineOf fieldsOf
+  quiet-denied what rest = untaken (byWords (other-words (command.Quiet what) n rest refl ne))
+
+-- a start that the settings refuse
+pub start-unready : (l t h ws : List ℕ) {m : ℕ} (r : ℕ) →
+    r ≡ readinessOf (partyOf l [] .domain) (partyOf l [] .instructions) (sharedOf h .mask) (sharedOf h .outputs) → (r ≡ 0 → ⊥) →
+    Tried command.Start ws m l t h 0 l t h
+unfolding startRuleOf partyOf isGiven
+start-unready l t h ws r e n = untaken (bySettings (ap isGiven (number-refused _ _ _ _ (λ z. n (e ∙ z)))))
+
+-- what the commands by their lines ask, from what is asked of both dispatches: room for so many words, and room in the tallies
+module _ {l t h : List ℕ} {m : ℕ} (a : RoomFor m l × OwnAsked l t h) where
+  pub room-for : (n : ℕ) → n ≤ m → RoomFor n l
+  room-for n k = record { own-length = a .0 .own-length; room = omega (arith, a .0 .room, k) }
+
+  pub room-shared : (n : ℕ) → n ≤ m → RoomFor n l × (length h ≡ sharedLength)
+  room-shared n k = (room-for n k, a .1 .sized .shared-length)
+
+  pub room-constants : (n at : ℕ) → n ≤ m → at < 98 → RoomFor n l × ((length h ≡ sharedLength) × (at < 98))
+  room-constants n at k j = (room-for n k, (a .1 .sized .shared-length, j))
+
+  pub room-start : (n : ℕ) → n ≤ m → RoomFor n l × OwnAsked l t h
+  room-start n k = (room-for n k, a .1)
+
+pub own-asked : {l t h : List ℕ} → Ready l t h → RoomFor 5 l × OwnAsked l t h
+unfolding partyOf
+own-asked y = (
+  record { own-length = y .given .sized .own-length; room = y .room },
+  record {
+    sized = y .given .sized;
+    domain = y .given .valid .domain;
+    runs = omega (arith, y .given .valid .tally, y .given .valid .full);
+    claims = omega (arith, y .given .valid .tally, y .given .valid .full);
+  },
+)
 
 quiet-command : (what : NoEffect) (p0 p1 p2 p3 : ℕ) → commandOf (noEffectLine what) p0 p1 p2 p3 ≡ command.Quiet what
 unfolding commandOf noEffectLine
@@ -284,28 +354,21 @@ quiet-command quiet.InvalidateInputs p0 p1 p2 p3 = refl
 quiet-command quiet.FlushOutputs p0 p1 p2 p3 = refl
 quiet-command quiet.FlushConditional p0 p1 p2 p3 = refl
 
-module _ (p0 p1 p2 p3 : ℕ) (rest l t h : List ℕ) (k : ℕ) (l1 t1 h1 : List ℕ) where
-  abbrev Attempt : Command → ℕ → ℕ → Type 0
-  Attempt c line words = Tried c (headerOf line ∷ p0 ∷ p1 ∷ p2 ∷ p3 ∷ rest) words l t h k l1 t1 h1
+-- by the line of the table
+module _ (words : Command → ℕ) (p0 p1 p2 p3 : ℕ) (rest l t h : List ℕ) (k : ℕ) (l1 t1 h1 : List ℕ) where
+  abbrev Attempt : Command → ℕ → Type 0
+  Attempt c line = Tried c (headerOf line ∷ p0 ∷ p1 ∷ p2 ∷ p3 ∷ rest) (words c) l t h k l1 t1 h1
 
   abbrev of : ℕ → Command
   of line = commandOf line p0 p1 p2 p3
 
-  pub at-last : (m n words : ℕ) → m ≡ n → Attempt (of n) n words → Attempt (of m) m words
-  at-last m n words e q = subst (λ (x : ℕ). Attempt (of x) x words) (sym e) q
+  pub at-line : (m n : ℕ) → m ≡ n → Attempt (of n) n → Attempt (of m) m
+  at-line m n e q = subst (λ (x : ℕ). Attempt (of x) x) (sym e) q
 
-  pub at-line : (m n : ℕ) → m ≡ n → Attempt (of n) n (length (wordsOf (of n))) → Attempt (of m) m (length (wordsOf (of m)))
-  at-line m n e q = subst (λ (x : ℕ). Attempt (of x) x (length (wordsOf (of x)))) (sym e) q
-
-  pub quiet-last : (what : NoEffect) (words : ℕ) → Attempt (command.Quiet what) (noEffectLine what) words →
-      Attempt (of (noEffectLine what)) (noEffectLine what) words
-  quiet-last what words q = subst (λ (c : Command). Attempt c (noEffectLine what) words) (sym (quiet-command what p0 p1 p2 p3)) q
-
-  pub quiet-whole : (what : NoEffect) → Attempt (command.Quiet what) (noEffectLine what) 2 →
-      Attempt (of (noEffectLine what)) (noEffectLine what) (length (wordsOf (of (noEffectLine what))))
-  unfolding wordsOf fieldsOf
-  quiet-whole what q =
-      subst (λ (c : Command). Attempt c (noEffectLine what) (length (wordsOf c))) (sym (quiet-command what p0 p1 p2 p3)) q
+  pub quiet-at : (m : ℕ) (what : NoEffect) → m ≡ noEffectLine what → Attempt (command.Quiet what) (noEffectLine what) → Attempt (of m) m
+  quiet-at m what e q =
+      at-line m (noEffectLine what) e
+      (subst (λ (c : Command). Attempt c (noEffectLine what)) (sym (quiet-command what p0 p1 p2 p3)) q)
 
 -- the commands without effect, at their lines
 unfoldable pub quietAt : ℕ → NoEffect
@@ -337,10 +400,13 @@ isQuiet line = eqb line (noEffectLine (quietAt line))
 
 pub quiet-line : (line : ℕ) → line < 21 → NoneOf Unit (0 ∷ 1 ∷ 3 ∷ 4 ∷ 5 ∷ 6 ∷ 7 ∷ 8 ∷ 9 ∷ 18 ∷ 19 ∷ 20 ∷ []) line →
     line ≡ noEffectLine (quietAt line)
-unfolding isQuiet quietAt noEffectLine everyBelow namedOr placeOf pick _and_
+unfolding isQuiet quietAt noEffectLine every namedOr placeOf pick _and_
 quiet-line line h r =
     eqb-true line (noEffectLine (quietAt line))
     (otherwise isQuiet (0 ∷ 1 ∷ 3 ∷ 4 ∷ 5 ∷ 6 ∷ 7 ∷ 8 ∷ 9 ∷ 18 ∷ 19 ∷ 20 ∷ []) 21 refl line h r)
+
+told-apart : {v : List ℕ} {n : ℕ} → gives v ≡ refuses n → ⊥
+told-apart h = let z : _≡_ {A = ℕ} 0 1 = cc in omega arith
 
 -- the words of a piece from a place on
 five-words : (ws : List ℕ) (i : ℕ) → i + 5 ≤ length ws →
@@ -369,15 +435,35 @@ module _ (l t h : List ℕ) (g : Given l t h) where
         room = omega (arith, k);
       }
 
+  -- what keeps a command from being looked at
+  module _ (ws : List ℕ) (i : ℕ) where
+    pub words-few : length ws - i < 5 → Begun (drop i ws) l t h 0 l t h
+    words-few k = unbegun (λ y five line e. omega (arith, k, five, length-drop i ws))
+
+    pub is-stopped : getD l 0 0 ≡ 1 → Begun (drop i ws) l t h 0 l t h
+    unfolding partyOf
+    is-stopped e = unbegun (λ y five line q. omega (arith, e, y .idle .unstopped))
+
+    pub is-open : (getD l 2 0 ≡ 21 → ⊥) → Begun (drop i ws) l t h 0 l t h
+    unfolding partyOf
+    is-open n = unbegun (λ y five line q. n (ap (λ (o : Open). o .line) (y .idle .unopened)))
+
+    pub is-full : 999999995 < getD l 1 0 → Begun (drop i ws) l t h 0 l t h
+    unfolding partyOf
+    is-full k = unbegun (λ y five line q. omega (arith, k, y .room))
+
+    pub no-header : i < length ws → lineWith (getD ws i 0) ≡ refuses 2 → Begun (drop i ws) l t h 0 l t h
+    no-header less e = unbegun (λ y five line q. told-apart (sym q ∙ ap lineWith (ap (λ (x : List ℕ). getD x 0 0) (drop-cons ws i 0 less)) ∙ e))
+
   pub piece-tried : (ws : List ℕ) (i : ℕ) → 5 ≤ length ws - i → i < length ws → Ready l t h → (line : ℕ) → lineWith (getD ws i 0) ≡ gives (line ∷ []) →
       (k : ℕ) (l1 t1 h1 : List ℕ) (c : Command) →
       ((rest : List ℕ) →
-      Tried c (headerOf line ∷ getD ws (i + 1) 0 ∷ getD ws (i + 2) 0 ∷ getD ws (i + 3) 0 ∷ getD ws (i + 4) 0 ∷ rest) (length (wordsOf c)) l t h k l1 t1 h1) →
+      Tried c (headerOf line ∷ getD ws (i + 1) 0 ∷ getD ws (i + 2) 0 ∷ getD ws (i + 3) 0 ∷ getD ws (i + 4) 0 ∷ rest) (everyWord c) l t h k l1 t1 h1) →
       Begun (drop i ws) l t h k l1 t1 h1
   piece-tried ws i left less y line e k l1 t1 h1 c q =
       begun c k l1 t1 h1 y
-      (subst (λ (x : List ℕ). Tried c x (length (wordsOf c)) l t h k l1 t1 h1)
+      (subst (λ (x : List ℕ). Tried c x (everyWord c) l t h k l1 t1 h1)
       (ap {B = List ℕ} (λ (w : ℕ). w ∷ getD ws (i + 1) 0 ∷ getD ws (i + 2) 0 ∷ getD ws (i + 3) 0 ∷ getD ws (i + 4) 0 ∷ drop (i + 5) ws)
-      (accepted-stands (getD ws i 0) line e .header) ∙
+      (accepted-listed (getD ws i 0) line e .header) ∙
       sym (five-words ws i (omega arith)))
       (q (drop (i + 5) ws)))

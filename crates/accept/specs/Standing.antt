@@ -19,6 +19,8 @@ standing s n o =
             opened = o;
             domain = s .party .domain;
             instructions = s .party .instructions;
+            birth = s .party .birth;
+            readiness = s .party .readiness;
             tally = s .party .tally;
           };
       shared = s .shared;

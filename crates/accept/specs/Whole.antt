@@ -1,24 +1,26 @@
 -- What taking a command whole asks of the cells, and what it leaves in them. Assumes nothing.
 use mathlib.Core.Path.{_≡_}
+use mathlib.Core.Bool.{false}
 use mathlib.Core.List.{List, [], _∷_, _++_}
 use Prim.Native.Nat.{ℕ, _+_, _≤_}
-use lib.ListN.{length}
-use Rattle.refusal.specs.Told.{gives}
-use Rattle.command.specs.Table.{headerOf}
+use lib.ListN.{length, getD}
+use Rattle.refusal.specs.Told.{gives, isGiven}
+use Rattle.command.specs.Table.{headerOf, lineWith}
 use Rattle.command.specs.Commands.{wordsOf, commandOf}
-use Rattle.command.specs.Writer.{judgeCommandOf}
+use Rattle.rules.specs.Writer.{judgeCommandOf}
 use Rattle.command.specs.declared.commands.Stored.{Stored}
 use Rattle.command.specs.declared.commands.Stored.the-variants as stored
 use Rattle.command.specs.declared.commands.Command.{Command}
 use Rattle.state.specs.Effects.{limit, after}
+use Rattle.state.specs.State.{Session}
 use Rattle.start.specs.Rules.{startRuleOf}
 use Rattle.accept.specs.Standing.{Idle, standing}
 use Rattle.state.specs.Asked.{Given, Held}
-use Rattle.state.specs.Cells.{Sized, partyOf, sessionOf}
+use Rattle.state.specs.Cells.{Sized, partyOf, sessionOf, ownLength}
 
 -- own cells with room for so many words more
-pub record Roomy (words : ℕ) (own : List ℕ) : Type 0 where
-  pub own-length : length own ≡ 17
+pub record RoomFor (words : ℕ) (own : List ℕ) : Type 0 where
+  pub own-length : length own ≡ ownLength
   pub room : partyOf own [] .taken + words ≤ limit
 
 -- a valid session that takes words, without an open command, with room for the words of any command
@@ -27,10 +29,16 @@ pub record Ready (own tallies shared : List ℕ) : Type 0 where
   pub idle : Idle (sessionOf own tallies shared)
   pub room : partyOf own tallies .taken + 5 ≤ limit
 
--- an attempt at a command whose words a list begins with: it was accepted and so many words counted, or 0 is told and nothing was
--- changed
+-- why a command isn't taken: the words aren't its own (a reserved parameter isn't 0), its fields cause a refusal, or the settings do
+pub data Denied (c : Command) (ws : List ℕ) (s : Session) : Type 0 where
+  byWords : ((rest : List ℕ) → ws ≡ wordsOf c ++ rest → ⊥) → Denied c ws s
+  byFields : isGiven (judgeCommandOf c) ≡ false → Denied c ws s
+  bySettings : isGiven (startRuleOf c s) ≡ false → Denied c ws s
+
+-- an attempt at a command whose words a list begins with: it was accepted and so many words counted, or it can't be accepted, 0 is
+-- told and nothing was changed
 pub data Tried (c : Command) (ws : List ℕ) (words : ℕ) (own tallies shared : List ℕ) : ℕ → List ℕ → List ℕ → List ℕ → Type 0 where
-  untaken : Tried c ws words own tallies shared 0 own tallies shared
+  untaken : Denied c ws (sessionOf own tallies shared) → Tried c ws words own tallies shared 0 own tallies shared
   accepted :
       (rest own1 tallies1 shared1 : List ℕ) → ws ≡ wordsOf c ++ rest → judgeCommandOf c ≡ gives [] →
       startRuleOf c (sessionOf own tallies shared) ≡ gives [] →
@@ -46,18 +54,30 @@ abbrev pub SharedTried : Command → List ℕ → ℕ → ℕ → List ℕ → L
 SharedTried c ws words n own shared own1 shared1 =
     (tallies rest : List ℕ) → Sized own tallies shared → Tried c (ws ++ rest) words own tallies shared n own1 tallies shared1
 
--- an attempt at the command of a line with these parameters
-abbrev pub LineTried : ℕ → ℕ → ℕ → ℕ → ℕ → ℕ → List ℕ → List ℕ → List ℕ → ℕ → List ℕ → List ℕ → List ℕ → Type 0
+-- an attempt at the command of a line with these parameters; `words` tells how many words of it are counted
+abbrev pub LineTried :
+    ℕ → ℕ → ℕ → ℕ → ℕ → (Command → ℕ) → List ℕ → List ℕ → List ℕ → ℕ → List ℕ → List ℕ → List ℕ → Type 0
 LineTried line p0 p1 p2 p3 words own tallies shared n own1 tallies1 shared1 =
     (rest : List ℕ) →
-    Tried (commandOf line p0 p1 p2 p3) (headerOf line ∷ p0 ∷ p1 ∷ p2 ∷ p3 ∷ rest) words own tallies shared n own1 tallies1 shared1
+    Tried (commandOf line p0 p1 p2 p3) (headerOf line ∷ p0 ∷ p1 ∷ p2 ∷ p3 ∷ rest) (words (commandOf line p0 p1 p2 p3)) own tallies
+    shared n own1 tallies1 shared1
 
--- words that begin with a command which was taken whole, with all its words; or 0, and nothing was changed
+-- all the words of a command, and the last alone
+abbrev pub everyWord : Command → ℕ
+everyWord c = length (wordsOf c)
+
+abbrev pub lastWord : Command → ℕ
+lastWord c = 1
+
+-- an attempt at the command that words begin with; or 0, and nothing was changed, where the session isn't ready for any command, the
+-- words are fewer than a command may have, or they begin with no header
 pub data Begun (ws own tallies shared : List ℕ) : ℕ → List ℕ → List ℕ → List ℕ → Type 0 where
   begun :
       (c : Command) (n : ℕ) (own1 tallies1 shared1 : List ℕ) → Ready own tallies shared →
-      Tried c ws (length (wordsOf c)) own tallies shared n own1 tallies1 shared1 → Begun ws own tallies shared n own1 tallies1 shared1
-  unbegun : Begun ws own tallies shared 0 own tallies shared
+      Tried c ws (everyWord c) own tallies shared n own1 tallies1 shared1 → Begun ws own tallies shared n own1 tallies1 shared1
+  unbegun :
+      (Ready own tallies shared → 5 ≤ length ws → (line : ℕ) → lineWith (getD ws 0 0) ≡ gives (line ∷ []) → ⊥) →
+      Begun ws own tallies shared 0 own tallies shared
 
 -- the place of each constants' format
 abbrev pub KeptAt : Stored → ℕ → Type 0

@@ -1,25 +1,25 @@
 // Commands judged by the tests of their lines alone and taken at once: all the words of one that lies whole inside a piece,
-// or the last word of an open one. A command that isn't accepted so changes nothing here: it is then read the way that finds
-// its refusal. Each routine is told how many words to count, and answers them where it took the command, else 0.
-use command::kinds::Checked;
+// or the last word of an open one. A command that isn't accepted changes nothing here. Each routine is told how many words to
+// count, and answers them where it took the command, and 0 where it can't be accepted.
 use command::table;
 use command::table::Line;
 use rules::fits;
-use start::accept;
-use start::start;
+use start::claims;
+use start::ready;
 use state::own;
 use state::settings;
 ghost use mathlib.Core.Path.{_≡_};
 ghost use mathlib.Core.List.{List, [], _∷_};
 ghost use Prim.Native.Nat.{ℕ, _<_};
 ghost use lib.ListN.{length, drop};
+ghost use Rattle.state.specs.Cells.{sharedLength};
 ghost use Rattle.command.specs.Table.{headerOf};
-ghost use Rattle.command.specs.Commands.{commandOf, noEffectLine, storedLine, wordsOf};
+ghost use Rattle.command.specs.Commands.{noEffectLine, storedLine};
 ghost use Rattle.command.specs.declared.commands.NoEffect.{NoEffect};
 ghost use Rattle.command.specs.declared.commands.Stored.{Stored};
 ghost use Rattle.command.specs.declared.commands.Command.{Command};
 ghost use Rattle.state.specs.Asked.{Given, OwnAsked};
-ghost use Rattle.accept.specs.Whole.{Begun, KeptAt, LineTried, OwnTried, Ready, Roomy, SharedTried, Tried};
+ghost use Rattle.accept.specs.Whole.{Begun, KeptAt, LineTried, OwnTried, RoomFor, SharedTried, Tried, everyWord, lastWord};
 
 // The most words that a command has, and the words taken at which there is room for so many.
 const MOST_WORDS: usize = 5;
@@ -34,7 +34,7 @@ fn take_domain(
     i1: u32,
     j1: u32,
 ) -> u32
-    requires { ⌜ Roomy words (now own) ⌝ }
+    requires { ⌜ RoomFor words (now own) ⌝ }
     ensures { λ r. ⌜ OwnTried (Command.Domain i0 j0 i1 j1) (headerOf 0 ∷ i0 ∷ j0 ∷ i1 ∷ j1 ∷ []) words r (now (own .entry)) (now (own .exit)) ⌝ }
 {
     if fits::domain(i0, j0, i1, j1) {
@@ -53,23 +53,22 @@ fn take_start(
     words: u32,
     reserved: u32,
 ) -> u32
-    requires { ⌜ Roomy words (now own) × OwnAsked (now own) (now tallies) (now shared) ⌝ }
+    requires { ⌜ RoomFor words (now own) × OwnAsked (now own) (now tallies) (now shared) ⌝ }
     ensures { λ r. ⌜ ((rest : List ℕ) → Tried Command.Start (headerOf 1 ∷ reserved ∷ rest) words (now (own .entry)) (now (tallies .entry)) (now (shared .entry)) r (now (own .exit)) (now (tallies .exit)) (now (shared .entry))) ⌝ }
 {
     if reserved != 0 {
         return 0;
     }
-    let rule = start::ready(own, shared);
-    let Checked::Fine = rule else {
+    if ready::readiness(own, shared) != 0 {
         return 0;
-    };
+    }
     own::count_words(own, words);
-    accept::count_start(own, tallies, shared);
+    claims::count_start(own, tallies, shared);
     words
 }
 
 fn take_quiet(own: &mut [u32; state::OWN_CELLS], words: u32, reserved: u32) -> u32
-    requires { ⌜ Roomy words (now own) ⌝ }
+    requires { ⌜ RoomFor words (now own) ⌝ }
     ensures { λ r. ⌜ ((what : NoEffect) → OwnTried (Command.Quiet what) (headerOf (noEffectLine what) ∷ reserved ∷ []) words r (now (own .entry)) (now (own .exit))) ⌝ }
 {
     if reserved == 0 {
@@ -81,7 +80,7 @@ fn take_quiet(own: &mut [u32; state::OWN_CELLS], words: u32, reserved: u32) -> u
 }
 
 fn take_instructions(own: &mut [u32; state::OWN_CELLS], words: u32, base: u32, format: u32) -> u32
-    requires { ⌜ Roomy words (now own) ⌝ }
+    requires { ⌜ RoomFor words (now own) ⌝ }
     ensures { λ r. ⌜ OwnTried (Command.Store Stored.Instructions base format) (headerOf 3 ∷ base ∷ format ∷ []) words r (now (own .entry)) (now (own .exit)) ⌝ }
 {
     if fits::window(base, format, 1) {
@@ -102,7 +101,7 @@ fn take_constants(
     base: u32,
     format: u32,
 ) -> u32
-    requires { ⌜ Roomy words (now own) × ((length (now shared) ≡ 101) × (at < 98)) ⌝ }
+    requires { ⌜ RoomFor words (now own) × ((length (now shared) ≡ sharedLength) × (at < 98)) ⌝ }
     ensures { λ r. ⌜ ((what : Stored) → KeptAt what at → SharedTried (Command.Store what base format) (headerOf (storedLine what) ∷ base ∷ format ∷ []) words r (now (own .entry)) (now (shared .entry)) (now (own .exit)) (now (shared .exit))) ⌝ }
 {
     if fits::window(base, format, 1) {
@@ -123,7 +122,7 @@ fn take_input(
     format: u32,
     height: u32,
 ) -> u32
-    requires { ⌜ Roomy words (now own) × (length (now shared) ≡ 101) ⌝ }
+    requires { ⌜ RoomFor words (now own) × (length (now shared) ≡ sharedLength) ⌝ }
     ensures { λ r. ⌜ SharedTried (Command.Input number base format height) (headerOf 4 ∷ number ∷ base ∷ format ∷ height ∷ []) words r (now (own .entry)) (now (shared .entry)) (now (own .exit)) (now (shared .exit)) ⌝ }
 {
     if fits::input(number, base, format, height) {
@@ -150,7 +149,7 @@ fn take_output(
     format: u32,
     height: u32,
 ) -> u32
-    requires { ⌜ Roomy words (now own) × (length (now shared) ≡ 101) ⌝ }
+    requires { ⌜ RoomFor words (now own) × (length (now shared) ≡ sharedLength) ⌝ }
     ensures { λ r. ⌜ SharedTried (Command.Output number base format height) (headerOf 5 ∷ number ∷ base ∷ format ∷ height ∷ []) words r (now (own .entry)) (now (shared .entry)) (now (own .exit)) (now (shared .exit)) ⌝ }
 {
     if fits::output(number, base, format, height) {
@@ -176,7 +175,7 @@ fn take_conditional(
     format: u32,
     height: u32,
 ) -> u32
-    requires { ⌜ Roomy words (now own) × (length (now shared) ≡ 101) ⌝ }
+    requires { ⌜ RoomFor words (now own) × (length (now shared) ≡ sharedLength) ⌝ }
     ensures { λ r. ⌜ SharedTried (Command.Conditional base format height) (headerOf 6 ∷ base ∷ format ∷ height ∷ []) words r (now (own .entry)) (now (shared .entry)) (now (own .exit)) (now (shared .exit)) ⌝ }
 {
     if fits::window(base, format, height) {
@@ -194,7 +193,7 @@ fn take_mask(
     words: u32,
     mask: u32,
 ) -> u32
-    requires { ⌜ Roomy words (now own) × (length (now shared) ≡ 101) ⌝ }
+    requires { ⌜ RoomFor words (now own) × (length (now shared) ≡ sharedLength) ⌝ }
     ensures { λ r. ⌜ SharedTried (Command.OutputMask mask) (headerOf 18 ∷ mask ∷ []) words r (now (own .entry)) (now (shared .entry)) (now (own .exit)) (now (shared .exit)) ⌝ }
 {
     if mask < 65536 {
@@ -212,7 +211,7 @@ fn take_conditional_mask(
     words: u32,
     mask: u32,
 ) -> u32
-    requires { ⌜ Roomy words (now own) × (length (now shared) ≡ 101) ⌝ }
+    requires { ⌜ RoomFor words (now own) × (length (now shared) ≡ sharedLength) ⌝ }
     ensures { λ r. ⌜ SharedTried (Command.ConditionalMask mask) (headerOf 19 ∷ mask ∷ []) words r (now (own .entry)) (now (shared .entry)) (now (own .exit)) (now (shared .exit)) ⌝ }
 {
     if mask < 2 {
@@ -231,7 +230,7 @@ fn take_test(
     words: u32,
     test: u32,
 ) -> u32
-    requires { ⌜ Roomy words (now own) × (length (now shared) ≡ 101) ⌝ }
+    requires { ⌜ RoomFor words (now own) × (length (now shared) ≡ sharedLength) ⌝ }
     ensures { λ r. ⌜ SharedTried (Command.Test test) (headerOf 20 ∷ test ∷ []) words r (now (own .entry)) (now (shared .entry)) (now (own .exit)) (now (shared .exit)) ⌝ }
 {
     if test < 8 {
@@ -255,8 +254,8 @@ fn take_line(
     p2: u32,
     p3: u32,
 ) -> u32
-    requires { ⌜ (line < 21) × Ready (now own) (now tallies) (now shared) ⌝ }
-    ensures { λ r. ⌜ LineTried line p0 p1 p2 p3 (length (wordsOf (commandOf line p0 p1 p2 p3))) (now (own .entry)) (now (tallies .entry)) (now (shared .entry)) r (now (own .exit)) (now (tallies .exit)) (now (shared .exit)) ⌝ }
+    requires { ⌜ (line < 21) × (RoomFor 5 (now own) × OwnAsked (now own) (now tallies) (now shared)) ⌝ }
+    ensures { λ r. ⌜ LineTried line p0 p1 p2 p3 everyWord (now (own .entry)) (now (tallies .entry)) (now (shared .entry)) r (now (own .exit)) (now (tallies .exit)) (now (shared .exit)) ⌝ }
 {
     match line {
         0 => take_domain(own, 5, p0, p1, p2, p3),
@@ -287,8 +286,8 @@ pub fn take_last(
     p2: u32,
     p3: u32,
 ) -> u32
-    requires { ⌜ (line < 21) × (Roomy 1 (now own) × OwnAsked (now own) (now tallies) (now shared)) ⌝ }
-    ensures { λ r. ⌜ LineTried line p0 p1 p2 p3 1 (now (own .entry)) (now (tallies .entry)) (now (shared .entry)) r (now (own .exit)) (now (tallies .exit)) (now (shared .exit)) ⌝ }
+    requires { ⌜ (line < 21) × (RoomFor 1 (now own) × OwnAsked (now own) (now tallies) (now shared)) ⌝ }
+    ensures { λ r. ⌜ LineTried line p0 p1 p2 p3 lastWord (now (own .entry)) (now (tallies .entry)) (now (shared .entry)) r (now (own .exit)) (now (tallies .exit)) (now (shared .exit)) ⌝ }
 {
     match line {
         0 => take_domain(own, 1, p0, p1, p2, p3),

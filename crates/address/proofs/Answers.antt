@@ -6,7 +6,7 @@ use mathlib.Core.List.{List, [], _∷_}
 use Prim.Native.Nat.{ℕ, _+_, _-_, _*_, _/_, _<_, _≤_, _^_}
 use native.Mathlib.Nat.{mul-div-cancel, mul-le-mul, le-of-mul-le-mul-right, lt-of-mul-lt-mul-right}
 use native.Mathlib.Omega.{arith}
-use lib.Dec.{leb, ltb, eqb, lit≤}
+use lib.Dec.{leb, ltb, eqb}
 use borrow.Author.Tests.{lt-ltb, le-ltb, eqb-true, eqb-false, leb-true, leb-false}
 use Rattle.laws.specs.Choice.{_and_, pick, placeOf}
 use Rattle.laws.proofs.Choice.{pick-yes, pick-no, and-intro, and-no-left, and-no-right, Tested, tested, holds, fails}
@@ -14,15 +14,15 @@ use Rattle.refusal.specs.Told.{Told, gives, refuses}
 use Rattle.layout.specs.Sizes.{sizes, isSize, widthOf}
 use Rattle.layout.proofs.Sizes.{no-size}
 use Rattle.laws.proofs.Table.{NoneOf}
-use Rattle.layout.specs.Layout.{wellFormed, windowRule, rowBytes}
+use Rattle.layout.specs.Layout.{wellFormed, windowRule, strideOf}
 use Rattle.layout.specs.declared.Layout.{Layout}
 use Rattle.layout.proofs.Window.{form-size, size-most, rule-bounds}
 use Rattle.layout.proofs.Rows.{Ruled, ruled, unruled}
 use Rattle.address.specs.Asked.{PairAsked, StepAsked}
 use Rattle.address.specs.Offset.{offsetOf, xOf, yOf, bytePlace}
-use Rattle.address.specs.Address.{stepOf, ifAccepted, inside, addressOf, translateOf, backOf, locateOf, layoutOf, toldNumber}
+use Rattle.address.specs.Address.{stepOf, ifAccepted, inside, addressOf, translateOf, backOf, locateOf, layoutOf, refusedAs, toldNumber}
 use Rattle.address.specs.Inverse.{Accepted, Inside}
-use Rattle.address.proofs.Offsets.{cells}
+use Rattle.address.proofs.Offsets.{blocks}
 use Rattle.address.proofs.Windows.{tiles-pos}
 use Rattle.address.proofs.Inverse.{grid, answered, below-base, from-base, inverse}
 
@@ -38,6 +38,9 @@ pub told-refusal : (n : ℕ) → 2 ^ 32 ≤ n → toldNumber n ≡ refuses (n - 
 unfolding toldNumber
 told-refusal n h = pick-no _ _ (le-ltb _ _ h)
 
+pub told-refused : (number : ℕ) → toldNumber (refusedAs number) ≡ refuses number
+told-refused number = told-refusal (refusedAs number) (omega arith) ∙ ap refuses {x = 2 ^ 32 + number - 2 ^ 32} (omega arith)
+
 -- a layout that isn't accepted
 module _ (l : Layout) where
   abbrev form : Bool
@@ -50,10 +53,10 @@ module _ (l : Layout) where
   unfolding ifAccepted
   malformed answer f = pick-no _ _ f
 
-  abbrev rowOf : ℕ
-  rowOf = rowBytes (l .base .0) (l .pitch) (l .height) (l .size) (l .tiled)
+  abbrev strideIn : ℕ
+  strideIn = strideOf (l .base .0) (l .pitch) (l .height) (l .size) (l .tiled)
 
-  pub ruleless : (answer : Told) → form ≡ true → (r : ℕ) → r ≡ rowOf → r < 1 → ifAccepted l answer ≡ refuses 6
+  pub ruleless : (answer : Told) → form ≡ true → (r : ℕ) → r ≡ strideIn → r < 1 → ifAccepted l answer ≡ refuses 6
   unfolding ifAccepted
   ruleless answer f r er k =
       pick-yes _ _ f ∙ pick-no _ _ (unruled (l .base .0) (l .pitch) (l .height) (l .size) (l .tiled) f r er k)
@@ -73,7 +76,7 @@ module _ (l : Layout) where
       go (holds f) (holds w) (holds i) = absurd (told-apart (sym (pick-yes _ _ f ∙ pick-yes _ _ w ∙ pick-yes _ _ i) ∙ told))
 
   pub refused-outside :
-      (x y n : ℕ) → toldNumber n ≡ translateOf l x y → 2 ^ 32 ≤ n → (n ≡ 4294967299 → ⊥) → (n ≡ 4294967302 → ⊥) →
+      (x y n : ℕ) → toldNumber n ≡ translateOf l x y → 2 ^ 32 ≤ n → (n ≡ refusedAs 3 → ⊥) → (n ≡ refusedAs 6 → ⊥) →
       refuses 10 ≡ translateOf l x y
   refused-outside x y n told h three six =
       ap refuses (sym (ten-left x y (n - 2 ^ 32) (sym told ∙ told-refusal n h) (λ e. three (omega arith)) (λ e. six (omega arith)))) ∙
@@ -90,10 +93,10 @@ module _ (l : Layout) where
           omega
           (arith, ten-left x y (n - 2 ^ 32) (sym told ∙ told-refusal n h) (eqb-false (n - 2 ^ 32) 3 a) (eqb-false (n - 2 ^ 32) 6 b))
 
-  pub number-small : (x y n : ℕ) → toldNumber n ≡ translateOf l x y → n < 8589934592
+  pub number-small : (x y n : ℕ) → toldNumber n ≡ translateOf l x y → n < 2 ^ 33
   number-small x y n told = go (tested (leb (2 ^ 32) n))
     where
-      go : Tested (leb (2 ^ 32) n) → n < 8589934592
+      go : Tested (leb (2 ^ 32) n) → n < 2 ^ 33
       go (holds h) = omega (arith, refusal-small x y n told (leb-true (2 ^ 32) n h))
       go (fails h) = omega (arith, leb-false (2 ^ 32) n h)
 
@@ -104,10 +107,10 @@ no-form base pitch s e = and-no-right _ (and-no-right _ (and-no-right _ (ap (λ 
 
 pub sizeless :
     (base pitch height s : ℕ) (tiled : Bool) (x y : ℕ) → NoneOf Unit sizes s →
-    toldNumber 4294967299 ≡ translateOf (layoutOf base pitch height s tiled) x y
+    toldNumber (refusedAs 3) ≡ translateOf (layoutOf base pitch height s tiled) x y
 unfolding translateOf
 sizeless base pitch height s tiled x y r =
-    told-refusal 4294967299 (lit≤ tt) ∙
+    told-refused 3 ∙
     sym
     (malformed (layoutOf base pitch height s tiled) _
     (no-form base pitch s (no-size s (r .0 .0 .0 .0 .1) (r .0 .0 .0 .1) (r .0 .0 .1) (r .0 .1) (r .1))))
@@ -117,31 +120,31 @@ pub record Taken (l : Layout) (e : ℕ) : Type 0 where
   pub accepted : Accepted l
   pub step : e ≡ stepOf l
 
--- and with its row step in bytes, as the window rule hands it over
-module _ (l : Layout) (f : wellFormed (l .base .0) (l .pitch) (l .size) ≡ true) (r : ℕ) (er : r ≡ rowOf l) (k : 1 ≤ r) where
-  row-ruled : Ruled (l .base .0) (l .pitch) (l .height) (l .size) (l .tiled) f r
-  row-ruled = ruled (l .base .0) (l .pitch) (l .height) (l .size) (l .tiled) f r er k
+-- and with its stride, as the window rule hands it over
+module _ (l : Layout) (f : wellFormed (l .base .0) (l .pitch) (l .size) ≡ true) (r : ℕ) (er : r ≡ strideIn l) (k : 1 ≤ r) where
+  stride-ruled : Ruled (l .base .0) (l .pitch) (l .height) (l .size) (l .tiled) f r
+  stride-ruled = ruled (l .base .0) (l .pitch) (l .height) (l .size) (l .tiled) f r er k
 
   size-pos : 0 < l .size
-  size-pos = cells (l .size) (form-size (l .base .0) (l .pitch) (l .size) f) .s-pos
+  size-pos = blocks (l .size) (form-size (l .base .0) (l .pitch) (l .size) f) .s-pos
 
-  pub bytes-fit : (x : ℕ) → x ≤ 4096 → x * l .size ≤ 65536
+  pub bytes-fit : (x : ℕ) → x ≤ 4096 → x * l .size ≤ 2 ^ 16
   bytes-fit x h =
       mul-le-mul {n₂ = 4096} {m₂ = 16} h (size-most (l .size) (form-size (l .base .0) (l .pitch) (l .size) f))
 
   steps : r / l .size ≡ stepOf l
-  steps = ap (λ (n : ℕ). n / l .size) (row-ruled .row) ∙ mul-div-cancel (stepOf l) size-pos
+  steps = ap (λ (n : ℕ). n / l .size) (stride-ruled .stride) ∙ mul-div-cancel (stepOf l) size-pos
 
   pub taken : Taken l (r / l .size)
-  taken = record { accepted = record { form = f; window = row-ruled .rule }; step = steps }
+  taken = record { accepted = record { form = f; window = stride-ruled .rule }; step = steps }
 
   pub whole : r / l .size * l .size ≡ r
-  whole = ap (λ (n : ℕ). n * l .size) steps ∙ sym (row-ruled .row)
+  whole = ap (λ (n : ℕ). n * l .size) steps ∙ sym (stride-ruled .stride)
 
   pub past-all : (x : ℕ) → 4096 < x → r / l .size ≤ x
   past-all x h =
       omega
-      (arith, steps, rule-bounds (l .base .0) (l .tiled) (l .size) (stepOf l) (l .height) (row-ruled .rule) .step-most)
+      (arith, steps, rule-bounds (l .base .0) (l .tiled) (l .size) (stepOf l) (l .height) (stride-ruled .rule) .step-most)
 
   pub past-row : (x : ℕ) → r ≤ x * l .size → r / l .size ≤ x
   past-row x h = le-of-mul-le-mul-right (rw whole h) size-pos
@@ -195,7 +198,7 @@ module _ (l : Layout) (e : ℕ) (t : Taken l e) where
         pub address-fits : l .base .0 + o < 2 ^ 32
         address-fits =
             omega
-            (arith, is-address, inverse l (t .accepted) .within x y within .2, cells (l .size) size .s-pos)
+            (arith, is-address, inverse l (t .accepted) .within x y within .2, blocks (l .size) size .s-pos)
 
         pub translated : translateOf l x y ≡ gives ((l .base .0 + o) ∷ [])
         translated = inverse l (t .accepted) .there x y within ∙ ap (λ (n : ℕ). gives (n ∷ [])) is-address

@@ -1,5 +1,5 @@
 pub mod Answers
-pub mod Cells
+pub mod Blocks
 pub mod Inverse
 pub mod Offsets
 pub mod Printed

@@ -20,15 +20,15 @@ use Rattle.laws.specs.Choice.{pick}
 use Rattle.layout.specs.Sizes.{isSize, widthOf, heightOf}
 use Rattle.layout.proofs.Sizes.{Tile, tile}
 use Rattle.address.specs.Offset.{
-  cellWidth,
-  cellHeight,
+  blockWidth,
+  blockHeight,
   codeOf,
   insideOf,
   tiledOffset,
   linearOffset,
   offsetOf,
-  cellX,
-  cellY,
+  blockX,
+  blockY,
   tiledX,
   tiledY,
   linearX,
@@ -37,9 +37,9 @@ use Rattle.address.specs.Offset.{
   yOf,
   bytePlace,
 }
-use Rattle.address.proofs.Cells.{code-lt, cell-x, cell-y, cell-column, cell-row, cell-code}
+use Rattle.address.proofs.Blocks.{code-lt, block-x, block-y, block-column, block-row, block-code}
 
--- an offset is a tile's number, a cell's code and the rest inside the cell
+-- an offset is a tile's number, a block's code and the rest inside the block
 record Parts (o n c r : ℕ) : Type 0 where
   pub tile-part : o / 2048 ≡ n
   pub code-part : o / 32 % 64 ≡ c
@@ -56,25 +56,25 @@ joined o =
     sum : (o m n c r : ℕ) → m * 32 + r ≡ o → n * 64 + c ≡ m → 2048 * n + (32 * c + r) ≡ o
     sum o m n c r e f = omega arith
 
--- the cells of a size
-pub cells : (s : ℕ) → isSize s ≡ true → Tile s (cellWidth s) (cellHeight s)
-unfolding cellWidth cellHeight
-cells s e = tile s e
+-- the blocks of a size
+pub blocks : (s : ℕ) → isSize s ≡ true → Tile s (blockWidth s) (blockHeight s)
+unfolding blockWidth blockHeight
+blocks s e = tile s e
 
-module _ (s : ℕ) (t : Tile s (cellWidth s) (cellHeight s)) where
+module _ (s : ℕ) (t : Tile s (blockWidth s) (blockHeight s)) where
   abbrev p : ℕ
-  p = cellWidth s
+  p = blockWidth s
 
   abbrev q : ℕ
-  q = cellHeight s
+  q = blockHeight s
 
-  -- byte k of the element at column b and row a of a cell
+  -- byte k of the element at column b and row a of a block
   pub rest-lt : (a b k : ℕ) → a < q → b < p → k < s → (a * p + b) * s + k < 32
-  rest-lt a b k ha hb hk = subst (λ (n : ℕ). (a * p + b) * s + k < n) (t .cell) (digits-lt (digits-lt ha hb) hk)
+  rest-lt a b k ha hb hk = subst (λ (n : ℕ). (a * p + b) * s + k < n) (t .block) (digits-lt (digits-lt ha hb) hk)
 
-  -- a size goes into a cell's 32 bytes
+  -- a size goes into a block's 32 bytes
   thirty-two : s ∣ 32
-  thirty-two = subst (λ (n : ℕ). s ∣ n) (t .cell) (dvd-mul-left s (q * p))
+  thirty-two = subst (λ (n : ℕ). s ∣ n) (t .block) (dvd-mul-left s (q * p))
 
   column-of : (x : ℕ) → x / widthOf s ≡ x / p / 8
   column-of x = rw (t .width) (sym (div-div-eq-div-mul x p 8))
@@ -119,7 +119,7 @@ module _ (s : ℕ) (t : Tile s (cellWidth s) (cellHeight s)) where
           digits-mod (y % q) (mod-lt x (t .p-pos)),
           column-of x,
           row-of y,
-          cell-x (x / p) (y / q),
+          block-x (x / p) (y / q),
         )
         (div-add-mod' x p)
 
@@ -136,7 +136,7 @@ module _ (s : ℕ) (t : Tile s (cellWidth s) (cellHeight s)) where
           digits-div (y % q) (mod-lt x (t .p-pos)),
           column-of x,
           row-of y,
-          cell-y (x / p) (y / q),
+          block-y (x / p) (y / q),
         )
         (div-add-mod' y q)
 
@@ -156,33 +156,33 @@ module _ (s : ℕ) (t : Tile s (cellWidth s) (cellHeight s)) where
     abbrev code : ℕ
     code = o / 32 % 64
 
-    in-cell : o % 32 / s < q * p
-    in-cell = div-lt-iff-lt-mul (t .s-pos) .1 (rw (t .cell) (mod-lt o (omega arith)))
+    in-block : o % 32 / s < q * p
+    in-block = div-lt-iff-lt-mul (t .s-pos) .1 (rw (t .block) (mod-lt o (omega arith)))
 
-    back-column : tiledX s e o / p ≡ cellX column row code
+    back-column : tiledX s e o / p ≡ blockX column row code
     unfolding tiledX
-    back-column = digits-div (cellX column row code) (mod-lt (o % 32 / s) (t .p-pos))
+    back-column = digits-div (blockX column row code) (mod-lt (o % 32 / s) (t .p-pos))
 
     back-x-rest : tiledX s e o % p ≡ o % 32 / s % p
     unfolding tiledX
-    back-x-rest = digits-mod (cellX column row code) (mod-lt (o % 32 / s) (t .p-pos))
+    back-x-rest = digits-mod (blockX column row code) (mod-lt (o % 32 / s) (t .p-pos))
 
     row-rest : o % 32 / s / p < q
-    row-rest = div-lt-iff-lt-mul (t .p-pos) .1 in-cell
+    row-rest = div-lt-iff-lt-mul (t .p-pos) .1 in-block
 
-    back-row : tiledY s e o / q ≡ cellY column row code
+    back-row : tiledY s e o / q ≡ blockY column row code
     unfolding tiledY
-    back-row = digits-div (cellY column row code) row-rest
+    back-row = digits-div (blockY column row code) row-rest
 
     back-y-rest : tiledY s e o % q ≡ o % 32 / s / p
     unfolding tiledY
-    back-y-rest = digits-mod (cellY column row code) row-rest
+    back-y-rest = digits-mod (blockY column row code) row-rest
 
     back-tile-column : tiledX s e o / widthOf s ≡ column
-    back-tile-column = column-of (tiledX s e o) ∙ ap (λ (n : ℕ). n / 8) back-column ∙ cell-column column row code
+    back-tile-column = column-of (tiledX s e o) ∙ ap (λ (n : ℕ). n / 8) back-column ∙ block-column column row code
 
     back-tile-row : tiledY s e o / heightOf s ≡ row
-    back-tile-row = row-of (tiledY s e o) ∙ ap (λ (n : ℕ). n / 8) back-row ∙ cell-row column row code
+    back-tile-row = row-of (tiledY s e o) ∙ ap (λ (n : ℕ). n / 8) back-row ∙ block-row column row code
 
     -- the pair found stands in a column of the window
     pub tiled-back-column : tiledX s e o / widthOf s < e / widthOf s
@@ -200,7 +200,7 @@ module _ (s : ℕ) (t : Tile s (cellWidth s) (cellHeight s)) where
           back-y-rest,
           div-add-mod' (o / 2048) (e / widthOf s),
           div-add-mod' (o % 32 / s) p,
-          cell-code column row code (mod-lt (o / 32) (omega arith)),
+          block-code column row code (mod-lt (o / 32) (omega arith)),
           ← (mod-mod-of-dvd s o thirty-two),
         )
         (regroup (2048 * (o / 2048)) (32 * code) (o % 32 / s * s) (o % 32 % s) (o % 32) (div-add-mod' (o % 32) s) ∙ joined o)

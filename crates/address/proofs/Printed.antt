@@ -8,9 +8,9 @@ use Rattle.laws.specs.Bits.{bit, xor}
 use Rattle.laws.specs.Choice.{placeOf, pick}
 use Rattle.layout.specs.Layout.{unitOf, rowStep}
 use Rattle.layout.specs.Sizes.{widthOf, heightOf}
-use Rattle.address.specs.Offset.{cellWidth, cellHeight, codeOf, insideOf, linearOffset}
+use Rattle.address.specs.Offset.{blockWidth, blockHeight, codeOf, insideOf, linearOffset}
 use Rattle.address.specs.Printed.{fromBits, line1, line2, line4, line8, line16, slice, slices}
-use Rattle.address.proofs.Cells.{low}
+use Rattle.address.proofs.Blocks.{low}
 
 -- the low bits of a number
 mod8 : (x : ℕ) → x % 8 ≡ 4 * bit 2 x + 2 * bit 1 x + bit 0 x
@@ -34,35 +34,35 @@ above a b c d e f r t h = omega arith
 
 -- document 01's table of the bits inside a tile, line by line
 pub inside1 : (x y : ℕ) → insideOf 1 x y ≡ fromBits (line1 x y)
-unfolding insideOf cellWidth cellHeight widthOf heightOf placeOf pick codeOf
+unfolding insideOf blockWidth blockHeight widthOf heightOf placeOf pick codeOf
 inside1 x y = simp (div-div-eq-div-mul, mod8, mod4) (above _ _ _ _ _ _ _ _ (rest (bit 1 y) (bit 0 y) (bit 2 x) (bit 1 x) (bit 0 x)))
   where
     rest : (a b c d e : ℕ) → ((2 * a + b) * 8 + (4 * c + 2 * d + e)) * 1 ≡ a * 16 + (b * 8 + (c * 4 + (d * 2 + (e * 1 + 0))))
     rest a b c d e = omega arith
 
 pub inside2 : (x y : ℕ) → insideOf 2 x y ≡ fromBits (line2 x y)
-unfolding insideOf cellWidth cellHeight widthOf heightOf placeOf pick codeOf
+unfolding insideOf blockWidth blockHeight widthOf heightOf placeOf pick codeOf
 inside2 x y = simp (div-div-eq-div-mul, mod4) (above _ _ _ _ _ _ _ _ (rest (bit 1 y) (bit 0 y) (bit 1 x) (bit 0 x)))
   where
     rest : (a b c d : ℕ) → ((2 * a + b) * 4 + (2 * c + d)) * 2 ≡ a * 16 + (b * 8 + (c * 4 + (d * 2 + 0)))
     rest a b c d = omega arith
 
 pub inside4 : (x y : ℕ) → insideOf 4 x y ≡ fromBits (line4 x y)
-unfolding insideOf cellWidth cellHeight widthOf heightOf placeOf pick codeOf
+unfolding insideOf blockWidth blockHeight widthOf heightOf placeOf pick codeOf
 inside4 x y = simp (div-div-eq-div-mul, mod4) (above _ _ _ _ _ _ _ _ (rest (bit 0 y) (bit 1 x) (bit 0 x) (y % 2) (mod2 y)))
   where
     rest : (a b c m : ℕ) → m ≡ a → (m * 4 + (2 * b + c)) * 4 ≡ a * 16 + (b * 8 + (c * 4 + 0))
     rest a b c m h = omega arith
 
 pub inside8 : (x y : ℕ) → insideOf 8 x y ≡ fromBits (line8 x y)
-unfolding insideOf cellWidth cellHeight widthOf heightOf placeOf pick codeOf
+unfolding insideOf blockWidth blockHeight widthOf heightOf placeOf pick codeOf
 inside8 x y = simp div-div-eq-div-mul (above _ _ _ _ _ _ _ _ (rest (bit 0 y) (bit 0 x) (y % 2) (x % 2) (mod2 y) (mod2 x)))
   where
     rest : (a b m n : ℕ) → m ≡ a → n ≡ b → (m * 2 + n) * 8 ≡ a * 16 + (b * 8 + 0)
     rest a b m n h k = omega arith
 
 pub inside16 : (x y : ℕ) → insideOf 16 x y ≡ fromBits (line16 x y)
-unfolding insideOf cellWidth cellHeight widthOf heightOf placeOf pick codeOf
+unfolding insideOf blockWidth blockHeight widthOf heightOf placeOf pick codeOf
 inside16 x y = simp div-div-eq-div-mul (above _ _ _ _ _ _ _ _ (rest (bit 0 x) (y % 1) (x % 2) (mod-one y) (mod2 x)))
   where
     rest : (a m n : ℕ) → m ≡ 0 → n ≡ a → (m * 2 + n) * 16 ≡ a * 16 + 0

@@ -11,8 +11,8 @@ use Rattle.layout.specs.Layout.{tileRows, spanOf}
 use Rattle.layout.proofs.Sizes.{Tile}
 use Rattle.layout.proofs.Window.{width-pos}
 use Rattle.address.specs.Offset.{
-  cellWidth,
-  cellHeight,
+  blockWidth,
+  blockHeight,
   codeOf,
   insideOf,
   tiledOffset,
@@ -26,7 +26,7 @@ use Rattle.address.specs.Offset.{
   yOf,
   bytePlace,
 }
-use Rattle.address.proofs.Cells.{code-lt}
+use Rattle.address.proofs.Blocks.{code-lt}
 use Rattle.address.proofs.Offsets as offsets
 
 -- a size and a row step that a window may have: above 0 and, where tiled, a whole number of tiles
@@ -36,8 +36,8 @@ pub record Grid (tiled : Bool) (s e : ℕ) : Type 0 where
   pub whole : tiled ≡ true → e / widthOf s * widthOf s ≡ e
 
 module _ (s : ℕ) (size : isSize s ≡ true) where
-  abbrev t : Tile s (cellWidth s) (cellHeight s)
-  t = offsets.cells s size
+  abbrev t : Tile s (blockWidth s) (blockHeight s)
+  t = offsets.blocks s size
 
   height-pos : 0 < heightOf s
   height-pos = omega (arith, t .height, t .q-pos)
@@ -65,9 +65,9 @@ module _ (s : ℕ) (size : isSize s ≡ true) where
   inside-most x y =
       omega (
         arith,
-        code-lt (x / cellWidth s) (y / cellHeight s),
+        code-lt (x / blockWidth s) (y / blockHeight s),
         t .s-pos,
-        offsets.rest-lt s t (y % cellHeight s) (x % cellWidth s) (s - 1) (mod-lt y (t .q-pos)) (mod-lt x (t .p-pos)) (omega (arith, t .s-pos)),
+        offsets.rest-lt s t (y % blockHeight s) (x % blockWidth s) (s - 1) (mod-lt y (t .q-pos)) (mod-lt x (t .p-pos)) (omega (arith, t .s-pos)),
       )
 
   tiled-within :

@@ -65,6 +65,10 @@ abbrev pub layoutOf : ℕ → ℕ → ℕ → ℕ → Bool → Layout
 layoutOf base pitch height size tiled =
     record { base = record { 0 = base }; pitch = pitch; height = height; size = size; tiled = tiled }
 
--- an answer in one number: an address, or a refusal's number above 2^32
+-- a refusal in one number, above every address
+abbrev pub refusedAs : ℕ → ℕ
+refusedAs number = 2 ^ 32 + number
+
+-- an answer in one number: an address, or a refusal
 unfoldable pub toldNumber : ℕ → Told
 toldNumber n = pick (ltb n (2 ^ 32)) (gives (n ∷ [])) (refuses (n - 2 ^ 32))

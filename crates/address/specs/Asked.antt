@@ -3,13 +3,13 @@ use mathlib.Core.Path.{_≡_}
 use mathlib.Core.Bool.{Bool, true}
 use Prim.Native.Nat.{ℕ, _/_, _<_, _≤_}
 use Rattle.layout.specs.Sizes.{isSize, widthOf}
-use Rattle.address.specs.Offset.{cellWidth, cellHeight}
+use Rattle.address.specs.Offset.{blockWidth, blockHeight}
 
--- a size with the width and height of its cells, and a row step in bounds; the numbers' ranges, so that no sum wraps
-pub record CellAsked (p q s e : ℕ) : Type 0 where
+-- a size with the width and height of its blocks, and a row step in bounds; the numbers' ranges, so that no sum wraps
+pub record BlockAsked (p q s e : ℕ) : Type 0 where
   pub size : isSize s ≡ true
-  pub width : p ≡ cellWidth s
-  pub height : q ≡ cellHeight s
+  pub width : p ≡ blockWidth s
+  pub height : q ≡ blockHeight s
   pub step : e ≤ 4096
   pub p-least : 2 ≤ p
   pub p-most : p ≤ 8

@@ -1,13 +1,14 @@
 -- Document 01, "Layouts and windows": where a pair's element stands, counted from the base, and the way back.
 --
--- A tile is 8 by 8 cells of 32 bytes; a cell is p elements wide and q high (8x4, 4x4, 4x2, 2x2, 2x1 for the five sizes).
+-- A block is 32 bytes of a tile: a tile is 8 by 8 of them, and a block is p elements wide and q high (8x4, 4x4, 4x2, 2x2, 2x1
+-- for the five sizes).
 -- With X = x div p and Y = y div q, bits 10 to 5 of the place inside a tile are, at every size,
 --
 --     bit   10      9      8      7     6    5
 --          Y2^X3  X2^Y3  Y1^X2  X1^Y2   Y0   X0
 --
--- and bits 4 to 0 the place inside the cell, row by row. X3 and Y3 stand above the tile: they are the low bits of the tile's
--- column and row. The paper's table, line by line as it is printed, is proved equal to this in proofs/Table.antt.
+-- and bits 4 to 0 the place inside the block, row by row. X3 and Y3 lie above the tile: they are the low bits of the tile's
+-- column and row. The paper's table, line by line as it is printed, is proved equal to this in proofs/Printed.antt.
 -- Assumes nothing.
 use mathlib.Core.Bool.{Bool}
 use Prim.Native.Nat.{ℕ, _+_, _*_, _/_, _%_}
@@ -15,14 +16,14 @@ use Rattle.laws.specs.Bits.{bit, xor}
 use Rattle.laws.specs.Choice.{pick}
 use Rattle.layout.specs.Sizes.{widthOf, heightOf}
 
--- a cell's width and height in elements
-unfoldable pub cellWidth : ℕ → ℕ
-cellWidth s = widthOf s / 8
+-- a block's width and height in elements
+unfoldable pub blockWidth : ℕ → ℕ
+blockWidth s = widthOf s / 8
 
-unfoldable pub cellHeight : ℕ → ℕ
-cellHeight s = heightOf s / 8
+unfoldable pub blockHeight : ℕ → ℕ
+blockHeight s = heightOf s / 8
 
--- bits 10 to 5 inside a tile, as a number below 64, from the cell's column and row in the whole window
+-- bits 10 to 5 inside a tile, as a number below 64, from the block's column and row in the whole window
 unfoldable pub codeOf : ℕ → ℕ → ℕ
 codeOf X Y =
     32 * xor (bit 2 Y) (bit 3 X) + 16 * xor (bit 2 X) (bit 3 Y) + 8 * xor (bit 1 Y) (bit 2 X) +
@@ -31,7 +32,7 @@ codeOf X Y =
 -- "inside": the place inside a tile
 unfoldable pub insideOf : ℕ → ℕ → ℕ → ℕ
 insideOf s x y =
-    32 * codeOf (x / cellWidth s) (y / cellHeight s) + (y % cellHeight s * cellWidth s + x % cellWidth s) * s
+    32 * codeOf (x / blockWidth s) (y / blockHeight s) + (y % blockHeight s * blockWidth s + x % blockWidth s) * s
 
 -- "Tiled: base + 2,048·((y div tile height)·(E div tile width) + x div tile width) + inside"; `e` is the row step
 unfoldable pub tiledOffset : ℕ → ℕ → ℕ → ℕ → ℕ
@@ -44,7 +45,7 @@ linearOffset s e x y = (y * e + x) * s
 unfoldable pub offsetOf : Bool → ℕ → ℕ → ℕ → ℕ → ℕ
 offsetOf tiled s e x y = pick tiled (tiledOffset s e x y) (linearOffset s e x y)
 
--- The way back inside a tile: bit 2, 1 of the cell's column and row, from the code and the low bits of the tile's column
+-- The way back inside a tile: bit 2, 1 of the block's column and row, from the code and the low bits of the tile's column
 -- and row, in the order in which they can be known.
 unfoldable pub highX : ℕ → ℕ → ℕ
 highX row c = xor (bit 4 c) (bit 0 row)
@@ -52,22 +53,22 @@ highX row c = xor (bit 4 c) (bit 0 row)
 unfoldable pub highY : ℕ → ℕ → ℕ
 highY column c = xor (bit 5 c) (bit 0 column)
 
--- the cell's column in the whole window
-unfoldable pub cellX : ℕ → ℕ → ℕ → ℕ
-cellX column row c = 8 * column + 4 * highX row c + 2 * xor (bit 2 c) (highY column c) + bit 0 c
+-- the block's column in the whole window
+unfoldable pub blockX : ℕ → ℕ → ℕ → ℕ
+blockX column row c = 8 * column + 4 * highX row c + 2 * xor (bit 2 c) (highY column c) + bit 0 c
 
--- the cell's row in the whole window
-unfoldable pub cellY : ℕ → ℕ → ℕ → ℕ
-cellY column row c = 8 * row + 4 * highY column c + 2 * xor (bit 3 c) (highX row c) + bit 1 c
+-- the block's row in the whole window
+unfoldable pub blockY : ℕ → ℕ → ℕ → ℕ
+blockY column row c = 8 * row + 4 * highY column c + 2 * xor (bit 3 c) (highX row c) + bit 1 c
 
 -- the way back, tiled: the pair of the offset `o`
 unfoldable pub tiledX : ℕ → ℕ → ℕ → ℕ
 tiledX s e o =
-    cellX (o / 2048 % (e / widthOf s)) (o / 2048 / (e / widthOf s)) (o / 32 % 64) * cellWidth s + o % 32 / s % cellWidth s
+    blockX (o / 2048 % (e / widthOf s)) (o / 2048 / (e / widthOf s)) (o / 32 % 64) * blockWidth s + o % 32 / s % blockWidth s
 
 unfoldable pub tiledY : ℕ → ℕ → ℕ → ℕ
 tiledY s e o =
-    cellY (o / 2048 % (e / widthOf s)) (o / 2048 / (e / widthOf s)) (o / 32 % 64) * cellHeight s + o % 32 / s / cellWidth s
+    blockY (o / 2048 % (e / widthOf s)) (o / 2048 / (e / widthOf s)) (o / 32 % 64) * blockHeight s + o % 32 / s / blockWidth s
 
 -- the way back, linear
 unfoldable pub linearX : ℕ → ℕ → ℕ → ℕ

@@ -1,6 +1,6 @@
 // Addresses: a pair of a window to the address of its element, and any byte address back to the pair that owns the byte
 // and the byte's place in the element. `translate` answers the address or 3, 6, 10; `locate` the pair or 3, 6, 12.
-mod cell;
+mod block;
 mod offset;
 
 use layout::ByteAddress;
@@ -9,6 +9,18 @@ use refusal::Refusal;
 ghost use mathlib.Core.Path.{_≡_};
 ghost use mathlib.Core.Bool.{true, false};
 ghost use Rattle.address.specs.Address.{translateOf, locateOf, layoutOf, toldNumber, toldTranslated, toldLocated};
+
+// In the one number that a translation is inside, 2^32 and a refusal's number: above every address.
+pub const REFUSED: u64 = 0x1_0000_0000;
+
+const MALFORMED: u64 = REFUSED + 3;
+
+const WINDOW_RULE: u64 = REFUSED + 6;
+
+const PAIR_OUTSIDE: u64 = REFUSED + 10;
+
+// No row step is above 4,096.
+const STEP_MOST: u32 = 4096;
 
 // Where a pair's element begins, or the refusal.
 pub enum Translated {
@@ -28,23 +40,23 @@ fn sized(base: u32, pitch: u32, height: u32, size: u32, tiled: bool, x: u32, y: 
     ensures { λ r. ⌜ toldNumber r ≡ translateOf (layoutOf base pitch height size tiled) x y ⌝ }
 {
     if !layout::well_formed(base, pitch, size) {
-        return 4294967299;
+        return MALFORMED;
     }
-    let row = layout::window_row(base, pitch, height, size, tiled);
-    if row < 1 {
-        return 4294967302;
+    let stride = layout::window_stride(base, pitch, height, size, tiled);
+    if stride < 1 {
+        return WINDOW_RULE;
     }
-    // no row step is above 4,096, and below it the product can't wrap
-    if 4096 < x {
-        return 4294967306;
+    // up to the greatest row step the product can't wrap
+    if STEP_MOST < x {
+        return PAIR_OUTSIDE;
     }
-    if row <= x * size {
-        return 4294967306;
+    if stride <= x * size {
+        return PAIR_OUTSIDE;
     }
     if height <= y {
-        return 4294967306;
+        return PAIR_OUTSIDE;
     }
-    let offset = offset::offset(tiled, size, row, x, y);
+    let offset = offset::offset(tiled, size, stride, x, y);
     (base + offset) as u64
 }
 
@@ -65,7 +77,7 @@ pub fn tiled_number(base: u32, pitch: u32, height: u32, size: u32, x: u32, y: u3
         4 => sized(base, pitch, height, 4, true, x, y),
         8 => sized(base, pitch, height, 8, true, x, y),
         16 => sized(base, pitch, height, 16, true, x, y),
-        _ => 4294967299,
+        _ => MALFORMED,
     }
 }
 
@@ -101,14 +113,14 @@ pub fn translate(layout: Layout, x: u32, y: u32) -> Translated
         x,
         y,
     );
-    if number < 4294967296 {
+    if number < REFUSED {
         return Translated::At {
             address: ByteAddress(number as u32),
         };
     }
     match number {
-        4294967299 => Translated::Refused(Refusal::Malformed),
-        4294967302 => Translated::Refused(Refusal::WindowRule),
+        MALFORMED => Translated::Refused(Refusal::Malformed),
+        WINDOW_RULE => Translated::Refused(Refusal::WindowRule),
         _ => Translated::Refused(Refusal::PairOutside),
     }
 }
@@ -124,15 +136,15 @@ pub fn locate(layout: Layout, address: ByteAddress) -> Located
     if !layout::well_formed(base, layout.pitch, size) {
         return Located::Refused(Refusal::Malformed);
     }
-    let row = layout::window_row(base, layout.pitch, layout.height, size, tiled);
-    if row < 1 {
+    let stride = layout::window_stride(base, layout.pitch, layout.height, size, tiled);
+    if stride < 1 {
         return Located::Refused(Refusal::WindowRule);
     }
     if address.0 < base {
         return Located::Refused(Refusal::Unowned);
     }
     let o = address.0 - base;
-    let pair = offset::back(tiled, size, row, o);
+    let pair = offset::back(tiled, size, stride, o);
     if layout.height <= pair.y {
         return Located::Refused(Refusal::Unowned);
     }

@@ -8,20 +8,23 @@ use native.Mathlib.Omega.{arith}
 use lib.Dec.{eqb, leb, ltb}
 use lib.ListN.{List·getD-eq-default}
 use borrow.Author.Tests.{eqb-true, leb-true, ltb-true, lt-ltb, le-ltb}
+use Rattle.laws.specs.Below.{every}
 use Rattle.laws.specs.Choice.{_and_, pick, placeOf}
+use Rattle.laws.proofs.Below.{every-at}
 use Rattle.laws.proofs.Choice.{Tested, holds, fails, tested, pick-yes, pick-no, place-found, and-left, and-right}
-use Rattle.laws.proofs.Table.{everyBelow, every, NoneOf, namedOr, otherwise}
+use Rattle.laws.proofs.Table.{NoneOf, namedOr, otherwise}
 use Rattle.refusal.specs.Told.{gives, refuses}
 use Rattle.command.specs.Table.{headers, counts, headerOf, countOf, lineWith}
 
 -- what a header says of its line, computed at each line: parameters minus one in bits 29:16, the operation in 15:8, and
 -- no header before it is the same
 headerRight : ℕ → Bool
-headerRight l = eqb (headerOf l) (3 * 2 ^ 30 + (countOf l - 1) * 2 ^ 16 + (l + 7) * 2 ^ 8) and eqb (placeOf (headerOf l) headers) l and leb 1 (countOf l) and leb (countOf l) 4
+headerRight l = eqb (headerOf l) (3 * 2 ^ 30 + (countOf l - 1) * 2 ^ 16 + (l + 7) * 2 ^ 8) and eqb (placeOf (headerOf l) headers) l
+    and leb 1 (countOf l) and leb (countOf l) 4
 
 all-right : (l : ℕ) → l < 21 → headerRight l ≡ true
-unfolding headerRight headerOf countOf placeOf pick everyBelow _and_
-all-right = every headerRight 21 refl
+unfolding headerRight headerOf countOf placeOf pick every _and_
+all-right = every-at 21 headerRight refl
 
 -- "A header is 3 in bits 31:30, parameters minus one in 29:16, operation in 15:8, zero in 7:0"
 pub header-rule : (l : ℕ) → l < 21 → headerOf l ≡ 3 * 2 ^ 30 + (countOf l - 1) * 2 ^ 16 + (l + 7) * 2 ^ 8
@@ -57,7 +60,7 @@ oneParameter : ℕ → Bool
 oneParameter l = eqb (countOf l) 1
 
 pub one-parameter : (l : ℕ) → l < 21 → NoneOf Unit (0 ∷ 3 ∷ 4 ∷ 5 ∷ 6 ∷ 7 ∷ 8 ∷ 9 ∷ []) l → countOf l ≡ 1
-unfolding oneParameter countOf everyBelow namedOr placeOf pick _and_
+unfolding oneParameter countOf every namedOr placeOf pick _and_
 one-parameter l h r = eqb-true (countOf l) 1 (otherwise oneParameter (0 ∷ 3 ∷ 4 ∷ 5 ∷ 6 ∷ 7 ∷ 8 ∷ 9 ∷ []) 21 refl l h r)
 
 -- a line of the table that is none of the lines before the last is the last
@@ -68,7 +71,7 @@ abbrev pub beforeLast : List ℕ
 beforeLast = 0 ∷ 1 ∷ 2 ∷ 3 ∷ 4 ∷ 5 ∷ 6 ∷ 7 ∷ 8 ∷ 9 ∷ 10 ∷ 11 ∷ 12 ∷ 13 ∷ 14 ∷ 15 ∷ 16 ∷ 17 ∷ 18 ∷ 19 ∷ []
 
 pub last-line : (l : ℕ) → l < 21 → NoneOf Unit beforeLast l → l ≡ 20
-unfolding isLast everyBelow namedOr placeOf pick _and_
+unfolding isLast every namedOr placeOf pick _and_
 last-line l h r = eqb-true l 20 (otherwise isLast beforeLast 21 refl l h r)
 
 module _ (w : ℕ) where
@@ -85,13 +88,13 @@ module _ (w : ℕ) where
   absent n = pick-no _ _ (le-ltb (placeOf w headers) 21 (omega arith))
 
   -- what is found stands in the table
-  pub stands : placeOf w headers < 21 → headerOf (placeOf w headers) ≡ w
+  pub listed : placeOf w headers < 21 → headerOf (placeOf w headers) ≡ w
   unfolding headerOf
-  stands h = place-found w headers h
+  listed h = place-found w headers h
 
   -- the line of a header is its operation less 7
   pub line-of-operation : placeOf w headers < 21 → placeOf w headers + 7 ≡ w / 256 % 256
-  line-of-operation h = sym (operation-in-header (placeOf w headers) h) ∙ ap (λ (x : ℕ). x / 256 % 256) (stands h)
+  line-of-operation h = sym (operation-in-header (placeOf w headers) h) ∙ ap (λ (x : ℕ). x / 256 % 256) (listed h)
 
   pub absent-low : w / 256 % 256 < 7 → lineWith w ≡ refuses 2
   absent-low k = absent (λ h. let e : placeOf w headers + 7 ≡ w / 256 % 256 = line-of-operation h in omega arith)
@@ -105,33 +108,33 @@ module _ (w : ℕ) where
       absent
       (λ h.
       let e : placeOf w headers ≡ w / 256 % 256 - 7 = omega (arith, line-of-operation h) in
-      n (sym (ap headerOf e) ∙ stands h))
+      n (sym (ap headerOf e) ∙ listed h))
 
 -- a header is accepted exactly when it stands in the table, at the line where it stands
 pub record Accepted (w l : ℕ) : Type 0 where
   pub line : l < 21
   pub header : headerOf l ≡ w
 
-pub accepted-stands : (w l : ℕ) → lineWith w ≡ gives (l ∷ []) → Accepted w l
+pub accepted-listed : (w l : ℕ) → lineWith w ≡ gives (l ∷ []) → Accepted w l
 unfolding lineWith
-accepted-stands w l e = go (tested (ltb (placeOf w headers) 21))
+accepted-listed w l e = go (tested (ltb (placeOf w headers) 21))
   where
     go : Tested (ltb (placeOf w headers) 21) → Accepted w l
     go (holds t) =
         let g : gives (placeOf w headers ∷ []) ≡ gives (l ∷ []) = sym (pick-yes _ _ t) ∙ e in
         let p : placeOf w headers ≡ l = cc in
         let h : placeOf w headers < 21 = ltb-true _ _ t in
-        record { line = rw p at h; header = rw p at (stands w h) }
+        record { line = rw p at h; header = rw p at (listed w h) }
     go (fails t) =
         let g : refuses 2 ≡ gives (l ∷ []) = sym (pick-no _ _ t) ∙ e in
         let z : _≡_ {A = ℕ} 0 1 = cc in
         absurd (omega arith)
 
-pub stands-accepted : (w l : ℕ) → Accepted w l → lineWith w ≡ gives (l ∷ [])
-stands-accepted w l a = found w l (a .line) (a .header)
+pub listed-accepted : (w l : ℕ) → Accepted w l → lineWith w ≡ gives (l ∷ [])
+listed-accepted w l a = found w l (a .line) (a .header)
 
 pub refused-absent : (w : ℕ) → lineWith w ≡ refuses 2 → (l : ℕ) → Accepted w l → ⊥
 refused-absent w e l a =
-    let g : refuses 2 ≡ gives (l ∷ []) = sym e ∙ stands-accepted w l a in
+    let g : refuses 2 ≡ gives (l ∷ []) = sym e ∙ listed-accepted w l a in
     let z : _≡_ {A = ℕ} 0 1 = cc in
     omega arith

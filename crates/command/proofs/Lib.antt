@@ -1,8 +1,5 @@
-pub mod Fitting
 pub mod Headers
-pub mod Judging
-pub mod Readable
-pub mod Rule
+pub mod Known
 pub mod Windows
 pub mod Words
 pub mod WriteBack

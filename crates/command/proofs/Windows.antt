@@ -8,15 +8,16 @@ use native.Mathlib.Omega.{arith}
 use lib.Dec.{eqb}
 use lib.ListN.{List·getD-eq-default}
 use borrow.Author.Tests.{eqb-true, leb-true, eq-eqb, le-leb}
+use Rattle.laws.specs.Below.{every}
 use Rattle.laws.specs.Choice.{_and_, pick, placeOf}
+use Rattle.laws.proofs.Below.{every-at}
 use Rattle.laws.proofs.Choice.{pick-yes, and-intro, and-left, and-right}
-use Rattle.laws.proofs.Table.{everyBelow, every, NoneOf}
-use Rattle.refusal.specs.Told.{gives, refuses}
+use Rattle.laws.proofs.Table.{NoneOf}
+use Rattle.refusal.specs.Told.{gives, refuses, isGiven}
 use Rattle.layout.specs.Sizes.{isSize}
 use Rattle.layout.specs.Layout.{wellFormed, windowRule, rowStep, spanOf, judgeOf}
 use Rattle.command.specs.Format.{pitchOf, tiledOf, codeOf, sizeOf, channelsOf, windowOf}
 use Rattle.command.specs.Kinds.{formatAllowed, allowed}
-use Rattle.command.specs.Rules.{isGiven}
 use Rattle.command.specs.declared.kinds.Kind.the-variants.{Base, Format, InputFormat}
 
 -- codes above 4 have no channels, and those above 7 no size
@@ -38,8 +39,8 @@ digitRight : ℕ → Bool
 digitRight code = eqb (17043586 / 2 ^ (5 * code) % 32) (sizeOf code)
 
 digits-right : (code : ℕ) → code < 8 → digitRight code ≡ true
-unfolding digitRight sizeOf everyBelow _and_
-digits-right = every digitRight 8 refl
+unfolding digitRight sizeOf every _and_
+digits-right = every-at 8 digitRight refl
 
 pub size-read : (code : ℕ) → code ≤ 7 → 17043586 / 2 ^ (5 * code) % 32 ≡ sizeOf code
 unfolding digitRight
@@ -74,8 +75,8 @@ sized : ℕ → Bool
 sized code = isSize (sizeOf code)
 
 sizes-right : (code : ℕ) → code < 5 → sized code ≡ true
-unfolding sized isSize sizeOf placeOf everyBelow pick _and_
-sizes-right = every sized 5 refl
+unfolding sized isSize sizeOf placeOf every pick _and_
+sizes-right = every-at 5 sized refl
 
 six-or-given : (values : List ℕ) (t : Bool) → pick t (gives values) (refuses 6) ≡ refuses 3 → ⊥
 unfolding pick

@@ -8,9 +8,10 @@ use native.Mathlib.Omega.{arith}
 use lib.Dec.{leb}
 use denote.Enum.Declared.{tagOf}
 use types.Run.{OneOf, miss}
+use Rattle.laws.specs.Below.{every}
 use Rattle.laws.specs.Choice.{_and_, pick, placeOf}
 use Rattle.laws.proofs.Choice.{pick-yes, pick-no}
-use Rattle.laws.proofs.Table.{everyBelow, NoneOf, namedOr, otherwise}
+use Rattle.laws.proofs.Table.{NoneOf, namedOr, otherwise}
 use Rattle.refusal.specs.Told.{gives, refuses}
 use Rattle.command.proofs.kinds.Kind.{the-type}
 use Rattle.command.specs.Format.{superfineOf, codeOf, channelsOf}
@@ -134,5 +135,5 @@ reservedAt : ℕ → Bool
 reservedAt n = isReserved (kindAt n)
 
 pub reserved-elsewhere : (n : ℕ) → n < 84 → NoneOf Unit named n → kindAt n ≡ Reserved
-unfolding reservedAt isReserved kindAt kindOf everyBelow namedOr placeOf pick _and_
+unfolding reservedAt isReserved kindAt kindOf every namedOr placeOf pick _and_
 reserved-elsewhere n h r = reserved-only (kindAt n) (otherwise reservedAt named 84 refl n h r)

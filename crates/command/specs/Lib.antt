@@ -1,7 +1,5 @@
 pub mod Commands
-pub mod Fits
 pub mod Format
 pub mod Kinds
-pub mod Rules
+pub mod Known
 pub mod Table
-pub mod Writer

@@ -9,7 +9,7 @@ use Rattle.laws.proofs.Choice.{pick-yes, pick-no}
 use Rattle.state.specs.State.{Tally, newSession}
 use Rattle.replay.specs.Report.{noTally, markAt, beganWith, endedWith, less, partOf, firstDay}
 use Rattle.replay.specs.Cells.{viewed}
-use Rattle.days.specs.Reported.{statusOf}
+use Rattle.days.specs.Reported.{standingOf}
 use Rattle.days.specs.declared.report.Standing.{Standing}
 
 abbrev tally : ℕ → ℕ → Tally
@@ -69,6 +69,6 @@ module _ (midnights last : ℕ) where
   unfolding firstDay
   first-day ne day e = e ∙ sym (pick-no _ _ (ne-eqb midnights 0 ne))
 
-pub standing : (l : List ℕ) (day : ℕ) → day ≡ firstDay (getD l 3 0) (getD l 4 0) → with-first l day ≡ statusOf (viewed l [] newSession)
+pub standing : (l : List ℕ) (day : ℕ) → day ≡ firstDay (getD l 3 0) (getD l 4 0) → with-first l day ≡ standingOf (viewed l [] newSession)
 unfolding viewed
 standing l day e = ap (with-first l) e

@@ -20,8 +20,8 @@ nowIn tallies = partyOf [] tallies .tally
 abbrev pub midnightsIn : List ℕ → ℕ
 midnightsIn log = viewed log [] newSession .midnights
 
-abbrev pub statusOf : Replay → Standing
-statusOf r =
+abbrev pub standingOf : Replay → Standing
+standingOf r =
     record {
       «stopped_by» = r .stoppedBy;
       refused = r .refused .number;

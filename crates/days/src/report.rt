@@ -8,7 +8,7 @@ ghost use lib.ListN.{getD};
 ghost use Rattle.state.specs.State.{newSession};
 ghost use Rattle.replay.specs.Report.{beganWith, endedWith, firstDay, markAt, partOf};
 ghost use Rattle.replay.specs.Cells.{viewed};
-ghost use Rattle.days.specs.Reported.{midnightsIn, nowIn, statusOf, tallyOf};
+ghost use Rattle.days.specs.Reported.{midnightsIn, nowIn, standingOf, tallyOf};
 
 // Runs, and claimed elements.
 pub struct Counts {
@@ -118,8 +118,8 @@ fn first_day(midnights: u32, last: u32) -> u32
     if last < before { 0 } else { last - before }
 }
 
-pub fn status(log: &[u32; replay::LOG_CELLS]) -> Standing
-    ensures { λ r. ⌜ r ≡ statusOf (viewed (now (log .entry)) [] newSession) ⌝ }
+pub fn standing_of(log: &[u32; replay::LOG_CELLS]) -> Standing
+    ensures { λ r. ⌜ r ≡ standingOf (viewed (now (log .entry)) [] newSession) ⌝ }
 {
     let midnights = log[own::MIDNIGHTS];
     let last = log[own::LAST_DAY];

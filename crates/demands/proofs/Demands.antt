@@ -7,11 +7,12 @@ use Prim.Native.Nat.{ℕ, _+_, _≤_}
 use lib.ListN.{length}
 use Rattle.laws.specs.Bits.{xor}
 use Rattle.laws.specs.Choice.{_and_, pick, placeOf}
-use Rattle.laws.specs.Masks.{_or_, differ, digit, on, pack, some, every}
+use Rattle.laws.specs.Below.{some, every, sum}
+use Rattle.laws.specs.Masks.{_or_, differ, digit, on, pack}
 use Rattle.layout.specs.Sizes.{isSize, widthOf, heightOf}
 use Rattle.layout.specs.Layout.{wellFormed, unitOf, rowStep, tileRows, spanOf, inBounds, windowRule, judgeOf}
 use Rattle.layout.specs.declared.Layout.{Layout}
-use Rattle.address.specs.Offset.{cellWidth, cellHeight, codeOf, insideOf, tiledOffset, linearOffset, offsetOf}
+use Rattle.address.specs.Offset.{blockWidth, blockHeight, codeOf, insideOf, tiledOffset, linearOffset, offsetOf}
 use Rattle.address.specs.Address.{ifAccepted, inside, addressOf, translateOf}
 use Rattle.address.specs.Inverse.{Accepted, Inverse}
 use Rattle.address.proofs.Inverse.{inverse}
@@ -33,7 +34,6 @@ use Rattle.session.proofs.WriteBack.{fed-back}
 use Rattle.session.proofs.ReadAgain.{read-again}
 use Rattle.session.proofs.Refusals.{refused-word}
 use Rattle.session.proofs.Tallies.{Tallied, tallied}
-use Rattle.state.specs.Start.{sumBelow}
 use Rattle.replay.specs.State.{Replay, newReplay}
 use Rattle.replay.specs.Step.{refused as byteRefused}
 use Rattle.log.specs.Bytes.{byteStep}
@@ -41,7 +41,7 @@ use Rattle.log.specs.Feed.{replayOf, replayPieces}
 use Rattle.log.specs.Words.{wordsIn}
 use Rattle.replay.specs.Report.{partAt}
 use Rattle.log.specs.Refusals.{RefusedTo as LogRefusedTo}
-use Rattle.replay.specs.Cells.{LogValid}
+use Rattle.replay.specs.Cells.{ReplayValid}
 use Rattle.log.proofs.Cut.{refused-byte, cut-anywhere as bytes-cut-anywhere}
 use Rattle.log.proofs.Words.{one-session}
 use Rattle.log.proofs.Days.{all-runs, all-claims}
@@ -102,10 +102,10 @@ pub log-session : (r : Replay) (bs : List ℕ) → replayOf r bs .replay .sessio
 log-session = one-session
 
 -- Request 1: what ended before the first midnight and on each day adds up to the session's runs and claims.
-pub log-runs : (r : Replay) → LogValid r → sumBelow (r .midnights + 1) (λ k. partAt r k .runs) ≡ r .session .party .tally .runs
+pub log-runs : (r : Replay) → ReplayValid r → sum (r .midnights + 1) (λ k. partAt r k .runs) ≡ r .session .party .tally .runs
 log-runs = all-runs
 
-pub log-claims : (r : Replay) → LogValid r → sumBelow (r .midnights + 1) (λ k. partAt r k .claims) ≡ r .session .party .tally .claims
+pub log-claims : (r : Replay) → ReplayValid r → sum (r .midnights + 1) (λ k. partAt r k .claims) ≡ r .session .party .tally .claims
 log-claims = all-claims
 
 -- Request 5: a lease line that is refused gives 21, whatever the log: it comes before 18 and 19, and reads no log.
@@ -184,8 +184,8 @@ full-mask = as-before
 -- The worked cases C1 to C12 of document 01, all together.
 pub worked-cases : Agree cases
 unfolding
-    _and_ pick placeOf isSize widthOf heightOf wellFormed unitOf rowStep tileRows spanOf inBounds windowRule judgeOf xor cellWidth
-    cellHeight codeOf insideOf tiledOffset linearOffset offsetOf ifAccepted inside addressOf translateOf _or_ differ digit on pack
+    _and_ pick placeOf isSize widthOf heightOf wellFormed unitOf rowStep tileRows spanOf inBounds windowRule judgeOf xor blockWidth
+    blockHeight codeOf insideOf tiledOffset linearOffset offsetOf ifAccepted inside addressOf translateOf _or_ differ digit on pack
     some every wants decided branched allowed fresh turnedIf wishOf overLimit wayOf settled slotStep ended groupStep oneWord c9 c10 c11 c12
 worked-cases =
     (refl, (refl, (refl, (refl, (refl, (refl, (refl, (refl, (refl, (refl, (refl, (refl, (refl, (refl, (refl, tt)))))))))))))))

@@ -1,39 +1,13 @@
 // Commands by themselves: how many parameters a header announces, and a command's words.
-use command::commands;
-use command::commands::Command;
-use command::table;
-use command::table::Line;
-use refusal::Refusal;
-use rules::writer;
-use rules::writer::Written;
-ghost use Rattle.egretfold.specs.Crossing.{Crosses};
-ghost use Rattle.egretfold.specs.Commands.{parametersOf, CommandCrosses, WordsCross};
+ghost use Rattle.refusal.specs.Crossing.{Crosses};
+ghost use Rattle.command_rooms.specs.Rooms.{parametersOf, CommandCrosses};
 
 // How many parameters a header announces; 2.
 #[no_mangle]
 pub extern "C" fn egretfold_command_parameters(header: u32, count: &mut [u32; 1]) -> u32
     ensures { λ r. ⌜ Crosses (parametersOf header) r (now (count .entry)) (now (count .exit)) ⌝ }
 {
-    match table::line_of(header) {
-        Line::Unknown => refusal::number(Refusal::UnknownHeader),
-        Line::At(line) => {
-            *count = [table::parameters(line)];
-            0
-        }
-    }
-}
-
-// A command's words to the front of the room, and their number; 3, 4, 5, 6 or 11.
-fn write_words(command: Command, room: &mut [u32], written: &mut [u32; 1]) -> u32
-    ensures { λ r. ⌜ WordsCross command r (now (room .entry)) (now (room .exit)) (now (written .entry)) (now (written .exit)) ⌝ }
-{
-    match writer::write(command, room) {
-        Written::Refused(why) => refusal::number(why),
-        Written::Words(n) => {
-            *written = [n as u32];
-            0
-        }
-    }
+    command_rooms::parameters(header, count)
 }
 
 // The words of the command with this header and these fields to the front of the room, and their number; 2, then the
@@ -41,17 +15,11 @@ fn write_words(command: Command, room: &mut [u32], written: &mut [u32; 1]) -> u3
 #[no_mangle]
 pub extern "C" fn egretfold_command_write(
     header: u32,
-    fields: &[u32; 4],
+    fields: &[u32; command_rooms::FIELDS],
     room: &mut [u32],
     written: &mut [u32; 1],
 ) -> u32
     ensures { λ r. ⌜ CommandCrosses header (now (fields .entry)) r (now (room .entry)) (now (room .exit)) (now (written .entry)) (now (written .exit)) ⌝ }
 {
-    match table::line_of(header) {
-        Line::Unknown => refusal::number(Refusal::UnknownHeader),
-        Line::At(line) => {
-            let command = commands::build(line, fields[0], fields[1], fields[2], fields[3]);
-            write_words(command, room, written)
-        }
-    }
+    command_rooms::write(header, fields, room, written)
 }

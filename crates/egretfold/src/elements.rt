@@ -1,13 +1,9 @@
 // Elements in lent memory, whose first byte stands at the address `first`.
-use layout::ByteAddress;
-use layout::Layout;
-use memory::Answer;
-use memory::Written;
 ghost use Rattle.address.specs.Address.{layoutOf};
 ghost use Rattle.memory.specs.Elements.{readOf};
 ghost use Rattle.superfine.specs.Superfine.{superfineReadOf};
-ghost use Rattle.egretfold.specs.Crossing.{Crosses};
-ghost use Rattle.egretfold.specs.Elements.{inSixteen, SuperfineCrosses, WriteCrosses};
+ghost use Rattle.refusal.specs.Crossing.{Crosses};
+ghost use Rattle.element_rooms.specs.Rooms.{inSixteen, SuperfineCrosses, WriteCrosses};
 
 // The bytes of the element at (x, y), then zeros; 3, 6, 10 or 11.
 #[no_mangle]
@@ -21,27 +17,11 @@ pub extern "C" fn egretfold_element_read(
     y: u32,
     memory: &[u8],
     first: u32,
-    bytes: &mut [u8; 16],
+    bytes: &mut [u8; element_rooms::BYTES],
 ) -> u32
     ensures { λ r. ⌜ Crosses (inSixteen (readOf (layoutOf base pitch height size tiled) x y first (now (memory .entry)))) r (now (bytes .entry)) (now (bytes .exit)) ⌝ }
 {
-    let layout = Layout {
-        base: ByteAddress(base),
-        pitch,
-        height,
-        size,
-        tiled,
-    };
-    let reading = memory::read(layout, x, y, memory, ByteAddress(first));
-    let answer = reading.answer;
-    let read = reading.bytes;
-    match answer {
-        Answer::Refused(why) => refusal::number(why),
-        Answer::Bytes(_) => {
-            *bytes = read;
-            0
-        }
-    }
+    element_rooms::read(base, pitch, height, size, tiled, x, y, memory, first, bytes)
 }
 
 // Stores the element at (x, y) and touches no other byte of memory; 3, 6, 10 or 11.
@@ -60,17 +40,7 @@ pub extern "C" fn egretfold_element_write(
 ) -> u32
     ensures { λ r. ⌜ WriteCrosses (layoutOf base pitch height size tiled) x y first (now (given .entry)) r (now (memory .entry)) (now (memory .exit)) ⌝ }
 {
-    let layout = Layout {
-        base: ByteAddress(base),
-        pitch,
-        height,
-        size,
-        tiled,
-    };
-    match memory::write(layout, x, y, memory, ByteAddress(first), given) {
-        Written::Refused(why) => refusal::number(why),
-        Written::Done => 0,
-    }
+    element_rooms::write(base, pitch, height, size, tiled, x, y, memory, first, given)
 }
 
 // A superfine read: the bytes of the four elements, then zeros, and how many bytes they have; 3, 6, 10 or 11.
@@ -83,28 +53,10 @@ pub extern "C" fn egretfold_element_superfine(
     y: u32,
     memory: &[u8],
     first: u32,
-    bytes: &mut [u8; 16],
+    bytes: &mut [u8; element_rooms::BYTES],
     count: &mut [u32; 1],
 ) -> u32
     ensures { λ r. ⌜ SuperfineCrosses (superfineReadOf base format height x y first (now (memory .entry))) r (now (bytes .entry)) (now (bytes .exit)) (now (count .entry)) (now (count .exit)) ⌝ }
 {
-    let reading = superfine::superfine(
-        ByteAddress(base),
-        format,
-        height,
-        x,
-        y,
-        memory,
-        ByteAddress(first),
-    );
-    let answer = reading.answer;
-    let read = reading.bytes;
-    match answer {
-        Answer::Refused(why) => refusal::number(why),
-        Answer::Bytes(n) => {
-            *bytes = read;
-            *count = [n as u32];
-            0
-        }
-    }
+    element_rooms::superfine(base, format, height, x, y, memory, first, bytes, count)
 }

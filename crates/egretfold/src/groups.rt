@@ -1,11 +1,9 @@
-// Flow words for one group: programs, groups, steps and runs.
-use flow::Begun;
-use flow::Loaded;
-use flow::Ran;
-use stepper::Stepped;
+// Flow words for one group: programs, groups, steps, runs and open loops.
+ghost use mathlib.Core.Path.{_≡_};
+ghost use Rattle.loops.specs.Loops.{loopsTold};
 ghost use Rattle.stepper.specs.Answers.{stepIn, runIn};
-ghost use Rattle.group.specs.Cells.{GroupGiven};
-ghost use Rattle.egretfold.specs.Groups.{BeginCrosses, LoadCrosses, RunCrosses, StepCrosses};
+ghost use Rattle.group.specs.Cells.{groupOf, GroupGiven};
+ghost use Rattle.group_rooms.specs.Rooms.{BeginCrosses, LoadCrosses, RunCrosses, StepCrosses};
 
 // Loads a program, two words a slot, and says how many slots run; 15.
 #[no_mangle]
@@ -17,13 +15,7 @@ pub extern "C" fn egretfold_program_load(
 ) -> u32
     ensures { λ r. ⌜ LoadCrosses (now (words .entry)) r (now (firsts .entry)) (now (firsts .exit)) (now (seconds .entry)) (now (seconds .exit)) (now (slots .entry)) (now (slots .exit)) ⌝ }
 {
-    match flow::load(words, firsts, seconds) {
-        Loaded::Refused(why) => refusal::number(why),
-        Loaded::Slots(n) => {
-            *slots = [n];
-            0
-        }
-    }
+    group_rooms::load(words, firsts, seconds, slots)
 }
 
 // A fresh group of 1 to 32 processors; 13.
@@ -31,13 +23,10 @@ pub extern "C" fn egretfold_program_load(
 pub extern "C" fn egretfold_group_begin(size: u32, cells: &mut [u32; group::CELLS]) -> u32
     ensures { λ r. ⌜ BeginCrosses size r (now (cells .entry)) (now (cells .exit)) ⌝ }
 {
-    match flow::begin(size, cells) {
-        Begun::Refused(why) => refusal::number(why),
-        Begun::Ready => 0,
-    }
+    group_rooms::begin(size, cells)
 }
 
-// One step: 1 for a jump or 0 for a stay, and the next position; 13 to 16.
+// One step, with the integer words of LOOP and REP: 1 for a jump or 0 for a stay, and the next position; 13 to 16.
 #[no_mangle]
 pub extern "C" fn egretfold_group_step(
     firsts: &[u32; group::SLOTS],
@@ -47,22 +36,23 @@ pub extern "C" fn egretfold_group_step(
     alu: u32,
     predicate: u32,
     booleans: u32,
-    taken: &mut [u32; 2],
+    integers: &[u32],
+    taken: &mut [u32; group_rooms::STEP_NUMBERS],
 ) -> u32
     requires { ⌜ GroupGiven (now cells) ⌝ }
-    ensures { λ r. ⌜ StepCrosses (stepIn (now (firsts .entry)) (now (seconds .entry)) slots (now (cells .entry)) alu predicate booleans) r (now (cells .entry)) (now (cells .exit)) (now (taken .entry)) (now (taken .exit)) ⌝ }
+    ensures { λ r. ⌜ StepCrosses (stepIn (now (firsts .entry)) (now (seconds .entry)) slots (now (cells .entry)) alu predicate booleans (now (integers .entry))) r (now (cells .entry)) (now (cells .exit)) (now (taken .entry)) (now (taken .exit)) ⌝ }
 {
-    match flow::step(firsts, seconds, slots, cells, alu, predicate, booleans) {
-        Stepped::Refused(why) => refusal::number(why),
-        Stepped::Jumped(at) => {
-            *taken = [1, at.0];
-            0
-        }
-        Stepped::Stayed(at) => {
-            *taken = [0, at.0];
-            0
-        }
-    }
+    group_rooms::step(
+        firsts,
+        seconds,
+        slots,
+        cells,
+        alu,
+        predicate,
+        booleans,
+        integers,
+        taken,
+    )
 }
 
 // A run over a list of masks: the steps made, the first active processor and how many are active; 13 to 16.
@@ -74,20 +64,33 @@ pub extern "C" fn egretfold_group_run(
     cells: &mut [u32; group::CELLS],
     masks: &[u32],
     booleans: u32,
-    report: &mut [u64; 3],
+    integers: &[u32],
+    report: &mut [u64; group_rooms::REPORT_NUMBERS],
 ) -> u32
     requires { ⌜ GroupGiven (now cells) ⌝ }
-    ensures { λ r. ⌜ RunCrosses (runIn (now (firsts .entry)) (now (seconds .entry)) slots (now (cells .entry)) (now (masks .entry)) booleans) r (now (cells .entry)) (now (cells .exit)) (now (report .entry)) (now (report .exit)) ⌝ }
+    ensures { λ r. ⌜ RunCrosses (runIn (now (firsts .entry)) (now (seconds .entry)) slots (now (cells .entry)) (now (masks .entry)) booleans (now (integers .entry))) r (now (cells .entry)) (now (cells .exit)) (now (report .entry)) (now (report .exit)) ⌝ }
 {
-    match flow::run(firsts, seconds, slots, cells, masks, booleans) {
-        Ran::Refused(why) => refusal::number(why),
-        Ran::Report {
-            steps,
-            first,
-            active,
-        } => {
-            *report = [steps as u64, first as u64, active as u64];
-            0
-        }
-    }
+    group_rooms::run(
+        firsts,
+        seconds,
+        slots,
+        cells,
+        masks,
+        booleans,
+        integers,
+        report,
+    )
+}
+
+// The open loops: the aL shown, then for each of four loops, the innermost first, its kind (0 none, 1 LOOP, 3 REP), the turns left
+// in it and its aL.
+#[no_mangle]
+pub extern "C" fn egretfold_group_loops(
+    cells: &[u32; group::CELLS],
+    room: &mut [u32; flow::LOOPS_TOLD],
+)
+    requires { ⌜ GroupGiven (now cells) ⌝ }
+    ensures { λ r. ⌜ now (room .exit) ≡ loopsTold (groupOf (now (cells .entry)) .loops) ⌝ }
+{
+    group_rooms::loops(cells, room)
 }

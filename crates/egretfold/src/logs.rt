@@ -1,17 +1,16 @@
 // A station's log: bytes in pieces of any length, and what their replay reports. A replay's five arrays are as
-// `egretfold_log_begin` and `egretfold_log_feed` left them; the last three are its session's.
-use days::report;
+// `egretfold_log_begin`, `egretfold_log_byte` and `egretfold_log_feed` left them; the last three are its session's.
 use log::stream;
-use replay::bytes::Answer;
-use session::stream::First;
 ghost use mathlib.Core.List.{[], _∷_};
 ghost use Rattle.state.specs.State.{newSession};
+ghost use Rattle.log.specs.Asked.{ByteLeft};
 ghost use Rattle.log.specs.Feed.{replayOf};
 ghost use Rattle.replay.specs.Report.{partOf};
-ghost use Rattle.replay.specs.Cells.{LogGiven, replayIn, viewed};
-ghost use Rattle.days.specs.Reported.{midnightsIn, nowIn, statusOf};
-ghost use Rattle.egretfold.specs.Sessions.{Shows};
-ghost use Rattle.egretfold.specs.Logs.{ByteCrosses, LogBegins, LogCrosses, standingOf, tallyNumbers};
+ghost use Rattle.replay.specs.Cells.{ReplayGiven, replayIn, viewed};
+ghost use Rattle.days.specs.Reported.{midnightsIn, nowIn, standingOf};
+ghost use Rattle.refusal.specs.Crossing.{Shows};
+ghost use Rattle.setting_rooms.specs.Rooms.{tallyNumbers};
+ghost use Rattle.log_rooms.specs.Rooms.{BeginCrosses, FeedCrosses, standingNumbers};
 
 // A replay that has read nothing, over a new session.
 #[no_mangle]
@@ -22,9 +21,9 @@ pub extern "C" fn egretfold_log_begin(
     tallies: &mut [u64; state::TALLIES],
     shared: &mut [u32; state::SHARED_CELLS],
 ) -> u32
-    ensures { λ r. ⌜ LogBegins r (now (log .exit)) (now (marks .exit)) (now (own .exit)) (now (tallies .exit)) (now (shared .exit)) ⌝ }
+    ensures { λ r. ⌜ BeginCrosses r (now (log .exit)) (now (marks .exit)) (now (own .exit)) (now (tallies .exit)) (now (shared .exit)) ⌝ }
 {
-    replay::begin(log, marks, own, tallies, shared);
+    stream::begin(log, marks, own, tallies, shared);
     0
 }
 
@@ -38,18 +37,10 @@ pub extern "C" fn egretfold_log_byte(
     shared: &mut [u32; state::SHARED_CELLS],
     byte: u8,
 ) -> u32
-    requires { ⌜ LogGiven (now log) (now marks) (now own) (now tallies) (now shared) ⌝ }
-    ensures { λ r. ⌜ ByteCrosses (replayOf (replayIn (now (log .entry)) (now (marks .entry)) (now (own .entry)) (now (tallies .entry)) (now (shared .entry))) (byte ∷ [])) r (now (log .exit)) (now (marks .exit)) (now (own .exit)) (now (tallies .exit)) (now (shared .exit)) ⌝ }
+    requires { ⌜ ReplayGiven (now log) (now marks) (now own) (now tallies) (now shared) ⌝ }
+    ensures { λ r. ⌜ ByteLeft (replayOf (replayIn (now (log .entry)) (now (marks .entry)) (now (own .entry)) (now (tallies .entry)) (now (shared .entry))) (byte ∷ [])) r (now (log .exit)) (now (marks .exit)) (now (own .exit)) (now (tallies .exit)) (now (shared .exit)) ⌝ }
 {
-    let byte = replay::wide(byte);
-    if replay::grows(log, byte) {
-        return 0;
-    }
-    let answer = replay::byte(log, marks, own, tallies, shared, byte);
-    match answer {
-        Answer::Taken => 0,
-        Answer::Refused(why) => refusal::number(why),
-    }
+    stream::take_byte(log, marks, own, tallies, shared, byte)
 }
 
 // A piece of bytes: how many were taken, and 18 or 19 for the first that wasn't, if any.
@@ -63,35 +54,22 @@ pub extern "C" fn egretfold_log_feed(
     bytes: &[u8],
     taken: &mut [u64; 1],
 ) -> u32
-    requires { ⌜ LogGiven (now log) (now marks) (now own) (now tallies) (now shared) ⌝ }
-    ensures { λ r. ⌜ LogCrosses (replayOf (replayIn (now (log .entry)) (now (marks .entry)) (now (own .entry)) (now (tallies .entry)) (now (shared .entry))) (now (bytes .entry))) r (now (log .exit)) (now (marks .exit)) (now (own .exit)) (now (tallies .exit)) (now (shared .exit)) (now (taken .exit)) ⌝ }
+    requires { ⌜ ReplayGiven (now log) (now marks) (now own) (now tallies) (now shared) ⌝ }
+    ensures { λ r. ⌜ FeedCrosses (replayOf (replayIn (now (log .entry)) (now (marks .entry)) (now (own .entry)) (now (tallies .entry)) (now (shared .entry))) (now (bytes .entry))) r (now (log .exit)) (now (marks .exit)) (now (own .exit)) (now (tallies .exit)) (now (shared .exit)) (now (taken .exit)) ⌝ }
 {
-    let piece = replay::feed(log, marks, own, tallies, shared, bytes);
-    *taken = [piece.taken.0];
-    let refusal = piece.refusal;
-    match refusal {
-        First::Nothing => 0,
-        First::Refused(why) => refusal::number(why),
-    }
+    log_rooms::feed(log, marks, own, tallies, shared, bytes, taken)
 }
 
 // Where a replay stands: the number that stopped it; the first refused word's number and the midnights before it; the
 // midnights so far, the first and the last day; how many bytes of an unfinished record stand. What isn't there is 0.
 #[no_mangle]
-pub extern "C" fn egretfold_log_status(log: &[u32; replay::LOG_CELLS], status: &mut [u32; 7]) -> u32
-    ensures { λ r. ⌜ Shows (standingOf (statusOf (viewed (now (log .entry)) [] newSession))) r (now (status .exit)) ⌝ }
+pub extern "C" fn egretfold_log_status(
+    log: &[u32; replay::LOG_CELLS],
+    status: &mut [u32; log_rooms::STANDING_NUMBERS],
+) -> u32
+    ensures { λ r. ⌜ Shows (standingNumbers (standingOf (viewed (now (log .entry)) [] newSession))) r (now (status .exit)) ⌝ }
 {
-    let standing = report::status(log);
-    *status = [
-        standing.stopped_by,
-        standing.refused,
-        standing.refused_after,
-        standing.midnights,
-        standing.first_day,
-        standing.last_day,
-        standing.unfinished,
-    ];
-    0
+    log_rooms::standing(log, status)
 }
 
 // Runs and claimed elements of a part: 0 is what ended before the first midnight, k the k-th day; none past the last.
@@ -101,11 +79,9 @@ pub extern "C" fn egretfold_log_part(
     marks: &[u64; replay::MARKS],
     tallies: &[u64; state::TALLIES],
     part: u32,
-    counts: &mut [u64; 2],
+    counts: &mut [u64; log_rooms::PART_NUMBERS],
 ) -> u32
     ensures { λ r. ⌜ Shows (tallyNumbers (partOf (now (marks .entry)) (midnightsIn (now (log .entry))) (nowIn (now (tallies .entry))) part)) r (now (counts .exit)) ⌝ }
 {
-    let ended = report::part(log, marks, tallies, part);
-    *counts = [ended.runs, ended.claims];
-    0
+    log_rooms::part(log, marks, tallies, part, counts)
 }

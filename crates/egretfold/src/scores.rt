@@ -1,34 +1,16 @@
 // A station's monthly score, by its lease line and the replay of its log. A score has no state of its own.
-use score::line;
-use score::line::Judged;
-use score::month::Scored;
-use score::month::Verdict;
 ghost use mathlib.Core.Path.{_≡_};
 ghost use Rattle.score.specs.Lease.{leaseTold};
 ghost use Rattle.score.specs.Answers.{leaseLine};
-ghost use Rattle.egretfold.specs.Crossing.{statusOf};
-ghost use Rattle.egretfold.specs.Scores.{ScoreCrosses, verdictNumber};
+ghost use Rattle.refusal.specs.Crossing.{statusOf};
+ghost use Rattle.score_rooms.specs.Rooms.{ScoreCrosses};
 
 // Whether a lease line is within its bounds; 21.
 #[no_mangle]
 pub extern "C" fn egretfold_score_lease(first_day: u32, days: u32, owed: u32) -> u32
     ensures { λ r. ⌜ r ≡ statusOf (leaseTold (leaseLine «first_day» days owed)) ⌝ }
 {
-    let judged = line::judge(first_day, days, owed);
-    match judged {
-        Judged::Accepted => 0,
-        Judged::Refused(why) => refusal::number(why),
-    }
-}
-
-fn verdict_number(verdict: Verdict) -> u64
-    ensures { λ r. ⌜ r ≡ verdictNumber verdict ⌝ }
-{
-    match verdict {
-        Verdict::Full => 0,
-        Verdict::Short => 1,
-        Verdict::NothingOwed => 2,
-    }
+    score_rooms::lease(first_day, days, owed)
 }
 
 // The score of a replay: the claimed and the served number of each day of the lease, 0 past its last day; and the month's
@@ -43,17 +25,19 @@ pub extern "C" fn egretfold_score_month(
     owed: u32,
     claimed: &mut [u64; score::DAYS],
     served: &mut [u64; score::DAYS],
-    month: &mut [u64; 3],
+    month: &mut [u64; score_rooms::MONTH_NUMBERS],
 ) -> u32
     ensures { λ r. ⌜ ScoreCrosses (leaseLine «first_day» days owed) (now (log .entry)) (now (marks .entry)) (now (tallies .entry)) r (now (claimed .entry)) (now (served .entry)) (now (month .entry)) (now (claimed .exit)) (now (served .exit)) (now (month .exit)) ⌝ }
 {
-    let answer = score::month::score(log, marks, tallies, first_day, days, owed, claimed, served);
-    match answer {
-        Scored::Refused(number) => number,
-        Scored::Month(totals) => {
-            let verdict = totals.verdict;
-            *month = [totals.served, totals.owed, verdict_number(verdict)];
-            0
-        }
-    }
+    score_rooms::month(
+        log,
+        marks,
+        tallies,
+        first_day,
+        days,
+        owed,
+        claimed,
+        served,
+        month,
+    )
 }

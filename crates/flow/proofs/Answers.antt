@@ -7,9 +7,11 @@ use native.Mathlib.Omega.{arith}
 use lib.Dec.{eqb}
 use borrow.Author.Tests.{eqb-true, lt-ltb, le-ltb}
 use Rattle.laws.specs.Choice.{_and_, pick}
-use Rattle.laws.specs.Masks.{digit, every}
+use Rattle.laws.specs.Below.{every}
+use Rattle.laws.specs.Masks.{digit}
 use Rattle.laws.proofs.Choice.{pick-yes, pick-no}
-use Rattle.laws.proofs.Masks.{digit-lt, every-at}
+use Rattle.laws.proofs.Below.{every-at}
+use Rattle.laws.proofs.Masks.{digit-lt}
 use Rattle.refusal.specs.Number.{numberOf}
 use Rattle.refusal.specs.Told.{gives, refuses}
 use Rattle.refusal.specs.declared.Refusal.{Refusal}

@@ -7,10 +7,11 @@ use native.Mathlib.Omega.{arith}
 use lib.Dec.{eqb, ltb}
 use borrow.Author.Tests.{eqb-true, le-leb, lt-leb}
 use Rattle.laws.specs.Choice.{_and_}
-use Rattle.laws.specs.Masks.{digit, on, pack, every, least}
-use Rattle.laws.proofs.Choice.{pick-yes, pick-no, and-intro, and-no-left, and-no-right}
-use Rattle.laws.proofs.Split.{by-test}
-use Rattle.laws.proofs.Masks.{pack-same, every-at, least-odd, least-even}
+use Rattle.laws.specs.Below.{every, least}
+use Rattle.laws.specs.Masks.{digit, on, pack}
+use Rattle.laws.proofs.Choice.{pick-yes, pick-no, and-intro, and-no-left, and-no-right, by-pick}
+use Rattle.laws.proofs.Below.{every-at}
+use Rattle.laws.proofs.Masks.{pack-same, least-odd, least-even}
 use Rattle.refusal.specs.declared.Refusal.the-variants.{FlowField}
 use Rattle.flow.specs.declared.Begun.{Begun}
 use Rattle.flow.specs.declared.Begun.the-variants as begun
@@ -31,14 +32,14 @@ module _ (size : ℕ) where
   in-size : (f : Proc → Bool) → f Active ≡ true → f Absent ≡ false → pack 32 (λ i. ltb i size) ≡ pack 32 (λ i. f (fresh size .procs i))
   unfolding fresh
   in-size f a b =
-      pack-same 32 _ _ (λ i h. by-test (λ (p : Proc). ltb i size ≡ f p) (ltb i size) (λ e. e ∙ sym a) (λ e. e ∙ sym b))
+      pack-same 32 _ _ (λ i h. by-pick (λ (p : Proc). ltb i size ≡ f p) (ltb i size) _ _ (λ e. e ∙ sym a) (λ e. e ∙ sym b))
 
   none-set : (k : ℕ) → 0 ≡ plane k (fresh size .procs)
   unfolding fresh pack digit
   none-set k =
       nothing ∙
       pack-same 32 (λ i. false) (λ i. counterBit k (fresh size .procs i))
-      (λ i h. by-test (λ (p : Proc). false ≡ counterBit k p) (ltb i size) {a = Active} {b = Absent} (λ e. refl) (λ e. refl))
+      (λ i h. by-pick (λ (p : Proc). false ≡ counterBit k p) (ltb i size) Active Absent (λ e. refl) (λ e. refl))
     where
       nothing : 0 ≡ pack 32 (λ i. false)
       nothing = refl

@@ -6,8 +6,7 @@ use mathlib.Core.List.{List}
 use Prim.Native.Nat.{ℕ, _<_, _≤_}
 use borrow.Author.Tests.{le-leb}
 use Rattle.laws.specs.Masks.{on, pack}
-use Rattle.laws.proofs.Choice.{pick-yes, and-intro}
-use Rattle.laws.proofs.Split.{by-test}
+use Rattle.laws.proofs.Choice.{pick-yes, and-intro, by-pick}
 use Rattle.laws.proofs.Masks.{on-pack}
 use Rattle.flow.specs.declared.Begun.{Begun}
 use Rattle.stepper.specs.declared.Stepped.{Stepped}
@@ -46,7 +45,7 @@ unfolding groupRun
 run-gives {l} program booleans masks m d =
     subst GroupGiven (sym (d .left))
     (run-given-left l (groupRun counterLimit program booleans masks (groupOf l)) m
-    (by-test (SoundRun counterLimit) (ended program (groupOf l)) (λ e. tt)
+    (by-pick (SoundRun counterLimit) (ended program (groupOf l)) _ _ (λ e. tt)
     (λ e. steps-sound counterLimit program booleans masks (groupOf l) (m .sound))))
 
 -- of the cells: an active processor is in the group; a bit of a counter is an idle processor's, so that an active one's counter

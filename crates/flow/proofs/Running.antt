@@ -10,10 +10,11 @@ use lib.ListN.{length, getD, drop, length-drop}
 use lib.Seq.{drop-cons}
 use borrow.Author.Tests.{le-leb, lt-leb, lt-ltb, le-ltb}
 use Rattle.laws.specs.Choice.{pick}
-use Rattle.laws.specs.Masks.{digit, on, count, least}
-use Rattle.laws.proofs.Choice.{Tested, holds, fails, tested, pick-yes, pick-no}
-use Rattle.laws.proofs.Split.{by-test}
-use Rattle.laws.proofs.Masks.{digit-lt, on-pack, count-same, least-same}
+use Rattle.laws.specs.Below.{count, least}
+use Rattle.laws.specs.Masks.{digit, on}
+use Rattle.laws.proofs.Choice.{Tested, holds, fails, tested, pick-yes, pick-no, by-pick}
+use Rattle.laws.proofs.Below.{count-same, least-same}
+use Rattle.laws.proofs.Masks.{digit-lt, on-pack}
 use Rattle.refusal.specs.Number.{numberOf}
 use Rattle.refusal.specs.Told.{gives}
 use Rattle.refusal.specs.declared.Refusal.{Refusal}
@@ -349,7 +350,7 @@ unfolding groupSteps
 steps-sound limit program booleans [] g s = s
 steps-sound limit program booleans (a ∷ []) g s = s
 steps-sound limit program booleans (a ∷ (b ∷ masks)) g s =
-    by-test (SoundRun limit) (ended program g) (λ e. s)
+    by-pick (SoundRun limit) (ended program g) _ _ (λ e. s)
     (λ e.
     rest (steps-sound limit program booleans masks) (groupStep limit program a b booleans g)
     (step-sound limit program a b booleans g s))

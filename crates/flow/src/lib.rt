@@ -8,7 +8,8 @@ use stepper::slot;
 ghost use mathlib.Core.Path.{_≡_};
 ghost use Prim.Native.Nat.{_/_};
 ghost use lib.ListN.{length};
-ghost use Rattle.laws.specs.Masks.{on, count, least};
+ghost use Rattle.laws.specs.Below.{count, least};
+ghost use Rattle.laws.specs.Masks.{on};
 ghost use Rattle.loops.specs.Loops.{loopsTold};
 ghost use Rattle.group.specs.Proc.{mostProcessors, counterLimit};
 ghost use Rattle.group.specs.Group.{Makes, goOn, groupSteps};
@@ -98,14 +99,14 @@ pub fn step(
     requires { ⌜ GroupGiven (now cells) ⌝ }
     ensures { λ r. ⌜ StepDone (now (cells .entry)) (now (cells .exit)) r (stepIn (now (firsts .entry)) (now (seconds .entry)) slots (now (cells .entry)) alu predicate booleans (now (integers .entry))) ⌝ }
 {
-    let position = cells[group::POSITION];
-    if slots <= position {
+    let here = cells[group::POSITION];
+    if slots <= here {
         return Stepped::Refused(Refusal::Ended);
     }
     if STORE_SLOTS < slots {
         return Stepped::Refused(Refusal::PastEnd);
     }
-    let at = position as usize;
+    let at = here as usize;
     let first = firsts[at];
     let second = seconds[at];
     if first % slot::OPS == 0 {
@@ -239,14 +240,14 @@ fn one_step(
     requires { ⌜ GroupGiven (now cells) ⌝ }
     ensures { λ r. ⌜ StepsDone (now (cells .exit)) r (goOn (stepIn (now (firsts .entry)) (now (seconds .entry)) slots (now (cells .entry)) alu predicate booleans (now (integers .entry))) (λ g. Makes 0 g)) ⌝ }
 {
-    let position = cells[group::POSITION];
-    if slots <= position {
+    let here = cells[group::POSITION];
+    if slots <= here {
         return StepsMade::Refused(Refusal::Ended);
     }
     if STORE_SLOTS < slots {
         return StepsMade::Refused(Refusal::PastEnd);
     }
-    let at = position as usize;
+    let at = here as usize;
     let first = firsts[at];
     let second = seconds[at];
     if first % slot::OPS == 0 {
@@ -315,7 +316,8 @@ pub fn run(
     requires { ⌜ GroupGiven (now cells) ⌝ }
     ensures { λ r. ⌜ RunDone (now (cells .entry)) (now (cells .exit)) r (runIn (now (firsts .entry)) (now (seconds .entry)) slots (now (cells .entry)) (now (masks .entry)) booleans (now (integers .entry))) ⌝ }
 {
-    if slots <= cells[group::POSITION] {
+    let position = cells[group::POSITION];
+    if slots <= position {
         return Ran::Refused(Refusal::Ended);
     }
     let mut trial = *cells;

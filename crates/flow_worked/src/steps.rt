@@ -75,7 +75,7 @@ fn worked() {
     Tally::new().with(c10).print(b"C10");
 }
 
-// Four calls; the fifth (14, though its address is past the end too), and the fifth with a reserved bit (13).
+// Four calls; the fifth (14, though its address is past the end too), and the fifth with a reserved bit too (13).
 fn calls() {
     let mut cells = [0u32; group::CELLS];
     fresh(4, &mut cells);
@@ -113,13 +113,13 @@ fn returns() {
         .print(b"returns");
 }
 
-// A jump past the end (15), a jump to the end, and the step after it (16).
+// A jump past the end (15), a jump to the end, and the step after it (16, though its word has a reserved bit).
 fn ends() {
     let mut cells = [0u32; group::CELLS];
     fresh(4, &mut cells);
     let past = steps(&mut cells, 0xFF00, 0x50000, 0, 15, 15);
     let to = steps(&mut cells, 0xFF00, 0x40000, 0, JUMPED, 15);
-    let after = steps(&mut cells, 0x20, 0, 0, 16, 15);
+    let after = steps(&mut cells, 0x21, 0, 0, 16, 15);
     Tally::new()
         .with(past)
         .with(to)

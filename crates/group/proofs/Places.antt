@@ -10,8 +10,10 @@ use lib.Bits.{bitAnd, bitOr, bitXor}
 use borrow.Author.Tests.{leb-true, ne-eqb}
 use Rattle.laws.proofs.Choice.{pick-yes, pick-no, and-left, and-right}
 use Rattle.laws.specs.Choice.{_and_, pick}
-use Rattle.laws.specs.Masks.{_or_, differ, digit, on, pack, Places, some, every}
-use Rattle.laws.proofs.Masks.{pack-same, and-places, or-places, xor-places, not-places, on-zero, on-suc, pack-on, on-pack, none-zero, every-none, some-same, every-at, none-at}
+use Rattle.laws.specs.Below.{some, every}
+use Rattle.laws.specs.Masks.{_or_, differ, digit, on, pack, Places}
+use Rattle.laws.proofs.Below.{every-none, some-same, every-at, none-at}
+use Rattle.laws.proofs.Masks.{pack-same, and-places, or-places, xor-places, not-places, on-zero, on-suc, pack-on, on-pack, none-zero}
 use Rattle.group.specs.declared.planes.Branched.{Branched}
 use Rattle.group.specs.Proc.{Proc, Active, Idle, Absent, isLive, isActive, counterBit, within, turned, wants, decided, lowered, raised, atLimit, branched, counterLimit}
 use Rattle.group.specs.Group.{turnedIf, wishOf}

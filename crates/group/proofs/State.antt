@@ -9,10 +9,11 @@ use lib.Dec.{eqb, leb, ltb}
 use lib.ListN.{length, getD}
 use borrow.Author.Tests.{leb-true, leb-false, ltb-true, ltb-false, le-leb, le-ltb, eq-eqb, ne-eqb, eqb-true}
 use Rattle.laws.specs.Choice.{_and_, pick}
-use Rattle.laws.specs.Masks.{differ, digit, on, pack, some, every}
-use Rattle.laws.proofs.Choice.{Tested, holds, fails, tested, pick-yes, pick-no, and-left, and-right, and-intro, and-yes}
-use Rattle.laws.proofs.Split.{by-test, pick-same}
-use Rattle.laws.proofs.Masks.{on-pack, on-above, none-at, every-at}
+use Rattle.laws.specs.Below.{some, every}
+use Rattle.laws.specs.Masks.{differ, digit, on, pack}
+use Rattle.laws.proofs.Choice.{Tested, holds, fails, tested, pick-yes, pick-no, and-left, and-right, and-intro, and-yes, by-pick, pick-same}
+use Rattle.laws.proofs.Below.{none-at, every-at}
+use Rattle.laws.proofs.Masks.{on-pack, on-above}
 use Rattle.loops.specs.Loops.{field, Opened, Turn, Turns, NoRoom, NoWord, wordAt, turnOf, areOpened, Held}
 use Rattle.loops.proofs.Stack.{four-back, TurnSound, turn-of-sound}
 use Rattle.group.specs.Proc.{Proc, Active, Idle, Absent, isLive, isActive, counterBit, within, turned, lowered, raised, atLimit, branched, counterLimit}
@@ -188,14 +189,14 @@ lowered-within : (limit k : ℕ) (p : Proc) → within limit p ≡ true → with
 lowered-within limit k Active w = refl
 lowered-within limit k (Idle n) w =
     let h : n ≤ limit = leb-true n limit w in
-    by-test (λ (p : Proc). within limit p ≡ true) (ltb n k) (λ e. refl) (λ e. le-leb (n - k) limit (omega arith))
+    by-pick (λ (p : Proc). within limit p ≡ true) (ltb n k) _ _ (λ e. refl) (λ e. le-leb (n - k) limit (omega arith))
 lowered-within limit k Absent w = refl
 
 raised-within :
     (limit : ℕ) (jump wish : Bool) (p : Proc) → within limit p ≡ true → atLimit limit p ≡ false →
     within limit (raised jump wish p) ≡ true
 raised-within limit jump wish Active w f =
-    by-test (λ (p : Proc). within limit p ≡ true) (differ wish jump) (λ e. le-leb 0 limit zero-le) (λ e. refl)
+    by-pick (λ (p : Proc). within limit p ≡ true) (differ wish jump) _ _ (λ e. le-leb 0 limit zero-le) (λ e. refl)
 raised-within limit jump wish (Idle n) w f =
     let h : n < limit = leb-false limit n f in
     le-leb (n + 1) limit (omega arith)
@@ -206,10 +207,10 @@ branched-within :
     within limit (branched op k jump wish p) ≡ true
 unfolding branched
 branched-within limit op k jump wish p w f =
-    by-test (λ (q : Proc). within limit q ≡ true) (eqb op 1)
+    by-pick (λ (q : Proc). within limit q ≡ true) (eqb op 1) _ _
     (λ e. lowered-within limit k p w)
     (λ e.
-    by-test (λ (q : Proc). within limit q ≡ true) (eqb op 2)
+    by-pick (λ (q : Proc). within limit q ≡ true) (eqb op 2) _ _
     (λ t. raised-within limit jump wish p w (f (eqb-true op 2 t)))
     (λ t. w))
 
@@ -231,13 +232,13 @@ way-sound :
     SoundWay (wayOf aop jump position address rs)
 unfolding wayOf areReturns
 way-sound aop jump position address rs p h e =
-    by-test SoundWay jump
+    by-pick SoundWay jump _ _
     (λ j.
-    by-test SoundWay (eqb aop 1) (λ a. popped-sound rs h e)
+    by-pick SoundWay (eqb aop 1) _ _ (λ a. popped-sound rs h e)
     (λ a.
-    by-test SoundWay (eqb aop 2)
+    by-pick SoundWay (eqb aop 2) _ _
     (λ b.
-    by-test SoundWay (ltb (length rs) 4)
+    by-pick SoundWay (ltb (length rs) 4) _ _
     (λ t.
     let low : length rs < 4 = ltb-true (length rs) 4 t in
     let fits : aReturn (position + 1) ≡ true = and-intro (le-leb 1 (position + 1) (omega arith)) (le-leb (position + 1) 512 (omega arith)) in
@@ -258,7 +259,7 @@ arrived-sound :
     SoundAfter limit (arrived slots jump procs loops way)
 arrived-sound limit slots jump procs loops Stuck h k q out low w = (omega arith, omega arith)
 arrived-sound limit slots jump procs loops (Goes next rs) h k q out low w =
-    by-test (SoundAfter limit) (leb next slots)
+    by-pick (SoundAfter limit) (leb next slots) _ _
     (λ e.
     let n : next ≤ slots = leb-true next slots e in
     record { outside = out; counters = low; place = omega arith; depth = w .0; slots = w .1; nested = k; opened = q })
@@ -287,7 +288,7 @@ settled-sound :
 unfolding settled
 settled-sound limit slots first second jump wish procs g hs hp hr he hn hl out low =
     let op = pick jump (field 27 26 first) (field 25 24 first) in
-    by-test (SoundAfter limit) (overLimit limit op procs) (λ e. (omega arith, omega arith))
+    by-pick (SoundAfter limit) (overLimit limit op procs) _ _ (λ e. (omega arith, omega arith))
     (λ e.
     arrived-sound limit slots jump (λ i. branched op (field 20 16 first) jump (wish i) (procs i)) (g .loops)
     (wayOf (field 7 6 first) jump (g .position) (field 24 16 second) (g .returns)) hs hn hl
@@ -304,7 +305,7 @@ module _ (limit : ℕ) (g : Group) (s : Sound limit g) (else : Bool) where
   turned-low : (i : ℕ) → within limit (turnedIf else (g .procs) i) ≡ true
   unfolding turnedIf
   turned-low i =
-      by-test (λ (p : Proc). within limit p ≡ true) else
+      by-pick (λ (p : Proc). within limit p ≡ true) else _ _
       (λ u. turned-within limit (g .procs i) (s .counters i)) (λ u. s .counters i)
 
 -- a step on a slot's words
@@ -312,7 +313,7 @@ module _ (limit slots first second alu predicate booleans : ℕ) (g : Group) (s 
   jump-sound : SoundAfter limit (jumpStep limit slots first second alu predicate booleans g)
   unfolding jumpStep
   jump-sound =
-      by-test (SoundAfter limit) (allowed first second)
+      by-pick (SoundAfter limit) (allowed first second) _ _
       (λ a.
       settled-sound limit slots first second _ _ _ g most (omega arith) (s .depth) (s .slots) (s .nested) (s .opened)
       (turned-out limit g s (bElse first)) (turned-low limit g s (bElse first)))
@@ -331,7 +332,7 @@ module _ (limit slots first second alu predicate booleans : ℕ) (g : Group) (s 
   pub loop-sound : (word : ℕ) → SoundAfter limit (loopStep limit slots word first second alu predicate booleans g)
   unfolding loopStep
   loop-sound word =
-      by-test (SoundAfter limit) (allowedLoop first second)
+      by-pick (SoundAfter limit) (allowedLoop first second) _ _
       (λ a.
       turn-sound (turnOf (opOf first) word (g .loops))
       (turn-of-sound (opOf first) word (g .loops) (s .nested) (s .opened))
@@ -341,7 +342,7 @@ module _ (limit slots first second alu predicate booleans : ℕ) (g : Group) (s 
   slot-sound : (integers : List ℕ) → SoundAfter limit (slotStep limit slots integers first second alu predicate booleans g)
   unfolding slotStep
   slot-sound integers =
-      by-test (SoundAfter limit) (eqb (opOf first) 0) (λ e. jump-sound) (λ e. loop-sound (wordAt (integerNumber second) integers))
+      by-pick (SoundAfter limit) (eqb (opOf first) 0) _ _ (λ e. jump-sound) (λ e. loop-sound (wordAt (integerNumber second) integers))
 
 -- a step leads from a sound group to a sound one
 pub step-sound :
@@ -349,10 +350,10 @@ pub step-sound :
     SoundAfter limit (groupStep limit program alu predicate booleans g)
 unfolding groupStep ended
 step-sound limit program alu predicate booleans g s =
-    by-test (SoundAfter limit) (leb (program .slots) (g .position)) (λ e. (omega arith, omega arith))
+    by-pick (SoundAfter limit) (leb (program .slots) (g .position)) _ _ (λ e. (omega arith, omega arith))
     (λ e.
     let before : g .position < program .slots = leb-false (program .slots) (g .position) e in
-    by-test (SoundAfter limit) (leb (program .slots) 512)
+    by-pick (SoundAfter limit) (leb (program .slots) 512) _ _
     (λ t.
     slot-sound limit (program .slots) (getD (program .firsts) (g .position) 0) (getD (program .seconds) (g .position) 0) alu predicate booleans g s
     (leb-true (program .slots) 512 t) before (program .integers))
@@ -377,7 +378,7 @@ unfolding fresh areReturns areOpened
 fresh-sound limit size h =
     record {
       outside = λ i k. pick-no _ _ (le-ltb i size (omega arith));
-      counters = λ i. by-test (λ (p : Proc). within limit p ≡ true) (ltb i size) (λ e. refl) (λ e. refl);
+      counters = λ i. by-pick (λ (p : Proc). within limit p ≡ true) (ltb i size) _ _ (λ e. refl) (λ e. refl);
       place = zero-le;
       depth = zero-le;
       slots = refl;

@@ -6,7 +6,8 @@ use Prim.Native.Nat.{ℕ, suc, _+_}
 use lib.Dec.{eqb, leb, ltb}
 use lib.ListN.{length, getD}
 use Rattle.laws.specs.Choice.{_and_, pick}
-use Rattle.laws.specs.Masks.{digit, on, some, count, least}
+use Rattle.laws.specs.Below.{some, count, least}
+use Rattle.laws.specs.Masks.{digit, on}
 use Rattle.refusal.specs.Told.{Told, gives, refuses}
 use Rattle.loops.specs.Loops.{field, Opened, Turn, Turns, NoRoom, NoWord, wordAt, turnOf}
 use Rattle.group.specs.Proc.{Proc, Active, Absent, isActive, turned, wants, decided, atLimit, increment, branched, mostProcessors}

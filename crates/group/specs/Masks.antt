@@ -5,7 +5,8 @@ use mathlib.Core.Bool.{Bool, true}
 use mathlib.Core.List.{List}
 use Prim.Native.Nat.{ℕ}
 use lib.Dec.{eqb}
-use Rattle.laws.specs.Masks.{on, some}
+use Rattle.laws.specs.Below.{some}
+use Rattle.laws.specs.Masks.{on}
 use Rattle.group.specs.declared.planes.Branched.{Branched}
 use Rattle.group.specs.Proc.{Proc, within, mostProcessors, counterLimit}
 use Rattle.group.specs.Cells.{counterOf, procAt, liveMask, activeMask, plane, liveIn, planeIn, positionIn, returnIn, lastIn, cellsWith}

@@ -4,7 +4,8 @@ use mathlib.Core.Bool.{Bool, true, false, not}
 use Prim.Native.Nat.{ℕ, zero, suc, _+_, _-_, _*_}
 use lib.Dec.{eqb, leb, ltb}
 use Rattle.laws.specs.Choice.{_and_, pick}
-use Rattle.laws.specs.Masks.{_or_, differ, digit, on, some, every}
+use Rattle.laws.specs.Below.{some, every}
+use Rattle.laws.specs.Masks.{_or_, differ, digit, on}
 
 -- "A group has 1 to 32 processors": as many places has a mask
 abbrev pub mostProcessors : ℕ

@@ -24,6 +24,12 @@ module _ {ℓ} {A : Type ℓ} where
   by-pick P true a b y n = y refl
   by-pick P false a b y n = n refl
 
+  -- a choice between a value and itself
+  pub pick-same : (t : Bool) (a : A) → pick t a a ≡ a
+  unfolding pick
+  pick-same true a = refl
+  pick-same false a = refl
+
 -- a test holds or doesn't
 pub data Tested (t : Bool) : Type 0 where
   holds : t ≡ true → Tested t

@@ -1,5 +1,5 @@
+pub mod Below
 pub mod Bits
 pub mod Choice
 pub mod Masks
-pub mod Split
 pub mod Table

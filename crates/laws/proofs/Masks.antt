@@ -1,4 +1,5 @@
--- Laws of words as masks: what `&`, `|`, `^` and `!` do, they do to each place by itself; tests over all places.
+-- Laws of words as masks: what `&`, `|`, `^` and `!` do, they do to each place by itself; how many ones a word has, and the
+-- least of them.
 -- Assumes nothing.
 use mathlib.Core.Path.{_≡_, refl, sym, ap, ap₂, _∙_}
 use mathlib.Core.Bool.{Bool, true, false, not}
@@ -10,9 +11,11 @@ use lib.Pow.{pow-pos, shr-shr}
 use lib.Bits.{bitAnd, bitOr, bitXor, and-step, or-step, xor-step}
 use lib.Count.{ones, onesIn, ones-step}
 use borrow.Author.Tests.{eqb-true, eqb-false, eq-eqb, ne-eqb}
-use Rattle.laws.specs.Choice.{_and_, pick}
-use Rattle.laws.specs.Masks.{_or_, differ, digit, on, pack, Places, some, every, count, least}
-use Rattle.laws.proofs.Choice.{Tested, holds, fails, tested, pick-yes, pick-no, and-left, and-right}
+use Rattle.laws.specs.Choice.{_and_}
+use Rattle.laws.specs.Masks.{_or_, differ, digit, on, pack, Places}
+use Rattle.laws.specs.Below.{some, sum, count, least}
+use Rattle.laws.proofs.Choice.{Tested, holds, fails, tested}
+use Rattle.laws.proofs.Below.{least-here, least-later, least-same}
 
 pub digit-lt : (b : Bool) → digit b < 2
 unfolding digit
@@ -188,80 +191,12 @@ none-zero (suc k) f = go (f zero) (pack k (λ i. f (suc i))) (some k (λ i. f (s
     go true n t h = ne-eqb _ _ (odd n)
     go false n t h = even n (tested (eqb n 0)) ∙ h
 
--- every test holds exactly when none fails
-pub every-none : (k : ℕ) (f : ℕ → Bool) → every k f ≡ not (some k (λ i. not (f i)))
-unfolding every some _and_ _or_
-every-none zero f = refl
-every-none (suc k) f = go (f zero) (every k (λ i. f (suc i))) (some k (λ i. not (f (suc i)))) (every-none k (λ i. f (suc i)))
-  where
-    go : (b x y : Bool) → x ≡ not y → (b and x) ≡ not (not b or y)
-    go true x y h = h
-    go false x y h = refl
-
-pub some-same : (k : ℕ) (f g : ℕ → Bool) → ((i : ℕ) → i < k → f i ≡ g i) → some k f ≡ some k g
-unfolding some
-some-same zero f g h = refl
-some-same (suc k) f g h =
-    ap₂ _or_ (h zero (suc-le-suc zero-le))
-    (some-same k (λ i. f (suc i)) (λ i. g (suc i)) (λ i p. h (suc i) (suc-le-suc p)))
-
-pub every-same : (k : ℕ) (f g : ℕ → Bool) → ((i : ℕ) → i < k → f i ≡ g i) → every k f ≡ every k g
-unfolding every
-every-same zero f g h = refl
-every-same (suc k) f g h =
-    ap₂ _and_ (h zero (suc-le-suc zero-le))
-    (every-same k (λ i. f (suc i)) (λ i. g (suc i)) (λ i p. h (suc i) (suc-le-suc p)))
-
--- a test that holds at every place below `k` holds at each
-pub every-at : (k : ℕ) (f : ℕ → Bool) → every k f ≡ true → (i : ℕ) → i < k → f i ≡ true
-unfolding every
-every-at zero f e i h = absurd (not-suc-le-zero h)
-every-at (suc k) f e zero h = and-left (f zero) (every k (λ j. f (suc j))) e
-every-at (suc k) f e (suc i) h =
-    every-at k (λ j. f (suc j)) (and-right (f zero) (every k (λ j. f (suc j))) e) i (le-of-suc-le-suc h)
-
-or-no : (a b : Bool) → (a or b) ≡ false → (a ≡ false) × (b ≡ false)
-unfolding _or_
-or-no true b e = (e, cc)
-or-no false b e = (refl, e)
-
--- a test that holds at no place below `k` fails at each
-pub none-at : (k : ℕ) (f : ℕ → Bool) → some k f ≡ false → (i : ℕ) → i < k → f i ≡ false
-unfolding some
-none-at zero f e i h = absurd (not-suc-le-zero h)
-none-at (suc k) f e zero h = or-no (f zero) (some k (λ j. f (suc j))) e .0
-none-at (suc k) f e (suc i) h =
-    none-at k (λ j. f (suc j)) (or-no (f zero) (some k (λ j. f (suc j))) e .1) i (le-of-suc-le-suc h)
-
 -- the ones of a word are the places at which its test holds
 pub ones-count : (k : ℕ) (f : ℕ → Bool) → ones (pack k f) ≡ count k f
-unfolding count pack ones onesIn
+unfolding count sum pack ones onesIn
 ones-count zero f = refl
 ones-count (suc k) f =
     ones-step (pack (suc k) f) ∙ ap₂ _+_ (pack-low k f) (ap ones (pack-high k f) ∙ ones-count k (λ i. f (suc i)))
-
--- the least place: either the first, or one more than the least of the rest
-pub least-here : (k : ℕ) (f : ℕ → Bool) → f zero ≡ true → least (suc k) f ≡ 0
-unfolding least
-least-here k f e = pick-yes _ _ e
-
-pub least-later : (k : ℕ) (f : ℕ → Bool) → f zero ≡ false → least (suc k) f ≡ suc (least k (λ i. f (suc i)))
-unfolding least
-least-later k f e = pick-no _ _ e
-
-pub count-same : (k : ℕ) (f g : ℕ → Bool) → ((i : ℕ) → i < k → f i ≡ g i) → count k f ≡ count k g
-unfolding count
-count-same zero f g h = refl
-count-same (suc k) f g h =
-    ap₂ (λ (b : Bool) (n : ℕ). digit b + n) (h zero (suc-le-suc zero-le))
-    (count-same k (λ i. f (suc i)) (λ i. g (suc i)) (λ i p. h (suc i) (suc-le-suc p)))
-
-pub least-same : (k : ℕ) (f g : ℕ → Bool) → ((i : ℕ) → i < k → f i ≡ g i) → least k f ≡ least k g
-unfolding least
-least-same zero f g h = refl
-least-same (suc k) f g h =
-    ap₂ (λ (b : Bool) (n : ℕ). pick b 0 (suc n)) (h zero (suc-le-suc zero-le))
-    (least-same k (λ i. f (suc i)) (λ i. g (suc i)) (λ i p. h (suc i) (suc-le-suc p)))
 
 -- the least place of a word, bit by bit from the lowest
 pub least-odd : (k n : ℕ) → n % 2 ≡ 1 → least (suc k) (λ i. on i n) ≡ 0
@@ -275,34 +210,3 @@ least-even k n e =
 -- the count of a word's ones is the number of its places
 pub ones-places : (k n : ℕ) → n < 2 ^ k → ones n ≡ count k (λ i. on i n)
 ones-places k n h = ap ones (pack-on k n h) ∙ ones-count k (λ i. on i n)
-
--- the least place is one at which the test holds, and before it the test fails
-pub least-at : (k : ℕ) (f : ℕ → Bool) → least k f < k → f (least k f) ≡ true
-unfolding least
-least-at zero f h = absurd (not-suc-le-zero h)
-least-at (suc k) f h = go (least-at k (λ i. f (suc i))) (tested (f zero)) h
-  where
-    go :
-        (least k (λ i. f (suc i)) < k → f (suc (least k (λ i. f (suc i)))) ≡ true) → Tested (f zero) →
-        pick (f zero) 0 (suc (least k (λ i. f (suc i)))) < suc k →
-        f (pick (f zero) 0 (suc (least k (λ i. f (suc i))))) ≡ true
-    go r (holds e) q = rw (pick-yes 0 (suc (least k (λ i. f (suc i)))) e) e
-    go r (fails e) q =
-        rw (pick-no 0 (suc (least k (λ i. f (suc i)))) e)
-        (r (le-of-suc-le-suc (rw (pick-no 0 (suc (least k (λ i. f (suc i)))) e) at q)))
-
-pub least-before : (k : ℕ) (f : ℕ → Bool) (i : ℕ) → i < least k f → f i ≡ false
-unfolding least
-least-before zero f i h = absurd (not-suc-le-zero h)
-least-before (suc k) f zero h = go (tested (f zero)) h
-  where
-    go : Tested (f zero) → zero < pick (f zero) 0 (suc (least k (λ i. f (suc i)))) → f zero ≡ false
-    go (holds e) q = absurd (not-suc-le-zero (rw (pick-yes 0 (suc (least k (λ i. f (suc i)))) e) at q))
-    go (fails e) q = e
-least-before (suc k) f (suc i) h = go (least-before k (λ j. f (suc j)) i) (tested (f zero)) h
-  where
-    go :
-        (i < least k (λ j. f (suc j)) → f (suc i) ≡ false) → Tested (f zero) →
-        suc i < pick (f zero) 0 (suc (least k (λ j. f (suc j)))) → f (suc i) ≡ false
-    go r (holds e) q = absurd (not-suc-le-zero (rw (pick-yes 0 (suc (least k (λ j. f (suc j)))) e) at q))
-    go r (fails e) q = r (le-of-suc-le-suc (rw (pick-no 0 (suc (least k (λ j. f (suc j)))) e) at q))

@@ -1,22 +1,18 @@
--- Facts of a table, line by line: a rule that a test computes at every line, and a statement proved at each line by itself,
--- hold at every line; and what holds of every line that a list doesn't name. Assumes nothing.
+-- Facts of a table, line by line: a statement proved at each line by itself holds at every line; and what holds of every line
+-- that a list doesn't name. Assumes nothing.
 use mathlib.Core.Path.{_≡_, refl, sym, ap, _∙_, subst}
 use mathlib.Core.Bool.{Bool, true, false}
 use mathlib.Core.List.{List, [], _∷_}
 use Prim.Native.Nat.{ℕ, zero, suc, _<_}
-use native.Mathlib.Nat.{not-suc-le-zero}
+use native.Mathlib.Nat.{not-suc-le-zero, le-of-suc-le-suc}
 use native.Mathlib.Omega.{arith}
 use lib.Dec.{eqb, ltb}
-use lib.ListN.{length}
+use lib.ListN.{length, getD}
 use borrow.Author.Tests.{eqb-true, eqb-false, ne-eqb, le-ltb}
-use Rattle.laws.specs.Choice.{_and_, pick, placeOf}
-use Rattle.laws.proofs.Choice.{Tested, holds, fails, tested, pick-no, and-left, and-right}
-
--- the test holds at each number below `n`
-unfoldable pub everyBelow : (ℕ → Bool) → ℕ → Bool
-unfolding _and_
-everyBelow f zero = true
-everyBelow f (suc n) = f n and everyBelow f n
+use Rattle.laws.specs.Choice.{pick, placeOf}
+use Rattle.laws.specs.Below.{every}
+use Rattle.laws.proofs.Choice.{Tested, holds, fails, tested, pick-no}
+use Rattle.laws.proofs.Below.{every-at}
 
 -- the statement holds at each number below `n`: a pair for each number, the last number outermost
 abbrev pub EachBelow {ℓ} : (ℕ → Type ℓ) → ℕ → Type ℓ
@@ -36,15 +32,6 @@ each P (suc n) ps k h = go (tested (eqb n k)) (each P n (ps .0) k)
     go (holds e) r = subst P (eqb-true n k e) (ps .1)
     go (fails e) r = r (let ne : n ≡ k → ⊥ = eqb-false n k e in omega arith)
 
-pub every : (f : ℕ → Bool) (n : ℕ) → everyBelow f n ≡ true → (k : ℕ) → k < n → f k ≡ true
-unfolding everyBelow
-every f zero e k h = absurd (not-suc-le-zero h)
-every f (suc n) e k h = go (tested (eqb n k)) (every f n (and-right (f n) (everyBelow f n) e) k)
-  where
-    go : Tested (eqb n k) → (k < n → f k ≡ true) → f k ≡ true
-    go (holds q) r = subst (λ (m : ℕ). f m ≡ true) (eqb-true n k q) (and-left (f n) (everyBelow f n) e)
-    go (fails q) r = r (let ne : n ≡ k → ⊥ = eqb-false n k q in omega arith)
-
 -- `x` is none of the numbers, with `N` besides: what is known in the last arm of a `match` on a number
 abbrev pub NoneOf : Type 0 → List ℕ → ℕ → Type 0
 NoneOf N [] x = N
@@ -61,17 +48,24 @@ none-placed (k ∷ ks) N x r =
     pick-no 0 (suc (placeOf x ks)) (ne-eqb x k (none-before (N × (x ≡ k → ⊥)) ks x r .1)) ∙
     ap suc (none-placed ks (N × (x ≡ k → ⊥)) x r)
 
+-- so it isn't the number at any place of the list
+pub none-at :
+    (ks : List ℕ) (N : Type 0) (x i : ℕ) → NoneOf N ks x → i < length ks → x ≡ getD ks i 0 → ⊥
+none-at [] N x i r h e = not-suc-le-zero h
+none-at (k ∷ ks) N x zero r h e = none-before (N × (x ≡ k → ⊥)) ks x r .1 e
+none-at (k ∷ ks) N x (suc i) r h e = none-at ks (N × (x ≡ k → ⊥)) x i r (le-of-suc-le-suc h) e
+
 -- the number is in the list, or the test holds of it
 unfoldable pub namedOr : List ℕ → (ℕ → Bool) → ℕ → Bool
 namedOr ks f x = pick (ltb (placeOf x ks) (length ks)) true (f x)
 
 -- a test that holds at each number that the list doesn't name
 pub otherwise :
-    (f : ℕ → Bool) (ks : List ℕ) (n : ℕ) → everyBelow (namedOr ks f) n ≡ true →
+    (f : ℕ → Bool) (ks : List ℕ) (n : ℕ) → every n (namedOr ks f) ≡ true →
     (x : ℕ) → x < n → NoneOf Unit ks x → f x ≡ true
 unfolding namedOr
 otherwise f ks n e x h r =
     let out : ltb (placeOf x ks) (length ks) ≡ false =
     le-ltb (placeOf x ks) (length ks) (let q : placeOf x ks ≡ length ks = none-placed ks Unit x r in omega arith)
     in
-    sym (pick-no true (f x) out) ∙ every (namedOr ks f) n e x h
+    sym (pick-no true (f x) out) ∙ every-at n (namedOr ks f) e x h

@@ -1,10 +1,9 @@
--- Words as masks: bit i of a word stands for the thing with number i. Tests over all places below a number. Assumes nothing.
+-- Words as masks: bit i of a word stands for the thing with number i. Assumes nothing.
 use mathlib.Core.Path.{_≡_}
 use mathlib.Core.Bool.{Bool, true, false}
 use Prim.Native.Nat.{ℕ, zero, suc, _+_, _*_}
 use lib.Dec.{eqb}
 use Rattle.laws.specs.Bits.{bit}
-use Rattle.laws.specs.Choice.{_and_, pick}
 
 infixr 30 _or_
 -- at least one of two tests holds
@@ -32,29 +31,6 @@ unfoldable pub pack : ℕ → (ℕ → Bool) → ℕ
 unfolding digit
 pack zero f = 0
 pack (suc k) f = digit (f zero) + pack k (λ i. f (suc i)) * 2
-
--- the test holds at some place, at every place below `k`
-unfoldable pub some : ℕ → (ℕ → Bool) → Bool
-unfolding _or_
-some zero f = false
-some (suc k) f = f zero or some k (λ i. f (suc i))
-
-unfoldable pub every : ℕ → (ℕ → Bool) → Bool
-unfolding _and_
-every zero f = true
-every (suc k) f = f zero and every k (λ i. f (suc i))
-
--- the number of places below `k` at which the test holds
-unfoldable pub count : ℕ → (ℕ → Bool) → ℕ
-unfolding digit
-count zero f = 0
-count (suc k) f = digit (f zero) + count k (λ i. f (suc i))
-
--- the least place below `k` at which the test holds; `k` where there is none
-unfoldable pub least : ℕ → (ℕ → Bool) → ℕ
-unfolding pick
-least zero f = 0
-least (suc k) f = pick (f zero) 0 (suc (least k (λ i. f (suc i))))
 
 -- the word `a` has, of its `k` bits, just those at which the test holds
 pub record Places (k : ℕ) (f : ℕ → Bool) (a : ℕ) : Type 0 where

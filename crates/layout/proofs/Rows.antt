@@ -9,7 +9,7 @@ use borrow.Author.Tests.{leb-true, le-leb, lt-leb}
 use Rattle.laws.specs.Choice.{_and_, pick, placeOf}
 use Rattle.laws.proofs.Choice.{pick-yes, pick-no, by-pick, and-intro, and-left, and-right, and-no-left, and-no-right, Tested, tested, holds, fails}
 use Rattle.layout.specs.Sizes.{isSize, widthOf, heightOf}
-use Rattle.layout.specs.Layout.{wellFormed, rowStep, tileRows, spanOf, inBounds, windowRule, rowsTaken, rowBytes}
+use Rattle.layout.specs.Layout.{wellFormed, rowStep, tileRows, spanOf, inBounds, windowRule, rowsTaken, strideOf}
 use Rattle.layout.proofs.Sizes.{by-size, tile}
 use Rattle.layout.proofs.Window.{form-size, size-most, step-whole, rule-bounds}
 
@@ -18,7 +18,7 @@ pub form-pitch : (base pitch s : ℕ) → wellFormed base pitch s ≡ true → p
 unfolding wellFormed
 form-pitch base pitch s e = leb-true _ _ (and-left _ _ (and-right _ _ (and-right _ _ e)))
 
-pub bytes-most : (s n : ℕ) → isSize s ≡ true → n ≤ 8188 → n * s ≤ 131008
+pub bytes-most : (s n : ℕ) → isSize s ≡ true → n ≤ 8188 → n * s ≤ 8188 * 16
 bytes-most s n z h = mul-le-mul h (size-most s z)
 
 -- 4,096 is a whole number of tiles at every size
@@ -80,25 +80,25 @@ module _ (base pitch h s : ℕ) (tiled : Bool) (form : wellFormed base pitch s �
   size : isSize s ≡ true
   size = form-size base pitch s form
 
-  broken : rule ≡ false → 0 ≡ rowBytes base pitch h s tiled
-  unfolding rowBytes
+  broken : rule ≡ false → 0 ≡ strideOf base pitch h s tiled
+  unfolding strideOf
   broken w = sym (pick-no _ _ w)
 
   module _ (r : ℕ) (er : r ≡ e * s) where
-    pub no-row : r < 1 → 0 ≡ rowBytes base pitch h s tiled
+    pub no-stride : r < 1 → 0 ≡ strideOf base pitch h s tiled
     unfolding windowRule inBounds
-    no-row k = broken (and-no-left _ (and-no-left _ (lt-leb _ _ (some-step e s size .1 (rw er at k)))))
+    no-stride k = broken (and-no-left _ (and-no-left _ (lt-leb _ _ (some-step e s size .1 (rw er at k)))))
 
-    pub long-row : 4096 * s < r → 0 ≡ rowBytes base pitch h s tiled
+    pub long-stride : 4096 * s < r → 0 ≡ strideOf base pitch h s tiled
     unfolding windowRule inBounds
-    long-row k =
+    long-stride k =
         broken (and-no-left _ (and-no-right _ (and-no-left _ (lt-leb _ _ (lt-of-mul-lt-mul-right s (rw er at k))))))
 
-    pub no-height : h < 1 → 0 ≡ rowBytes base pitch h s tiled
+    pub no-height : h < 1 → 0 ≡ strideOf base pitch h s tiled
     unfolding windowRule inBounds
     no-height k = broken (and-no-left _ (and-no-right _ (and-no-right _ (and-no-left _ (lt-leb _ _ k)))))
 
-    pub great-height : 4096 < h → 0 ≡ rowBytes base pitch h s tiled
+    pub great-height : 4096 < h → 0 ≡ strideOf base pitch h s tiled
     unfolding windowRule inBounds
     great-height k = broken (and-no-left _ (and-no-right _ (and-no-right _ (and-no-right _ (lt-leb _ _ k)))))
 
@@ -110,9 +110,9 @@ module _ (base pitch h s : ℕ) (tiled : Bool) (form : wellFormed base pitch s �
           (and-intro (le-leb _ _ (le-of-mul-le-mul-right (rw er at most) (tile s size .s-pos)))
           (and-intro (le-leb _ _ low) (le-leb _ _ high)))
 
-      pub span-most : n * r ≤ 268435456
+      pub span-most : n * r ≤ 2 ^ 28
       span-most =
-          mul-le-mul {n₂ = 4096} {m₂ = 65536} (rw en (rows-most tiled s h size high)) (omega (arith, most, size-most s size))
+          mul-le-mul {n₂ = 4096} {m₂ = 2 ^ 16} (rw en (rows-most tiled s h size high)) (omega (arith, most, size-most s size))
 
       pub span-least : 0 < n * r
       span-least = mul-pos {m = n} (omega (arith, en, rows-least tiled s h size)) (omega (arith, least))
@@ -120,29 +120,29 @@ module _ (base pitch h s : ℕ) (tiled : Bool) (form : wellFormed base pitch s �
       is-span : n * r ≡ spanOf tiled s e h
       is-span = ap₂ (λ (i k : ℕ). i * k) en er ∙ span-by-rows tiled s pitch h size
 
-      pub kept : base < 2 ^ 32 → n * r - 1 ≤ 4294967295 - base → r ≡ rowBytes base pitch h s tiled
-      unfolding windowRule rowBytes
+      pub kept : base < 2 ^ 32 → n * r - 1 ≤ (2 ^ 32 - 1) - base → r ≡ strideOf base pitch h s tiled
+      unfolding windowRule strideOf
       kept b k = er ∙ sym (pick-yes _ _ (and-intro bounded (le-leb (base + spanOf tiled s e h) (2 ^ 32) (omega (arith, is-span)))))
 
-      pub too-high : 4294967295 - base < n * r - 1 → 0 ≡ rowBytes base pitch h s tiled
+      pub too-high : (2 ^ 32 - 1) - base < n * r - 1 → 0 ≡ strideOf base pitch h s tiled
       unfolding windowRule
       too-high k = broken (and-no-right _ (lt-leb (base + spanOf tiled s e h) (2 ^ 32) (omega (arith, is-span, span-least))))
 
   -- what the row shows of the rule
   pub record Ruled (r : ℕ) : Type 0 where
     pub rule : windowRule base tiled s e h ≡ true
-    pub row : r ≡ e * s
+    pub stride : r ≡ e * s
 
-  pub ruled : (r : ℕ) → r ≡ rowBytes base pitch h s tiled → 1 ≤ r → Ruled r
-  unfolding rowBytes
+  pub ruled : (r : ℕ) → r ≡ strideOf base pitch h s tiled → 1 ≤ r → Ruled r
+  unfolding strideOf
   ruled r er k = go (tested rule)
     where
       go : Tested rule → Ruled r
-      go (holds w) = record { rule = w; row = er ∙ pick-yes _ _ w }
+      go (holds w) = record { rule = w; stride = er ∙ pick-yes _ _ w }
       go (fails w) = absurd (omega (arith, k, er ∙ pick-no (e * s) 0 w))
 
-  pub unruled : (r : ℕ) → r ≡ rowBytes base pitch h s tiled → r < 1 → rule ≡ false
-  unfolding rowBytes
+  pub unruled : (r : ℕ) → r ≡ strideOf base pitch h s tiled → r < 1 → rule ≡ false
+  unfolding strideOf
   unruled r er k = go (tested rule)
     where
       go : Tested rule → rule ≡ false
@@ -153,11 +153,11 @@ module _ (base pitch h s : ℕ) (tiled : Bool) (form : wellFormed base pitch s �
 
   -- rows and row of a window that the rule accepts
   pub window-span :
-      (r n : ℕ) → Ruled r → n ≡ rowsTaken tiled s h → (n * r ≡ spanOf tiled s e h) × (n * r ≤ 268435456) × (h ≤ 4096)
+      (r n : ℕ) → Ruled r → n ≡ rowsTaken tiled s h → (n * r ≡ spanOf tiled s e h) × (n * r ≤ 2 ^ 28) × (h ≤ 4096)
   window-span r n w en =
       let b = rule-bounds base tiled s e h (w .rule) in (
-        ap₂ (λ (i k : ℕ). i * k) en (w .row) ∙ span-by-rows tiled s pitch h size,
-        mul-le-mul {n₂ = 4096} {m₂ = 65536} (rw en (rows-most tiled s h size (b .height-most)))
-            (rw (w .row) (mul-le-mul {n₂ = 4096} {m₂ = 16} (b .step-most) (size-most s size))),
+        ap₂ (λ (i k : ℕ). i * k) en (w .stride) ∙ span-by-rows tiled s pitch h size,
+        mul-le-mul {n₂ = 4096} {m₂ = 2 ^ 16} (rw en (rows-most tiled s h size (b .height-most)))
+            (rw (w .stride) (mul-le-mul {n₂ = 4096} {m₂ = 16} (b .step-most) (size-most s size))),
         b .height-most,
       )

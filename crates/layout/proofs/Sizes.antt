@@ -3,16 +3,17 @@
 use mathlib.Core.Path.{_≡_, refl, sym, ap, _∙_, subst}
 use mathlib.Core.Bool.{Bool, true, false}
 use mathlib.Core.List.{List, [], _∷_}
-use Prim.Native.Nat.{ℕ, zero, suc, _+_, _*_, _/_, _<_, _≤_}
+use Prim.Native.Nat.{ℕ, zero, suc, _+_, _*_, _/_, _^_, _<_, _≤_}
 use native.Mathlib.Nat.{not-suc-le-zero, le-of-suc-le-suc}
 use native.Mathlib.Omega.{arith}
 use lib.Dec.{eqb}
 use lib.ListN.{length, getD}
 use borrow.Author.Tests.{ltb-true, eqb-true, ne-eqb}
+use Rattle.laws.specs.Below.{every}
 use Rattle.laws.specs.Bits.{bit}
 use Rattle.laws.specs.Choice.{_and_, pick, placeOf}
+use Rattle.laws.proofs.Below.{every-at}
 use Rattle.laws.proofs.Choice.{place-found, pick-yes, pick-no, Tested, tested, holds, fails}
-use Rattle.laws.proofs.Table.{everyBelow, every}
 use Rattle.layout.specs.Sizes.{sizes, isSize, widthOf, heightOf}
 
 -- what holds of each of the five sizes holds of every size
@@ -37,11 +38,11 @@ pub no-size :
 unfolding placeOf
 no-size s n1 n2 n4 n8 n16 = simp (ne-eqb s 1 n1, ne-eqb s 2 n2, ne-eqb s 4 n4, ne-eqb s 8 n8, ne-eqb s 16 n16)
 
--- A tile is 8 by 8 cells of 32 bytes; a cell is p elements wide and q high.
+-- A tile is 8 by 8 blocks of 32 bytes; a block is p elements wide and q high.
 pub record Tile (s p q : ℕ) : Type 0 where
   pub width : widthOf s ≡ p * 8
   pub height : heightOf s ≡ q * 8
-  pub cell : q * p * s ≡ 32
+  pub block : q * p * s ≡ 32
   pub p-pos : 0 < p
   pub q-pos : 0 < q
   pub s-pos : 0 < s
@@ -65,22 +66,25 @@ sixteen =
     (λ n1 n2 n4 n8. refl)
 
 -- the sizes as the bits of one number
+abbrev sizeBits : ℕ
+sizeBits = 2 ^ 1 + 2 ^ 2 + 2 ^ 4 + 2 ^ 8 + 2 ^ 16
+
 bitRight : ℕ → Bool
-bitRight s = pick (isSize s) (eqb (bit s 65814) 1) (eqb (bit s 65814) 0)
+bitRight s = pick (isSize s) (eqb (bit s sizeBits) 1) (eqb (bit s sizeBits) 0)
 
 bits-right : (s : ℕ) → s < 17 → bitRight s ≡ true
-unfolding bitRight isSize placeOf everyBelow pick _and_
-bits-right = every bitRight 17 refl
+unfolding bitRight isSize placeOf every pick _and_
+bits-right = every-at 17 bitRight refl
 
-pub size-bit : (s : ℕ) → s ≤ 16 → eqb (bit s 65814) 1 ≡ isSize s
+pub size-bit : (s : ℕ) → s ≤ 16 → eqb (bit s sizeBits) 1 ≡ isSize s
 unfolding bitRight
 size-bit s h = go (tested (isSize s)) (bits-right s (omega arith))
   where
-    go : Tested (isSize s) → bitRight s ≡ true → eqb (bit s 65814) 1 ≡ isSize s
+    go : Tested (isSize s) → bitRight s ≡ true → eqb (bit s sizeBits) 1 ≡ isSize s
     go (holds z) e = sym (pick-yes _ _ z) ∙ e ∙ sym z
     go (fails z) e =
-        let none : bit s 65814 ≡ 0 = eqb-true (bit s 65814) 0 (sym (pick-no _ _ z) ∙ e) in
-        ne-eqb (bit s 65814) 1 (λ one. zero-one (sym none ∙ one)) ∙ sym z
+        let none : bit s sizeBits ≡ 0 = eqb-true (bit s sizeBits) 0 (sym (pick-no _ _ z) ∙ e) in
+        ne-eqb (bit s sizeBits) 1 (λ one. zero-one (sym none ∙ one)) ∙ sym z
       where
         zero-one : _≡_ {A = ℕ} 0 1 → ⊥
         zero-one q = omega arith

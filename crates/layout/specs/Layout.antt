@@ -44,9 +44,9 @@ windowRule base tiled s e h = inBounds e h and leb (base + spanOf tiled s e h) (
 unfoldable pub rowsTaken : Bool → ℕ → ℕ → ℕ
 rowsTaken tiled s h = pick tiled (tileRows s h * heightOf s) h
 
--- the bytes from one row to the next where the window rule holds, else 0
-unfoldable pub rowBytes : ℕ → ℕ → ℕ → ℕ → Bool → ℕ
-rowBytes base pitch h s tiled =
+-- the stride: the bytes from one row to the next, E·s; 0 where the window rule is broken
+unfoldable pub strideOf : ℕ → ℕ → ℕ → ℕ → Bool → ℕ
+strideOf base pitch h s tiled =
     pick (windowRule base tiled s (rowStep tiled s pitch) h) (rowStep tiled s pitch * s) 0
 
 -- "A layout (base, pitch, height, size, linear or tiled) is accepted when it gets neither 3 nor 6": its row step and span

@@ -1,3 +1,4 @@
 pub mod Asked
 pub mod Layout
+pub mod Powers
 pub mod Sizes

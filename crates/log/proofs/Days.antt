@@ -8,15 +8,16 @@ use native.Mathlib.Numerals.{add-one}
 use native.Mathlib.Omega.{arith}
 use lib.ListN.{length}
 use borrow.Author.Tests.{eqb-true, ne-eqb, le-leb}
+use Rattle.laws.specs.Below.{sum}
+use Rattle.laws.proofs.Below.{sum-last}
 use Rattle.laws.proofs.Choice.{pick-yes, pick-no, and-right}
 use Rattle.state.specs.State.{Tally}
-use Rattle.state.specs.Start.{sumBelow}
 use Rattle.session.specs.Feed.{nothing}
 use Rattle.replay.specs.State.{OpenRecord, Replay}
 use Rattle.replay.specs.Step.{opening, isKind, ofKind, withByte, mayBegin, afterMidnight}
 use Rattle.replay.specs.Report.{noTally, beganWith, endedWith, less, partOf, partAt, dayAt}
 use Rattle.log.specs.Feed.{Fed, ahead, replayOf}
-use Rattle.replay.specs.Cells.{LogValid}
+use Rattle.replay.specs.Cells.{ReplayValid}
 use Rattle.log.specs.Unfinished.{OpenOnly, openOnly}
 use Rattle.replay.proofs.Marks.{ended-past, ended-now}
 use Rattle.log.proofs.Records.{Ready, took, kind-byte, next-byte}
@@ -37,11 +38,11 @@ module _ (r : Replay) (day : ℕ) (e : mayBegin (r .midnights) (r .lastDay) day 
           (sym (pick-no _ _ (ne-eqb (r .midnights) 0 (λ z. omega arith))) ∙ and-right _ _ e)
 
 -- so the days are consecutive: each part from the second day on is one day after the part before it
-pub consecutive : (r : Replay) → LogValid r → (k : ℕ) → 0 < k → dayAt r (k + 1) ≡ dayAt r k + 1
+pub consecutive : (r : Replay) → ReplayValid r → (k : ℕ) → 0 < k → dayAt r (k + 1) ≡ dayAt r k + 1
 consecutive r v k h = omega (arith, v .days-number)
 
 -- all parts together
-module _ (r : Replay) (v : LogValid r) where
+module _ (r : Replay) (v : ReplayValid r) where
   abbrev now : Tally
   now = r .session .party .tally
 
@@ -58,28 +59,27 @@ module _ (r : Replay) (v : LogValid r) where
       (differs : (a b : Tally) → f (less a b) ≡ f a - f b)
       (grows : (k : ℕ) → k ≤ r .midnights → f (beganWith (r .marks) k) ≤ f (endedWith (r .marks) (r .midnights) now k))
     where
-      before : (k : ℕ) → k ≤ r .midnights → sumBelow k (λ j. f (partAt r j)) ≡ f (beganWith (r .marks) k)
-      unfolding sumBelow
-      before zero h = unfold beganWith in sym zero-is
+      before : (k : ℕ) → k ≤ r .midnights → sum k (λ j. f (partAt r j)) ≡ f (beganWith (r .marks) k)
+      before zero h = unfold sum beganWith in sym zero-is
       before (suc k) h =
-          let sofar : sumBelow k (λ j. f (partAt r j)) ≡ f (beganWith (r .marks) k) = before k (omega arith) in
+          let sofar : sum k (λ j. f (partAt r j)) ≡ f (beganWith (r .marks) k) = before k (omega arith) in
           let this : f (partAt r k) ≡ f (endedWith (r .marks) (r .midnights) now k) - f (beganWith (r .marks) k)
           = ap f (part-is k (omega arith)) ∙ differs _ _ in
-          omega (arith, grows k (omega arith)) ∙ ap f (sym (began-after k h))
+          sum-last k (λ j. f (partAt r j)) ∙ omega (arith, grows k (omega arith)) ∙ ap f (sym (began-after k h))
 
-      all : sumBelow (r .midnights + 1) (λ j. f (partAt r j)) ≡ f now
+      all : sum (r .midnights + 1) (λ j. f (partAt r j)) ≡ f now
       all =
-          ap (λ (n : ℕ). sumBelow n (λ j. f (partAt r j))) (add-one (r .midnights)) ∙
-          unfold sumBelow in
-          (let sofar : sumBelow (r .midnights) (λ j. f (partAt r j)) ≡ f (beganWith (r .marks) (r .midnights)) = before (r .midnights) (omega arith) in
+          ap (λ (n : ℕ). sum n (λ j. f (partAt r j))) (add-one (r .midnights)) ∙
+          sum-last (r .midnights) (λ j. f (partAt r j)) ∙
+          (let sofar : sum (r .midnights) (λ j. f (partAt r j)) ≡ f (beganWith (r .marks) (r .midnights)) = before (r .midnights) (omega arith) in
           let this : f (partAt r (r .midnights)) ≡ f (endedWith (r .marks) (r .midnights) now (r .midnights)) - f (beganWith (r .marks) (r .midnights))
           = ap f (part-is (r .midnights) (omega arith)) ∙ differs _ _ in
           omega (arith, grows (r .midnights) (omega arith)) ∙ ap f (ended-now (r .marks) (r .midnights) now (r .midnights) (omega arith)))
 
-  pub all-runs : sumBelow (r .midnights + 1) (λ k. partAt r k .runs) ≡ r .session .party .tally .runs
+  pub all-runs : sum (r .midnights + 1) (λ k. partAt r k .runs) ≡ r .session .party .tally .runs
   all-runs = all (λ t. t .runs) refl (λ a b. refl) (λ k h. v .growing k h .runs-grow)
 
-  pub all-claims : sumBelow (r .midnights + 1) (λ k. partAt r k .claims) ≡ r .session .party .tally .claims
+  pub all-claims : sum (r .midnights + 1) (λ k. partAt r k .claims) ≡ r .session .party .tally .claims
   all-claims = all (λ t. t .claims) refl (λ a b. refl) (λ k h. v .growing k h .claims-grow)
 
 -- up to four bytes of a record change the open record alone

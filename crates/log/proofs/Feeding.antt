@@ -1,6 +1,5 @@
 -- A piece of bytes, as the code feeds it, is the definition's fold. Assumes nothing.
 use mathlib.Core.Path.{_≡_, refl, sym, ap, ap₂, _∙_, subst}
-use mathlib.Core.Bool.{Bool, true, false, false≢true}
 use mathlib.Core.List.{List, [], _∷_, _++_}
 use Prim.Native.Nat.{ℕ, suc, _+_, _-_, _*_, _<_, _≤_}
 use native.Mathlib.Nat.{zero-add, add-zero}
@@ -11,7 +10,6 @@ use lib.Seq.{drop-cons, drop-drop, getD-take, length-take-le}
 use Rattle.refusal.specs.Number.{numberOf}
 use Rattle.refusal.specs.declared.Refusal.{Refusal}
 use Rattle.state.specs.Cells.{sessionOf}
-use Rattle.session.specs.Feed.{First, nothing, first}
 use Rattle.session.specs.declared.stream.First as firsts
 use Rattle.session.specs.declared.stream.First.the-variants as firstly
 use Rattle.session.proofs.Taking.{same}
@@ -20,8 +18,8 @@ use Rattle.replay.specs.Step.{Reply, taken, refused, Stepped}
 use Rattle.log.specs.Bytes.{byteStep}
 use Rattle.log.specs.Feed.{ahead, proceed, replayOf, wordRecords, afterWords}
 use Rattle.log.specs.Feed as piece
-use Rattle.replay.specs.Cells.{viewed, replayIn, LogHeld, LogValid, LogGiven}
-use Rattle.log.specs.Asked.{Grew, grown, ungrown, PieceLeft, LogSized, Became, WordsAsked, WordsLeft, Words32, Gathered, Idle, RecordsLeft, unread, read}
+use Rattle.replay.specs.Cells.{viewed, replayIn, ReplayHeld, ReplayValid, ReplayGiven}
+use Rattle.log.specs.Asked.{PieceLeft, ReplaySized, Became, WordsAsked, WordsLeft, Words32, Gathered, Idle, RecordsLeft, unread, read}
 use Rattle.replay.specs.Own.{replyOf}
 use Rattle.replay.specs.declared.bytes.Answer.{Answer}
 use Rattle.replay.specs.declared.bytes.Answer.the-variants.{Taken, Refused}
@@ -31,7 +29,7 @@ use Rattle.log.proofs.Kept.{byte-valid, words-valid}
 use Rattle.log.proofs.Records.{Ready, stepped, ahead-ahead, words-read}
 
 -- arrays of the right lengths hold the replay that they are
-pub held-view : (l m o t s : List ℕ) → LogGiven l m o t s → LogHeld (replayIn l m o t s) l m o t s
+pub held-view : (l m o t s : List ℕ) → ReplayGiven l m o t s → ReplayHeld (replayIn l m o t s) l m o t s
 held-view l m o t s g =
     record {
       log-cells = sym (log-canon l m (sessionOf o t s) (g .log-length));
@@ -39,20 +37,20 @@ held-view l m o t s g =
       session-cells = unfold viewed in same o t s 0 (record { sized = g .session-sized; valid = unfold viewed in g .valid .session });
     }
 
-given-from : (l m o t s : List ℕ) → LogSized l m o t s → LogValid (replayIn l m o t s) → LogGiven l m o t s
+pub given-from : (l m o t s : List ℕ) → ReplaySized l m o t s → ReplayValid (replayIn l m o t s) → ReplayGiven l m o t s
 given-from l m o t s z v =
     record { log-length = z .log-length; marks-length = z .marks-length; session-sized = z .session-sized; valid = v }
 
 -- `i` bytes were taken; the arrays hold the replay that they left
 pub record Fold (r : Replay) (bs l m o t s : List ℕ) (i : ℕ) : Type 0 where
-  pub given : LogGiven l m o t s
+  pub given : ReplayGiven l m o t s
   pub within : i ≤ length bs
   pub rest : replayOf r bs ≡ ahead i (replayOf (replayIn l m o t s) (drop i bs))
 
 ahead-none : (f : piece.Fed) → f ≡ ahead 0 f
 ahead-none f = λ i. record { taken = sym (zero-add (f .taken)) i; refusal = f .refusal; replay = f .replay }
 
-pub fold-begins : (bs l m o t s : List ℕ) → LogGiven l m o t s → Fold (replayIn l m o t s) bs l m o t s 0
+pub fold-begins : (bs l m o t s : List ℕ) → ReplayGiven l m o t s → Fold (replayIn l m o t s) bs l m o t s 0
 fold-begins bs l m o t s g = record { given = g; within = omega arith; rest = ahead-none (replayOf (replayIn l m o t s) bs) }
 
 abbrev answered : ℕ → firsts.First → Fed
@@ -92,10 +90,10 @@ module _ (r : Replay) (bs l m o t s : List ℕ) (i : ℕ) (f : Fold r bs l m o t
         f .rest ∙ ap (λ (x : List ℕ). ahead i (replayOf now x)) (drop-cons bs i 0 less) ∙
         ap (ahead i) (stepped now b (drop (suc i) bs) t e)
 
-    given-after : (y : Reply) → b < 256 → Became (byteStep now b) y l1 m1 o1 t1 s1 → LogGiven l1 m1 o1 t1 s1
+    given-after : (y : Reply) → b < 256 → Became (byteStep now b) y l1 m1 o1 t1 s1 → ReplayGiven l1 m1 o1 t1 s1
     given-after y h e =
         given-from l1 m1 o1 t1 s1 (e .sized)
-        (subst (λ (t : Stepped). LogValid (t .replay)) (e .view) (byte-valid now (f .given .valid) b h))
+        (subst (λ (t : Stepped). ReplayValid (t .replay)) (e .view) (byte-valid now (f .given .valid) b h))
 
     -- the byte as the code has it
     as-read : (a c : Answer) (x : ℕ) → x ≡ b → a ≡ c → Became (byteStep now x) (replyOf a) l1 m1 o1 t1 s1 →
@@ -145,7 +143,7 @@ module _ (r : Replay) (bs l m o t s : List ℕ) (i : ℕ) (f : Fold r bs l m o t
         given =
             given-from l1 m o1 t1 s1
             (record { log-length = c .log-length; marks-length = f .given .marks-length; session-sized = c .session-sized })
-            (subst LogValid (sym (c .view m)) (words-valid now (f .given .valid) ws));
+            (subst ReplayValid (sym (c .view m)) (words-valid now (f .given .valid) ws));
         within = omega (arith, length-drop i bs, f .within);
         rest =
             f .rest ∙ ap (λ (x : List ℕ). ahead i (replayOf now x)) begins ∙
@@ -164,59 +162,6 @@ module _ (r : Replay) (bs l m o t s : List ℕ) (i : ℕ) (f : Fold r bs l m o t
   fold-same n l1 o1 t1 s1 h unread = f
   fold-same n l1 o1 t1 s1 h (read ws l2 o2 t2 s2 e w fit begins c) =
       subst (Fold r bs l2 m o2 t2 s2) (let z : length ws ≡ 0 = omega arith in omega arith) (words-go ws l2 o2 t2 s2 e w fit begins c)
-
--- a byte by itself, told by its answer
-pub record Single (f : piece.Fed) (first : First) (l m o t s : List ℕ) : Type 0 where
-  pub refusal : first ≡ f .refusal
-  pub held : LogHeld (f .replay) l m o t s
-
-module _ (l m o t s : List ℕ) (g : LogGiven l m o t s) (b : ℕ) where
-  abbrev start : Replay
-  start = replayIn l m o t s
-
-  one : (y : Reply) (u : Replay) → byteStep start b ≡ record { reply = y; replay = u } → replayOf start (b ∷ []) ≡ proceed y u (replayOf u [])
-  one y u e = stepped start b [] _ e
-
-  -- it only added to a record
-  pub single-grown : (r : Bool) (l1 : List ℕ) → Grew b l r l1 → r ≡ true → Single (replayOf start (b ∷ [])) nothing l1 m o t s
-  single-grown r l1 (grown l2 a) e =
-      subst (λ (x : piece.Fed). Single x nothing l2 m o t s) (sym (one taken (viewed l2 m (sessionOf o t s)) (a .view m (sessionOf o t s))))
-      (unfold proceed replayOf in
-      record {
-        refusal = refl;
-        held =
-            record {
-              log-cells = sym (log-canon l2 m (sessionOf o t s) (a .log-length));
-              mark-cells = unfold viewed in refl;
-              session-cells =
-                  unfold viewed in same o t s 0 (record { sized = g .session-sized; valid = unfold viewed in g .valid .session });
-            };
-      })
-  single-grown r l1 ungrown e = absurd (false≢true e)
-
-  pub not-grown : (r : Bool) (l1 : List ℕ) → Grew b l r l1 → r ≡ false → l ≡ l1
-  not-grown r l1 (grown l2 a) e = absurd (false≢true (sym e))
-  not-grown r l1 ungrown e = refl
-
-  -- it was read
-  module _ (h : b < 256) (l1 m1 o1 t1 s1 : List ℕ) where
-    given : (y : Reply) → Became (byteStep start b) y l1 m1 o1 t1 s1 → LogGiven l1 m1 o1 t1 s1
-    given y d =
-        given-from l1 m1 o1 t1 s1 (d .sized)
-        (subst (λ (x : Stepped). LogValid (x .replay)) (d .view) (byte-valid start (g .valid) b h))
-
-    pub single-taken : Became (byteStep start b) taken l1 m1 o1 t1 s1 → Single (replayOf start (b ∷ [])) nothing l1 m1 o1 t1 s1
-    single-taken d =
-        subst (λ (x : piece.Fed). Single x nothing l1 m1 o1 t1 s1) (sym (one taken _ (d .view)))
-        (unfold proceed replayOf in
-        record { refusal = refl; held = held-view l1 m1 o1 t1 s1 (given taken d) })
-
-    pub single-refused : (n : ℕ) → Became (byteStep start b) (refused n) l1 m1 o1 t1 s1 →
-        Single (replayOf start (b ∷ [])) (first n) l1 m1 o1 t1 s1
-    single-refused n d =
-        subst (λ (x : piece.Fed). Single x (first n) l1 m1 o1 t1 s1) (sym (one (refused n) _ (d .view)))
-        (unfold proceed replayOf in
-        record { refusal = refl; held = held-view l1 m1 o1 t1 s1 (given (refused n) d) })
 
 -- words that were gathered and fed
 pub records-left : (bs l o t s words : List ℕ) (n : ℕ) (l1 o1 t1 s1 : List ℕ) → Idle l → Gathered bs n words →

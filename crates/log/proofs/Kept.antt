@@ -17,13 +17,13 @@ use Rattle.log.specs.Bytes.{recordStep, openStep, byteStep}
 use Rattle.replay.specs.Report.{beganWith, endedWith}
 use Rattle.log.specs.Feed.{Fed, proceed, replayOf, afterWords}
 use Rattle.log.specs.Asked.{Bytes8}
-use Rattle.replay.specs.Cells.{Grows, LogValid}
+use Rattle.replay.specs.Cells.{Grows, ReplayValid}
 use Rattle.replay.proofs.Marks.{grows-on, grows-marked}
 use Rattle.replay.proofs.Midnights.{few, enough}
 use Rattle.log.proofs.Steps.{one-word}
 
 -- a new replay
-pub new-replay-valid : LogValid newReplay
+pub new-replay-valid : ReplayValid newReplay
 new-replay-valid =
     record {
       session = new-valid;
@@ -43,9 +43,9 @@ new-replay-valid =
     nothing-yet : (k : ℕ) → k ≡ 0 → Grows (replicate 800 0) 0 0 0 k
     nothing-yet k e = subst (λ (j : ℕ). Grows (replicate 800 0) 0 0 0 j) (sym e) (unfold beganWith endedWith pick in record { runs-grow = omega arith; claims-grow = omega arith })
 
-module _ (r : Replay) (v : LogValid r) where
+module _ (r : Replay) (v : ReplayValid r) where
   -- a replay that stops
-  stopped-valid : (n : ℕ) → StopNumber n → LogValid (stopped n r)
+  stopped-valid : (n : ℕ) → StopNumber n → ReplayValid (stopped n r)
   stopped-valid n k =
       record {
         session = v .session;
@@ -63,7 +63,7 @@ module _ (r : Replay) (v : LogValid r) where
       }
 
   -- words that were fed
-  pub words-valid : (ws : List ℕ) → LogValid (afterWords r ws)
+  pub words-valid : (ws : List ℕ) → ReplayValid (afterWords r ws)
   unfolding afterWords
   words-valid ws =
       record {
@@ -84,10 +84,10 @@ module _ (r : Replay) (v : LogValid r) where
             (v .growing k h);
       }
 
-  word-valid : (w : ℕ) → LogValid (afterWord r w)
-  word-valid w = subst LogValid (sym (one-word r w)) (words-valid (w ∷ []))
+  word-valid : (w : ℕ) → ReplayValid (afterWord r w)
+  word-valid w = subst ReplayValid (sym (one-word r w)) (words-valid (w ∷ []))
 
-  midnight-valid : (day : ℕ) → mayBegin (r .midnights) (r .lastDay) day ≡ true → LogValid (afterMidnight r day)
+  midnight-valid : (day : ℕ) → mayBegin (r .midnights) (r .lastDay) day ≡ true → ReplayValid (afterMidnight r day)
   unfolding afterMidnight
   midnight-valid day e =
       let less : r .midnights < 400 = few (r .midnights) (r .lastDay) day e in
@@ -108,15 +108,15 @@ module _ (r : Replay) (v : LogValid r) where
             grows-marked (r .marks) (r .midnights) (r .session .party .tally) (omega (arith, v .marks-length)) k h (v .growing);
       }
 
-  record-valid : (kind n : ℕ) → LogValid (recordStep kind r n .replay)
+  record-valid : (kind n : ℕ) → ReplayValid (recordStep kind r n .replay)
   unfolding recordStep midnightStep
   record-valid kind n =
-      by-pick (λ (t : Stepped). LogValid (t .replay)) _ _ _ (λ e. word-valid n)
-      (λ e. by-pick (λ (t : Stepped). LogValid (t .replay)) _ _ _ (midnight-valid n) (λ f. stopped-valid 19 byDay))
+      by-pick (λ (t : Stepped). ReplayValid (t .replay)) _ _ _ (λ e. word-valid n)
+      (λ e. by-pick (λ (t : Stepped). ReplayValid (t .replay)) _ _ _ (midnight-valid n) (λ f. stopped-valid 19 byDay))
 
   -- a record that is open in a running replay
   opening-valid : (o : OpenRecord) → r .stoppedBy ≡ 0 → 0 < o .count → o .count ≤ 4 → o .low < 256 → o .second < 256 → o .third < 256 →
-      LogValid (opening o r)
+      ReplayValid (opening o r)
   opening-valid o going h k a b c =
       record {
         session = v .session;
@@ -137,18 +137,18 @@ module _ (r : Replay) (v : LogValid r) where
   byte-or b x t hb hx = by-pick (λ (n : ℕ). n < 256) t b x (λ e. hb) (λ e. hx)
 
   -- every byte
-  pub byte-valid : (b : ℕ) → b < 256 → LogValid (byteStep r b .replay)
+  pub byte-valid : (b : ℕ) → b < 256 → ReplayValid (byteStep r b .replay)
   unfolding byteStep kindStep openStep
   byte-valid b h =
-      by-pick (λ (t : Stepped). LogValid (t .replay)) _ _ _
+      by-pick (λ (t : Stepped). ReplayValid (t .replay)) _ _ _
       (λ e.
-      by-pick (λ (t : Stepped). LogValid (t .replay)) _ _ _
+      by-pick (λ (t : Stepped). ReplayValid (t .replay)) _ _ _
       (λ f.
-      by-pick (λ (t : Stepped). LogValid (t .replay)) _ _ _
+      by-pick (λ (t : Stepped). ReplayValid (t .replay)) _ _ _
       (λ g. opening-valid (ofKind b) (eqb-true (r .stoppedBy) 0 e) (omega arith) (omega arith) (omega arith) (omega arith) (omega arith))
       (λ g. stopped-valid 18 byKind))
       (λ f.
-      by-pick (λ (t : Stepped). LogValid (t .replay)) _ _ _
+      by-pick (λ (t : Stepped). ReplayValid (t .replay)) _ _ _
       (λ g.
       let more : r .opened .count < 4 = ltb-true (r .opened .count) 4 g in
       opening-valid (withByte (r .opened) b) (eqb-true (r .stoppedBy) 0 e) (omega arith) (omega arith)
@@ -158,15 +158,15 @@ module _ (r : Replay) (v : LogValid r) where
       (λ e. v)
 
 -- every piece
-after-byte : (y : Reply) (u : Replay) (rest : Fed) → LogValid u → LogValid (rest .replay) → LogValid (proceed y u rest .replay)
+after-byte : (y : Reply) (u : Replay) (rest : Fed) → ReplayValid u → ReplayValid (rest .replay) → ReplayValid (proceed y u rest .replay)
 unfolding proceed
 after-byte taken u rest v w = w
 after-byte (refused n) u rest v w = v
 
-pub piece-valid : (r : Replay) → LogValid r → (bs : List ℕ) → Bytes8 bs → LogValid (replayOf r bs .replay)
+pub piece-valid : (r : Replay) → ReplayValid r → (bs : List ℕ) → Bytes8 bs → ReplayValid (replayOf r bs .replay)
 unfolding replayOf
 piece-valid r v [] h = v
 piece-valid r v (b ∷ bs) h =
-    let u : LogValid (byteStep r b .replay) = byte-valid r v b (h zero (omega arith)) in
+    let u : ReplayValid (byteStep r b .replay) = byte-valid r v b (h zero (omega arith)) in
     after-byte (byteStep r b .reply) (byteStep r b .replay) (replayOf (byteStep r b .replay) bs) u
     (piece-valid (byteStep r b .replay) u bs (λ k le. h (suc k) (suc-le-suc le)))

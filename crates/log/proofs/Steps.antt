@@ -33,11 +33,11 @@ use Rattle.replay.specs.State.{WordRefused, Replay, noRecord}
 use Rattle.replay.specs.Step.{StopNumber, byKind, byDay, Reply, taken, refused, Stepped, opening, taking, ofKind, isKind, kindStep, withByte, numberFrom, notedReply, withWords, afterWord, midnightStep}
 use Rattle.log.specs.Bytes.{recordStep, openStep, byteStep}
 use Rattle.log.specs.Feed.{notedFirst, afterWords}
-use Rattle.replay.specs.Cells.{viewed, replayIn, LogGiven}
+use Rattle.replay.specs.Cells.{viewed, replayIn, ReplayGiven}
 use Rattle.replay.specs.Own.{Changed, Answered, noting}
 use Rattle.refusal.specs.Number.{numberOf}
 use Rattle.refusal.specs.declared.Refusal.{Refusal}
-use Rattle.log.specs.Asked.{Became, LogSized, OpenAsked, WordsAsked, WordsLeft}
+use Rattle.log.specs.Asked.{Became, ReplaySized, OpenAsked, WordsAsked, WordsLeft}
 use Rattle.replay.specs.Own.{MidnightLeft, NumberAsked}
 
 -- a replay and what a step tells of it
@@ -191,7 +191,7 @@ module _ (l marks own tallies shared : List ℕ) (b : ℕ) (a : OpenAsked l mark
         session-given = record { sized = a .given .session-sized; valid = a .given .valid .session };
       }
 
-  same-sized : (l1 : List ℕ) → length l1 ≡ 10 → LogSized l1 marks own tallies shared
+  same-sized : (l1 : List ℕ) → length l1 ≡ 10 → ReplaySized l1 marks own tallies shared
   same-sized l1 h = record { log-length = h; marks-length = a .given .marks-length; session-sized = a .given .session-sized }
 
   pub byte-added : (l1 : List ℕ) → getD l 5 0 < 4 → Changed (λ r. opening (withByte (r .opened) b) r) l l1 →
@@ -239,7 +239,7 @@ module _ (l marks own tallies shared : List ℕ) (b : ℕ) (a : OpenAsked l mark
       }
 
 -- a byte
-module _ (l marks own tallies shared : List ℕ) (b : ℕ) (g : LogGiven l marks own tallies shared) where
+module _ (l marks own tallies shared : List ℕ) (b : ℕ) (g : ReplayGiven l marks own tallies shared) where
   abbrev start : Replay
   start = replayIn l marks own tallies shared
 

@@ -6,45 +6,53 @@ use Prim.Native.Nat.{ℕ, _*_, _≤_, _<_}
 use lib.ListN.{length, take, drop, getD}
 use Rattle.state.specs.Asked.{Given}
 use Rattle.state.specs.Cells.{Sized}
+use Rattle.session.specs.Feed.{firstStatus}
 use Rattle.session.specs.Answers.{firstOf}
 use Rattle.replay.specs.Step.{Reply, taken, Stepped}
+use Rattle.replay.specs.State.{marksLength}
+use Rattle.replay.specs.Places.{logLength, stoppedByPlace, countPlace}
 use Rattle.replay.specs.Own.{Answered}
 use Rattle.log.specs.Bytes.{byteStep}
 use Rattle.log.specs.Feed as piece
 use Rattle.log.specs.Feed.{afterWords, wordRecords}
-use Rattle.replay.specs.Cells.{replayIn, LogHeld, LogGiven}
+use Rattle.replay.specs.Cells.{replayIn, ReplayHeld, ReplayGiven}
 use Rattle.log.specs.declared.stream.Fed.{Fed}
 
 -- a piece's answer, and arrays that hold the replay after it
 pub record PieceLeft (f : piece.Fed) (r : Fed) (log marks own tallies shared : List ℕ) : Type 0 where
   pub taken : r .taken .0 ≡ f .taken
   pub refusal : firstOf (r .refusal) ≡ f .refusal
-  pub held : LogHeld (f .replay) log marks own tallies shared
+  pub held : ReplayHeld (f .replay) log marks own tallies shared
 
 -- arrays of the right lengths
-pub record LogSized (log marks own tallies shared : List ℕ) : Type 0 where
-  pub log-length : length log ≡ 10
-  pub marks-length : length marks ≡ 800
+pub record ReplaySized (log marks own tallies shared : List ℕ) : Type 0 where
+  pub log-length : length log ≡ logLength
+  pub marks-length : length marks ≡ marksLength
   pub session-sized : Sized own tallies shared
+
+-- a byte by itself, as a piece of one byte: the number of its refusal or 0, and arrays that hold the replay after it
+pub record ByteLeft (f : piece.Fed) (number : ℕ) (log marks own tallies shared : List ℕ) : Type 0 where
+  pub status : number ≡ firstStatus (f .refusal)
+  pub held : ReplayHeld (f .replay) log marks own tallies shared
 
 -- a step, told whole by its reply and the arrays after it
 pub record Became (t : Stepped) (r : Reply) (log marks own tallies shared : List ℕ) : Type 0 where
-  pub sized : LogSized log marks own tallies shared
+  pub sized : ReplaySized log marks own tallies shared
   pub view : t ≡ record { reply = r; replay = replayIn log marks own tallies shared }
 
 -- a byte of an open record
 pub record OpenAsked (log marks own tallies shared : List ℕ) (byte : ℕ) : Type 0 where
-  pub given : LogGiven log marks own tallies shared
-  pub begun : 0 < getD log 5 0
+  pub given : ReplayGiven log marks own tallies shared
+  pub begun : 0 < getD log countPlace 0
   pub bounded : byte < 256
 
 pub record WordsAsked (log own tallies shared : List ℕ) : Type 0 where
-  pub log-length : length log ≡ 10
+  pub log-length : length log ≡ logLength
   pub session-given : Given own tallies shared
 
 -- words of records were fed to the session
 pub record WordsLeft (ws log own tallies shared log1 own1 tallies1 shared1 : List ℕ) : Type 0 where
-  pub log-length : length log1 ≡ 10
+  pub log-length : length log1 ≡ logLength
   pub session-sized : Sized own1 tallies1 shared1
   pub view :
       (marks : List ℕ) → replayIn log1 marks own1 tallies1 shared1 ≡ afterWords (replayIn log marks own tallies shared) ws
@@ -57,6 +65,10 @@ Words32 ws = (k : ℕ) → k < length ws → getD ws k 0 < 4294967296
 abbrev pub Bytes8 : List ℕ → Type 0
 Bytes8 bs = (k : ℕ) → k < length bs → getD bs k 0 < 256
 
+-- how many words are fed to the session in one piece at most
+abbrev pub batch : ℕ
+batch = 128
+
 -- bytes begin with `n` records of words, and these words are the first of a list
 pub record Gathered (bs : List ℕ) (n : ℕ) (words : List ℕ) : Type 0 where
   pub fit : 5 * n ≤ length bs
@@ -66,8 +78,8 @@ pub record Gathered (bs : List ℕ) (n : ℕ) (words : List ℕ) : Type 0 where
 
 -- a running replay without an open record
 pub record Idle (log : List ℕ) : Type 0 where
-  pub running : getD log 0 0 ≡ 0
-  pub unopened : getD log 5 0 ≡ 0
+  pub running : getD log stoppedByPlace 0 ≡ 0
+  pub unopened : getD log countPlace 0 ≡ 0
 
 -- bytes begin with records of words, and these were read; or nothing was changed
 pub data RecordsLeft (bs log own tallies shared : List ℕ) : ℕ → List ℕ → List ℕ → List ℕ → List ℕ → Type 0 where

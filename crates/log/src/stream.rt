@@ -11,15 +11,22 @@ ghost use Prim.Native.Nat.{_<_, _≤_};
 ghost use lib.ListN.{length, drop};
 ghost use Rattle.refusal.specs.Number.{numberOf};
 ghost use Rattle.replay.specs.State.{newReplay};
+ghost use Rattle.replay.specs.Places.{logLength};
 ghost use Rattle.log.specs.Bytes.{byteStep, openStep};
 ghost use Rattle.log.specs.Feed.{replayOf};
-ghost use Rattle.replay.specs.Cells.{LogGiven, LogHeld, replayIn};
+ghost use Rattle.replay.specs.Cells.{ReplayGiven, ReplayHeld, replayIn};
 ghost use Rattle.replay.specs.Step.{StopNumber};
-ghost use Rattle.log.specs.Asked.{Became, Gathered, Grew, OpenAsked, PieceLeft, RecordsLeft, WordsAsked, WordsLeft};
+ghost use Rattle.log.specs.Asked.{Became, ByteLeft, batch, Gathered, Grew, OpenAsked, PieceLeft, RecordsLeft, WordsAsked, WordsLeft};
 ghost use Rattle.replay.specs.Own.{replyOf};
 
 // Words of records that are fed to the session in one piece.
 const BATCH: usize = 128;
+
+// Bytes of a record: its kind and four of its number.
+const RECORD: usize = 5;
+
+// The kind byte of a record that is a word.
+const WORD_KIND: u8 = 1;
 
 // A place in a log, in bytes.
 pub struct BytePosition(pub u64);
@@ -32,7 +39,7 @@ pub fn begin(
     tallies: &mut [u64; state::TALLIES],
     shared: &mut [u32; state::SHARED_CELLS],
 )
-    ensures { λ _. ⌜ LogHeld newReplay (now (log .exit)) (now (marks .exit)) (now (own .exit)) (now (tallies .exit)) (now (shared .exit)) ⌝ }
+    ensures { λ _. ⌜ ReplayHeld newReplay (now (log .exit)) (now (marks .exit)) (now (own .exit)) (now (tallies .exit)) (now (shared .exit)) ⌝ }
 {
     stream::begin(own, tallies, shared);
     *log = [0; replay::LOG_CELLS];
@@ -102,7 +109,7 @@ fn open_byte(
 }
 
 // A byte as a wider number.
-pub fn wide(byte: u8) -> u32
+fn wide(byte: u8) -> u32
     ensures { λ r. ⌜ (r ≡ byte) × (r < 256) ⌝ }
 {
     byte as u32
@@ -121,7 +128,7 @@ fn stop_cause(number: u32) -> Refusal
 }
 
 // One byte. A replay that was stopped answers the same number again.
-pub fn byte(
+fn read_byte(
     log: &mut [u32; replay::LOG_CELLS],
     marks: &mut [u64; replay::MARKS],
     own: &mut [u32; state::OWN_CELLS],
@@ -129,7 +136,7 @@ pub fn byte(
     shared: &mut [u32; state::SHARED_CELLS],
     byte: u32,
 ) -> Answer
-    requires { ⌜ LogGiven (now log) (now marks) (now own) (now tallies) (now shared) × (byte < 256) ⌝ }
+    requires { ⌜ ReplayGiven (now log) (now marks) (now own) (now tallies) (now shared) × (byte < 256) ⌝ }
     ensures { λ r. ⌜ Became (byteStep (replayIn (now (log .entry)) (now (marks .entry)) (now (own .entry)) (now (tallies .entry)) (now (shared .entry))) byte) (replyOf r) (now (log .exit)) (now (marks .exit)) (now (own .exit)) (now (tallies .exit)) (now (shared .exit)) ⌝ }
 {
     let by = log[own::STOPPED_BY];
@@ -144,17 +151,17 @@ pub fn byte(
 
 // The words of the records of kind 1 that lie whole in a piece from a place on, one after the other, as many as there is room
 // for; and how many they are.
-fn gather(bytes: &[u8], at: usize, words: &mut [u32; 128]) -> usize
-    requires { ⌜ (at ≤ length (now bytes)) × (length (now words) ≡ 128) ⌝ }
-    ensures { λ n. ⌜ Gathered (drop at (now (bytes .entry))) n (now (words .exit)) × (length (now (words .exit)) ≡ 128) ⌝ }
+fn gather(bytes: &[u8], at: usize, words: &mut [u32; BATCH]) -> usize
+    requires { ⌜ (at ≤ length (now bytes)) × (length (now words) ≡ batch) ⌝ }
+    ensures { λ n. ⌜ Gathered (drop at (now (bytes .entry))) n (now (words .exit)) × (length (now (words .exit)) ≡ batch) ⌝ }
 {
     let mut n: usize = 0;
     while n < BATCH {
-        let i = at + 5 * n;
-        if bytes.len() - i < 5 {
+        let i = at + RECORD * n;
+        if bytes.len() - i < RECORD {
             return n;
         }
-        if bytes[i] != 1 {
+        if bytes[i] != WORD_KIND {
             return n;
         }
         words[n] = bytes::number(
@@ -181,7 +188,7 @@ fn take_records(
     requires { ⌜ WordsAsked (now log) (now own) (now tallies) (now shared) × (at ≤ length (now bytes)) ⌝ }
     ensures { λ n. ⌜ RecordsLeft (drop at (now (bytes .entry))) (now (log .entry)) (now (own .entry)) (now (tallies .entry)) (now (shared .entry)) n (now (log .exit)) (now (own .exit)) (now (tallies .exit)) (now (shared .exit)) ⌝ }
 {
-    if bytes.len() - at < 5 {
+    if bytes.len() - at < RECORD {
         return 0;
     }
     if log[own::STOPPED_BY] != 0 {
@@ -190,7 +197,7 @@ fn take_records(
     if log[own::COUNT] != 0 {
         return 0;
     }
-    let mut words: [u32; 128] = [0; 128];
+    let mut words: [u32; BATCH] = [0; BATCH];
     let n = gather(bytes, at, &mut words);
     if 0 < n {
         take_words(log, own, tallies, shared, &words[..n]);
@@ -200,8 +207,8 @@ fn take_records(
 
 // Whether a byte only adds to a record, as its kind or inside its number; then it is added. The session isn't looked at, so that
 // a log that comes byte by byte is soon read.
-pub fn grows(log: &mut [u32; replay::LOG_CELLS], byte: u32) -> bool
-    requires { ⌜ length (now log) ≡ 10 ⌝ }
+fn grows(log: &mut [u32; replay::LOG_CELLS], byte: u32) -> bool
+    requires { ⌜ length (now log) ≡ logLength ⌝ }
     ensures { λ r. ⌜ Grew byte (now (log .entry)) r (now (log .exit)) ⌝ }
 {
     if log[own::STOPPED_BY] != 0 {
@@ -222,6 +229,30 @@ pub fn grows(log: &mut [u32; replay::LOG_CELLS], byte: u32) -> bool
     false
 }
 
+// One byte by itself: 0 where it was taken, else 18 or 19. Four bytes of five only add to a record and touch the replay's own
+// numbers, so that is asked first; the answer is a number, since an enum of two would be written as two and read as one.
+pub fn take_byte(
+    log: &mut [u32; replay::LOG_CELLS],
+    marks: &mut [u64; replay::MARKS],
+    own: &mut [u32; state::OWN_CELLS],
+    tallies: &mut [u64; state::TALLIES],
+    shared: &mut [u32; state::SHARED_CELLS],
+    byte: u8,
+) -> u32
+    requires { ⌜ ReplayGiven (now log) (now marks) (now own) (now tallies) (now shared) ⌝ }
+    ensures { λ r. ⌜ ByteLeft (replayOf (replayIn (now (log .entry)) (now (marks .entry)) (now (own .entry)) (now (tallies .entry)) (now (shared .entry))) (byte ∷ [])) r (now (log .exit)) (now (marks .exit)) (now (own .exit)) (now (tallies .exit)) (now (shared .exit)) ⌝ }
+{
+    let number = wide(byte);
+    if grows(log, number) {
+        return 0;
+    }
+    let answer = read_byte(log, marks, own, tallies, shared, number);
+    match answer {
+        Answer::Taken => 0,
+        Answer::Refused(why) => refusal::number(why),
+    }
+}
+
 // What a piece is answered: the bytes taken, which is also the place of the refused byte if there is one; and the refusal.
 pub struct Fed {
     pub taken: BytePosition,
@@ -237,7 +268,7 @@ pub fn feed(
     shared: &mut [u32; state::SHARED_CELLS],
     bytes: &[u8],
 ) -> Fed
-    requires { ⌜ LogGiven (now log) (now marks) (now own) (now tallies) (now shared) ⌝ }
+    requires { ⌜ ReplayGiven (now log) (now marks) (now own) (now tallies) (now shared) ⌝ }
     ensures { λ r. ⌜ PieceLeft (replayOf (replayIn (now (log .entry)) (now (marks .entry)) (now (own .entry)) (now (tallies .entry)) (now (shared .entry))) (now (bytes .entry))) r (now (log .exit)) (now (marks .exit)) (now (own .exit)) (now (tallies .exit)) (now (shared .exit)) ⌝ }
 {
     let mut i: usize = 0;
@@ -245,10 +276,10 @@ pub fn feed(
     while i < bytes.len() {
         let records = take_records(log, own, tallies, shared, bytes, i);
         if 0 < records {
-            i = i + 5 * records;
+            i = i + RECORD * records;
             continue;
         }
-        let answer = byte(log, marks, own, tallies, shared, wide(bytes[i]));
+        let answer = read_byte(log, marks, own, tallies, shared, wide(bytes[i]));
         if let Answer::Refused(why) = answer {
             refusal = First::Refused(why);
             break;

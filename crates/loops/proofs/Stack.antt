@@ -10,8 +10,7 @@ use lib.ListN.{length, getD}
 use borrow.Author.Tests.{leb-true, leb-false, ltb-true, ltb-false, eqb-false, lt-ltb, le-ltb, le-leb, lt-leb, eq-eqb, ne-eqb}
 use Rattle.laws.specs.Choice.{_and_, pick}
 use Rattle.laws.specs.Masks.{digit}
-use Rattle.laws.proofs.Choice.{Tested, holds, fails, tested, pick-yes, pick-no, and-left, and-right, and-intro}
-use Rattle.laws.proofs.Split.{by-test}
+use Rattle.laws.proofs.Choice.{Tested, holds, fails, tested, pick-yes, pick-no, and-left, and-right, and-intro, by-pick}
 use Rattle.loops.specs.declared.Turned.{Turned}
 use Rattle.loops.specs.Loops.{Opened, Looping, Repeating, Turn, Turns, NoRoom, NoWord, field, entryOf, entering, opening, noWord, wordAt, loopTold, placesTold, loopsTold, kindAt, stays, movedTo, closing, turnOf, shownAL, loopCell, loopAt, loopsIn, loopsOf, cellAt, isOpened, areOpened, Held, turned}
 
@@ -421,12 +420,12 @@ module _ (ls : List Opened) (h : length ls ≤ 4) (s : areOpened ls ≡ true) wh
   entering-sound : (looping : Bool) (w : ℕ) → TurnSound (entering looping w ls)
   unfolding entering areOpened
   entering-sound looping w =
-      by-test TurnSound (eqb (field 7 0 w) 0) (λ e. (h, s))
-      (λ e. by-test TurnSound (ltb (length ls) 4) (λ t. (ltb-true (length ls) 4 t, and-intro (entry-sound looping w e) s)) (λ t. tt))
+      by-pick TurnSound (eqb (field 7 0 w) 0) _ _ (λ e. (h, s))
+      (λ e. by-pick TurnSound (ltb (length ls) 4) _ _ (λ t. (ltb-true (length ls) 4 t, and-intro (entry-sound looping w e) s)) (λ t. tt))
 
   pub opening-sound : (looping : Bool) (w : ℕ) → TurnSound (opening looping w ls)
   unfolding opening
-  opening-sound looping w = by-test TurnSound (eqb (field 31 24 w) 0) (λ f. entering-sound looping w) (λ f. tt)
+  opening-sound looping w = by-pick TurnSound (eqb (field 31 24 w) 0) _ _ (λ f. entering-sound looping w) (λ f. tt)
 
 -- a step that aL allows, by its sign
 pub stays-up : (al step : ℕ) → stays al step ≡ true → step < 128 → al + step < 256
@@ -455,7 +454,7 @@ closing-sound true (Repeating n ∷ ls) h s = tt
 closing-sound false (Looping n al step ∷ ls) h s = tt
 closing-sound false (Repeating n ∷ ls) h s =
     let b = repeating-bounds n (head-sound (Repeating n) ls s) in
-    by-test TurnSound (ltb 1 n)
+    by-pick TurnSound (ltb 1 n) _ _
     (λ e.
     let q = less-one n e (b .few) in
     (h, and-intro (and-intro (le-leb 1 (n - 1) (q .0)) (le-leb (n - 1) 255 (q .1))) (tail-sound (Repeating n) ls s)))
@@ -465,9 +464,9 @@ closing-sound false (Repeating n ∷ ls) h s =
     shorter n h = omega arith
 closing-sound true (Looping n al step ∷ ls) h s =
     let b = looping-bounds n al step (head-sound (Looping n al step) ls s) in
-    by-test TurnSound (ltb 1 n)
+    by-pick TurnSound (ltb 1 n) _ _
     (λ e.
-    by-test TurnSound (stays al step)
+    by-pick TurnSound (stays al step) _ _
     (λ f.
     let q = less-one n e (b .few) in (
       h,
@@ -486,9 +485,9 @@ closing-sound true (Looping n al step ∷ ls) h s =
 pub turn-of-sound : (op word : ℕ) (ls : List Opened) → length ls ≤ 4 → areOpened ls ≡ true → TurnSound (turnOf op word ls)
 unfolding turnOf
 turn-of-sound op word ls h s =
-    by-test TurnSound (eqb op 1) (λ e. opening-sound ls h s true word)
+    by-pick TurnSound (eqb op 1) _ _ (λ e. opening-sound ls h s true word)
     (λ e.
-    by-test TurnSound (eqb op 3) (λ f. opening-sound ls h s false word) (λ f. closing-sound (eqb op 2) ls h s))
+    by-pick TurnSound (eqb op 3) _ _ (λ f. opening-sound ls h s false word) (λ f. closing-sound (eqb op 2) ls h s))
 
 -- what is told of each loop, from its cell
 cell-told : (o : Opened) (told : List ℕ) → isOpened o ≡ true → kindAt (loopCell o) ∷ loopCell o % 256 ∷ loopCell o / 256 % 256 ∷ told ≡ loopTold o ++ told

@@ -12,7 +12,7 @@ use Rattle.laws.proofs.Choice.{and-intro, and-right, and-no-left}
 use Rattle.refusal.specs.Told.{Told, gives, refuses}
 use Rattle.layout.specs.declared.Layout.{Layout}
 use Rattle.memory.specs.Answers.{Answered}
-use Rattle.memory.specs.Elements.{bytesAt, readOf, writeOf, stored, memoryAfter, Wrote, findOf}
+use Rattle.memory.specs.Elements.{bytesAt, readOf, writeOf, overwritten, memoryAfter, Wrote, findOf}
 use Rattle.memory.specs.declared.Reading.{Reading}
 use Rattle.memory.proofs.Copies.{put-back}
 use Rattle.memory.proofs.Places.{found, not-found}
@@ -74,4 +74,4 @@ module _ (l : Layout) (x y first : ℕ) (given before : List ℕ) where
         let f = found l x y first (length before) p told in
         wrote (gives []) _ (f .told _ _ (and-intro (eq-eqb _ _ size) (f .held)))
         (put-back before given last p (p + l .size) same (ap (λ (n : ℕ). p + n) (sym size)) ∙
-        ap (λ (a : ℕ). stored a given before) (f .place))
+        ap (λ (a : ℕ). overwritten a given before) (f .place))

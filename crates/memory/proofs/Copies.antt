@@ -1,15 +1,15 @@
 -- Copying byte by byte, and parts of a list that come back changed. Assumes nothing.
 use mathlib.Core.Path.{_≡_, refl, sym, ap, ap₂, _∙_, subst}
 use mathlib.Core.List.{List, [], _∷_, _++_, append-assoc, append-nil}
-use Prim.Native.Nat.{ℕ, suc, _+_, _-_, _*_, _<_, _≤_}
+use Prim.Native.Nat.{ℕ, suc, _+_, _-_, _<_, _≤_}
 use native.Mathlib.Numerals.{add-one}
 use native.Mathlib.Omega.{arith}
 use lib.ListN.{length, take, drop, getD, set, length-append, drop-of-length-le, replicate, length-replicate, replicate-append-replicate}
 use lib.Seq.{take-suc, drop-cons, set-at, length-take-le, take-all, take-append-seam, drop-append-add, drop-drop, drop-at}
 use borrow.Rule.Slice.PartMut.{postOf, post-is}
 use Rattle.refusal.specs.Told.{gives}
-use Rattle.memory.specs.Answers.{filled, Answered, FourAsked}
-use Rattle.memory.specs.Elements.{stored}
+use Rattle.memory.specs.Answers.{filled, Answered}
+use Rattle.memory.specs.Elements.{overwritten}
 use Rattle.memory.specs.declared.Answer.the-variants.{Bytes}
 
 -- one byte more
@@ -33,31 +33,31 @@ copy-done p g i same h =
 
 -- a list whose part from `a` to `e` came back as `last`
 pub put-back :
-    (m g last : List ℕ) (a e : ℕ) → last ≡ g → e ≡ a + length g → take a m ++ (last ++ postOf a (e - a) m) ≡ stored a g m
-unfolding stored
+    (m g last : List ℕ) (a e : ℕ) → last ≡ g → e ≡ a + length g → take a m ++ (last ++ postOf a (e - a) m) ≡ overwritten a g m
+unfolding overwritten
 put-back m g last a e same he =
     ap₂ (λ (p q : List ℕ). take a m ++ (p ++ q)) same (post-is a e m (omega arith) ∙ ap (λ (n : ℕ). drop n m) he)
 
 -- a part put right after the front
-pub stored-front :
+pub overwritten-front :
     (front rest part : List ℕ) (at : ℕ) → length front ≡ at →
-    stored at part (front ++ rest) ≡ (front ++ part) ++ drop (length part) rest
-unfolding stored
-stored-front front rest part at e =
+    overwritten at part (front ++ rest) ≡ (front ++ part) ++ drop (length part) rest
+unfolding overwritten
+overwritten-front front rest part at e =
     subst (λ (k : ℕ). take k (front ++ rest) ++ (part ++ drop (k + length part) (front ++ rest)) ≡ (front ++ part) ++ drop (length part) rest) e
     (ap₂ (λ (p q : List ℕ). p ++ (part ++ q)) (take-append-seam front rest) (drop-append-add front rest (length part)) ∙
     sym (append-assoc front part (drop (length part) rest)))
 
 -- bytes `b` that begin with `front`, and are `z` after it, grow by a part
 pub grown :
-    (z front part b b' : List ℕ) (at : ℕ) → b ≡ front ++ drop (length front) z → length front ≡ at → b' ≡ stored at part b →
+    (z front part b b' : List ℕ) (at : ℕ) → b ≡ front ++ drop (length front) z → length front ≡ at → b' ≡ overwritten at part b →
     b' ≡ (front ++ part) ++ drop (length (front ++ part)) z
 grown z front part b b' at e he e' =
-    e' ∙ ap (stored at part) e ∙ stored-front front (drop (length front) z) part at he ∙
+    e' ∙ ap (overwritten at part) e ∙ overwritten-front front (drop (length front) z) part at he ∙
     ap (λ (q : List ℕ). (front ++ part) ++ q)
     (drop-drop (length part) (length front) z ∙ ap (λ (n : ℕ). drop n z) (sym (length-append front part)))
 
-abbrev zeros : ℕ → List ℕ
+abbrev pub zeros : ℕ → List ℕ
 zeros n = replicate n 0
 
 zeros-left : (k n : ℕ) → k ≤ n → drop k (zeros n) ≡ zeros (n - k)
@@ -88,23 +88,6 @@ reading-of v b n en fits eb =
     sixteen = let e : length (zeros (16 - length v)) ≡ 16 - length v = length-replicate (16 - length v) 0 in omega arith
 
 pub reading-of-one :
-    (v b : List ℕ) → length v ≤ 16 → b ≡ stored 0 v (zeros 16) →
+    (v b : List ℕ) → length v ≤ 16 → b ≡ overwritten 0 v (zeros 16) →
     Answered (gives v) (record { answer = Bytes (length v); bytes = b })
 reading-of-one v b fits eb = reading-of v b (length v) refl fits (grown (zeros 16) [] v (zeros 16) b 0 refl refl eb)
-
-pub reading-of-four :
-    (a b c d b₁ b₂ b₃ b₄ : List ℕ) → FourAsked a b c d → b₁ ≡ stored 0 a (zeros 16) → b₂ ≡ stored (length a) b b₁ →
-    b₃ ≡ stored (length a * 2) c b₂ → b₄ ≡ stored (length a * 3) d b₃ →
-    Answered (gives (a ++ (b ++ (c ++ d)))) (record { answer = Bytes (length a * 4); bytes = b₄ })
-reading-of-four a b c d b₁ b₂ b₃ b₄ asked e₁ e₂ e₃ e₄ =
-    let z = zeros 16 in
-    let l₂ : length (a ++ b) ≡ length a * 2 = length-append a b ∙ omega (arith, asked .second) in
-    let l₃ : length ((a ++ b) ++ c) ≡ length a * 3 = length-append (a ++ b) c ∙ omega (arith, asked .third) in
-    let l₄ : length (((a ++ b) ++ c) ++ d) ≡ length a * 4 = length-append ((a ++ b) ++ c) d ∙ omega (arith, asked .fourth) in
-    let g₁ = grown z [] a z b₁ 0 refl refl e₁ in
-    let g₂ = grown z a b b₁ b₂ (length a) g₁ refl e₂ in
-    let g₃ = grown z (a ++ b) c b₂ b₃ (length a * 2) g₂ l₂ e₃ in
-    let g₄ = grown z ((a ++ b) ++ c) d b₃ b₄ (length a * 3) g₃ l₃ e₄ in
-    let whole : ((a ++ b) ++ c) ++ d ≡ a ++ (b ++ (c ++ d)) = simp append-assoc in
-    subst (λ (v : List ℕ). Answered (gives v) (record { answer = Bytes (length a * 4); bytes = b₄ })) whole
-    (reading-of (((a ++ b) ++ c) ++ d) b₄ (length a * 4) (sym l₄) (omega (arith, asked .small)) g₄)

@@ -12,12 +12,12 @@ use Rattle.layout.specs.declared.Layout.{Layout}
 use Rattle.layout.proofs.Window.{size-most, form-size}
 use Rattle.address.specs.Address.{ifAccepted, inside, addressOf, translateOf}
 use Rattle.address.specs.Inverse.{Accepted, Inside}
-use Rattle.memory.specs.Elements.{isHeld, heldAt, inOrder, startOf, findOf}
+use Rattle.memory.specs.Elements.{mostBytes, isHeld, heldAt, inOrder, startOf, findOf}
 use Rattle.memory.proofs.Pairs.{told-apart, same-one, more-fails, Outcome, outcome, goes, stays, is-inside, goes-to, stays-out}
 
 -- what a held element has, of memory of `n` bytes at `first` and an element of `s` bytes at `a`
 pub record Held (first n a s : ℕ) : Type 0 where
-  pub long : n ≤ 65536
+  pub long : n ≤ mostBytes
   pub high : first + n ≤ 2 ^ 32
   pub low : first ≤ a
   pub whole : a + s ≤ first + n
@@ -41,7 +41,7 @@ module _ (first n a s : ℕ) where
       and-intro (le-leb _ _ (h .long))
       (and-intro (le-leb _ _ (h .high)) (and-intro (le-leb _ _ (h .low)) (le-leb _ _ (h .whole))))
 
-  pub too-long : 65536 < n → startOf a s first n ≡ refuses 11
+  pub too-long : mostBytes < n → startOf a s first n ≡ refuses 11
   unfolding startOf isHeld
   too-long h = pick-no _ _ (and-no-left _ (lt-leb _ _ h))
 
@@ -74,7 +74,7 @@ module _ (first n a s : ℕ) where
     pub test : isHeld first n a s ≡ true
     pub place : p ≡ a - first
     pub fits : p + s ≤ n
-    pub small : n ≤ 65536
+    pub small : n ≤ mostBytes
 
   pub begins : (p : ℕ) → startOf a s first n ≡ gives (p ∷ []) → Starts p
   unfolding startOf
@@ -133,7 +133,7 @@ module _ (l : Layout) (x y first n : ℕ) where
     pub held : heldAt l x y first n ≡ true
     pub place : p ≡ addressOf l x y - first
     pub fits : p + l .size ≤ n
-    pub long : n ≤ 65536
+    pub long : n ≤ mostBytes
     pub size : l .size ≤ 16
     pub told : (u : Bool) (answer : Told) → u ≡ true → asked u answer ≡ answer
     pub unfit : (u : Bool) (answer : Told) → u ≡ false → asked u answer ≡ refuses 11

@@ -16,11 +16,11 @@ use Rattle.layout.specs.declared.Layout.{Layout}
 use Rattle.address.specs.Address.{ifAccepted, inside, addressOf}
 use Rattle.address.specs.Inverse.{Accepted, Inside}
 use Rattle.address.proofs.Inverse.{inverse}
-use Rattle.memory.specs.Elements.{heldAt, bytesAt, elementOf, inOrder, readOf, writeOf, stored, memoryAfter, Wrote}
+use Rattle.memory.specs.Elements.{heldAt, bytesAt, elementOf, inOrder, readOf, writeOf, overwritten, memoryAfter, Wrote}
 use Rattle.memory.specs.Reads.{ReadBack}
 use Rattle.memory.proofs.Pairs.{told-apart, is-inside}
 use Rattle.memory.proofs.Places.{Held, is-held, asked, Course, course, serves, denies}
-use Rattle.memory.proofs.Stored.{length-stored, part-stored, before-stored, after-stored}
+use Rattle.memory.proofs.Overwritten.{length-overwritten, part-overwritten, before-overwritten, after-overwritten}
 
 -- what a write that was done shows
 record Done (l : Layout) (x y first : ℕ) (given before : List ℕ) : Type 0 where
@@ -91,11 +91,11 @@ module _ (l : Layout) (x y first : ℕ) (given before : List ℕ) (d : Done l x 
   fits = omega (arith, d .size, d .held .low, d .held .whole)
 
   after : List ℕ
-  after = stored p given before
+  after = overwritten p given before
 
   same-length : length after ≡ length before
   unfolding after
-  same-length = length-stored p given before fits
+  same-length = length-overwritten p given before fits
 
   -- a read of memory as it is now asks for the same bytes
   reads :
@@ -108,7 +108,7 @@ module _ (l : Layout) (x y first : ℕ) (given before : List ℕ) (d : Done l x 
 
   own-bytes : elementOf l x y first after ≡ given
   unfolding bytesAt after p
-  own-bytes = ap (λ (n : ℕ). take n (drop p after)) (sym (d .size)) ∙ part-stored p given before fits
+  own-bytes = ap (λ (n : ℕ). take n (drop p after)) (sym (d .size)) ∙ part-overwritten p given before fits
 
   own : readOf l x y first after ≡ gives given
   own = reads x y ∙ d .told _ ∙ ap gives own-bytes
@@ -123,10 +123,10 @@ module _ (l : Layout) (x y first : ℕ) (given before : List ℕ) (d : Done l x 
           (addressOf l x y + l .size ≤ addressOf l x' y') ⊎ (addressOf l x' y' + l .size ≤ addressOf l x y) →
           take (l .size) (drop (addressOf l x' y' - first) after) ≡ take (l .size) (drop (addressOf l x' y' - first) before)
       go (inl e) =
-          after-stored p given before fits (addressOf l x' y' - first) (l .size)
+          after-overwritten p given before fits (addressOf l x' y' - first) (l .size)
           (omega (arith, d .size, d .held .low, held' .low))
       go (inr e) =
-          before-stored p given before fits (addressOf l x' y' - first) (l .size)
+          before-overwritten p given before fits (addressOf l x' y' - first) (l .size)
           (omega (arith, d .size, d .held .low, held' .low))
 
   others : (x' y' : ℕ) → ((x ≡ x') × (y ≡ y') → ⊥) → readOf l x' y' first after ≡ readOf l x' y' first before

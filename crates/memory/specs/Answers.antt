@@ -42,10 +42,3 @@ pub record Answered (t : Told) (r : Reading) : Type 0 where
 pub record PutAsked (bytes : List ℕ) (at : ℕ) (part : List ℕ) : Type 0 where
   pub whole : length bytes ≡ 16
   pub room : at + length part ≤ 16
-
--- four parts of one length, with room for all of them in a reading
-pub record FourAsked (a b c d : List ℕ) : Type 0 where
-  pub small : length a ≤ 4
-  pub second : length b ≡ length a
-  pub third : length c ≡ length a
-  pub fourth : length d ≡ length a

@@ -3,9 +3,9 @@
 use mathlib.Core.Path.{_≡_}
 use mathlib.Core.Bool.{Bool}
 use mathlib.Core.List.{List, [], _∷_, _++_}
-use Prim.Native.Nat.{ℕ, _+_, _-_, _*_, _^_}
+use Prim.Native.Nat.{ℕ, _+_, _-_, _^_}
 use lib.Dec.{leb, eqb}
-use lib.ListN.{length, take, drop, replicate}
+use lib.ListN.{length, take, drop}
 use Rattle.laws.specs.Choice.{_and_, pick}
 use Rattle.refusal.specs.Number.{numberOf}
 use Rattle.refusal.specs.Told.{Told, gives, refuses}
@@ -16,10 +16,14 @@ use Rattle.memory.specs.declared.Written.the-variants as written
 use Rattle.memory.specs.declared.place.Place.{Place}
 use Rattle.memory.specs.declared.place.Place.the-variants as place
 
+-- "Lent memory is up to 65,536 bytes"
+abbrev pub mostBytes : ℕ
+mostBytes = 2 ^ 16
+
 -- 11: "memory is over 65,536 bytes or ends above 2^32; memory doesn't hold the whole element". Whether none of these is so, of `n`
 -- bytes that stand at `first` and an element of `s` bytes at `a`.
 unfoldable pub isHeld : ℕ → ℕ → ℕ → ℕ → Bool
-isHeld first n a s = leb n 65536 and leb (first + n) (2 ^ 32) and leb first a and leb (a + s) (first + n)
+isHeld first n a s = leb n mostBytes and leb (first + n) (2 ^ 32) and leb first a and leb (a + s) (first + n)
 
 -- the same of a pair's element
 abbrev pub heldAt : Layout → ℕ → ℕ → ℕ → ℕ → Bool
@@ -48,16 +52,12 @@ writeOf l x y first given m =
     (inOrder (inside l x y) (eqb (length given) (l .size) and heldAt l x y first (length m)) (gives []))
 
 -- memory with new bytes in place of the bytes from place `a` on
-unfoldable pub stored : ℕ → List ℕ → List ℕ → List ℕ
-stored a given m = take a m ++ (given ++ drop (a + length given) m)
-
--- 16 zeros with four parts of `n` bytes put in, one after the other
-unfoldable pub inLine : ℕ → List ℕ → List ℕ → List ℕ → List ℕ → List ℕ
-inLine n a b c d = stored (n * 3) d (stored (n * 2) c (stored n b (stored 0 a (replicate 16 0))))
+unfoldable pub overwritten : ℕ → List ℕ → List ℕ → List ℕ
+overwritten a given m = take a m ++ (given ++ drop (a + length given) m)
 
 -- "Writing an element touches only the part of memory that holds that element"; a refusal touches nothing
 unfoldable pub memoryAfter : Told → Layout → ℕ → ℕ → ℕ → List ℕ → List ℕ → List ℕ
-memoryAfter (gives values) l x y first given m = stored (addressOf l x y - first) given m
+memoryAfter (gives values) l x y first given m = overwritten (addressOf l x y - first) given m
 memoryAfter (refuses number) l x y first given m = m
 
 -- a call of the writer: what it told, and memory before and after

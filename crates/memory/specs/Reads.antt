@@ -1,10 +1,8 @@
--- Reads after a write, and the superfine read as four reads. The proofs are proofs/ReadBack.antt and
--- crates/superfine/proofs/FourReads.antt.
--- Assumes nothing.
+-- Reads after a write. The proof is proofs/ReadBack.antt. Assumes nothing.
 use mathlib.Core.Path.{_≡_}
-use mathlib.Core.List.{List, _++_}
-use Prim.Native.Nat.{ℕ, min}
-use Rattle.refusal.specs.Told.{Told, gives, refuses}
+use mathlib.Core.List.{List}
+use Prim.Native.Nat.{ℕ}
+use Rattle.refusal.specs.Told.{gives}
 use Rattle.layout.specs.declared.Layout.{Layout}
 use Rattle.memory.specs.Elements.{readOf}
 
@@ -14,10 +12,3 @@ pub record ReadBack (l : Layout) (x y first : ℕ) (given before after : List �
   pub own : readOf l x y first after ≡ gives given
   -- a read of any other pair answers as before the write
   pub others : (x' y' : ℕ) → ((x ≡ x') × (y ≡ y') → ⊥) → readOf l x' y' first after ≡ readOf l x' y' first before
-
--- two answers as one: the bytes one after the other, or the refusal that comes first in order
-unfoldable pub joined : Told → Told → Told
-joined (gives v) (gives w) = gives (v ++ w)
-joined (gives v) (refuses n) = refuses n
-joined (refuses m) (gives w) = refuses m
-joined (refuses m) (refuses n) = refuses (min m n)

@@ -8,7 +8,7 @@ ghost use lib.ListN.{length, replicate};
 ghost use Rattle.refusal.specs.Number.{numberOf};
 ghost use Rattle.refusal.specs.Told.{gives, refuses};
 ghost use Rattle.memory.specs.Answers.{Answered, PutAsked};
-ghost use Rattle.memory.specs.Elements.{stored};
+ghost use Rattle.memory.specs.Elements.{overwritten};
 
 // The given bytes, which are `n`, into a part of memory that is as long. Where `n` is a constant, no loop is left.
 fn store_all(part: &mut [u8], given: &[u8], n: usize)
@@ -50,7 +50,7 @@ pub fn refused(why: Refusal) -> Reading
 // Bytes of a reading with a part of memory, of `n` bytes, put in place `at`.
 pub fn put(bytes: [u8; 16], at: usize, part: &[u8], n: usize) -> [u8; 16]
     requires { ⌜ PutAsked bytes at (now part) × (n ≡ length (now part)) ⌝ }
-    ensures { λ r. ⌜ r ≡ stored at (now (part .entry)) bytes ⌝ }
+    ensures { λ r. ⌜ r ≡ overwritten at (now (part .entry)) bytes ⌝ }
 {
     let mut room = bytes;
     store_all(&mut room[at..at + n], part, n);
@@ -60,7 +60,7 @@ pub fn put(bytes: [u8; 16], at: usize, part: &[u8], n: usize) -> [u8; 16]
 // The bytes of a reading of one element: each size is a constant in its arm.
 fn first(element: &[u8]) -> [u8; 16]
     requires { ⌜ length (now element) ≤ 16 ⌝ }
-    ensures { λ r. ⌜ r ≡ stored 0 (now (element .entry)) (replicate 16 0) ⌝ }
+    ensures { λ r. ⌜ r ≡ overwritten 0 (now (element .entry)) (replicate 16 0) ⌝ }
 {
     let n = element.len();
     match n {

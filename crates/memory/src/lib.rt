@@ -34,7 +34,7 @@ pub enum Written {
 pub fn read(layout: Layout, x: u32, y: u32, memory: &[u8], first: ByteAddress) -> Reading
     ensures { λ r. ⌜ Answered (readOf layout x y (first .0) (now (memory .entry))) r ⌝ }
 {
-    match place::find(layout, x, y, first.0, memory.len()) {
+    match place::find(layout, x, y, first, memory.len()) {
         Place::Refused(why) => copy::refused(why),
         Place::At(a) => {
             let size = layout.size as usize;
@@ -55,7 +55,7 @@ pub fn write(
 ) -> Written
     ensures { λ r. ⌜ Wrote layout x y (first .0) (now (given .entry)) (toldWritten r) (now (memory .entry)) (now (memory .exit)) ⌝ }
 {
-    match place::find(layout, x, y, first.0, memory.len()) {
+    match place::find(layout, x, y, first, memory.len()) {
         Place::Refused(why) => Written::Refused(why),
         Place::At(a) => {
             let size = layout.size as usize;

@@ -182,7 +182,7 @@ fn windows(memory: &mut [u8]) -> Tally {
 }
 
 // The bytes of memory from a place on.
-fn standing(memory: &[u8], from: usize) -> [u8; 16] {
+fn bytes_from(memory: &[u8], from: usize) -> [u8; 16] {
     let mut bytes = [0u8; 16];
     for k in 0..16 {
         let at = from % 65536 + k;
@@ -236,7 +236,7 @@ fn lent(t: Trial, memory: &mut [u8]) -> Tally {
     if let Translated::At { address } = address::translate(t.layout, t.x, t.y) {
         from = std::num::wrapping_sub_u32(address.0, t.first);
     }
-    let bytes = standing(memory, from as usize);
+    let bytes = bytes_from(memory, from as usize);
     let got = memory::read(t.layout, t.x, t.y, memory, first);
     let mut all = Tally::new().with(reads(got, wanted, bytes, size));
     let given = [7u8; 17];

@@ -1,4 +1,5 @@
 -- Document 01, "Refusal numbers", with those that document 02's requests add: the number of each refusal. Assumes nothing.
+use mathlib.Core.Path.{_≡_}
 use Prim.Native.Nat.{ℕ}
 use Rattle.refusal.specs.declared.Refusal.{Refusal}
 use Rattle.refusal.specs.declared.Refusal.the-variants.{
@@ -45,3 +46,8 @@ numberOf WordLimit = 17
 numberOf RecordKind = 18
 numberOf MidnightDay = 19
 numberOf LeaseLine = 21
+
+-- the number of some refusal
+pub record IsNumber (n : ℕ) : Type 0 where
+  pub refusal : Refusal
+  pub number : numberOf refusal ≡ n

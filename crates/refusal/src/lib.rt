@@ -1,7 +1,7 @@
 // Document 01's refusals, and those that document 02's requests add: each cause by name, and its number. Every answer that
 // can refuse holds a `Refusal`, so the numbers stand here; a state that keeps one, as a stopped replay's, names it by a constant.
 ghost use mathlib.Core.Path.{_≡_};
-ghost use Rattle.refusal.specs.Number.{numberOf};
+ghost use Rattle.refusal.specs.Number.{IsNumber, numberOf};
 
 pub enum Refusal {
     // 1: the session is stopped.
@@ -71,5 +71,34 @@ pub fn number(r: Refusal) -> u32
         Refusal::RecordKind => 18,
         Refusal::MidnightDay => 19,
         Refusal::LeaseLine => 21,
+    }
+}
+
+// The refusal that has the number; every refusal's number is asked of it, and no other.
+pub fn with_number(number: u32) -> Refusal
+    requires { ⌜ IsNumber number ⌝ }
+    ensures { λ r. ⌜ numberOf r ≡ number ⌝ }
+{
+    match number {
+        1 => Refusal::Stopped,
+        2 => Refusal::UnknownHeader,
+        3 => Refusal::Malformed,
+        4 => Refusal::NumberTooHigh,
+        5 => Refusal::DomainCrossed,
+        6 => Refusal::WindowRule,
+        7 => Refusal::StartUnset,
+        8 => Refusal::DomainOutside,
+        9 => Refusal::SpansShared,
+        10 => Refusal::PairOutside,
+        11 => Refusal::WrongLength,
+        12 => Refusal::Unowned,
+        13 => Refusal::FlowField,
+        14 => Refusal::AtLimit,
+        15 => Refusal::PastEnd,
+        16 => Refusal::Ended,
+        17 => Refusal::WordLimit,
+        18 => Refusal::RecordKind,
+        19 => Refusal::MidnightDay,
+        _ => Refusal::LeaseLine,
     }
 }

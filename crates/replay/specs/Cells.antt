@@ -8,12 +8,20 @@ use Rattle.state.specs.State.{Session}
 use Rattle.state.specs.Cells.{sessionOf, Sized}
 use Rattle.state.specs.Asked.{Held}
 use Rattle.state.specs.Valid as sessions
-use Rattle.replay.specs.State.{OpenRecord, Replay, noRecord, mostMidnights}
+use Rattle.replay.specs.State.{OpenRecord, Replay, noRecord, mostMidnights, marksLength}
+use Rattle.replay.specs.Places.{logLength, stoppedByPlace, refusedPlace, refusedAfterPlace, midnightsPlace, lastDayPlace, countPlace, kindPlace, lowPlace, secondPlace, thirdPlace}
 use Rattle.replay.specs.Step.{StopNumber}
 use Rattle.replay.specs.Report.{beganWith, endedWith}
 
 abbrev pub openOf : List ℕ → OpenRecord
-openOf l = record { count = getD l 5 0; kind = getD l 6 0; low = getD l 7 0; second = getD l 8 0; third = getD l 9 0 }
+openOf l =
+    record {
+      count = getD l countPlace 0;
+      kind = getD l kindPlace 0;
+      low = getD l lowPlace 0;
+      second = getD l secondPlace 0;
+      third = getD l thirdPlace 0;
+    }
 
 -- the replay of ten numbers, marks and a session
 unfoldable pub viewed : List ℕ → List ℕ → Session → Replay
@@ -21,10 +29,10 @@ viewed l marks s =
     record {
       session = s;
       opened = openOf l;
-      stoppedBy = getD l 0 0;
-      refused = record { number = getD l 1 0; midnights = getD l 2 0 };
-      midnights = getD l 3 0;
-      lastDay = getD l 4 0;
+      stoppedBy = getD l stoppedByPlace 0;
+      refused = record { number = getD l refusedPlace 0; midnights = getD l refusedAfterPlace 0 };
+      midnights = getD l midnightsPlace 0;
+      lastDay = getD l lastDayPlace 0;
       marks = marks;
     }
 
@@ -38,7 +46,7 @@ logCells r =
     r .opened .kind ∷ r .opened .low ∷ r .opened .second ∷ r .opened .third ∷ []
 
 -- arrays that hold a replay whole
-pub record LogHeld (r : Replay) (log marks own tallies shared : List ℕ) : Type 0 where
+pub record ReplayHeld (r : Replay) (log marks own tallies shared : List ℕ) : Type 0 where
   pub log-cells : log ≡ logCells r
   pub mark-cells : marks ≡ r .marks
   pub session-cells : Held (r .session) own tallies shared
@@ -49,7 +57,7 @@ pub record Grows (marks : List ℕ) (midnights runs claims k : ℕ) : Type 0 whe
   pub claims-grow : beganWith marks k .claims ≤ endedWith marks midnights (record { runs = runs; claims = claims }) k .claims
 
 -- what holds of every replay that the entries give out
-pub record LogValid (r : Replay) : Type 0 where
+pub record ReplayValid (r : Replay) : Type 0 where
   pub session : sessions.Valid (r .session)
   pub stops : (r .stoppedBy ≡ 0 → ⊥) → StopNumber (r .stoppedBy)
   pub dropped : (r .stoppedBy ≡ 0 → ⊥) → r .opened ≡ noRecord
@@ -60,12 +68,12 @@ pub record LogValid (r : Replay) : Type 0 where
   pub third-byte : r .opened .third < 256
   pub midnights-most : r .midnights ≤ mostMidnights
   pub days-number : r .midnights ≤ r .lastDay + 1
-  pub marks-length : length (r .marks) ≡ 800
+  pub marks-length : length (r .marks) ≡ marksLength
   pub growing : (k : ℕ) → k ≤ r .midnights → Grows (r .marks) (r .midnights) (r .session .party .tally .runs) (r .session .party .tally .claims) k
 
 -- "A replay state handed in is trusted as a session is": arrays of the right lengths that hold a valid replay
-pub record LogGiven (log marks own tallies shared : List ℕ) : Type 0 where
-  pub log-length : length log ≡ 10
-  pub marks-length : length marks ≡ 800
+pub record ReplayGiven (log marks own tallies shared : List ℕ) : Type 0 where
+  pub log-length : length log ≡ logLength
+  pub marks-length : length marks ≡ marksLength
   pub session-sized : Sized own tallies shared
-  pub valid : LogValid (replayIn log marks own tallies shared)
+  pub valid : ReplayValid (replayIn log marks own tallies shared)

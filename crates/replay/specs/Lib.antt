@@ -1,5 +1,6 @@
 pub mod Cells
 pub mod Own
+pub mod Places
 pub mod Report
 pub mod State
 pub mod Step

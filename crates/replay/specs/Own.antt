@@ -5,7 +5,8 @@ use mathlib.Core.List.{List}
 use Prim.Native.Nat.{ℕ, _<_}
 use lib.ListN.{length, getD}
 use Rattle.state.specs.State.{Session}
-use Rattle.replay.specs.State.{Replay, noRecord}
+use Rattle.replay.specs.State.{Replay, noRecord, marksLength}
+use Rattle.replay.specs.Places.{logLength, countPlace}
 use Rattle.replay.specs.Step.{Reply, taken, refused, Stepped, noted}
 use Rattle.replay.specs.Cells.{viewed, replayIn}
 use Rattle.refusal.specs.Number.{numberOf}
@@ -14,18 +15,18 @@ use Rattle.replay.specs.declared.bytes.Answer.the-variants as answer
 
 -- the ten numbers were changed, and nothing else
 pub record Changed (f : Replay → Replay) (log log1 : List ℕ) : Type 0 where
-  pub log-length : length log1 ≡ 10
+  pub log-length : length log1 ≡ logLength
   pub view : (marks : List ℕ) (s : Session) → viewed log1 marks s ≡ f (viewed log marks s)
 
 -- the same by a byte that is answered
 pub record Answered (f : Replay → Stepped) (r : Reply) (log log1 : List ℕ) : Type 0 where
-  pub log-length : length log1 ≡ 10
+  pub log-length : length log1 ≡ logLength
   pub view : (marks : List ℕ) (s : Session) → f (viewed log marks s) ≡ record { reply = r; replay = viewed log1 marks s }
 
 -- a record of which the kind and at most two bytes more stand, as many as is said
 pub record AddAsked (log : List ℕ) (count : ℕ) : Type 0 where
-  pub log-length : length log ≡ 10
-  pub stands : getD log 5 0 ≡ count
+  pub log-length : length log ≡ logLength
+  pub stands : getD log countPlace 0 ≡ count
   pub begun : 0 < count
   pub room : count < 4
 
@@ -67,14 +68,14 @@ pub record NumberAsked (low second third high : ℕ) : Type 0 where
   pub high-byte : high < 256
 
 pub record MidnightAsked (log marks tallies : List ℕ) : Type 0 where
-  pub log-length : length log ≡ 10
-  pub marks-length : length marks ≡ 800
+  pub log-length : length log ≡ logLength
+  pub marks-length : length marks ≡ marksLength
   pub tallies-length : length tallies ≡ 2
 
 -- a midnight was read
 pub record MidnightLeft (f : Replay → Stepped) (r : Reply) (log marks tallies log1 marks1 : List ℕ) : Type 0 where
-  pub log-length : length log1 ≡ 10
-  pub marks-length : length marks1 ≡ 800
+  pub log-length : length log1 ≡ logLength
+  pub marks-length : length marks1 ≡ marksLength
   pub view :
       (own shared : List ℕ) →
       f (replayIn log marks own tallies shared) ≡ record { reply = r; replay = replayIn log1 marks1 own tallies shared }

@@ -1,7 +1,7 @@
 -- Document 02, request 1: the replay of a station's log, as the request speaks of it. A replay that has read nothing is all
 -- zeros beside a new session. Assumes nothing.
 use mathlib.Core.List.{List}
-use Prim.Native.Nat.{ℕ}
+use Prim.Native.Nat.{ℕ, _*_}
 use lib.ListN.{replicate}
 use Rattle.state.specs.State.{Session, newSession}
 
@@ -34,9 +34,13 @@ pub record Replay : Type 0 where
 abbrev pub noRecord : OpenRecord
 noRecord = record { count = 0; kind = 0; low = 0; second = 0; third = 0 }
 
--- "at most 400 come in all", and two marks for each
+-- "at most 400 come in all"
 abbrev pub mostMidnights : ℕ
 mostMidnights = 400
+
+-- two marks for each midnight: runs and claims
+abbrev pub marksLength : ℕ
+marksLength = 2 * mostMidnights
 
 abbrev pub newReplay : Replay
 newReplay =
@@ -47,5 +51,5 @@ newReplay =
       refused = record { number = 0; midnights = 0 };
       midnights = 0;
       lastDay = 0;
-      marks = replicate 800 0;
+      marks = replicate marksLength 0;
     }

@@ -3,6 +3,7 @@ use crate::own;
 use refusal::Refusal;
 ghost use mathlib.Core.Path.{_≡_};
 ghost use lib.ListN.{length};
+ghost use Rattle.replay.specs.Places.{logLength};
 ghost use Rattle.replay.specs.Step.{isKind, kindStep, mayBegin, midnightStep, numberFrom};
 ghost use Rattle.replay.specs.Own.{Answered, MidnightAsked, MidnightLeft, NumberAsked, replyOf};
 
@@ -11,9 +12,6 @@ pub enum Answer {
     Taken,
     Refused(Refusal),
 }
-
-// "at most 400 come in all".
-const MOST_MIDNIGHTS: u32 = 400;
 
 // The number of four bytes, low byte first.
 pub fn number(low: u32, second: u32, third: u32, high: u32) -> u32
@@ -32,7 +30,7 @@ pub fn is_kind(byte: u32) -> bool
 
 // A record's first byte: 18 where it is no kind.
 pub fn kind_byte(log: &mut [u32; crate::LOG_CELLS], byte: u32) -> Answer
-    requires { ⌜ length (now log) ≡ 10 ⌝ }
+    requires { ⌜ length (now log) ≡ logLength ⌝ }
     ensures { λ r. ⌜ Answered (λ s. kindStep s byte) (replyOf r) (now (log .entry)) (now (log .exit)) ⌝ }
 {
     if is_kind(byte) {
@@ -47,7 +45,7 @@ pub fn kind_byte(log: &mut [u32; crate::LOG_CELLS], byte: u32) -> Answer
 fn may_begin(midnights: u32, last: u32, day: u32) -> bool
     ensures { λ r. ⌜ r ≡ mayBegin midnights last day ⌝ }
 {
-    if midnights < MOST_MIDNIGHTS {
+    if midnights < crate::MOST_MIDNIGHTS {
         if midnights == 0 {
             true
         } else {

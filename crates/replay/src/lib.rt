@@ -3,7 +3,10 @@
 pub mod bytes;
 pub mod own;
 
-// How many numbers a replay lies in beside its session's: its own, and two marks for each of 400 midnights.
+// How many numbers a replay lies in beside its session's: its own, and two marks for each midnight.
 pub const LOG_CELLS: usize = 10;
 
-pub const MARKS: usize = 800;
+pub const MARKS: usize = 2 * MOST_MIDNIGHTS as usize;
+
+// "at most 400 come in all".
+pub const MOST_MIDNIGHTS: u32 = 400;

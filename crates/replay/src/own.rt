@@ -2,6 +2,7 @@
 ghost use mathlib.Core.Path.{_≡_};
 ghost use lib.ListN.{length};
 ghost use Rattle.replay.specs.State.{noRecord};
+ghost use Rattle.replay.specs.Places.{logLength};
 ghost use Rattle.replay.specs.Step.{ofKind, opening, stopped, withByte};
 ghost use Rattle.replay.specs.Own.{AddAsked, Changed, dayBegun, noting};
 
@@ -34,7 +35,7 @@ pub const BY_DAY: u32 = 19;
 
 // Stores the open record: how many bytes stand, its kind and its number's first bytes, 0 for those that haven't come.
 fn put_record(log: &mut [u32; crate::LOG_CELLS], count: u32, kind: u32)
-    requires { ⌜ length (now log) ≡ 10 ⌝ }
+    requires { ⌜ length (now log) ≡ logLength ⌝ }
     ensures { λ _. ⌜ Changed (opening (record { count = count; kind = kind; low = 0; second = 0; third = 0 })) (now (log .entry)) (now (log .exit)) ⌝ }
 {
     log[COUNT] = count;
@@ -46,7 +47,7 @@ fn put_record(log: &mut [u32; crate::LOG_CELLS], count: u32, kind: u32)
 
 // No record is open.
 pub fn close(log: &mut [u32; crate::LOG_CELLS])
-    requires { ⌜ length (now log) ≡ 10 ⌝ }
+    requires { ⌜ length (now log) ≡ logLength ⌝ }
     ensures { λ _. ⌜ Changed (opening noRecord) (now (log .entry)) (now (log .exit)) ⌝ }
 {
     put_record(log, 0, 0)
@@ -54,7 +55,7 @@ pub fn close(log: &mut [u32; crate::LOG_CELLS])
 
 // A record is open, of which the kind byte stands.
 pub fn open(log: &mut [u32; crate::LOG_CELLS], kind: u32)
-    requires { ⌜ length (now log) ≡ 10 ⌝ }
+    requires { ⌜ length (now log) ≡ logLength ⌝ }
     ensures { λ _. ⌜ Changed (opening (ofKind kind)) (now (log .entry)) (now (log .exit)) ⌝ }
 {
     put_record(log, 1, kind)
@@ -71,7 +72,7 @@ pub fn add(log: &mut [u32; crate::LOG_CELLS], count: u32, byte: u32)
 
 // The replay is stopped by 18 or 19, and the open record dropped.
 pub fn stop(log: &mut [u32; crate::LOG_CELLS], number: u32)
-    requires { ⌜ length (now log) ≡ 10 ⌝ }
+    requires { ⌜ length (now log) ≡ logLength ⌝ }
     ensures { λ _. ⌜ Changed (stopped number) (now (log .entry)) (now (log .exit)) ⌝ }
 {
     log[STOPPED_BY] = number;
@@ -80,7 +81,7 @@ pub fn stop(log: &mut [u32; crate::LOG_CELLS], number: u32)
 
 // A refused word's number is kept, with the midnights before it, unless one was kept before.
 pub fn note(log: &mut [u32; crate::LOG_CELLS], number: u32)
-    requires { ⌜ length (now log) ≡ 10 ⌝ }
+    requires { ⌜ length (now log) ≡ logLength ⌝ }
     ensures { λ _. ⌜ Changed (noting number) (now (log .entry)) (now (log .exit)) ⌝ }
 {
     if log[REFUSED] == 0 {
@@ -91,7 +92,7 @@ pub fn note(log: &mut [u32; crate::LOG_CELLS], number: u32)
 
 // One more midnight, at which a day begins.
 pub fn begin_day(log: &mut [u32; crate::LOG_CELLS], midnights: u32, day: u32)
-    requires { ⌜ length (now log) ≡ 10 ⌝ }
+    requires { ⌜ length (now log) ≡ logLength ⌝ }
     ensures { λ _. ⌜ Changed (dayBegun midnights day) (now (log .entry)) (now (log .exit)) ⌝ }
 {
     log[MIDNIGHTS] = midnights;

@@ -1,2 +1,6 @@
+pub mod Fitting
+pub mod Judging
+pub mod Readable
 pub mod Room
+pub mod Rule
 pub mod Windows

@@ -11,12 +11,12 @@ use Rattle.laws.proofs.Choice.{pick-yes, pick-no}
 use Rattle.refusal.specs.Told.{Told, gives, refuses}
 use Rattle.command.specs.Table.{headerOf, countOf}
 use Rattle.command.specs.Commands.{lineOf, fieldsOf, wordsOf, placesOf}
-use Rattle.command.specs.Writer.{judgeCommandOf, writeOf, roomAfter, Wrote}
+use Rattle.rules.specs.Writer.{judgeCommandOf, writeOf, roomAfter, Wrote}
 use Rattle.command.specs.declared.commands.Places.{Places}
 use Rattle.command.specs.declared.commands.Command.{Command}
 use Rattle.command.proofs.Headers.{count-least, count-most}
 use Rattle.command.proofs.WriteBack.{lined}
-use Rattle.command.proofs.Judging.{then-refused, then-given}
+use Rattle.rules.proofs.Judging.{then-refused, then-given}
 
 -- a header and `k` parameters stored at the front
 pub front :

@@ -2,10 +2,10 @@
 use mathlib.Core.Path.{_≡_, refl, sym, ap, _∙_}
 use mathlib.Core.Bool.{Bool, true, false}
 use Prim.Native.Nat.{ℕ}
+use Rattle.refusal.specs.Told.{isGiven}
 use Rattle.layout.specs.Layout.{wellFormed, rowStep, windowRule, judgeOf}
 use Rattle.layout.proofs.Window.{judged-malformed, judged-broken, judged-accepted}
 use Rattle.command.specs.Format.{pitchOf, codeOf, sizeOf, tiledOf, windowOf}
-use Rattle.command.specs.Rules.{isGiven}
 use Rattle.command.proofs.Windows.{window-read}
 
 module _

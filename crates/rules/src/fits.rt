@@ -1,19 +1,15 @@
-// Whether the fields of a command are accepted, all at once and by constant tests: a command that lies whole in a piece is
-// judged here. A no says only that the refusal is still to be found.
-use crate::rules::is_window;
+// Whether a command is accepted, by constant tests of its fields. A no leaves open which refusal its fields cause.
+use crate::last::is_window;
 use command::kinds::format_allowed;
 use command::kinds::superfine_allowed;
 ghost use mathlib.Core.Path.{_≡_};
-ghost use mathlib.Core.Bool.{true};
-ghost use mathlib.Core.List.{[]};
-ghost use Rattle.refusal.specs.Told.{gives};
-ghost use Rattle.command.specs.Fits.{WindowFits};
-ghost use Rattle.command.specs.Writer.{judgeCommandOf};
+ghost use Rattle.refusal.specs.Told.{isGiven};
+ghost use Rattle.rules.specs.Writer.{judgeCommandOf};
 ghost use Rattle.command.specs.declared.commands.Command.{Command};
 
 // A domain whose last pair is in range has all of them in range where its ends are in order.
 pub fn domain(i0: u32, j0: u32, i1: u32, j1: u32) -> bool
-    ensures { λ r. ⌜ (r ≡ true → judgeCommandOf (Command.Domain i0 j0 i1 j1) ≡ gives []) ⌝ }
+    ensures { λ r. ⌜ r ≡ isGiven (judgeCommandOf (Command.Domain i0 j0 i1 j1)) ⌝ }
 {
     if 4095 < i1 {
         return false;
@@ -24,9 +20,9 @@ pub fn domain(i0: u32, j0: u32, i1: u32, j1: u32) -> bool
     if i0 <= i1 { j0 <= j1 } else { false }
 }
 
-// Base, format and height by their kinds, and the window that they describe.
+// Base, format and height by their kinds, and the window that they describe: what the command of a conditional output has.
 pub fn window(base: u32, format: u32, height: u32) -> bool
-    ensures { λ r. ⌜ (r ≡ true → WindowFits base format height) ⌝ }
+    ensures { λ r. ⌜ r ≡ isGiven (judgeCommandOf (Command.Conditional base format height)) ⌝ }
 {
     if base % 2048 != 0 {
         return false;
@@ -42,7 +38,7 @@ pub fn window(base: u32, format: u32, height: u32) -> bool
 }
 
 pub fn input(number: u32, base: u32, format: u32, height: u32) -> bool
-    ensures { λ r. ⌜ (r ≡ true → judgeCommandOf (Command.Input number base format height) ≡ gives []) ⌝ }
+    ensures { λ r. ⌜ r ≡ isGiven (judgeCommandOf (Command.Input number base format height)) ⌝ }
 {
     if 15 < number {
         return false;
@@ -55,7 +51,7 @@ pub fn input(number: u32, base: u32, format: u32, height: u32) -> bool
 }
 
 pub fn output(number: u32, base: u32, format: u32, height: u32) -> bool
-    ensures { λ r. ⌜ (r ≡ true → judgeCommandOf (Command.Output number base format height) ≡ gives []) ⌝ }
+    ensures { λ r. ⌜ r ≡ isGiven (judgeCommandOf (Command.Output number base format height)) ⌝ }
 {
     if 3 < number {
         return false;

@@ -1,5 +1,5 @@
 // The writer: a command's words into lent room, or the refusal that its fields cause. It asks for no session.
-use crate::rules::last_rule;
+use crate::last::last_rule;
 use command::commands::Command;
 use command::commands::fields;
 use command::commands::line;
@@ -14,7 +14,7 @@ ghost use mathlib.Core.List.{[], _∷_, _++_};
 ghost use Prim.Native.Nat.{_+_, _<_, _≤_};
 ghost use lib.ListN.{length, take, drop};
 ghost use Rattle.command.specs.Kinds.{toldChecked};
-ghost use Rattle.command.specs.Writer.{placesJudgedOf, judgeCommandOf, Wrote};
+ghost use Rattle.rules.specs.Writer.{placesJudgedOf, judgeCommandOf, Wrote};
 ghost use Rattle.rules.specs.Written.{toldWritten};
 
 pub enum Written {

@@ -13,7 +13,7 @@ use Rattle.state.specs.State.{Tally}
 use Rattle.state.specs.Cells.{partyOf}
 use Rattle.replay.specs.State.{Replay}
 use Rattle.replay.specs.Report.{partOf}
-use Rattle.replay.specs.Cells.{viewed, LogValid}
+use Rattle.replay.specs.Cells.{viewed, ReplayValid}
 use Rattle.days.specs.Reported.{midnightsIn, nowIn}
 use Rattle.score.specs.Score.{hasMidnight, partOfDay, claimedOn}
 use Rattle.score.specs.Answers.{replayFor}
@@ -55,7 +55,7 @@ module _ (log marks tallies : List ℕ) (day : ℕ) where
   claimed-none e = sym (pick-no _ _ e)
 
 -- the days that have a midnight record are the parts after the first midnight
-module _ (r : Replay) (v : LogValid r) (day : ℕ) where
+module _ (r : Replay) (v : ReplayValid r) (day : ℕ) where
   abbrev has : Bool
   has = hasMidnight (r .midnights) (r .lastDay) day
 

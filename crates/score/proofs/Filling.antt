@@ -5,7 +5,8 @@ use Prim.Native.Nat.{ℕ, _+_, _*_, _<_, _≤_, min}
 use native.Mathlib.Numerals.{add-one}
 use native.Mathlib.Omega.{arith}
 use lib.ListN.{length, set, replicate}
-use Rattle.state.specs.Start.{sumBelow}
+use Rattle.laws.specs.Below.{sum}
+use Rattle.laws.proofs.Below.{sum-last}
 use Rattle.replay.specs.State.{Replay}
 use Rattle.score.specs.Lease.{Lease}
 use Rattle.score.specs.Score.{claimedAt, servedAt, roomFor}
@@ -18,13 +19,13 @@ use Rattle.score.proofs.Verdicts.{served-day}
 pub record Filling (l : Lease) (r : Replay) (claimed served : List ℕ) (total k : ℕ) : Type 0 where
   pub bounded : Bounded l
   pub reached : k ≤ l .days
-  pub sum : total ≡ sumBelow k (servedAt l r)
+  pub sum : total ≡ sum k (servedAt l r)
   pub claimed-room : claimed ≡ roomFor k (claimedAt l r)
   pub served-room : served ≡ roomFor k (servedAt l r)
 
 module _ (l : Lease) (r : Replay) where
   pub filling-begins : Bounded l → Filling l r (replicate 31 0) (replicate 31 0) 0 0
-  unfolding sumBelow
+  unfolding sum
   filling-begins b =
       record {
         bounded = b;
@@ -58,9 +59,8 @@ module _ (l : Lease) (r : Replay) where
         few : k < 31
         few = omega (arith, f .bounded .few-days)
 
-        one-more : sumBelow k (servedAt l r) + servedAt l r k ≡ sumBelow (k + 1) (servedAt l r)
-        unfolding sumBelow
-        one-more = ap (λ (n : ℕ). sumBelow n (servedAt l r)) (sym (add-one k))
+        one-more : sum k (servedAt l r) + servedAt l r k ≡ sum (k + 1) (servedAt l r)
+        one-more = sym (sum-last k (servedAt l r)) ∙ ap (λ (n : ℕ). sum n (servedAt l r)) (sym (add-one k))
 
         pub filling-goes : Filling l r (set claimed k number) (set served k counted) (total + counted) (k + 1)
         filling-goes =
@@ -78,7 +78,7 @@ module _ (l : Lease) (r : Replay) where
     filling-ends h =
         let all : k ≡ l .days = omega (arith, f .reached) in
         record {
-          sum = f .sum ∙ ap (λ (n : ℕ). sumBelow n (servedAt l r)) all;
+          sum = f .sum ∙ ap (λ (n : ℕ). sum n (servedAt l r)) all;
           claimed-room = f .claimed-room ∙ ap (λ (n : ℕ). roomFor n (claimedAt l r)) all;
           served-room = f .served-room ∙ ap (λ (n : ℕ). roomFor n (servedAt l r)) all;
         }

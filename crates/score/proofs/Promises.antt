@@ -10,7 +10,7 @@ use borrow.Author.Tests.{eq-eqb, ne-eqb, eqb-true, eqb-false}
 use Rattle.laws.proofs.Choice.{pick-yes, pick-no, Tested, tested, holds, fails}
 use Rattle.session.specs.Feed.{nothing, first, uncut}
 use Rattle.replay.specs.State.{Replay, newReplay}
-use Rattle.replay.specs.Cells.{LogValid}
+use Rattle.replay.specs.Cells.{ReplayValid}
 use Rattle.log.specs.Feed.{replayOf, replayPieces}
 use Rattle.log.specs.Feed as piece
 use Rattle.log.proofs.Cut.{stopping, cut-anywhere}
@@ -47,7 +47,7 @@ module _ (l : Lease) where
     dark-day k e = omega (arith, dark-claims (l .firstDay + k) e)
 
     -- which number refuses a score
-    pub refused-with : LogValid r → (n : ℕ) → scoreOf l r ≡ refused n → Refusing l r n
+    pub refused-with : ReplayValid r → (n : ℕ) → scoreOf l r ≡ refused n → Refusing l r n
     refused-with v n e = go (tested (isLease l)) (tested (eqb (r .stoppedBy) 0))
       where
         number : (a : ℕ) → scoreOf l r ≡ refused a → a ≡ n

@@ -9,9 +9,9 @@ use native.Mathlib.Omega.{arith}
 use lib.Dec.{eqb}
 use borrow.Author.Tests.{eq-eqb, ne-eqb, eqb-true, eqb-false, lt-ltb, ltb-true}
 use Rattle.laws.specs.Choice.{_and_}
-use Rattle.laws.specs.Masks.{every}
+use Rattle.laws.specs.Below.{every}
 use Rattle.laws.proofs.Choice.{pick-yes, pick-no, and-intro, and-left, and-right, Tested, tested, holds, fails}
-use Rattle.laws.proofs.Masks.{every-at, every-same}
+use Rattle.laws.proofs.Below.{every-at, every-same}
 use Rattle.replay.specs.State.{Replay}
 use Rattle.score.specs.Lease.{Lease}
 use Rattle.score.specs.Score.{claimedAt, servedAt, servedInAll, owedInAll, servedInFull, verdictOf}

@@ -7,7 +7,7 @@ use lib.Dec.{eqb}
 use Rattle.laws.specs.Choice.{pick}
 use Rattle.replay.specs.State.{Replay}
 use Rattle.replay.specs.Cells.{replayIn}
-use Rattle.score.specs.Lease.{Lease}
+use Rattle.score.specs.Lease.{Lease, mostDays, mostOwed, pastDays}
 use Rattle.score.specs.Score.{Score, scored, refused, claimedAt, servedAt, servedInAll, roomFor, scoreOf}
 use Rattle.score.specs.declared.month.Verdict.{Verdict}
 use Rattle.score.specs.declared.month.Verdict.the-variants.{Full, Short, NothingOwed}
@@ -24,9 +24,9 @@ replayFor log marks tallies = replayIn log marks [] tallies []
 -- the bounds of a lease line that is taken
 pub record Bounded (l : Lease) : Type 0 where
   pub some-days : 1 ≤ l .days
-  pub few-days : l .days ≤ 31
-  pub few-owed : l .owed ≤ 100000000
-  pub no-wrap : l .firstDay + l .days ≤ 4294967296
+  pub few-days : l .days ≤ mostDays
+  pub few-owed : l .owed ≤ mostOwed
+  pub no-wrap : l .firstDay + l .days ≤ pastDays
 
 -- the rooms hold the numbers of each day, and the served ones are summed
 pub record Filled (l : Lease) (r : Replay) (total : ℕ) (claimed served : List ℕ) : Type 0 where

@@ -19,8 +19,18 @@ pub record Lease : Type 0 where
 abbrev pub lastDayOf : Lease → ℕ
 lastDayOf l = l .firstDay + l .days - 1
 
+-- the bounds: "days from 1 to 31", "from 0 to 100,000,000", "last day below 2^32"
+abbrev pub mostDays : ℕ
+mostDays = 31
+
+abbrev pub mostOwed : ℕ
+mostOwed = 100000000
+
+abbrev pub pastDays : ℕ
+pastDays = 4294967296
+
 unfoldable pub isLease : Lease → Bool
-isLease l = leb 1 (l .days) and leb (l .days) 31 and leb (l .owed) 100000000 and ltb (lastDayOf l) 4294967296
+isLease l = leb 1 (l .days) and leb (l .days) mostDays and leb (l .owed) mostOwed and ltb (lastDayOf l) pastDays
 
 -- nothing more is told of a lease line that is taken
 unfoldable pub leaseTold : Lease → Told

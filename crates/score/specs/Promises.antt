@@ -6,7 +6,7 @@ use lib.ListN.{getD}
 use Rattle.replay.specs.State.{Replay}
 use Rattle.replay.specs.Step.{StopNumber}
 use Rattle.replay.specs.Report.{partAt, dayAt}
-use Rattle.score.specs.Lease.{Lease, isLease}
+use Rattle.score.specs.Lease.{Lease, isLease, mostDays}
 use Rattle.score.specs.Score.{Month, claimedOn, servedAt, monthOf}
 use Rattle.score.specs.declared.month.Verdict.{Verdict}
 use Rattle.score.specs.declared.month.Verdict.the-variants.{Full, Short, NothingOwed}
@@ -46,7 +46,7 @@ pub record Scoring (l : Lease) (r : Replay) (m : Month) : Type 0 where
   pub month : m ≡ monthOf l r
   pub claimed-days : (k : ℕ) → k < l .days → getD (m .claimed) k 0 ≡ claimedOn r (l .firstDay + k)
   pub served-days : (k : ℕ) → k < l .days → getD (m .served) k 0 ≡ servedAt l r k
-  pub claimed-past : (k : ℕ) → l .days ≤ k → k < 31 → getD (m .claimed) k 0 ≡ 0
-  pub served-past : (k : ℕ) → l .days ≤ k → k < 31 → getD (m .served) k 0 ≡ 0
+  pub claimed-past : (k : ℕ) → l .days ≤ k → k < mostDays → getD (m .claimed) k 0 ≡ 0
+  pub served-past : (k : ℕ) → l .days ≤ k → k < mostDays → getD (m .served) k 0 ≡ 0
   pub day-most : (k : ℕ) → k < l .days → getD (m .served) k 0 ≤ l .owed
   pub month-most : m .totals .served ≤ m .totals .owed

@@ -6,12 +6,11 @@ use mathlib.Core.List.{List, [], _∷_}
 use Prim.Native.Nat.{ℕ, zero, suc, _+_, _-_, _*_, min}
 use lib.Dec.{eqb, leb, ltb}
 use Rattle.laws.specs.Choice.{_and_, pick}
-use Rattle.laws.specs.Masks.{every}
-use Rattle.state.specs.Start.{sumBelow}
+use Rattle.laws.specs.Below.{every, sum}
 use Rattle.replay.specs.State.{Replay, newReplay}
 use Rattle.replay.specs.Report.{partAt}
 use Rattle.log.specs.Feed.{replayOf}
-use Rattle.score.specs.Lease.{Lease, isLease}
+use Rattle.score.specs.Lease.{Lease, isLease, mostDays}
 use Rattle.score.specs.declared.month.Verdict.{Verdict}
 use Rattle.score.specs.declared.month.Verdict.the-variants.{Full, Short, NothingOwed}
 use Rattle.score.specs.declared.month.Totals.{Totals}
@@ -38,7 +37,7 @@ servedAt l r k = min (claimedAt l r k) (l .owed)
 
 -- "for the month two whole numbers: served and owed"
 abbrev pub servedInAll : Lease → Replay → ℕ
-servedInAll l r = sumBelow (l .days) (servedAt l r)
+servedInAll l r = sum (l .days) (servedAt l r)
 
 abbrev pub owedInAll : Lease → ℕ
 owedInAll l = l .days * l .owed
@@ -58,7 +57,7 @@ numbersOf (suc n) f = f zero ∷ numbersOf n (λ k. f (suc k))
 
 -- a number for each day of a lease, in a room for the longest one: 0 past the last day
 unfoldable pub roomFor : ℕ → (ℕ → ℕ) → List ℕ
-roomFor days f = numbersOf 31 (λ k. pick (ltb k days) (f k) 0)
+roomFor days f = numbersOf mostDays (λ k. pick (ltb k days) (f k) 0)
 
 pub record Month : Type 0 where
   pub claimed : List ℕ

@@ -4,9 +4,10 @@ ghost use mathlib.Core.Path.{_≡_};
 ghost use Rattle.score.specs.Lease.{leaseTold, toldJudged};
 ghost use Rattle.score.specs.Answers.{leaseLine};
 
-// The rooms for the numbers of a lease's days have as many places.
-const MOST_DAYS: u32 = 31;
+// The most days of a lease line: the rooms of a month have as many places.
+const MOST_DAYS: u32 = crate::DAYS as u32;
 
+// The most elements that a day owes.
 const MOST_OWED: u32 = 100000000;
 
 // The greatest number of a day.

@@ -13,7 +13,7 @@ use Rattle.refusal.specs.Number.{numberOf}
 use Rattle.refusal.specs.declared.Refusal.{Refusal}
 use Rattle.refusal.specs.Told.{gives}
 use Rattle.command.specs.Commands.{wordsOf}
-use Rattle.command.specs.Writer.{judgeCommandOf}
+use Rattle.rules.specs.Writer.{judgeCommandOf}
 use Rattle.command.specs.declared.commands.Command.{Command}
 use Rattle.command.proofs.Headers.{count-most}
 use Rattle.command.proofs.WriteBack.{lined}
@@ -161,23 +161,23 @@ module _ (s : Session) (ws l t c : List ℕ) (i n : ℕ) (f : Fold s ws l t c i 
 
   tried-goes : (x : Command) (m : ℕ) (l1 t1 c1 : List ℕ) → Ready l t c → i < length ws → 0 < m →
       Tried x (drop i ws) (length (wordsOf x)) l t c m l1 t1 c1 → Fold s ws l1 t1 c1 (i + m) (n + 1)
-  tried-goes x m l1 t1 c1 y less k untaken = absurd (omega arith)
+  tried-goes x m l1 t1 c1 y less k (untaken d) = absurd (omega arith)
   tried-goes x m l1 t1 c1 y less k (takenWhole later l2 t2 c2 begins fine rule held) =
       whole-goes x later l2 t2 c2 y begins fine rule held less
 
   pub fold-whole : (m : ℕ) (l1 t1 c1 : List ℕ) → i < length ws → 0 < m → Begun (drop i ws) l t c m l1 t1 c1 →
       Fold s ws l1 t1 c1 (i + m) (n + 1)
   fold-whole m l1 t1 c1 less k (begun x m2 l2 t2 c2 y q) = tried-goes x m2 l2 t2 c2 y less k q
-  fold-whole m l1 t1 c1 less k unbegun = absurd (omega arith)
+  fold-whole m l1 t1 c1 less k (unbegun d) = absurd (omega arith)
 
   tried-same : (x : Command) (m : ℕ) (l1 t1 c1 : List ℕ) → m ≤ 0 →
       Tried x (drop i ws) (length (wordsOf x)) l t c m l1 t1 c1 → Fold s ws l1 t1 c1 i n
-  tried-same x m l1 t1 c1 k untaken = f
+  tried-same x m l1 t1 c1 k (untaken d) = f
   tried-same x m l1 t1 c1 k (takenWhole later l2 t2 c2 begins fine rule held) = absurd (omega (arith, words-most x .0))
 
   pub fold-same : (m : ℕ) (l1 t1 c1 : List ℕ) → m ≤ 0 → Begun (drop i ws) l t c m l1 t1 c1 → Fold s ws l1 t1 c1 i n
   fold-same m l1 t1 c1 k (begun x m2 l2 t2 c2 y q) = tried-same x m2 l2 t2 c2 k q
-  fold-same m l1 t1 c1 k unbegun = f
+  fold-same m l1 t1 c1 k (unbegun d) = f
 
   module _ (less : i < length ws) (l1 t1 c1 : List ℕ) where
     abbrev w : ℕ

@@ -10,22 +10,23 @@ use lib.ListN.{length, getD, take, set, length-set}
 use lib.Seq.{getD-take}
 use borrow.Author.Tests.{eqb-true, eqb-false, ltb-true, ltb-false, leb-true, leb-false, ne-eqb, eq-eqb}
 use Rattle.laws.specs.Choice.{_and_, pick, placeOf}
+use Rattle.laws.proofs.Below.{count-bounded}
 use Rattle.laws.proofs.Choice.{pick-yes, pick-no, by-pick, and-left, and-right, Tested, tested, holds, fails}
 use Rattle.laws.proofs.Table.{each, _&_}
 use Rattle.refusal.specs.Told.{Told, gives, refuses}
 use Rattle.command.specs.Table.{headers, headerOf, countOf}
 use Rattle.command.specs.Kinds.{allowed, kindOf}
 use Rattle.command.specs.Commands.{commandOf, lineOf, fieldsOf, wordsOf, EachAllowed}
-use Rattle.command.specs.Rules.{domainKept, lastRuleOf}
+use Rattle.rules.specs.Rules.{domainKept, lastRuleOf}
 use Rattle.command.specs.declared.commands.Stored.the-variants as stored
 use Rattle.command.specs.declared.commands.Command.{Command}
 use Rattle.command.specs.declared.commands.Command.the-variants as command
 use Rattle.command.specs.declared.kinds.Kind.the-variants.{Coordinate}
 use Rattle.command.proofs.Headers.{count-least, count-most}
-use Rattle.command.proofs.Rule.{rule-five}
+use Rattle.rules.proofs.Rule.{rule-five}
 use Rattle.command.proofs.WriteBack.{made}
 use Rattle.state.specs.State.{Buffer, Open, Domain, Tally, Party, Shared, Session, none, newSession}
-use Rattle.state.specs.Start.{sumBelow, counts, pairsOf, claimOf}
+use Rattle.state.specs.Start.{counts, pairsOf, claimOf}
 use Rattle.state.specs.Effects.{limit, opening, took, stop, withParameter, buffer, ownAfter, sharedAfter, after}
 use Rattle.session.specs.Step.{Reply, stillOpen, completed, refused, Stepped, refusing, startRuleOf, stepOf}
 use Rattle.state.specs.Valid.{parametersOf, OpenValid, DomainValid, TallyValid, Valid}
@@ -42,6 +43,8 @@ new-valid =
       opened = λ (k : 21 < 21). absurd (no-line k);
       domain = omega arith;
       tally = omega arith;
+      birth = refl;
+      readiness = refl;
       outputs = refl;
       inputs = refl;
     }
@@ -97,13 +100,10 @@ set-domain i0 j0 i1 j1 a k =
 
 -- no start claims more than 4,096 · 4,096 pairs of four outputs
 claim-most : (d : Domain) (mask : ℕ) (outputs : List Buffer) → DomainValid d → claimOf d mask outputs ≤ 67108864
-unfolding claimOf pairsOf sumBelow
+unfolding claimOf pairsOf
 claim-most d mask outputs v =
     mul-le-mul {n₂ = 16777216} {m₂ = 4} (mul-le-mul {n₂ = 4096} {m₂ = 4096} (omega (arith, v)) (omega (arith, v)))
-    (sum-most (λ n. pick (counts mask outputs n) 1 0) (λ n. by-pick (λ (m : ℕ). m ≤ 1) (counts mask outputs n) 1 0 (λ e. omega arith) (λ e. omega arith)))
-  where
-    sum-most : (f : ℕ → ℕ) → ((n : ℕ) → f n ≤ 1) → sumBelow 4 f ≤ 4
-    sum-most f h = omega (arith, h 0, h 1, h 2, h 3)
+    (count-bounded 4 (counts mask outputs))
 
 -- what a whole command leaves of a session: the open command, the count and the flag stand; what it sets is valid
 pub record Effects (c : Command) (h : Shared) (p : Party) (n : ℕ) : Type 0 where
@@ -112,6 +112,8 @@ pub record Effects (c : Command) (h : Shared) (p : Party) (n : ℕ) : Type 0 whe
   pub same-open : ownAfter c h p .opened ≡ p .opened
   pub domain : DomainValid (ownAfter c h p .domain)
   pub tally : TallyValid (ownAfter c h p .tally) (n + 1)
+  pub same-birth : ownAfter c h p .birth ≡ p .birth
+  pub same-readiness : ownAfter c h p .readiness ≡ p .readiness
   pub outputs : length (sharedAfter c h .outputs) ≡ length (h .outputs)
   pub inputs : length (sharedAfter c h .inputs) ≡ length (h .inputs)
 
@@ -122,15 +124,18 @@ module _ (h : Shared) (p : Party) (n : ℕ) (d : DomainValid (p .domain)) (t : T
   -- a command that changes neither domain nor tallies
   plain : (c : Command) → ownAfter c h p .stopped ≡ p .stopped → ownAfter c h p .taken ≡ p .taken →
       ownAfter c h p .opened ≡ p .opened → ownAfter c h p .domain ≡ p .domain → ownAfter c h p .tally ≡ p .tally →
+      ownAfter c h p .birth ≡ p .birth → ownAfter c h p .readiness ≡ p .readiness →
       length (sharedAfter c h .outputs) ≡ length (h .outputs) → length (sharedAfter c h .inputs) ≡ length (h .inputs) →
       Effects c h p n
-  plain c a b e f g k l =
+  plain c a b e f g i r k l =
       record {
         same-flag = a;
         same-count = b;
         same-open = e;
         domain = rw f d;
         tally = rw g still;
+        same-birth = i;
+        same-readiness = r;
         outputs = k;
         inputs = l;
       }
@@ -144,6 +149,8 @@ module _ (h : Shared) (p : Party) (n : ℕ) (d : DomainValid (p .domain)) (t : T
         same-open = refl;
         domain = set-domain i0 j0 i1 j1 a (ordered _ u r);
         tally = still;
+        same-birth = refl;
+        same-readiness = refl;
         outputs = refl;
         inputs = refl;
       }
@@ -154,29 +161,31 @@ module _ (h : Shared) (p : Party) (n : ℕ) (d : DomainValid (p .domain)) (t : T
         same-open = refl;
         domain = d;
         tally = omega (arith, t, claim-most (p .domain) (h .mask) (h .outputs) d);
+        same-birth = refl;
+        same-readiness = refl;
         outputs = refl;
         inputs = refl;
       }
-  effects (command.Quiet what) a u r = plain (command.Quiet what) refl refl refl refl refl refl refl
+  effects (command.Quiet what) a u r = plain (command.Quiet what) refl refl refl refl refl refl refl refl refl
   effects (command.Store stored.Instructions base format) a u r =
-      plain (command.Store stored.Instructions base format) refl refl refl refl refl refl refl
+      plain (command.Store stored.Instructions base format) refl refl refl refl refl refl refl refl refl
   effects (command.Store stored.Floats base format) a u r =
-      plain (command.Store stored.Floats base format) refl refl refl refl refl refl refl
+      plain (command.Store stored.Floats base format) refl refl refl refl refl refl refl refl refl
   effects (command.Store stored.Integers base format) a u r =
-      plain (command.Store stored.Integers base format) refl refl refl refl refl refl refl
+      plain (command.Store stored.Integers base format) refl refl refl refl refl refl refl refl refl
   effects (command.Store stored.Booleans base format) a u r =
-      plain (command.Store stored.Booleans base format) refl refl refl refl refl refl refl
+      plain (command.Store stored.Booleans base format) refl refl refl refl refl refl refl refl refl
   effects (command.Input number base format height) a u r =
-      plain (command.Input number base format height) refl refl refl refl refl refl
+      plain (command.Input number base format height) refl refl refl refl refl refl refl refl
       (length-set (h .inputs) number (buffer base format height))
   effects (command.Output number base format height) a u r =
-      plain (command.Output number base format height) refl refl refl refl refl
+      plain (command.Output number base format height) refl refl refl refl refl refl refl
       (length-set (h .outputs) number (buffer base format height)) refl
   effects (command.Conditional base format height) a u r =
-      plain (command.Conditional base format height) refl refl refl refl refl refl refl
-  effects (command.OutputMask mask) a u r = plain (command.OutputMask mask) refl refl refl refl refl refl refl
-  effects (command.ConditionalMask mask) a u r = plain (command.ConditionalMask mask) refl refl refl refl refl refl refl
-  effects (command.Test test) a u r = plain (command.Test test) refl refl refl refl refl refl refl
+      plain (command.Conditional base format height) refl refl refl refl refl refl refl refl refl
+  effects (command.OutputMask mask) a u r = plain (command.OutputMask mask) refl refl refl refl refl refl refl refl refl
+  effects (command.ConditionalMask mask) a u r = plain (command.ConditionalMask mask) refl refl refl refl refl refl refl refl refl
+  effects (command.Test test) a u r = plain (command.Test test) refl refl refl refl refl refl refl refl refl
 
 -- the fields of the command that an open command with all its parameters is
 module _ (o : Open) (line : o .line < 21) (a : EachAllowed (o .line) (parametersOf o)) where
@@ -210,6 +219,8 @@ goes-on s o v r h b =
       opened = λ k. b;
       domain = v .domain;
       tally = omega (arith, v .tally);
+      birth = v .birth;
+      readiness = v .readiness;
       outputs = v .outputs;
       inputs = v .inputs;
     }
@@ -266,6 +277,8 @@ module _ (s : Session) (w : ℕ) (v : Valid s) where
         opened = λ k. absurd (no-line k);
         domain = v .domain;
         tally = v .tally;
+        birth = v .birth;
+        readiness = v .readiness;
         outputs = v .outputs;
         inputs = v .inputs;
       }
@@ -289,6 +302,8 @@ module _ (s : Session) (w : ℕ) (v : Valid s) where
             opened = rw (f .same-open) (λ k. absurd (no-line k));
             domain = f .domain;
             tally = rw (f .same-count) (f .tally);
+            birth = f .same-birth ∙ v .birth;
+            readiness = f .same-readiness ∙ v .readiness;
             outputs = f .outputs ∙ v .outputs;
             inputs = f .inputs ∙ v .inputs;
           }

@@ -1,28 +1,118 @@
--- The last word of an open command, taken at once or judged step by step, is the definition's completion. Assumes nothing.
+-- The last word of an open command: the command is taken, or it is refused with the number of its line; both are the definition's
+-- completion. Assumes nothing.
 use mathlib.Core.Path.{_≡_, refl, sym, ap, _∙_, subst}
-use mathlib.Core.List.{List, [], _∷_}
+use mathlib.Core.Bool.{Bool, true, false}
+use mathlib.Core.List.{List, [], _∷_, _++_}
 use Prim.Native.Nat.{ℕ, _+_, _<_, _≤_}
 use native.Mathlib.Omega.{arith}
-use lib.ListN.{length, getD}
-use Rattle.refusal.specs.Told.{Told, gives, refuses}
-use Rattle.command.specs.Table.{headerOf}
-use Rattle.command.specs.Commands.{wordsOf, commandOf}
-use Rattle.command.specs.Rules.{lastRuleOf}
-use Rattle.command.specs.Writer.{thenTold, judgeCommandOf}
+use lib.Dec.{eqb, leb}
+use lib.ListN.{length, getD, take, drop, take-append-drop}
+use borrow.Author.Tests.{eq-eqb, ne-eqb}
+use Rattle.laws.specs.Choice.{_and_, pick}
+use Rattle.laws.proofs.Choice.{pick-yes, pick-no, Tested, tested, holds, fails}
+use Rattle.refusal.specs.Number.{IsNumber}
+use Rattle.refusal.specs.Told.{Told, gives, refuses, isGiven, thenTold}
+use Rattle.refusal.specs.declared.Refusal.the-variants.{StartUnset, DomainOutside, SpansShared}
+use Rattle.command.specs.Format.{windowOf}
+use Rattle.command.specs.Table.{headerOf, countOf}
+use Rattle.command.specs.Commands.{storedLine, lineOf, fieldsOf, wordsOf, commandOf, EachAllowed}
+use Rattle.command.specs.declared.commands.Stored.the-variants as stored
 use Rattle.command.specs.declared.commands.Command.{Command}
-use Rattle.command.proofs.Judging.{then-given}
-use Rattle.command.proofs.Readable.{readable}
-use Rattle.state.specs.State.{Open, Session, none}
+use Rattle.command.specs.declared.commands.Command.the-variants as command
+use Rattle.command.proofs.WriteBack.{made}
+use Rattle.rules.specs.Rules.{domainKept, windowKept, lastRuleOf}
+use Rattle.rules.specs.Writer.{judgeCommandOf}
+use Rattle.rules.proofs.Judging.{then-given}
+use Rattle.rules.proofs.Readable.{readable, writable}
+use Rattle.rules.proofs.Rule.{Ruled, fine, five, six, ruled}
+use Rattle.state.specs.State.{Buffer, Domain, Open, Session, none}
+use Rattle.state.specs.Start.{readyOf, readinessOf}
 use Rattle.state.specs.Effects.{limit, opening, stop, after}
+use Rattle.state.specs.Asked.{Held, OwnAsked}
+use Rattle.state.specs.Cells.{partyOf, partyCells, tallyCells, sharedOf, sessionOf, ownLength}
+use Rattle.state.specs.Valid.{parametersOf}
+use Rattle.start.proofs.Readiness.{number-given, number-refused, readiness-number}
+use Rattle.accept.specs.Whole.{RoomFor, Denied, byWords, byFields, bySettings, Tried, untaken, accepted, LineTried, lastWord}
 use Rattle.session.specs.Step.{Reply, completed, refused, startRuleOf, completing}
 use Rattle.session.specs.Again.{standing}
-use Rattle.state.specs.Asked.{Held, OwnAsked, AcceptAsked}
-use Rattle.session.specs.Asked.{Left, CompleteAsked}
-use Rattle.state.specs.Cells.{partyOf, partyCells, tallyCells, sessionOf}
-use Rattle.accept.specs.Whole.{Roomy, Tried, untaken, accepted, LineTried}
+use Rattle.session.specs.Asked.{Left, CompleteAsked, RefusalAsked, readinessIn, refusalAt}
+use Rattle.session.proofs.Kept.{whole-words, whole-allowed}
 use Rattle.session.proofs.ReadBack.{after-standing}
-use Rattle.session.proofs.Stepping.{same-rule, whole-numbered, whole-refused, whole-accepted}
+use Rattle.session.proofs.Stepping.{whole-refused, whole-accepted}
 use Rattle.session.proofs.Ways.{whole}
+
+one-answer : {A : Type 0} → true ≡ false → A
+one-answer e = absurd (let z : _≡_ {A = ℕ} 0 1 = cc in omega arith)
+
+-- the refusal by the line, as the code finds it
+module _ (line readiness : ℕ) where
+  pub refusal-domain : line ≡ 0 → 5 ≡ refusalAt line readiness
+  unfolding refusalAt
+  refusal-domain e = sym (pick-yes _ _ (eq-eqb line 0 e))
+
+  pub refusal-start : line ≡ 1 → readiness ≡ refusalAt line readiness
+  unfolding refusalAt
+  refusal-start e = sym (pick-no _ _ (ne-eqb line 0 (λ z. omega (arith, e, z))) ∙ pick-yes _ _ (eq-eqb line 1 e))
+
+  pub refusal-window : (line ≡ 0 → ⊥) → (line ≡ 1 → ⊥) → 6 ≡ refusalAt line readiness
+  unfolding refusalAt
+  refusal-window n m = sym (pick-no _ _ (ne-eqb line 0 n) ∙ pick-no _ _ (ne-eqb line 1 m))
+
+pub start-number : (l s : List ℕ) (line : ℕ) → RefusalAsked l s line → line ≡ 1 → (n : ℕ) → n ≡ readinessIn l s → IsNumber n
+start-number l s line a e n k = subst IsNumber (sym k) (readiness-number _ _ _ _ (a .unready e))
+
+-- what the rules on a whole command tell where it isn't accepted
+abbrev rules : Command → Session → Told
+rules c s = thenTold (lastRuleOf c) (startRuleOf c s)
+
+abbrev readiness : Session → ℕ
+readiness s = readinessOf (s .party .domain) (s .party .instructions) (s .shared .mask) (s .shared .outputs)
+
+unready : (s : Session) → isGiven (rules command.Start s) ≡ false → readiness s ≡ 0 → ⊥
+unfolding lastRuleOf domainKept windowKept startRuleOf thenTold pick isGiven
+unready s e z = one-answer (sym (ap isGiven (number-given _ _ _ _ z)) ∙ e)
+
+-- one rule of its fields, and none of the settings
+one-rule : (n : ℕ) (d : Bool) → isGiven (thenTold (pick d (gives []) (refuses n)) (gives [])) ≡ false →
+    thenTold (pick d (gives []) (refuses n)) (gives []) ≡ refuses n
+unfolding thenTold isGiven pick
+one-rule n true e = one-answer e
+one-rule n false e = refl
+
+domain-rule : (d : Bool) → isGiven (thenTold (pick d (pick true (gives []) (refuses 6)) (refuses 5)) (gives [])) ≡ false →
+    thenTold (pick d (pick true (gives []) (refuses 6)) (refuses 5)) (gives []) ≡ refuses 5
+unfolding thenTold isGiven pick
+domain-rule true e = one-answer e
+domain-rule false e = refl
+
+refused-by-line : (c : Command) (s : Session) → isGiven (rules c s) ≡ false → rules c s ≡ refuses (refusalAt (lineOf c) (readiness s))
+unfolding lastRuleOf domainKept windowKept startRuleOf lineOf storedLine refusalAt pick
+refused-by-line (command.Domain i0 j0 i1 j1) s e = domain-rule (leb i0 i1 and leb j0 j1) e
+refused-by-line command.Start s e = unfold thenTold in number-refused _ _ _ _ (unready s e)
+refused-by-line (command.Quiet what) s e = unfold thenTold isGiven in one-answer e
+refused-by-line (command.Store stored.Instructions b f) s e = one-rule 6 (isGiven (windowOf b f 1)) e
+refused-by-line (command.Store stored.Floats b f) s e = one-rule 6 (isGiven (windowOf b f 1)) e
+refused-by-line (command.Store stored.Integers b f) s e = one-rule 6 (isGiven (windowOf b f 1)) e
+refused-by-line (command.Store stored.Booleans b f) s e = one-rule 6 (isGiven (windowOf b f 1)) e
+refused-by-line (command.Input n b f k) s e = one-rule 6 (isGiven (windowOf b f k)) e
+refused-by-line (command.Output n b f k) s e = one-rule 6 (isGiven (windowOf b f k)) e
+refused-by-line (command.Conditional b f k) s e = one-rule 6 (isGiven (windowOf b f k)) e
+refused-by-line (command.OutputMask m) s e = unfold thenTold isGiven in one-answer e
+refused-by-line (command.ConditionalMask m) s e = unfold thenTold isGiven in one-answer e
+refused-by-line (command.Test n) s e = unfold thenTold isGiven in one-answer e
+
+-- a command whose fields are allowed and which can't be accepted is refused by the rules
+by-fields : {x : Told} → Ruled x → (next : Told) → (x ≡ gives [] → ⊥) → isGiven (thenTold x next) ≡ false
+unfolding thenTold isGiven
+by-fields fine next n = absurd (n refl)
+by-fields five next n = refl
+by-fields six next n = refl
+
+by-settings : {x : Told} → Ruled x → (next : Told) → isGiven next ≡ false → isGiven (thenTold x next) ≡ false
+unfolding thenTold isGiven
+by-settings fine next e = e
+by-settings five next e = refl
+by-settings six next e = refl
 
 module _ (l t s : List ℕ) (a : CompleteAsked l t s) where
   abbrev o : Open
@@ -31,48 +121,86 @@ module _ (l t s : List ℕ) (a : CompleteAsked l t s) where
   abbrev ss : Session
   ss = sessionOf l t s
 
-  pub last-asked : (getD l 2 0 < 21) × (Roomy 1 l × OwnAsked l t s)
+  pub last-asked : (getD l 2 0 < 21) × (RoomFor 1 l × OwnAsked l t s)
   unfolding partyOf
   last-asked = (a .line, (record { own-length = a .asked .sized .own-length; room = omega (arith, a .taken) }, a .asked))
 
   abbrev Last : ℕ → List ℕ → List ℕ → List ℕ → Type 0
-  Last = LineTried (getD l 2 0) (getD l 4 0) (getD l 5 0) (getD l 6 0) (getD l 7 0) 1 l t s
+  Last = LineTried (getD l 2 0) (getD l 4 0) (getD l 5 0) (getD l 6 0) (getD l 7 0) lastWord l t s
 
   abbrev c : Command
   c = commandOf (getD l 2 0) (getD l 4 0) (getD l 5 0) (getD l 6 0) (getD l 7 0)
 
-  -- not taken at once: nothing was changed
-  unchanged : (ws : List ℕ) (P : List ℕ → List ℕ → List ℕ → Type 0) → P l t s → (m : ℕ) (l1 t1 s1 : List ℕ) → m ≤ 0 →
-      Tried c ws 1 l t s m l1 t1 s1 → P l1 t1 s1
-  unchanged ws P p m l1 t1 s1 k untaken = p
-  unchanged ws P p m l1 t1 s1 k (accepted rest l2 t2 s2 begins fine rule held) = absurd (omega arith)
+  abbrev ps : List ℕ
+  ps = getD l 4 0 ∷ getD l 5 0 ∷ getD l 6 0 ∷ getD l 7 0 ∷ []
 
-  module _ (m : ℕ) (l1 t1 s1 : List ℕ) (tried : Last m l1 t1 s1) where
-    abbrev as-before : m ≤ 0 → (P : List ℕ → List ℕ → List ℕ → Type 0) → P l t s → P l1 t1 s1
-    as-before k P p = unchanged _ P p m l1 t1 s1 k (tried [])
+  abbrev here : List ℕ
+  here = headerOf (getD l 2 0) ∷ getD l 4 0 ∷ getD l 5 0 ∷ getD l 6 0 ∷ getD l 7 0 ∷ []
 
-    pub last-sized : m ≤ 0 → (length l1 ≡ 17) × (length s1 ≡ 101)
-    last-sized k =
-        as-before k (λ x y z. (length x ≡ 17) × (length z ≡ 101)) (a .asked .sized .own-length, a .asked .sized .shared-length)
+  line-lt : getD l 2 0 < 21
+  line-lt = last-asked .0
 
-    module _ (d : Command) (e : d ≡ whole o) where
-      pub last-numbered : m ≤ 0 → AcceptAsked d l1 t1 s1
-      last-numbered k = as-before k (AcceptAsked d) (whole-numbered l t s a d e)
+  passed : EachAllowed (getD l 2 0) ps
+  passed = unfold partyOf in a .passed
 
-      module _ (told : Told) (r : told ≡ thenTold (lastRuleOf d) (startRuleOf d (sessionOf l1 [] s1))) (k : m ≤ 0) where
-        pub last-refused : (n : ℕ) → told ≡ refuses n → (l2 : List ℕ) → l2 ≡ partyCells (stop (partyOf l1 [])) →
-            Left (completing o ss) (refused n) l2 t1 s1
-        last-refused n q l2 f =
-            as-before k
-            (λ x y z. told ≡ thenTold (lastRuleOf d) (startRuleOf d (sessionOf x [] z)) → l2 ≡ partyCells (stop (partyOf x [])) → Left (completing o ss) (refused n) l2 y z)
-            (λ r0 f0. whole-refused l t s a d e told r0 n q l2 f0) r f
+  its-words : here ≡ wordsOf c ++ drop (countOf (getD l 2 0)) ps
+  its-words =
+      sym
+      (ap (λ (ws : List ℕ). ws ++ drop (countOf (getD l 2 0)) ps) (made _ _ _ _ (getD l 2 0) line-lt .words-back passed) ∙
+      ap {B = List ℕ} (λ (ws : List ℕ). headerOf (getD l 2 0) ∷ ws) (take-append-drop (countOf (getD l 2 0)) ps))
 
-        pub last-accepted : (v : List ℕ) → told ≡ gives v → (l2 t2 s2 : List ℕ) → Held (after d (sessionOf l1 t1 s1)) l2 t2 s2 →
-            Left (completing o ss) (completed d) l2 t2 s2
-        last-accepted v q l2 t2 s2 f =
-            as-before k
-            (λ x y z. told ≡ thenTold (lastRuleOf d) (startRuleOf d (sessionOf x [] z)) → Held (after d (sessionOf x y z)) l2 t2 s2 → Left (completing o ss) (completed d) l2 t2 s2)
-            (λ r0 f0. whole-accepted l t s a d e told r0 v q l2 t2 s2 f0) r f
+  -- not taken, so refused
+  denied-told : Denied c here ss → isGiven (rules c ss) ≡ false
+  denied-told (byWords n) = absurd (n (drop (countOf (getD l 2 0)) ps) its-words)
+  denied-told (byFields e) =
+      by-fields (ruled c) (startRuleOf c ss)
+      (λ r. one-answer (unfold isGiven in (sym (ap isGiven (writable c fields r)) ∙ e)))
+    where
+      fields : EachAllowed (lineOf c) (fieldsOf c)
+      fields = unfold partyOf in whole-allowed o line-lt passed
+  denied-told (bySettings e) = by-settings (ruled c) (startRuleOf c ss) e
+
+  denied-refused : Denied c here ss → rules c ss ≡ refuses (refusalAt (getD l 2 0) (readiness ss))
+  denied-refused d =
+      refused-by-line c ss (denied-told d) ∙
+      ap (λ (n : ℕ). refuses (refusalAt n (readiness ss))) (made _ _ _ _ (getD l 2 0) line-lt .line-back)
+
+  denied-asked : Denied c here ss → RefusalAsked l s (getD l 2 0)
+  denied-asked d =
+      record {
+        own-length = a .asked .sized .own-length;
+        shared-length = a .asked .sized .shared-length;
+        unready = λ e. unready-at (getD l 2 0) e (denied-told d);
+      }
+    where
+      unready-at : (n : ℕ) → n ≡ 1 →
+          isGiven (rules (commandOf n (getD l 4 0) (getD l 5 0) (getD l 6 0) (getD l 7 0)) ss) ≡ false → readinessIn l s ≡ 0 → ⊥
+      unready-at n e k =
+          unfold partyOf commandOf in
+          unready ss (subst (λ (m : ℕ). isGiven (rules (commandOf m (getD l 4 0) (getD l 5 0) (getD l 6 0) (getD l 7 0)) ss) ≡ false) e k)
+
+  -- nothing was changed
+  unchanged : (P : List ℕ → List ℕ → List ℕ → Type 0) → (Denied c here ss → P l t s) → (m : ℕ) (l1 t1 s1 : List ℕ) → m ≤ 0 →
+      Tried c here 1 l t s m l1 t1 s1 → P l1 t1 s1
+  unchanged P p m l1 t1 s1 k (untaken d) = p d
+  unchanged P p m l1 t1 s1 k (accepted rest l2 t2 s2 begins judged rule held) = absurd (omega arith)
+
+  module _ (m : ℕ) (l1 t1 s1 : List ℕ) (tried : Last m l1 t1 s1) (k : m ≤ 0) where
+    pub refusal-asked : RefusalAsked l1 s1 (getD l 2 0)
+    refusal-asked = unchanged (λ x y z. RefusalAsked x z (getD l 2 0)) denied-asked m l1 t1 s1 k (tried [])
+
+    pub last-refused : (n : ℕ) → n ≡ refusalAt (getD l 2 0) (readinessIn l1 s1) → (l2 : List ℕ) →
+        l2 ≡ partyCells (stop (partyOf l1 [])) → Left (completing o ss) (refused n) l2 t1 s1
+    last-refused n e l2 f =
+        unchanged
+        (λ x y z.
+        n ≡ refusalAt (getD l 2 0) (readinessIn x z) → l2 ≡ partyCells (stop (partyOf x [])) →
+        Left (completing o ss) (refused n) l2 y z)
+        (λ d q g.
+        whole-refused l t s a n
+        (unfold partyOf in (denied-refused d ∙ sym (ap refuses q)))
+        l2 g)
+        m l1 t1 s1 k (tried []) e f
 
   -- taken at once: what is left is to close it
   abbrev left : Session
@@ -81,7 +209,7 @@ module _ (l t s : List ℕ) (a : CompleteAsked l t s) where
   left-closed : after c ss ≡ standing (after c ss) (partyOf l t .taken + 1) none
   left-closed = after-standing c ss (partyOf l t .taken) (partyOf l t .opened)
 
-  held-length : (l1 t1 s1 : List ℕ) → Held left l1 t1 s1 → length l1 ≡ 17
+  held-length : (l1 t1 s1 : List ℕ) → Held left l1 t1 s1 → length l1 ≡ ownLength
   unfolding partyCells
   held-length l1 t1 s1 h = ap length (h .own-cells)
 
@@ -99,21 +227,17 @@ module _ (l t s : List ℕ) (a : CompleteAsked l t s) where
   done : (ws : List ℕ) (m : ℕ) (l1 t1 s1 : List ℕ) → 0 < m → Tried c ws 1 l t s m l1 t1 s1 → (d : Command) → d ≡ whole o →
       (l2 : List ℕ) → l2 ≡ partyCells (opening none (partyOf l1 [])) → Left (completing o ss) (completed d) l2 t1 s1
   unfolding partyOf
-  done ws m l1 t1 s1 k untaken d e l2 f = absurd (omega arith)
-  done ws m l1 t1 s1 k (accepted rest l3 t3 s3 begins fine rule held) d e l2 f =
-      whole-accepted l t s a d e (gives [])
-      (sym
-      (same-rule l t s a d ∙
-      ap (λ (x : Command). thenTold (lastRuleOf x) (startRuleOf x ss)) e ∙
-      then-given (startRuleOf c ss) (readable c fine .rules-kept) ∙ rule))
-      [] refl l2 t3 s3 (subst (λ (x : Command). Held (after x ss) l2 t3 s3) (sym e) (closed l3 t3 s3 held l2 f))
+  done ws m l1 t1 s1 k (untaken w) d e l2 f = absurd (omega arith)
+  done ws m l1 t1 s1 k (accepted rest l3 t3 s3 begins judged rule held) d e l2 f =
+      whole-accepted l t s a [] (then-given (startRuleOf c ss) (readable c judged .rules-kept) ∙ rule) d e l2 t3 s3
+      (closed l3 t3 s3 held l2 f)
 
-  length-of : (ws : List ℕ) (m : ℕ) (l1 t1 s1 : List ℕ) → Tried c ws 1 l t s m l1 t1 s1 → length l1 ≡ 17
-  length-of ws m l1 t1 s1 untaken = a .asked .sized .own-length
-  length-of ws m l1 t1 s1 (accepted rest l2 t2 s2 begins fine rule held) = held-length l2 t2 s2 held
+  length-of : (ws : List ℕ) (m : ℕ) (l1 t1 s1 : List ℕ) → Tried c ws 1 l t s m l1 t1 s1 → length l1 ≡ ownLength
+  length-of ws m l1 t1 s1 (untaken w) = a .asked .sized .own-length
+  length-of ws m l1 t1 s1 (accepted rest l2 t2 s2 begins judged rule held) = held-length l2 t2 s2 held
 
   module _ (m : ℕ) (l1 t1 s1 : List ℕ) (tried : Last m l1 t1 s1) where
-    pub last-length : length l1 ≡ 17
+    pub last-length : length l1 ≡ ownLength
     last-length = length-of _ m l1 t1 s1 (tried [])
 
     pub last-done : 0 < m → (d : Command) → d ≡ whole o → (l2 : List ℕ) → l2 ≡ partyCells (opening none (partyOf l1 [])) →

@@ -10,12 +10,11 @@ use lib.ListN.{length, getD, length-append}
 use borrow.Author.Tests.{eqb-true, eqb-false, ne-eqb, lt-ltb, le-ltb, le-leb, lt-leb}
 use Rattle.laws.specs.Choice.{pick}
 use Rattle.laws.proofs.Choice.{Tested, holds, fails, tested, pick-yes, pick-no}
-use Rattle.refusal.specs.Told.{Told, gives, refuses}
+use Rattle.refusal.specs.Told.{Told, gives, refuses, thenTold}
 use Rattle.command.specs.Table.{countOf}
 use Rattle.command.specs.Kinds.{allowed, kindOf}
 use Rattle.command.specs.Commands.{lineOf, fieldsOf, EachAllowed}
-use Rattle.command.specs.Rules.{lastRuleOf}
-use Rattle.command.specs.Writer.{thenTold}
+use Rattle.rules.specs.Rules.{lastRuleOf}
 use Rattle.command.specs.declared.commands.Command.{Command}
 use Rattle.command.specs.declared.commands.Command.the-variants as command
 use Rattle.command.proofs.WriteBack.{read-back, lined}

@@ -7,13 +7,13 @@ use native.Mathlib.Omega.{arith}
 use lib.ListN.{length, length-append}
 use Rattle.refusal.specs.Told.{Told, gives}
 use Rattle.command.specs.Commands.{wordsOf}
-use Rattle.command.specs.Rules.{lastRuleOf}
-use Rattle.command.specs.Writer.{judgeCommandOf}
+use Rattle.rules.specs.Rules.{lastRuleOf}
+use Rattle.rules.specs.Writer.{judgeCommandOf}
 use Rattle.command.specs.declared.commands.Stored.the-variants as stored
 use Rattle.command.specs.declared.commands.Command.{Command}
 use Rattle.command.specs.declared.commands.Command.the-variants as command
-use Rattle.command.proofs.Rule.{Ruled, fine, five, six, ruled}
-use Rattle.command.proofs.Readable.{writable}
+use Rattle.rules.proofs.Rule.{Ruled, fine, five, six, ruled}
+use Rattle.rules.proofs.Readable.{writable}
 use Rattle.state.specs.State.{Open, Session, none}
 use Rattle.state.specs.Start.{readyOf}
 use Rattle.state.specs.Effects.{limit, ownAfter, sharedAfter, after}

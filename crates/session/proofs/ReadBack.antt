@@ -10,17 +10,17 @@ use lib.ListN.{length}
 use borrow.Author.Tests.{eqb-true, eqb-false, leb-true, leb-false}
 use Rattle.laws.specs.Choice.{pick}
 use Rattle.laws.proofs.Choice.{Tested, holds, fails, tested}
-use Rattle.refusal.specs.Told.{Told, gives, refuses}
+use Rattle.refusal.specs.Told.{Told, gives, refuses, thenTold}
 use Rattle.command.specs.Table.{headerOf}
 use Rattle.command.specs.Commands.{lineOf, fieldsOf, wordsOf, EachAllowed}
-use Rattle.command.specs.Rules.{lastRuleOf}
-use Rattle.command.specs.Writer.{thenTold, judgeCommandOf}
+use Rattle.rules.specs.Rules.{lastRuleOf}
+use Rattle.rules.specs.Writer.{judgeCommandOf}
 use Rattle.command.specs.declared.commands.Stored.the-variants as stored
 use Rattle.command.specs.declared.commands.Command.{Command}
 use Rattle.command.specs.declared.commands.Command.the-variants as command
 use Rattle.command.proofs.WriteBack.{lined}
 use Rattle.command.proofs.Headers.{count-least}
-use Rattle.command.proofs.Readable.{readable}
+use Rattle.rules.proofs.Readable.{readable}
 use Rattle.state.specs.State.{Open, Session, none}
 use Rattle.state.specs.Start.{readyOf}
 use Rattle.state.specs.Effects.{limit, ownAfter, sharedAfter, after}

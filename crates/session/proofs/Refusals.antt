@@ -9,14 +9,13 @@ use lib.ListN.{take}
 use borrow.Author.Tests.{eqb-true, eq-eqb, ne-eqb, lt-ltb, le-ltb, lt-leb}
 use Rattle.laws.specs.Choice.{pick, placeOf}
 use Rattle.laws.proofs.Choice.{pick-yes, pick-no, by-pick}
-use Rattle.refusal.specs.Told.{Told, gives, refuses}
+use Rattle.refusal.specs.Told.{Told, gives, refuses, thenTold}
 use Rattle.command.specs.Table.{headers}
-use Rattle.command.specs.Writer.{thenTold}
 use Rattle.command.specs.declared.commands.Command.{Command}
 use Rattle.command.specs.declared.commands.Command.the-variants as command
-use Rattle.command.proofs.Headers.{Accepted, stands, place-of-line}
-use Rattle.command.proofs.Judging.{Fault, three, four, fault}
-use Rattle.command.proofs.Rule.{Ruled, fine, five, six, ruled}
+use Rattle.command.proofs.Headers.{Accepted, listed, place-of-line}
+use Rattle.rules.proofs.Judging.{Fault, three, four, fault}
+use Rattle.rules.proofs.Rule.{Ruled, fine, five, six, ruled}
 use Rattle.state.specs.State.{Open, Session, none}
 use Rattle.state.specs.Start.{readyOf}
 use Rattle.state.specs.Effects.{limit}
@@ -187,4 +186,4 @@ module _ (s : Session) (w : ℕ) (i : Idle s) (room : s .party .taken < limit) w
   unfolding headerStep
   header-refused none =
       at-header ∙
-      pick-no _ _ (le-ltb (placeOf w headers) 21 (let k : placeOf w headers < 21 → ⊥ = λ h. none (placeOf w headers) (record { line = h; header = stands w h }) in omega arith))
+      pick-no _ _ (le-ltb (placeOf w headers) 21 (let k : placeOf w headers < 21 → ⊥ = λ h. none (placeOf w headers) (record { line = h; header = listed w h }) in omega arith))

@@ -11,22 +11,23 @@ use lib.ListN.{length, getD, set}
 use lib.Seq.{getD-set-same, getD-set-other}
 use borrow.Author.Tests.{eq-eqb, eqb-true, eqb-false, leb-true}
 use Rattle.laws.specs.Choice.{_and_, pick}
-use Rattle.laws.specs.Masks.{_or_, on, some}
-use Rattle.laws.proofs.Choice.{Tested, holds, fails, tested, pick-yes, pick-no, and-intro, and-yes, and-right, and-no-left}
-use Rattle.laws.proofs.Split.{pick-same}
-use Rattle.laws.proofs.Table.{everyBelow, every, each, _&_}
+use Rattle.laws.specs.Below.{some, every}
+use Rattle.laws.specs.Masks.{_or_, on}
+use Rattle.laws.proofs.Below.{every-at, every-of, every-same, some-at, count-none, count-same}
+use Rattle.laws.proofs.Choice.{Tested, holds, fails, tested, pick-yes, pick-no, and-intro, and-yes, and-right, and-no-left, pick-same}
+use Rattle.laws.proofs.Table.{each, _&_}
 use Rattle.refusal.specs.Told.{gives}
 use Rattle.command.specs.Table.{countOf}
 use Rattle.command.specs.Format.{channelsOf, codeOf}
 use Rattle.command.specs.Kinds.{formatAllowed, allowed, faultOf, kindOf}
 use Rattle.command.specs.Commands.{lineOf, fieldsOf, wordsOf, EachAllowed}
-use Rattle.command.specs.Rules.{domainKept, windowKept, lastRuleOf}
-use Rattle.command.specs.Writer.{spares, allSpare, fieldsSpare, judgeCommandOf}
+use Rattle.rules.specs.Rules.{domainKept, windowKept, lastRuleOf}
+use Rattle.rules.specs.Writer.{unrefused, allUnrefused, fieldsUnrefused, judgeCommandOf}
 use Rattle.command.specs.declared.commands.Stored.the-variants as stored
 use Rattle.command.specs.declared.commands.Command.{Command}
 use Rattle.command.specs.declared.commands.Command.the-variants as command
 use Rattle.state.specs.State.{Buffer, Domain, Shared, Session, unset, none, newSession}
-use Rattle.state.specs.Start.{anyBelow, allBelow, sumBelow, output, isSet, unmasked, silent, counts, containsDomain, apart, complete, covered, disjoint, readyOf, pairsOf, claimOf}
+use Rattle.state.specs.Start.{output, isSet, unmasked, silent, counts, containsDomain, apart, complete, covered, disjoint, readyOf, pairsOf, claimOf}
 use Rattle.state.specs.Effects.{limit, buffer, ownAfter, sharedAfter, after}
 use Rattle.state.specs.Valid.{Valid}
 use Rattle.session.specs.Step.{Reply, stillOpen, completed, refused, Stepped, startRuleOf, stepOf}
@@ -49,44 +50,6 @@ use Rattle.session.proofs.Ways.{Way, wasStopped, stops, opens, fills, e
 use Rattle.session.proofs.Kept.{new-valid, each-allowed, kept}
 use Rattle.session.proofs.ReadBack.{reads-back}
 
--- tests and sums over the numbers below `k`
-module _ (k : ℕ) where
-  below-suc : {n : ℕ} → n < k → n < suc k
-  below-suc h = omega arith
-
-  here : k < suc k
-  here = omega arith
-
-all-same : (k : ℕ) (f g : ℕ → Bool) → ((n : ℕ) → n < k → f n ≡ g n) → allBelow k f ≡ allBelow k g
-unfolding allBelow
-all-same zero f g h = refl
-all-same (suc k) f g h = ap₂ _and_ (all-same k f g (λ n l. h n (below-suc k l))) (h k (here k))
-
-all-true : (k : ℕ) (f : ℕ → Bool) → ((n : ℕ) → n < k → f n ≡ true) → allBelow k f ≡ true
-unfolding allBelow
-all-true zero f h = refl
-all-true (suc k) f h = and-intro (all-true k f (λ n l. h n (below-suc k l))) (h k (here k))
-
-sum-same : (k : ℕ) (f g : ℕ → ℕ) → ((n : ℕ) → n < k → f n ≡ g n) → sumBelow k f ≡ sumBelow k g
-unfolding sumBelow
-sum-same zero f g h = refl
-sum-same (suc k) f g h = ap₂ _+_ (sum-same k f g (λ n l. h n (below-suc k l))) (h k (here k))
-
-sum-none : (k : ℕ) (f : ℕ → ℕ) → ((n : ℕ) → n < k → f n ≡ 0) → sumBelow k f ≡ 0
-unfolding sumBelow
-sum-none zero f h = refl
-sum-none (suc k) f h = omega (arith, sum-none k f (λ n l. h n (below-suc k l)), h k (here k))
-
-any-found : (k : ℕ) (f : ℕ → Bool) (n : ℕ) → n < k → f n ≡ true → anyBelow k f ≡ true
-unfolding anyBelow
-any-found zero f n h e = absurd (not-suc-le-zero h)
-any-found (suc k) f n h e = go (λ l. any-found k f n l e) (tested (eqb n k))
-  where
-    go : (n < k → anyBelow k f ≡ true) → Tested (eqb n k) → pick (anyBelow k f) true (f k) ≡ true
-    go r (holds w) =
-        ap (λ (t : Bool). pick (anyBelow k f) true t) (ap f (sym (eqb-true n k w)) ∙ e) ∙ pick-same (anyBelow k f) true
-    go r (fails w) = pick-yes true (f k) (r (let ne : n ≡ k → ⊥ = eqb-false n k w in omega arith))
-
 -- settings with every set output silent: none counts, so 8 and 9 have nothing to refuse and nothing is claimed
 module _ (mask : ℕ) (outputs : List Buffer) (a : AllSilent mask outputs) where
   none-counts : (n : ℕ) → n < 4 → counts mask outputs n ≡ false
@@ -103,16 +66,16 @@ module _ (mask : ℕ) (outputs : List Buffer) (a : AllSilent mask outputs) where
 
   covered-silent : (d : Domain) → covered mask outputs d ≡ true
   unfolding covered
-  covered-silent d = all-true 4 _ (λ n h. pick-no _ true (none-counts n h))
+  covered-silent d = every-of 4 _ (λ n h. pick-no _ true (none-counts n h))
 
   disjoint-silent : disjoint mask outputs ≡ true
   unfolding disjoint
   disjoint-silent =
-      all-true 4 _ (λ n h. all-true n _ (λ m k. pick-no _ true (and-no-left _ (none-counts n h))))
+      every-of 4 _ (λ n h. every-of n _ (λ m k. pick-no _ true (and-no-left _ (none-counts n h))))
 
   pub claim-silent : (d : Domain) → claimOf d mask outputs ≡ 0
   unfolding claimOf
-  claim-silent d = ap (λ (n : ℕ). pairsOf d * n) (sum-none 4 _ (λ n h. pick-no 1 0 (none-counts n h))) ∙ mul-zero (pairsOf d)
+  claim-silent d = ap (λ (n : ℕ). pairsOf d * n) (count-none 4 _ none-counts) ∙ mul-zero (pairsOf d)
 
   pub ready-silent : (d : Domain) (instructions : Buffer) → complete d instructions outputs ≡ true →
       readyOf d instructions mask outputs ≡ gives []
@@ -126,14 +89,14 @@ module _ (s : Session) (i : Idle s) (room : s .party .taken + 2 ≤ limit) (q : 
   unfolding complete
   complete-silent =
       and-intro (eq-eqb _ 1 (q .domain-set))
-      (and-intro (eq-eqb _ 1 (q .instructions-set)) (any-found 4 _ (q .number) (q .number-most) (q .output-set)))
+      (and-intro (eq-eqb _ 1 (q .instructions-set)) (some-at 4 _ (q .number) (q .number-most) (q .output-set)))
 
   start-passes : startRuleOf command.Start s ≡ gives []
   unfolding startRuleOf
   start-passes = ready-silent (s .shared .mask) (s .shared .outputs) (q .all-silent) (s .party .domain) (s .party .instructions) complete-silent
 
   start-writes : judgeCommandOf command.Start ≡ gives []
-  unfolding judgeCommandOf fieldsSpare allSpare spares faultOf lineOf fieldsOf lastRuleOf domainKept windowKept pick _and_ allowed
+  unfolding judgeCommandOf fieldsUnrefused allUnrefused unrefused faultOf lineOf fieldsOf lastRuleOf domainKept windowKept pick _and_ allowed
   start-writes = refl
 
   start-read : feedOf s startWords ≡
@@ -159,8 +122,8 @@ heard : ℕ → ℕ → Bool
 heard n code = some (channelsOf code) (λ c. on (4 * n + c) 65535)
 
 all-heard : (n code : ℕ) → n < 4 → code < 5 → heard n code ≡ true
-unfolding heard channelsOf some on everyBelow _and_ _or_
-all-heard n code h k = every (heard n) 5 (every (λ m. everyBelow (heard m) 5) 4 refl n h) code k
+unfolding heard channelsOf some on every _and_ _or_
+all-heard n code h k = every-at 5 (heard n) (every-at 4 (λ m. every 5 (heard m)) refl n h) code k
 
 -- so under it every set output counts, and a start is document 01's
 module _ (outputs : List Buffer) (a : Coded outputs) where
@@ -174,13 +137,13 @@ module _ (outputs : List Buffer) (a : Coded outputs) where
 
   covered-in-full : (d : Domain) → covered 65535 outputs d ≡ coveredInFull outputs d
   unfolding covered coveredInFull
-  covered-in-full d = all-same 4 _ _ (λ n h. ap (λ (t : Bool). pick t (containsDomain d (output outputs n)) true) (counts-in-full n h))
+  covered-in-full d = every-same 4 _ _ (λ n h. ap (λ (t : Bool). pick t (containsDomain d (output outputs n)) true) (counts-in-full n h))
 
   disjoint-in-full : disjoint 65535 outputs ≡ disjointInFull outputs
   unfolding disjoint disjointInFull
   disjoint-in-full =
-      all-same 4 _ _
-      (λ n h. all-same n _ _
+      every-same 4 _ _
+      (λ n h. every-same n _ _
       (λ m k. ap₂ (λ (t u : Bool). pick (t and u) (apart (output outputs n) (output outputs m)) true) (counts-in-full n h) (counts-in-full m (omega arith))))
 
   pub ready-in-full : (d : Domain) (instructions : Buffer) → readyOf d instructions 65535 outputs ≡ readyInFull d instructions outputs
@@ -189,7 +152,7 @@ module _ (outputs : List Buffer) (a : Coded outputs) where
 
   pub claim-in-full : (d : Domain) → claimOf d 65535 outputs ≡ claimInFull d outputs
   unfolding claimOf claimInFull
-  claim-in-full d = ap (λ (n : ℕ). pairsOf d * n) (sum-same 4 _ _ (λ n h. ap (λ (t : Bool). pick t 1 0) (counts-in-full n h)))
+  claim-in-full d = ap (λ (n : ℕ). pairsOf d * n) (count-same 4 _ _ counts-in-full)
 
 -- a command that was accepted keeps every set output's code among 0 to 4
 allowed-code : (w : ℕ) → formatAllowed w ≡ true → codeOf w ≤ 4

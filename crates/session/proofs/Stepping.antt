@@ -7,46 +7,26 @@ use native.Mathlib.Omega.{arith}
 use lib.Dec.{eqb, leb, ltb}
 use lib.ListN.{length, getD}
 use borrow.Author.Tests.{lt-ltb, le-ltb}
-use denote.Enum.Declared.{tagOf}
-use types.Run.{OneOf, miss}
 use Rattle.laws.specs.Choice.{pick}
 use Rattle.laws.proofs.Choice.{pick-yes, pick-no}
-use Rattle.refusal.specs.Told.{Told, gives, refuses}
+use Rattle.refusal.specs.Told.{Told, gives, refuses, thenTold}
 use Rattle.command.specs.Table.{countOf}
 use Rattle.command.specs.Commands.{EachAllowed}
-use Rattle.command.specs.Rules.{lastRuleOf}
-use Rattle.command.specs.Writer.{thenTold}
+use Rattle.rules.specs.Rules.{lastRuleOf}
 use Rattle.command.specs.declared.commands.Command.{Command}
 use Rattle.command.specs.declared.commands.Command.the-variants as command
-use Rattle.command.proofs.commands.Command.{the-type}
 use Rattle.command.proofs.Headers.{count-most}
-use Rattle.command.proofs.Judging.{then-refused, then-given}
 use Rattle.state.specs.State.{Open, Party, Shared, Session, none}
 use Rattle.state.specs.Start.{readyOf}
-use Rattle.state.specs.Effects.{Numbered, limit, opening, took, stop, withParameter, after}
+use Rattle.state.specs.Effects.{limit, opening, took, stop, withParameter, after}
 use Rattle.session.specs.Step.{Reply, stillOpen, completed, refused, Stepped, refusing, startRuleOf, judged, completing, placing, stepOf}
 use Rattle.state.specs.Valid.{parametersOf, OpenValid, Valid}
-use Rattle.state.specs.Asked.{Held, OwnAsked, AcceptAsked, Given}
+use Rattle.state.specs.Asked.{Held, OwnAsked, Given}
 use Rattle.session.specs.Asked.{Left, CompleteAsked, ParameterAsked}
-use Rattle.state.specs.Cells.{Sized, partyOf, partyCells, tallyCells, sharedOf, sharedCells, sessionOf}
+use Rattle.state.specs.Cells.{Sized, partyOf, partyCells, tallyCells, sharedOf, sharedCells, sessionOf, ownLength}
 use Rattle.state.proofs.Cells.{own-canon, tally-canon, shared-canon}
-use Rattle.session.proofs.Kept.{whole-allowed, allowed-more}
-use Rattle.accept.proofs.Numbers.{numbered}
+use Rattle.session.proofs.Kept.{allowed-more}
 use Rattle.session.proofs.Ways.{whole}
-
--- only a start asks anything of the settings
-pub no-start-rule : (c : Command) (s : Session) → OneOf (0 ∷ 2 ∷ 3 ∷ 4 ∷ 5 ∷ 6 ∷ 7 ∷ 8 ∷ 9 ∷ []) (tagOf the-type c) → startRuleOf c s ≡ gives []
-unfolding startRuleOf
-no-start-rule (command.Domain i0 j0 i1 j1) s e = refl
-no-start-rule command.Start s e = absurd (miss (0 ∷ 2 ∷ 3 ∷ 4 ∷ 5 ∷ 6 ∷ 7 ∷ 8 ∷ 9 ∷ []) 1 tt e)
-no-start-rule (command.Quiet what) s e = refl
-no-start-rule (command.Store what base format) s e = refl
-no-start-rule (command.Input number base format height) s e = refl
-no-start-rule (command.Output number base format height) s e = refl
-no-start-rule (command.Conditional base format height) s e = refl
-no-start-rule (command.OutputMask mask) s e = refl
-no-start-rule (command.ConditionalMask mask) s e = refl
-no-start-rule (command.Test test) s e = refl
 
 -- the start's rule reads the domain, the instructions, the mask and the outputs alone
 start-rule-same : (c : Command) (p q : Party) (h : Shared) → p .domain ≡ q .domain → p .instructions ≡ q .instructions →
@@ -62,19 +42,6 @@ start-rule-same (command.Conditional base format height) p q h d i = refl
 start-rule-same (command.OutputMask mask) p q h d i = refl
 start-rule-same (command.ConditionalMask mask) p q h d i = refl
 start-rule-same (command.Test test) p q h d i = refl
-
--- the rules on a whole command, as the code asks them
-module _ (c : Command) (s : Session) (told : Told) where
-  pub rule-refused : (n : ℕ) → told ≡ lastRuleOf c → told ≡ refuses n → told ≡ thenTold (lastRuleOf c) (startRuleOf c s)
-  rule-refused n e r = e ∙ sym (then-refused (startRuleOf c s) (sym e ∙ r))
-
-  pub rule-passed : (v : List ℕ) → lastRuleOf c ≡ gives v → told ≡ startRuleOf c s → told ≡ thenTold (lastRuleOf c) (startRuleOf c s)
-  rule-passed v e q = q ∙ sym (then-given (startRuleOf c s) e)
-
-pub start-rule : {c : Command} (s : Session) → c ≡ command.Start →
-    readyOf (s .party .domain) (s .party .instructions) (s .shared .mask) (s .shared .outputs) ≡ startRuleOf c s
-unfolding startRuleOf
-start-rule s e = ap (λ (c : Command). startRuleOf c s) {x = command.Start} (sym e)
 
 -- a refused word's cells: the session is stopped and its open command dropped, all else stands
 pub refusing-left : (l t s : List ℕ) → Sized l t s → (n : ℕ) (l1 : List ℕ) → l1 ≡ partyCells (stop (partyOf l [])) →
@@ -98,44 +65,22 @@ module _ (l t s : List ℕ) (a : CompleteAsked l t s) where
   abbrev ss : Session
   ss = sessionOf l t s
 
-  pub whole-numbered : (c : Command) → c ≡ whole o → AcceptAsked c l t s
-  whole-numbered c e =
-      record {
-        asked = a .asked;
-        number = subst Numbered (sym e) (numbered (whole o) (whole-allowed o line-lt passed));
-        taken = a .taken;
-      }
-    where
-      line-lt : o .line < 21
-      line-lt = unfold partyOf in a .line
+  abbrev told : Told
+  told = thenTold (lastRuleOf (whole o)) (startRuleOf (whole o) ss)
 
-      passed : EachAllowed (o .line) (parametersOf o)
-      passed = unfold partyOf in a .passed
+  pub whole-refused : (n : ℕ) → told ≡ refuses n → (l1 : List ℕ) → l1 ≡ partyCells (stop (partyOf l [])) →
+      Left (completing o ss) (refused n) l1 t s
+  unfolding completing judged
+  whole-refused n k l1 q =
+      subst (λ (x : Stepped). Left x (refused n) l1 t s) (ap (λ (x : Told). judged x (whole o) ss) (sym k))
+      (refusing-left l t s (a .asked .sized) n l1 q)
 
-  pub same-rule : (c : Command) → thenTold (lastRuleOf c) (startRuleOf c (sessionOf l [] s)) ≡ thenTold (lastRuleOf c) (startRuleOf c ss)
-  same-rule c =
-      ap (thenTold (lastRuleOf c)) (start-rule-same c (partyOf l []) (partyOf l t) (sharedOf s) (unfold partyOf in refl) (unfold partyOf in refl))
-
-  module _ (c : Command) (e : c ≡ whole o) (told : Told) (r : told ≡ thenTold (lastRuleOf c) (startRuleOf c (sessionOf l [] s))) where
-    is-judged : judged told c ss ≡ completing o ss
-    unfolding completing
-    is-judged =
-        ap (λ (x : Told). judged x c ss) (r ∙ same-rule c) ∙
-        ap (λ (d : Command). judged (thenTold (lastRuleOf d) (startRuleOf d ss)) d ss) e
-
-    pub whole-refused : (n : ℕ) → told ≡ refuses n → (l1 : List ℕ) → l1 ≡ partyCells (stop (partyOf l [])) →
-        Left (completing o ss) (refused n) l1 t s
-    unfolding judged
-    whole-refused n k l1 q =
-        subst (λ (x : Stepped). Left x (refused n) l1 t s) (ap (λ (x : Told). judged x c ss) (sym k) ∙ is-judged)
-        (refusing-left l t s (a .asked .sized) n l1 q)
-
-    pub whole-accepted : (v : List ℕ) → told ≡ gives v → (l1 t1 s1 : List ℕ) → Held (after c ss) l1 t1 s1 →
-        Left (completing o ss) (completed c) l1 t1 s1
-    unfolding judged
-    whole-accepted v k l1 t1 s1 h =
-        subst (λ (x : Stepped). Left x (completed c) l1 t1 s1) (ap (λ (x : Told). judged x c ss) (sym k) ∙ is-judged)
-        (record { reply = refl; held = h })
+  pub whole-accepted : (v : List ℕ) → told ≡ gives v → (d : Command) → d ≡ whole o → (l1 t1 s1 : List ℕ) →
+      Held (after (whole o) ss) l1 t1 s1 → Left (completing o ss) (completed d) l1 t1 s1
+  unfolding completing judged
+  whole-accepted v k d e l1 t1 s1 h =
+      subst (λ (x : Stepped). Left x (completed d) l1 t1 s1) (ap (λ (x : Told). judged x (whole o) ss) (sym k))
+      (record { reply = ap completed e; held = h })
 
 -- a step of a session whose open command has one parameter more is a step of the session before it
 reopened : Open → Session → Session
@@ -170,7 +115,7 @@ module _ (l t s : List ℕ) (w : ℕ) (a : ParameterAsked l t s w) where
   count-lt : partyOf l t .opened .count < 4
   count-lt = omega (arith, open-valid .fewer, count-most (partyOf l t .opened .line) (a .line))
 
-  pub place-asked : (length l ≡ 17) × ((getD l 3 0 < 4) × (partyOf l [] .opened .count ≡ getD l 3 0))
+  pub place-asked : (length l ≡ ownLength) × ((getD l 3 0 < 4) × (partyOf l [] .opened .count ≡ getD l 3 0))
   unfolding partyOf
   place-asked = (a .given .sized .own-length, (count-lt, refl))
 
@@ -179,7 +124,7 @@ module _ (l t s : List ℕ) (w : ℕ) (a : ParameterAsked l t s w) where
   count-fits = omega (arith, count-lt)
 
   module _ (l1 : List ℕ) (e1 : l1 ≡ partyCells (opening next (partyOf l []))) where
-    pub placed-asked : (length l1 ≡ 17) × (partyOf l1 [] .taken < limit)
+    pub placed-asked : (length l1 ≡ ownLength) × (partyOf l1 [] .taken < limit)
     unfolding partyOf partyCells
     placed-asked = rw e1 (refl, a .taken)
 

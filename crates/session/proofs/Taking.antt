@@ -20,7 +20,7 @@ use Rattle.session.specs.Step.{Reply, stillOpen, refused, Stepped, refus
 use Rattle.state.specs.Valid.{Valid}
 use Rattle.state.specs.Asked.{Held, Given}
 use Rattle.session.specs.Asked.{Left, OpenAsked, ParameterAsked}
-use Rattle.state.specs.Cells.{Sized, partyOf, partyCells, tallyCells, sharedOf, sharedCells, sessionOf}
+use Rattle.state.specs.Cells.{Sized, partyOf, partyCells, tallyCells, sharedOf, sharedCells, sessionOf, ownLength}
 use Rattle.state.proofs.Cells.{own-canon, tally-canon, shared-canon}
 use Rattle.session.proofs.Stepping.{refusing-left}
 
@@ -109,7 +109,7 @@ module _ (l t s : List ℕ) (w : ℕ) (g : Given l t s) where
         none-open : partyOf l t .opened ≡ none
         none-open = g .valid .closed (unfold partyOf in e)
 
-        pub line-asked : (length l ≡ 17) × ((partyOf l [] .taken < limit) × (partyOf l [] .opened ≡ none))
+        pub line-asked : (length l ≡ ownLength) × ((partyOf l [] .taken < limit) × (partyOf l [] .opened ≡ none))
         unfolding partyOf
         line-asked = (g .sized .own-length, (k, none-open))
 
@@ -150,6 +150,6 @@ module _ (l t s : List ℕ) (w : ℕ) (g : Given l t s) where
             known (fails x) = absurd (told-apart (sym r ∙ pick-no _ _ x))
 
 -- a new session's cells
-pub begun : Held newSession (set (replicate 17 0) 2 21) (replicate 2 0) (set (replicate 101 0) 0 65535)
+pub begun : Held newSession (set (replicate ownLength 0) 2 21) (replicate 2 0) (set (replicate 101 0) 0 65535)
 unfolding partyCells tallyCells sharedCells
 begun = record { own-cells = refl; tally-cells = refl; shared-cells = refl }

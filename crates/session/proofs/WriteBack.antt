@@ -13,9 +13,9 @@ use Rattle.laws.proofs.Table.{each, _&_}
 use Rattle.refusal.specs.Told.{gives}
 use Rattle.command.specs.Table.{headers, headerOf, countOf}
 use Rattle.command.specs.Commands.{wordsOf}
-use Rattle.command.specs.Rules.{lastRuleOf}
+use Rattle.rules.specs.Rules.{lastRuleOf}
 use Rattle.command.specs.declared.commands.Command.{Command}
-use Rattle.command.proofs.Headers.{stands}
+use Rattle.command.proofs.Headers.{listed}
 use Rattle.state.specs.State.{Open, Session, none, newSession}
 use Rattle.state.specs.Effects.{took, withParameter, after}
 use Rattle.session.specs.Step.{Reply, stillOpen, completed, refused, Stepped, stepOf}
@@ -87,7 +87,7 @@ module _ (s : Session) (w : ℕ) (v : Valid s) where
       after-header =
           let h : placeOf w headers < 21 = ltb-true (placeOf w headers) 21 k in
           some-held (begun w) (ne-eqb (placeOf w headers) 21 (λ e. not-none e h)) ∙
-          ap {B = List ℕ} (λ (h : ℕ). h ∷ []) (stands w h)
+          ap {B = List ℕ} (λ (h : ℕ). h ∷ []) (listed w h)
   taken-way t (fills p m) a = held-more p ∙ sym (some-held o (p .isOpen))
   taken-way t (ends p l c e u u' r q) a =
       held-whole p l c e ∙ sym (ap (λ (h : List ℕ). wordsOf c ++ h) (held-after p l c e u r) ∙ append-nil (wordsOf c))

@@ -5,7 +5,7 @@ use Prim.Native.Nat.{ℕ, _+_, _-_, _<_, _≤_}
 use lib.ListN.{length, getD}
 use Rattle.refusal.specs.Told.{gives, refuses}
 use Rattle.command.specs.Commands.{fieldsOf, wordsOf}
-use Rattle.command.specs.Writer.{judgeCommandOf}
+use Rattle.rules.specs.Writer.{judgeCommandOf}
 use Rattle.command.specs.declared.commands.Command.{Command}
 use Rattle.state.specs.State.{Open, Session, none}
 use Rattle.state.specs.Effects.{limit, after}

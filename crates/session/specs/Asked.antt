@@ -1,20 +1,40 @@
 -- What the entries and inner routines ask of the cells that they are lent, and what these hold at return. Assumes nothing.
 use mathlib.Core.Path.{_≡_}
 use mathlib.Core.Bool.{true}
-use mathlib.Core.List.{List}
+use mathlib.Core.List.{List, []}
 use Prim.Native.Nat.{ℕ, _<_}
+use lib.Dec.{eqb}
+use lib.ListN.{length}
+use Rattle.laws.specs.Choice.{pick}
 use Rattle.command.specs.Kinds.{allowed, kindOf}
 use Rattle.command.specs.Commands.{EachAllowed}
 use Rattle.state.specs.Effects.{limit}
 use Rattle.session.specs.Step.{Reply, Stepped}
 use Rattle.state.specs.Valid.{parametersOf}
-use Rattle.state.specs.Cells.{partyOf}
+use Rattle.state.specs.Start.{readinessOf}
+use Rattle.state.specs.Cells.{partyOf, sharedOf, ownLength, sharedLength}
 use Rattle.state.specs.Asked.{Held, Given, OwnAsked}
 
 -- a step's reply, and cells that hold the session after it
 pub record Left (t : Stepped) (r : Reply) (own tallies shared : List ℕ) : Type 0 where
   pub reply : r ≡ t .reply
   pub held : Held (t .session) own tallies shared
+
+-- the refusal of a command whose parameters are allowed and which isn't accepted, by its line and what the settings give a start:
+-- "5: i0 > i1 or j0 > j1" is a domain's, 7 to 9 are a start's, and "6: window rule broken" is of a command that describes a window
+unfoldable pub refusalAt : ℕ → ℕ → ℕ
+refusalAt line readiness = pick (eqb line 0) 5 (pick (eqb line 1) readiness 6)
+
+-- what the settings in these cells give a start
+abbrev pub readinessIn : List ℕ → List ℕ → ℕ
+readinessIn own shared =
+    readinessOf (partyOf own [] .domain) (partyOf own [] .instructions) (sharedOf shared .mask) (sharedOf shared .outputs)
+
+-- the line of a command that isn't accepted: where it is a start, the settings refuse it
+pub record RefusalAsked (own shared : List ℕ) (line : ℕ) : Type 0 where
+  pub own-length : length own ≡ ownLength
+  pub shared-length : length shared ≡ sharedLength
+  pub unready : line ≡ 1 → readinessIn own shared ≡ 0 → ⊥
 
 -- an open command with all its parameters, in a session that takes words
 pub record CompleteAsked (own tallies shared : List ℕ) : Type 0 where

@@ -13,6 +13,11 @@ pub data First : Type 0 where
   nothing : First
   first : ℕ → First
 
+-- the same as a number: 0 for none
+abbrev pub firstStatus : First → ℕ
+firstStatus nothing = 0
+firstStatus (first number) = number
+
 pub record Fed : Type 0 where
   pub taken : ℕ
   pub commands : List Command

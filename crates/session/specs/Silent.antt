@@ -4,13 +4,14 @@ use mathlib.Core.Path.{_≡_}
 use mathlib.Core.Bool.{Bool, true}
 use mathlib.Core.List.{List, [], _∷_}
 use Prim.Native.Nat.{ℕ, _+_, _*_, _<_, _≤_}
+use Rattle.laws.specs.Below.{every, count}
 use Rattle.laws.specs.Choice.{_and_, pick}
 use Rattle.refusal.specs.Told.{Told, gives, refuses}
 use Rattle.command.specs.Format.{codeOf}
 use Rattle.command.specs.Commands.{wordsOf}
 use Rattle.command.specs.declared.commands.Command.the-variants as command
 use Rattle.state.specs.State.{Buffer, Domain, Session}
-use Rattle.state.specs.Start.{allBelow, sumBelow, output, isSet, silent, containsDomain, apart, complete, readyOf, pairsOf, claimOf}
+use Rattle.state.specs.Start.{output, isSet, silent, containsDomain, apart, complete, readyOf, pairsOf, claimOf}
 use Rattle.session.specs.Feed.{nothing, Fed}
 
 -- every set output is silent
@@ -49,13 +50,13 @@ module _ (outputs : List Buffer) where
 
   -- 8: "the domain is not inside every set output's window"
   unfoldable pub coveredInFull : Domain → Bool
-  coveredInFull d = allBelow 4 (λ n. pick (countsInFull n) (containsDomain d (output outputs n)) true)
+  coveredInFull d = every 4 (λ n. pick (countsInFull n) (containsDomain d (output outputs n)) true)
 
   -- 9: "spans of two set outputs share a byte"
   unfoldable pub disjointInFull : Bool
   disjointInFull =
-      allBelow 4
-      (λ n. allBelow n (λ m. pick (countsInFull n and countsInFull m) (apart (output outputs n) (output outputs m)) true))
+      every 4
+      (λ n. every n (λ m. pick (countsInFull n and countsInFull m) (apart (output outputs n) (output outputs m)) true))
 
 -- 7, 8 and 9
 unfoldable pub readyInFull : Domain → Buffer → List Buffer → Told
@@ -66,7 +67,7 @@ readyInFull d instructions outputs =
 
 -- "the number of pairs in the domain times the number of set outputs"
 unfoldable pub claimInFull : Domain → List Buffer → ℕ
-claimInFull d outputs = pairsOf d * sumBelow 4 (λ n. pick (countsInFull outputs n) 1 0)
+claimInFull d outputs = pairsOf d * count 4 (countsInFull outputs)
 
 -- a start is document 01's: it is judged so, and claims so much
 pub record AsBefore (s : Session) : Type 0 where

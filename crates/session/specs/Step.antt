@@ -4,12 +4,11 @@ use Prim.Native.Nat.{ℕ}
 use lib.Dec.{eqb, leb, ltb}
 use lib.ListN.{length}
 use Rattle.laws.specs.Choice.{pick, placeOf}
-use Rattle.refusal.specs.Told.{Told, gives, refuses}
+use Rattle.refusal.specs.Told.{Told, gives, refuses, thenTold}
 use Rattle.command.specs.Table.{headers, countOf}
 use Rattle.command.specs.Kinds.{allowed, faultOf, kindOf}
 use Rattle.command.specs.Commands.{commandOf}
-use Rattle.command.specs.Rules.{lastRuleOf}
-use Rattle.command.specs.Writer.{thenTold}
+use Rattle.rules.specs.Rules.{lastRuleOf}
 use Rattle.command.specs.declared.commands.Command.{Command}
 use Rattle.state.specs.State.{Open, Domain, Session, atLine, none}
 use Rattle.state.specs.Effects.{limit, opening, took, stop, withParameter, after}

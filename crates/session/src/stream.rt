@@ -2,29 +2,23 @@
 use command::commands;
 use command::commands::Command;
 use command::kinds;
-use command::kinds::Checked;
 use command::table;
 use command::table::Line;
+use refusal;
 use refusal::Refusal;
-use rules::rules;
-use start::accept;
-use start::start;
+use start::ready;
 use state::own;
 use state::own::WordPosition;
 use state::settings;
 ghost use mathlib.Core.Path.{_≡_};
 ghost use mathlib.Core.List.{[]};
-ghost use Prim.Native.Nat.{_<_};
-ghost use lib.ListN.{length};
-ghost use Rattle.command.specs.Kinds.{toldChecked};
-ghost use Rattle.command.specs.Rules.{lastRuleOf};
-ghost use Rattle.command.specs.Writer.{thenTold};
+ghost use Rattle.refusal.specs.Number.{numberOf};
 ghost use Rattle.state.specs.State.{newSession};
 ghost use Rattle.state.specs.Effects.{withParameter};
-ghost use Rattle.session.specs.Step.{completing, parameterStep, placing, startRuleOf, stepOf};
+ghost use Rattle.session.specs.Step.{completing, parameterStep, placing, stepOf};
 ghost use Rattle.state.specs.Cells.{Sized, partyOf, sessionOf};
 ghost use Rattle.state.specs.Asked.{Given, Held};
-ghost use Rattle.session.specs.Asked.{CompleteAsked, Left, OpenAsked, ParameterAsked};
+ghost use Rattle.session.specs.Asked.{CompleteAsked, Left, OpenAsked, ParameterAsked, RefusalAsked, readinessIn, refusalAt};
 ghost use Rattle.session.specs.Answers.{PieceLeft, completedBy, replyOf};
 ghost use Rattle.session.specs.Feed.{feedOf};
 
@@ -38,28 +32,24 @@ pub enum Answer {
     Refused(Refusal),
 }
 
-// The rules on a whole command: 5 and 6 of its fields, and of a start 7, 8 and 9 of the settings.
-fn whole_rule(
+// The refusal of a command that isn't accepted though each of its parameters is allowed: of a domain 5, of a start the number that
+// the settings give it, and 6 of a command that describes a window.
+fn refusal_of(
     own: &[u32; state::OWN_CELLS],
     shared: &[u32; state::SHARED_CELLS],
-    command: Command,
-) -> Checked
-    requires { ⌜ (length (now own) ≡ 17) × (length (now shared) ≡ 101) ⌝ }
-    ensures { λ r. ⌜ toldChecked r ≡ thenTold (lastRuleOf command) (startRuleOf command (sessionOf (now (own .entry)) [] (now (shared .entry)))) ⌝ }
+    line: u32,
+) -> Refusal
+    requires { ⌜ RefusalAsked (now own) (now shared) line ⌝ }
+    ensures { λ r. ⌜ numberOf r ≡ refusalAt line (readinessIn (now (own .entry)) (now (shared .entry))) ⌝ }
 {
-    let rule = rules::last_rule(command);
-    let Checked::Fine = rule else {
-        return rule;
-    };
-    if let Command::Start = command {
-        start::ready(own, shared)
-    } else {
-        Checked::Fine
+    match line {
+        0 => Refusal::DomainCrossed,
+        1 => refusal::with_number(ready::readiness(own, shared)),
+        _ => Refusal::WindowRule,
     }
 }
 
-// All parameters are there: the command is judged as a whole, and accepted or refused. Where the tests of its line accept
-// it, nothing more is asked.
+// All parameters are there: the command is taken, or the session stopped with its refusal.
 fn complete(
     own: &mut [u32; state::OWN_CELLS],
     tallies: &mut [u64; state::TALLIES],
@@ -73,22 +63,13 @@ fn complete(
     let p1 = own[own::PARAMETER_1];
     let p2 = own[own::PARAMETER_2];
     let p3 = own[own::PARAMETER_3];
-    let command = commands::build(line, p0, p1, p2, p3);
     if 0 < accept::take_last(own, tallies, shared, line, p0, p1, p2, p3) {
         own::close(own);
-        return Answer::Done(command);
+        return Answer::Done(commands::build(line, p0, p1, p2, p3));
     }
-    let rule = whole_rule(own, shared, command);
-    match rule {
-        Checked::Refused(why) => {
-            own::stop(own);
-            Answer::Refused(why)
-        }
-        Checked::Fine => {
-            accept::accept(own, tallies, shared, command);
-            Answer::Done(command)
-        }
-    }
+    let why = refusal_of(own, shared, line);
+    own::stop(own);
+    Answer::Refused(why)
 }
 
 // A parameter that its kind allows.

@@ -8,8 +8,10 @@ use native.Mathlib.Nat.{zero-add, mod-lt, mod-one}
 use native.Mathlib.Omega.{arith}
 use lib.Dec.{eqb}
 use lib.Pow.{pow-pos, shr-shr, field, mod-mod-pow}
-use Rattle.laws.specs.Masks.{on, some}
-use Rattle.laws.proofs.Masks.{pack-on, none-zero, some-same}
+use Rattle.laws.specs.Below.{some}
+use Rattle.laws.specs.Masks.{on}
+use Rattle.laws.proofs.Below.{some-same}
+use Rattle.laws.proofs.Masks.{pack-on, none-zero}
 use Rattle.laws.proofs.Table.{NoneOf}
 use Rattle.command.specs.Format.{channelsOf, codeOf}
 use Rattle.command.proofs.Windows.{channels-past}

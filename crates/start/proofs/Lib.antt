@@ -1,3 +1,2 @@
-pub mod Accepting
 pub mod Channels
 pub mod Readiness

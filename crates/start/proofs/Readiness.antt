@@ -9,21 +9,22 @@ use native.Mathlib.Omega.{arith}
 use lib.Dec.{eqb, ltb}
 use lib.ListN.{getD}
 use borrow.Author.Tests.{eq-eqb, ne-eqb}
+use Rattle.laws.specs.Below.{some, every, sum, count}
 use Rattle.laws.specs.Choice.{_and_, pick}
+use Rattle.laws.specs.Masks.{_or_, digit}
 use Rattle.laws.proofs.Choice.{pick-yes, pick-no, and-left, and-yes, and-no-left}
+use Rattle.refusal.specs.Number.{IsNumber}
 use Rattle.refusal.specs.Told.{Told, gives, refuses}
+use Rattle.refusal.specs.declared.Refusal.the-variants.{StartUnset, DomainOutside, SpansShared}
 use Rattle.layout.specs.Layout.{wellFormed, rowStep, spanOf, windowRule, judgeOf}
 use Rattle.layout.proofs.Window.{judged-malformed, judged-broken, judged-accepted}
 use Rattle.command.specs.Format.{pitchOf, tiledOf, codeOf, sizeOf, windowOf}
 use Rattle.command.proofs.Windows.{window-read}
-use Rattle.start.specs.declared.start.Output.{Output}
-use Rattle.start.specs.declared.start.Window.{Window}
+use Rattle.start.specs.declared.ready.Output.{Output}
+use Rattle.start.specs.declared.ready.Window.{Window}
 use Rattle.state.specs.State.{Buffer, Domain}
 use Rattle.state.specs.Cells.{bufferAt, partyOf, sharedOf}
 use Rattle.state.specs.Start.{
-  anyBelow,
-  allBelow,
-  sumBelow,
   valueOf,
   stepOfBuffer,
   spanOfBuffer,
@@ -37,6 +38,8 @@ use Rattle.state.specs.Start.{
   covered,
   disjoint,
   readyOf,
+  numberTold,
+  readinessOf,
   pairsOf,
   claimOf,
 }
@@ -52,9 +55,43 @@ use Rattle.start.specs.Windows.{
   someSet,
   eachHolds,
   eachApart,
-  verdictOf,
+  firstOf,
 }
 use Rattle.start.proofs.Channels.{from-own}
+
+-- four tests, taken as the code takes them
+some-of-four : (p q r s : Bool) → pick (pick (pick p true q) true r) true s ≡ (p or (q or (r or (s or false))))
+unfolding pick _or_
+some-of-four true q r s = refl
+some-of-four false true r s = refl
+some-of-four false false true s = refl
+some-of-four false false false true = refl
+some-of-four false false false false = refl
+
+each-of-four : (p q r s : Bool) → (((p and q) and r) and s) ≡ (p and (q and (r and (s and true))))
+unfolding _and_
+each-of-four false q r s = refl
+each-of-four true false r s = refl
+each-of-four true true false s = refl
+each-of-four true true true false = refl
+each-of-four true true true true = refl
+
+pairs-of-four : (p q r s t u : Bool) →
+    ((p and (q and r)) and ((s and t) and u)) ≡
+    (true and ((p and true) and ((q and (r and true)) and ((s and (t and (u and true))) and true))))
+unfolding _and_
+pairs-of-four false q r s t u = refl
+pairs-of-four true false r s t u = refl
+pairs-of-four true true false s t u = refl
+pairs-of-four true true true false t u = refl
+pairs-of-four true true true true false u = refl
+pairs-of-four true true true true true false = refl
+pairs-of-four true true true true true true = refl
+
+digit-picked : (t : Bool) → pick t 1 0 ≡ digit t
+unfolding pick digit
+digit-picked true = refl
+digit-picked false = refl
 
 -- what a start sees of a window, by the tests of its layout's numbers
 module _
@@ -192,21 +229,31 @@ module _ (a b c d : Output) where
 
 -- 7, 8 and 9
 module _ (x y z : Bool) where
-  pub verdict-seven : x ≡ false → refuses 7 ≡ verdictOf x y z
-  unfolding verdictOf
-  verdict-seven e = sym (pick-no _ _ e)
+  pub first-seven : x ≡ false → 7 ≡ firstOf x y z
+  unfolding firstOf
+  first-seven e = sym (pick-no _ _ e)
 
-  pub verdict-eight : x ≡ true → y ≡ false → refuses 8 ≡ verdictOf x y z
-  unfolding verdictOf
-  verdict-eight e f = sym (pick-yes _ _ e ∙ pick-no _ _ f)
+  pub first-eight : x ≡ true → y ≡ false → 8 ≡ firstOf x y z
+  unfolding firstOf
+  first-eight e f = sym (pick-yes _ _ e ∙ pick-no _ _ f)
 
-  pub verdict-nine : x ≡ true → y ≡ true → z ≡ false → refuses 9 ≡ verdictOf x y z
-  unfolding verdictOf
-  verdict-nine e f g = sym (pick-yes _ _ e ∙ (pick-yes _ _ f ∙ pick-no _ _ g))
+  pub first-nine : x ≡ true → y ≡ true → z ≡ false → 9 ≡ firstOf x y z
+  unfolding firstOf
+  first-nine e f g = sym (pick-yes _ _ e ∙ (pick-yes _ _ f ∙ pick-no _ _ g))
 
-  pub verdict-fine : x ≡ true → y ≡ true → z ≡ true → gives [] ≡ verdictOf x y z
-  unfolding verdictOf
-  verdict-fine e f g = sym (pick-yes _ _ e ∙ (pick-yes _ _ f ∙ pick-yes _ _ g))
+  pub first-fine : x ≡ true → y ≡ true → z ≡ true → 0 ≡ firstOf x y z
+  unfolding firstOf
+  first-fine e f g = sym (pick-yes _ _ e ∙ (pick-yes _ _ f ∙ pick-yes _ _ g))
+
+abbrev toldFirst : Bool → Bool → Bool → Told
+toldFirst x y z = pick x (pick y (pick z (gives []) (refuses 9)) (refuses 8)) (refuses 7)
+
+told-first : (x y z : Bool) → firstOf x y z ≡ numberTold (toldFirst x y z)
+unfolding firstOf numberTold pick
+told-first true true true = refl
+told-first true true false = refl
+told-first true false z = refl
+told-first false y z = refl
 
 -- the four outputs that the shared cells hold, each with the mask's bits from its own on, and the tests on them as a start has them
 module _ (shared : List ℕ) where
@@ -260,18 +307,24 @@ module _ (shared : List ℕ) where
   counts-3 = ap (λ (t : Bool). eqb (getD shared 33 0) 1 and t) (from-own m0 3 (getD shared 35 0))
 
   disjoint-seen : eachApart a b c d ≡ disjoint mask outputs
-  unfolding eachApart disjoint allBelow output sharedOf _and_
+  unfolding eachApart disjoint every output sharedOf _and_
   disjoint-seen =
+      let keep : ℕ → ℕ → Bool = λ n m. pick (counts mask outputs n and counts mask outputs m) (apart (output outputs n) (output outputs m)) true in
       rw
       (apart-of m1 m0 (at 25) (at 21), apart-of m2 m0 (at 29) (at 21), apart-of m2 m1 (at 29) (at 25), apart-of m3 m0 (at 33) (at 21), apart-of m3 m1 (at 33) (at 25), apart-of m3 m2 (at 33) (at 29), counts-0, counts-1, counts-2, counts-3)
-      refl
+      (pairs-of-four (keep 1 0) (keep 2 0) (keep 2 1) (keep 3 0) (keep 3 1) (keep 3 2))
 
   pub counted-outputs : {w x y z : ℕ} →
       (w ≡ pick (test m0 (at 21)) 1 0) × (w ≤ 1) → (x ≡ pick (test m1 (at 25)) 1 0) × (x ≤ 1) →
       (y ≡ pick (test m2 (at 29)) 1 0) × (y ≤ 1) → (z ≡ pick (test m3 (at 33)) 1 0) × (z ≤ 1) →
-      (w + x + y + z ≡ sumBelow 4 (λ n. pick (counts mask outputs n) 1 0)) × (w + x + y + z ≤ 4)
-  unfolding sumBelow
-  counted-outputs e f g h = (rw (← counts-0, ← counts-1, ← counts-2, ← counts-3) (omega arith), omega arith)
+      (w + x + y + z ≡ count 4 (counts mask outputs)) × (w + x + y + z ≤ 4)
+  unfolding count sum
+  counted-outputs e f g h =
+      let one = e .0 ∙ digit-picked _ ∙ ap digit counts-0 in
+      let two = f .0 ∙ digit-picked _ ∙ ap digit counts-1 in
+      let three = g .0 ∙ digit-picked _ ∙ ap digit counts-2 in
+      let four = h .0 ∙ digit-picked _ ∙ ap digit counts-3 in
+      (omega (arith, one, two, three, four), omega arith)
 
   module _ (own : List ℕ) where
     abbrev domain : Domain
@@ -281,24 +334,64 @@ module _ (shared : List ℕ) where
     instructions = partyOf own [] .instructions
 
     complete-seen : (eqb (getD own 8 0) 1 and (eqb (getD own 13 0) 1 and someSet a b c d)) ≡ complete domain instructions outputs
-    unfolding someSet complete anyBelow isSet output partyOf sharedOf pick
-    complete-seen = rw (set-of m0 (at 21), set-of m1 (at 25), set-of m2 (at 29), set-of m3 (at 33)) refl
+    unfolding someSet complete some isSet output partyOf sharedOf
+    complete-seen =
+        rw (set-of m0 (at 21), set-of m1 (at 25), set-of m2 (at 29), set-of m3 (at 33))
+        (ap (λ (t : Bool). eqb (getD own 8 0) 1 and (eqb (getD own 13 0) 1 and t)) (some-of-four _ _ _ _))
 
     covered-seen : eachHolds a b c d (getD own 11 0) (getD own 12 0) ≡ covered mask outputs domain
-    unfolding eachHolds covered allBelow output containsDomain partyOf sharedOf _and_
+    unfolding eachHolds covered every output containsDomain partyOf sharedOf
     covered-seen =
         let i = getD own 11 0 in
         let j = getD own 12 0 in
+        let has : ℕ → Bool = λ n. pick (counts mask outputs n) (containsDomain domain (output outputs n)) true in
         rw
         (holds-of m0 (at 21) i j, holds-of m1 (at 25) i j, holds-of m2 (at 29) i j, holds-of m3 (at 33) i j, counts-0, counts-1, counts-2, counts-3)
-        refl
+        (each-of-four (has 0) (has 1) (has 2) (has 3))
 
-    pub ready-told : {e f g h : Output} {t : Told} {some p x y z : Bool} → e ≡ a → f ≡ b → g ≡ c → h ≡ d →
+    pub ready-told : {e f g h : Output} {t : ℕ} {some p x y z : Bool} → e ≡ a → f ≡ b → g ≡ c → h ≡ d →
         some ≡ someSet e f g h → p ≡ (eqb (getD own 13 0) 1 and some) → x ≡ (eqb (getD own 8 0) 1 and p) →
-        y ≡ eachHolds e f g h (getD own 11 0) (getD own 12 0) → z ≡ eachApart e f g h → t ≡ verdictOf x y z →
-        t ≡ readyOf domain instructions mask outputs
-    unfolding readyOf verdictOf
-    ready-told ea eb ec ed es ep ex ey ez et = cc (complete-seen, covered-seen, disjoint-seen)
+        y ≡ eachHolds e f g h (getD own 11 0) (getD own 12 0) → z ≡ eachApart e f g h → t ≡ firstOf x y z →
+        t ≡ readinessOf domain instructions mask outputs
+    unfolding readinessOf readyOf
+    ready-told {x = x} {y = y} {z = z} ea eb ec ed es ep ex ey ez et =
+        cc (complete-seen, covered-seen, disjoint-seen, told-first x y z)
+
+-- the number and the answer tell the same
+first-given : (x y z : Bool) → numberTold (toldFirst x y z) ≡ 0 → toldFirst x y z ≡ gives []
+unfolding numberTold pick
+first-given true true true e = refl
+first-given true true false e = absurd (omega arith)
+first-given true false z e = absurd (omega arith)
+first-given false y z e = absurd (omega arith)
+
+first-refused : (x y z : Bool) → (numberTold (toldFirst x y z) ≡ 0 → ⊥) → toldFirst x y z ≡ refuses (numberTold (toldFirst x y z))
+unfolding numberTold pick
+first-refused true true true n = absurd (n refl)
+first-refused true true false n = refl
+first-refused true false z n = refl
+first-refused false y z n = refl
+
+first-number : (x y z : Bool) → (numberTold (toldFirst x y z) ≡ 0 → ⊥) → IsNumber (numberTold (toldFirst x y z))
+unfolding numberTold pick
+first-number true true true n = absurd (n refl)
+first-number true true false n = record { refusal = SpansShared; number = refl }
+first-number true false z n = record { refusal = DomainOutside; number = refl }
+first-number false y z n = record { refusal = StartUnset; number = refl }
+
+module _ (d : Domain) (i : Buffer) (m : ℕ) (o : List Buffer) where
+  pub number-given : readinessOf d i m o ≡ 0 → readyOf d i m o ≡ gives []
+  unfolding readinessOf readyOf
+  number-given e = first-given _ _ _ e
+
+  pub number-refused : (readinessOf d i m o ≡ 0 → ⊥) → readyOf d i m o ≡ refuses (readinessOf d i m o)
+  unfolding readinessOf readyOf
+  number-refused n = first-refused _ _ _ n
+
+  -- so it is the number of a refusal where it isn't 0
+  pub readiness-number : (readinessOf d i m o ≡ 0 → ⊥) → IsNumber (readinessOf d i m o)
+  unfolding readinessOf readyOf
+  readiness-number n = first-number _ _ _ n
 
 -- what a start claims
 module _ (bits flag format : ℕ) {t : Bool} (c : t ≡ countsBy bits flag format) where
@@ -320,7 +413,7 @@ claim-fits h k = mul-le-mul {n₂ = 16777216} {m₂ = 4} h k
 
 pub claim-told : (own shared : List ℕ) {p n : ℕ} →
     (p ≡ (getD own 11 0 - getD own 9 0 + 1) * (getD own 12 0 - getD own 10 0 + 1)) × (p ≤ 16777216) →
-    (n ≡ sumBelow 4 (λ n. pick (counts (sharedOf shared .mask) (sharedOf shared .outputs) n) 1 0)) × (n ≤ 4) →
+    (n ≡ count 4 (counts (sharedOf shared .mask) (sharedOf shared .outputs))) × (n ≤ 4) →
     (p * n ≡ claimOf (partyOf own [] .domain) (sharedOf shared .mask) (sharedOf shared .outputs)) × (p * n ≤ 67108864)
 unfolding claimOf pairsOf partyOf
 claim-told own shared e f = (cc, claim-fits (e .1) (f .1))

@@ -1,12 +1,11 @@
 -- An output as a start sees it, and what a start asks of one output and of two, said of what it sees. Assumes nothing.
 use mathlib.Core.Bool.{Bool, true, false}
-use mathlib.Core.List.{[]}
 use Prim.Native.Nat.{ℕ, _+_}
 use lib.Dec.{eqb, leb, ltb}
 use Rattle.laws.specs.Choice.{_and_, pick}
-use Rattle.refusal.specs.Told.{Told, gives, refuses}
-use Rattle.start.specs.declared.start.Output.{Output}
-use Rattle.start.specs.declared.start.Window.{Window}
+use Rattle.refusal.specs.Told.{Told}
+use Rattle.start.specs.declared.ready.Output.{Output}
+use Rattle.start.specs.declared.ready.Window.{Window}
 use Rattle.state.specs.State.{Buffer}
 use Rattle.state.specs.Start.{valueOf, stepOfBuffer, spanOfBuffer, unmasked}
 
@@ -55,7 +54,6 @@ module _ (a b c d : Output) where
   eachApart =
       (keepsApart b a and (keepsApart c a and keepsApart c b)) and ((keepsApart d a and keepsApart d b) and keepsApart d c)
 
--- 7, 8 and 9 by what holds of a start
-unfoldable pub verdictOf : Bool → Bool → Bool → Told
-verdictOf complete covered disjoint =
-    pick complete (pick covered (pick disjoint (gives []) (refuses 9)) (refuses 8)) (refuses 7)
+-- the first of 7, 8 and 9 by what holds of a start, 0 where none is given
+unfoldable pub firstOf : Bool → Bool → Bool → ℕ
+firstOf complete covered disjoint = pick complete (pick covered (pick disjoint 0 9) 8) 7

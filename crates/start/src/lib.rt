@@ -1,3 +1,3 @@
-// What a start asks of the settings (7, 8, 9) and claims, and what a command that was accepted does to a session's cells.
-pub mod accept;
-pub mod start;
+// What a start asks of the settings (7, 8, 9), what it claims, and its count in the tallies.
+pub mod claims;
+pub mod ready;

@@ -10,7 +10,7 @@ use lib.Seq.{drop-cons}
 use Rattle.state.specs.State.{Buffer, Party, Shared, Session, unset}
 use Rattle.state.specs.Valid.{Valid}
 use Rattle.state.specs.Asked.{Held, Given}
-use Rattle.state.specs.Cells.{bufferAt, partyOf, sharedOf, sessionOf, partyCells, tallyCells, sharedCells, Sized}
+use Rattle.state.specs.Cells.{bufferAt, partyOf, sharedOf, sessionOf, partyCells, tallyCells, sharedCells, Sized, ownLength, sharedLength}
 
 -- n entries of a list from place k on
 module _ {A : Type 0} (d : A) where
@@ -32,17 +32,17 @@ module _ {A : Type 0} (d : A) where
   all-listed : (n : ℕ) (l : List A) → length l ≡ n → listed n 0 l ≡ l
   all-listed n l e = listed-is n 0 l (omega arith) ∙ ap (λ (m : ℕ). take m l) (sym e) ∙ take-all l
 
-pub own-canon : (l t : List ℕ) → length l ≡ 17 → partyCells (partyOf l t) ≡ l
+pub own-canon : (l t : List ℕ) → length l ≡ ownLength → partyCells (partyOf l t) ≡ l
 unfolding listed partyCells partyOf
-own-canon l t h = all-listed 0 17 l h
+own-canon l t h = all-listed 0 ownLength l h
 
 pub tally-canon : (l t : List ℕ) → length t ≡ 2 → tallyCells (partyOf l t) ≡ t
 unfolding listed tallyCells partyOf
 tally-canon l t h = all-listed 0 2 t h
 
-pub shared-canon : (l : List ℕ) → length l ≡ 101 → sharedCells (sharedOf l) ≡ l
+pub shared-canon : (l : List ℕ) → length l ≡ sharedLength → sharedCells (sharedOf l) ≡ l
 unfolding listed sharedCells sharedOf
-shared-canon l h = all-listed 0 101 l h
+shared-canon l h = all-listed 0 sharedLength l h
 
 -- a session is the view of its cells
 pub party-back : (p : Party) → partyOf (partyCells p) (tallyCells p) ≡ p
@@ -73,11 +73,11 @@ shared-back h o i =
     (subst (λ (y : List Buffer). sharedOf (sharedCells (withBuffers h (listed unset 4 0 (h .outputs)) y)) ≡ withBuffers h (listed unset 4 0 (h .outputs)) y)
     (all-listed unset 16 (h .inputs) i) refl)
 
-shared-length : (h : Shared) → length (h .outputs) ≡ 4 → length (h .inputs) ≡ 16 → length (sharedCells h) ≡ 101
+shared-length : (h : Shared) → length (h .outputs) ≡ 4 → length (h .inputs) ≡ 16 → length (sharedCells h) ≡ sharedLength
 unfolding sharedCells listed
 shared-length h o i =
-    subst (λ (x : List Buffer). length (sharedCells (withBuffers h x (h .inputs))) ≡ 101) (all-listed unset 4 (h .outputs) o)
-    (subst (λ (y : List Buffer). length (sharedCells (withBuffers h (listed unset 4 0 (h .outputs)) y)) ≡ 101)
+    subst (λ (x : List Buffer). length (sharedCells (withBuffers h x (h .inputs))) ≡ sharedLength) (all-listed unset 4 (h .outputs) o)
+    (subst (λ (y : List Buffer). length (sharedCells (withBuffers h (listed unset 4 0 (h .outputs)) y)) ≡ sharedLength)
     (all-listed unset 16 (h .inputs) i) refl)
 
 module _ (s : Session) (v : Valid s) (l t c : List ℕ) (h : Held s l t c) where

@@ -1,6 +1,6 @@
 -- What a command stores in a party's own cells and tallies, said of the record: one law for each kind of command.
 -- Assumes nothing.
-use mathlib.Core.Path.{_≡_, refl, sym, ap, ap₂, _∙_, subst}
+use mathlib.Core.Path.{_≡_, refl, sym, ap, _∙_}
 use mathlib.Core.List.{List, [], _∷_}
 use Prim.Native.Nat.{ℕ, _+_, _<_, _≤_, _^_}
 use native.Mathlib.Omega.{arith}
@@ -14,15 +14,12 @@ use Rattle.state.specs.State.{Buffer, Party, Shared, newShared}
 use Rattle.state.specs.Start.{claimOf}
 use Rattle.state.specs.Effects.{domainFrom, buffer, withDomain, withInstructions, ownAfter}
 use Rattle.state.specs.Asked.{HeldOwn}
-use Rattle.state.specs.Cells.{partyOf, partyCells, tallyCells, sharedOf}
+use Rattle.state.specs.Cells.{partyOf, partyCells, tallyCells, sharedOf, ownLength}
 use Rattle.state.proofs.Cells.{own-canon, tally-canon}
 
-module _ (l : List ℕ) (h : length l ≡ 17) where
+module _ (l : List ℕ) (h : length l ≡ ownLength) where
   abbrev pub stored-cells : Stored → ℕ → ℕ → List ℕ
   stored-cells what b f = partyCells (ownAfter (command.Store what b f) newShared (partyOf l []))
-
-  pub at-stored : {w v : Stored} (b f : ℕ) (x : List ℕ) → w ≡ v → x ≡ stored-cells v b f → x ≡ stored-cells w b f
-  at-stored b f x e p = p ∙ ap (λ (w : Stored). stored-cells w b f) (sym e)
 
   pub own-instructions : (b f : ℕ) →
       partyCells (withInstructions (buffer b f 1) (partyOf l [])) ≡ stored-cells stored.Instructions b f
@@ -56,9 +53,6 @@ module _ (l : List ℕ) (h : length l ≡ 17) where
     start-tallies s c e =
         ap (λ (x : List ℕ). set (set x 0 (getD x 0 0 + 1)) 1 (getD (set x 0 (getD x 0 0 + 1)) 1 0 + c)) (sym (tally-canon l t k)) ∙
         ap {B = List ℕ} (λ (n : ℕ). (getD t 0 0 + 1) ∷ (getD t 1 0 + n) ∷ []) e
-
-    pub at-own : {c d : Command} (s : Shared) {x y : List ℕ} → c ≡ d → HeldOwn (ownAfter d s p) x y → HeldOwn (ownAfter c s p) x y
-    at-own s {x} {y} e q = subst (λ (c : Command). HeldOwn (ownAfter c s p) x y) (sym e) q
 
     same : HeldOwn p l t
     same = record { own-cells = sym (own-canon l t h); tally-cells = sym (tally-canon l t k) }

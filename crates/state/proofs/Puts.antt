@@ -8,11 +8,11 @@ use Rattle.laws.specs.Choice.{pick}
 use Rattle.laws.proofs.Table.{each, _&_}
 use Rattle.state.specs.State.{Buffer, Open, Domain, Party, atLine, none}
 use Rattle.state.specs.Effects.{domainFrom, opening, took, stop, withParameter, withDomain, withInstructions, buffer}
-use Rattle.state.specs.Cells.{partyOf, partyCells}
+use Rattle.state.specs.Cells.{partyOf, partyCells, ownLength}
 use Rattle.state.specs.Effects.{tookWords}
 use Rattle.state.proofs.Cells.{own-canon}
 
-module _ (l : List ℕ) (h : length l ≡ 17) where
+module _ (l : List ℕ) (h : length l ≡ ownLength) where
   pub close-cells :
       set (set (set (set (set (set l 2 21) 3 0) 4 0) 5 0) 6 0) 7 0 ≡ partyCells (opening none (partyOf l []))
   unfolding partyOf partyCells

@@ -1,44 +1,22 @@
 -- What a command stores in the shared cells, said of the record: one law for each kind of command. Assumes nothing.
-use mathlib.Core.Path.{_≡_, refl, sym, ap, _∙_, subst}
-use native.Mathlib.Omega.{arith}
+use mathlib.Core.Path.{_≡_, refl, sym, ap, _∙_}
 use mathlib.Core.List.{List, [], _∷_}
 use Prim.Native.Nat.{ℕ, _+_, _*_, _<_}
 use lib.ListN.{length, getD, set}
 use Rattle.laws.proofs.Table.{each, _&_}
 use Rattle.command.specs.declared.commands.NoEffect.{NoEffect}
-use Rattle.command.specs.declared.commands.Stored.{Stored}
 use Rattle.command.specs.declared.commands.Stored.the-variants as stored
 use Rattle.command.specs.declared.commands.Command.{Command}
 use Rattle.command.specs.declared.commands.Command.the-variants as command
 use Rattle.state.specs.State.{Buffer, Shared}
-use Rattle.state.specs.Effects.{Numbered, buffer, sharedAfter}
-use Rattle.state.specs.Cells.{setBuffer, sharedOf, sharedCells}
+use Rattle.state.specs.Effects.{buffer, sharedAfter}
+use Rattle.state.specs.Cells.{setBuffer, sharedOf, sharedCells, sharedLength}
 use Rattle.state.proofs.Cells.{shared-canon}
 
--- an input's and an output's number, and the place of its buffer
-pub input-number : {c : Command} {n b f k : ℕ} → Numbered c → c ≡ command.Input n b f k → n < 16
-input-number m e = subst Numbered e m
-
-pub output-number : {c : Command} {n b f k : ℕ} → Numbered c → c ≡ command.Output n b f k → n < 4
-output-number m e = subst Numbered e m
-
-pub place-of-input : {c : Command} {n b f k : ℕ} → Numbered c → c ≡ command.Input n b f k → 37 + 4 * n < 98
-place-of-input m e = omega (arith, input-number m e)
-
-pub place-of-output : {c : Command} {n b f k : ℕ} → Numbered c → c ≡ command.Output n b f k → 21 + 4 * n < 98
-place-of-output m e = omega (arith, output-number m e)
-
-module _ (l : List ℕ) (h : length l ≡ 101) where
+module _ (l : List ℕ) (h : length l ≡ sharedLength) where
   -- the shared cells after a command
   abbrev pub cellsAfter : Command → List ℕ
   cellsAfter c = sharedCells (sharedAfter c (sharedOf l))
-
-  pub at-command : {c d : Command} (x : List ℕ) → c ≡ d → x ≡ cellsAfter d → x ≡ cellsAfter c
-  at-command x e p = p ∙ ap cellsAfter (sym e)
-
-  pub at-told : {w v : Stored} (b f : ℕ) (x : List ℕ) → w ≡ v → x ≡ cellsAfter (command.Store v b f) →
-      x ≡ cellsAfter (command.Store w b f)
-  at-told b f x e p = p ∙ ap (λ (w : Stored). cellsAfter (command.Store w b f)) (sym e)
 
   -- commands that set nothing shared
   pub domain-shared : (i0 j0 i1 j1 : ℕ) → l ≡ cellsAfter (command.Domain i0 j0 i1 j1)

@@ -2,9 +2,7 @@
 use mathlib.Core.Path.{_≡_}
 use mathlib.Core.List.{List}
 use Prim.Native.Nat.{ℕ, _+_, _<_, _^_}
-use Rattle.command.specs.declared.commands.Command.{Command}
 use Rattle.state.specs.State.{Party, Session}
-use Rattle.state.specs.Effects.{Numbered, limit}
 use Rattle.state.specs.Valid.{DomainValid, Valid}
 use Rattle.state.specs.Cells.{Sized, partyOf, sessionOf, partyCells, tallyCells, sharedCells}
 
@@ -30,8 +28,3 @@ pub record OwnAsked (own tallies shared : List ℕ) : Type 0 where
   pub domain : DomainValid (partyOf own tallies .domain)
   pub runs : partyOf own tallies .tally .runs + 1 < 2 ^ 64
   pub claims : partyOf own tallies .tally .claims + 67108864 < 2 ^ 64
-
-pub record AcceptAsked (c : Command) (own tallies shared : List ℕ) : Type 0 where
-  pub asked : OwnAsked own tallies shared
-  pub number : Numbered c
-  pub taken : partyOf own tallies .taken < limit

@@ -17,7 +17,16 @@ limit = 1000000000
 -- the party with another open command
 abbrev pub opening : Open → Party → Party
 opening o p =
-    record { stopped = p .stopped; taken = p .taken; opened = o; domain = p .domain; instructions = p .instructions; tally = p .tally }
+    record {
+      stopped = p .stopped;
+      taken = p .taken;
+      opened = o;
+      domain = p .domain;
+      instructions = p .instructions;
+      birth = p .birth;
+      readiness = p .readiness;
+      tally = p .tally;
+    }
 
 -- one more word taken
 abbrev pub took : Party → Party
@@ -28,6 +37,8 @@ took p =
       opened = p .opened;
       domain = p .domain;
       instructions = p .instructions;
+      birth = p .birth;
+      readiness = p .readiness;
       tally = p .tally;
     }
 
@@ -40,13 +51,24 @@ tookWords n p =
       opened = p .opened;
       domain = p .domain;
       instructions = p .instructions;
+      birth = p .birth;
+      readiness = p .readiness;
       tally = p .tally;
     }
 
 -- "drop the open command and stop the session for good"
 abbrev pub stop : Party → Party
 stop p =
-    record { stopped = 1; taken = p .taken; opened = none; domain = p .domain; instructions = p .instructions; tally = p .tally }
+    record {
+      stopped = 1;
+      taken = p .taken;
+      opened = none;
+      domain = p .domain;
+      instructions = p .instructions;
+      birth = p .birth;
+      readiness = p .readiness;
+      tally = p .tally;
+    }
 
 -- the open command with its next parameter
 abbrev pub withParameter : Open → ℕ → Open
@@ -71,15 +93,42 @@ domainFrom i0 j0 i1 j1 = record { isSet = 1; i0 = i0; j0 = j0; i1 = i1; j1 = j1 
 -- settings with one of them replaced
 abbrev pub withDomain : Domain → Party → Party
 withDomain d p =
-    record { stopped = p .stopped; taken = p .taken; opened = p .opened; domain = d; instructions = p .instructions; tally = p .tally }
+    record {
+      stopped = p .stopped;
+      taken = p .taken;
+      opened = p .opened;
+      domain = d;
+      instructions = p .instructions;
+      birth = p .birth;
+      readiness = p .readiness;
+      tally = p .tally;
+    }
 
 abbrev pub withInstructions : Buffer → Party → Party
 withInstructions b p =
-    record { stopped = p .stopped; taken = p .taken; opened = p .opened; domain = p .domain; instructions = b; tally = p .tally }
+    record {
+      stopped = p .stopped;
+      taken = p .taken;
+      opened = p .opened;
+      domain = p .domain;
+      instructions = b;
+      birth = p .birth;
+      readiness = p .readiness;
+      tally = p .tally;
+    }
 
 abbrev pub withTally : Tally → Party → Party
 withTally t p =
-    record { stopped = p .stopped; taken = p .taken; opened = p .opened; domain = p .domain; instructions = p .instructions; tally = t }
+    record {
+      stopped = p .stopped;
+      taken = p .taken;
+      opened = p .opened;
+      domain = p .domain;
+      instructions = p .instructions;
+      birth = p .birth;
+      readiness = p .readiness;
+      tally = t;
+    }
 
 abbrev pub withShared :
     ℕ → ℕ → ℕ → ℕ → ℕ → Buffer → Buffer → Buffer → Buffer → List Buffer → List Buffer → Shared

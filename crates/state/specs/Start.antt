@@ -2,27 +2,15 @@
 -- looks at. No word and no session is in it. Assumes nothing.
 use mathlib.Core.Bool.{Bool, true, false, not}
 use mathlib.Core.List.{List, []}
-use Prim.Native.Nat.{ℕ, zero, suc, _+_, _-_, _*_}
+use Prim.Native.Nat.{ℕ, _+_, _-_, _*_}
 use lib.Dec.{eqb, leb, ltb}
 use lib.ListN.{getD}
 use Rattle.laws.specs.Choice.{_and_, pick}
-use Rattle.laws.specs.Masks.{on, some}
+use Rattle.laws.specs.Below.{some, every, count}
+use Rattle.laws.specs.Masks.{on}
 use Rattle.refusal.specs.Told.{Told, gives, refuses}
 use Rattle.command.specs.Format.{channelsOf, codeOf, windowOf}
 use Rattle.state.specs.State.{Buffer, Domain, unset}
-
--- what holds of some number below n, of every number below n, and the sum over the numbers below n
-unfoldable pub anyBelow : ℕ → (ℕ → Bool) → Bool
-anyBelow zero f = false
-anyBelow (suc n) f = pick (anyBelow n f) true (f n)
-
-unfoldable pub allBelow : ℕ → (ℕ → Bool) → Bool
-allBelow zero f = true
-allBelow (suc n) f = allBelow n f and f n
-
-unfoldable pub sumBelow : ℕ → (ℕ → ℕ) → ℕ
-sumBelow zero f = 0
-sumBelow (suc n) f = sumBelow n f + f n
 
 -- value `k` of an answer, 0 where it has none
 unfoldable pub valueOf : Told → ℕ → ℕ
@@ -69,16 +57,16 @@ module _ (mask : ℕ) (outputs : List Buffer) where
 
   -- 8: "the domain is not inside every set output's window"
   unfoldable pub covered : Domain → Bool
-  covered d = allBelow 4 (λ n. pick (counts n) (containsDomain d (output outputs n)) true)
+  covered d = every 4 (λ n. pick (counts n) (containsDomain d (output outputs n)) true)
 
   -- 9: "spans of two set outputs share a byte"
   unfoldable pub disjoint : Bool
-  disjoint = allBelow 4 (λ n. allBelow n (λ m. pick (counts n and counts m) (apart (output outputs n) (output outputs m)) true))
+  disjoint = every 4 (λ n. every n (λ m. pick (counts n and counts m) (apart (output outputs n) (output outputs m)) true))
 
 -- 7: "start without a domain, an instruction format or any output set"; "7 is as before", so an output that is set will do though it
 -- is silent
 unfoldable pub complete : Domain → Buffer → List Buffer → Bool
-complete d instructions outputs = eqb (d .isSet) 1 and eqb (instructions .isSet) 1 and anyBelow 4 (isSet outputs)
+complete d instructions outputs = eqb (d .isSet) 1 and eqb (instructions .isSet) 1 and some 4 (isSet outputs)
 
 -- which of 7, 8 and 9, if any, the settings alone give a start
 unfoldable pub readyOf : Domain → Buffer → ℕ → List Buffer → Told
@@ -87,10 +75,19 @@ readyOf d instructions mask outputs =
     (pick (covered mask outputs d) (pick (disjoint mask outputs) (gives []) (refuses 9)) (refuses 8))
     (refuses 7)
 
+-- an answer as one number, 0 where nothing is refused
+unfoldable pub numberTold : Told → ℕ
+numberTold (gives values) = 0
+numberTold (refuses n) = n
+
+-- the same as one number: 0, 7, 8 or 9
+unfoldable pub readinessOf : Domain → Buffer → ℕ → List Buffer → ℕ
+readinessOf d instructions mask outputs = numberTold (readyOf d instructions mask outputs)
+
 -- "the number of pairs in the domain"
 unfoldable pub pairsOf : Domain → ℕ
 pairsOf d = (d .i1 - d .i0 + 1) * (d .j1 - d .j0 + 1)
 
 -- "the number of pairs in the domain times the number of set outputs", of which the silent ones claim nothing
 unfoldable pub claimOf : Domain → ℕ → List Buffer → ℕ
-claimOf d mask outputs = pairsOf d * sumBelow 4 (λ n. pick (counts mask outputs n) 1 0)
+claimOf d mask outputs = pairsOf d * count 4 (counts mask outputs)

@@ -32,13 +32,44 @@ pub record Tally : Type 0 where
   pub runs : ℕ
   pub claims : ℕ
 
--- a party's own part
+-- what is fixed when a session begins: the numbers that a party owns, a bit each (0 to 15 inputs, 16 to 19 outputs, 20 what belongs
+-- to party 0), and the edition
+pub record Birth : Type 0 where
+  pub mine : ℕ
+  pub edition : ℕ
+
+-- an output's row step and span
+pub record Window : Type 0 where
+  pub step : ℕ
+  pub span : ℕ
+
+-- what the outputs ask of a domain and give for a pair: whether one is set; the least row step and height of those that count;
+-- whether no two of these share a byte; and the elements that a pair claims
+pub record Gauge : Type 0 where
+  pub some : ℕ
+  pub columns : ℕ
+  pub rows : ℕ
+  pub apart : ℕ
+  pub credit : ℕ
+
+-- what the settings alone give a start, kept: the number 0, 7, 8 or 9, and what it is reckoned from
+pub record Readiness : Type 0 where
+  pub number : ℕ
+  pub gauge : Gauge
+  pub window0 : Window
+  pub window1 : Window
+  pub window2 : Window
+  pub window3 : Window
+
+-- a party's own part; what is fixed at the beginning and what is kept of readiness are all zeros until a request uses them
 pub record Party : Type 0 where
   pub stopped : ℕ
   pub taken : ℕ
   pub opened : Open
   pub domain : Domain
   pub instructions : Buffer
+  pub birth : Birth
+  pub readiness : Readiness
   pub tally : Tally
 
 -- what is shared: masks, the test, the constants' formats, the conditional output, and outputs and inputs by number
@@ -70,6 +101,23 @@ atLine line = record { line = line; count = 0; p0 = 0; p1 = 0; p2 = 0; p3 = 0 }
 abbrev pub none : Open
 none = atLine 21
 
+abbrev pub unborn : Birth
+unborn = record { mine = 0; edition = 0 }
+
+abbrev pub noWindow : Window
+noWindow = record { step = 0; span = 0 }
+
+abbrev pub nothingKept : Readiness
+nothingKept =
+    record {
+      number = 0;
+      gauge = record { some = 0; columns = 0; rows = 0; apart = 0; credit = 0 };
+      window0 = noWindow;
+      window1 = noWindow;
+      window2 = noWindow;
+      window3 = noWindow;
+    }
+
 -- "A new session has nothing set and mask 65535."
 abbrev pub newParty : Party
 newParty =
@@ -79,6 +127,8 @@ newParty =
       opened = none;
       domain = record { isSet = 0; i0 = 0; j0 = 0; i1 = 0; j1 = 0 };
       instructions = unset;
+      birth = unborn;
+      readiness = nothingKept;
       tally = record { runs = 0; claims = 0 };
     }
 

@@ -4,7 +4,7 @@ pub mod own;
 pub mod settings;
 
 // How many numbers a session lies in: a party's own, its tallies (runs and claimed elements) and the shared settings.
-pub const OWN_CELLS: usize = 17;
+pub const OWN_CELLS: usize = 33;
 
 pub const TALLIES: usize = 2;
 

@@ -5,7 +5,7 @@ ghost use mathlib.Core.List.{[]};
 ghost use lib.ListN.{length};
 ghost use Rattle.state.specs.State.{atLine, none};
 ghost use Rattle.state.specs.Effects.{buffer, domainFrom, opening, stop as stopped, took, withDomain, withInstructions, withParameter};
-ghost use Rattle.state.specs.Cells.{partyOf, partyCells};
+ghost use Rattle.state.specs.Cells.{partyOf, partyCells, ownLength};
 ghost use Rattle.state.specs.Effects.{tookWords};
 
 // A word's place in a piece or in a session, counted from 0: one of document 01's three kinds of number, never a byte
@@ -52,7 +52,7 @@ pub const NO_LINE: u32 = 21;
 
 // No command is open.
 pub fn close(own: &mut [u32; crate::OWN_CELLS])
-    requires { ⌜ length (now own) ≡ 17 ⌝ }
+    requires { ⌜ length (now own) ≡ ownLength ⌝ }
     ensures { λ _. ⌜ now (own .exit) ≡ partyCells (opening none (partyOf (now (own .entry)) [])) ⌝ }
 {
     own[LINE] = NO_LINE;
@@ -65,7 +65,7 @@ pub fn close(own: &mut [u32; crate::OWN_CELLS])
 
 // The session is stopped and its open command dropped.
 pub fn stop(own: &mut [u32; crate::OWN_CELLS])
-    requires { ⌜ length (now own) ≡ 17 ⌝ }
+    requires { ⌜ length (now own) ≡ ownLength ⌝ }
     ensures { λ _. ⌜ now (own .exit) ≡ partyCells (stopped (partyOf (now (own .entry)) [])) ⌝ }
 {
     own[STOPPED] = 1;
@@ -74,7 +74,7 @@ pub fn stop(own: &mut [u32; crate::OWN_CELLS])
 
 // One more word is taken.
 pub fn count_word(own: &mut [u32; crate::OWN_CELLS])
-    requires { ⌜ (length (now own) ≡ 17) × (partyOf (now own) [] .taken < 1000000000) ⌝ }
+    requires { ⌜ (length (now own) ≡ ownLength) × (partyOf (now own) [] .taken < 1000000000) ⌝ }
     ensures { λ _. ⌜ now (own .exit) ≡ partyCells (took (partyOf (now (own .entry)) [])) ⌝ }
 {
     own[TAKEN] = own[TAKEN] + 1;
@@ -82,7 +82,7 @@ pub fn count_word(own: &mut [u32; crate::OWN_CELLS])
 
 // So many words more are taken.
 pub fn count_words(own: &mut [u32; crate::OWN_CELLS], words: u32)
-    requires { ⌜ (length (now own) ≡ 17) × (partyOf (now own) [] .taken + words ≤ 1000000000) ⌝ }
+    requires { ⌜ (length (now own) ≡ ownLength) × (partyOf (now own) [] .taken + words ≤ 1000000000) ⌝ }
     ensures { λ _. ⌜ now (own .exit) ≡ partyCells (tookWords words (partyOf (now (own .entry)) [])) ⌝ }
 {
     own[TAKEN] = own[TAKEN] + words;
@@ -90,7 +90,7 @@ pub fn count_words(own: &mut [u32; crate::OWN_CELLS], words: u32)
 
 // A header is taken: the command of this line is open.
 pub fn open_line(own: &mut [u32; crate::OWN_CELLS], line: u32)
-    requires { ⌜ (length (now own) ≡ 17) × ((partyOf (now own) [] .taken < 1000000000) × (partyOf (now own) [] .opened ≡ none)) ⌝ }
+    requires { ⌜ (length (now own) ≡ ownLength) × ((partyOf (now own) [] .taken < 1000000000) × (partyOf (now own) [] .opened ≡ none)) ⌝ }
     ensures { λ _. ⌜ now (own .exit) ≡ partyCells (took (opening (atLine line) (partyOf (now (own .entry)) []))) ⌝ }
 {
     own[LINE] = line;
@@ -99,7 +99,7 @@ pub fn open_line(own: &mut [u32; crate::OWN_CELLS], line: u32)
 
 // The next parameter of the open command, of which `count` were there.
 pub fn place(own: &mut [u32; crate::OWN_CELLS], count: u32, word: u32)
-    requires { ⌜ (length (now own) ≡ 17) × ((count < 4) × (partyOf (now own) [] .opened .count ≡ count)) ⌝ }
+    requires { ⌜ (length (now own) ≡ ownLength) × ((count < 4) × (partyOf (now own) [] .opened .count ≡ count)) ⌝ }
     ensures { λ _. ⌜ now (own .exit) ≡ partyCells (opening (withParameter (partyOf (now (own .entry)) [] .opened) word) (partyOf (now (own .entry)) [])) ⌝ }
 {
     let at = PARAMETER_0 + count as usize;
@@ -108,7 +108,7 @@ pub fn place(own: &mut [u32; crate::OWN_CELLS], count: u32, word: u32)
 }
 
 pub fn set_domain(own: &mut [u32; crate::OWN_CELLS], i0: u32, j0: u32, i1: u32, j1: u32)
-    requires { ⌜ length (now own) ≡ 17 ⌝ }
+    requires { ⌜ length (now own) ≡ ownLength ⌝ }
     ensures { λ _. ⌜ now (own .exit) ≡ partyCells (withDomain (domainFrom i0 j0 i1 j1) (partyOf (now (own .entry)) [])) ⌝ }
 {
     own[DOMAIN] = 1;
@@ -119,7 +119,7 @@ pub fn set_domain(own: &mut [u32; crate::OWN_CELLS], i0: u32, j0: u32, i1: u32, 
 }
 
 pub fn set_instructions(own: &mut [u32; crate::OWN_CELLS], base: u32, format: u32)
-    requires { ⌜ length (now own) ≡ 17 ⌝ }
+    requires { ⌜ length (now own) ≡ ownLength ⌝ }
     ensures { λ _. ⌜ now (own .exit) ≡ partyCells (withInstructions (buffer base format 1) (partyOf (now (own .entry)) [])) ⌝ }
 {
     own[INSTRUCTIONS] = 1;

@@ -8,10 +8,11 @@ use lib.Dec.{eqb, leb, ltb}
 use lib.ListN.{length, getD, drop}
 use borrow.Author.Tests.{ltb-true, ltb-false, le-leb, lt-leb, eq-eqb, ne-eqb}
 use Rattle.laws.specs.Choice.{_and_, pick}
-use Rattle.laws.specs.Masks.{_or_, differ, digit, on, pack, some}
-use Rattle.laws.proofs.Choice.{Tested, holds, fails, tested, pick-yes, pick-no, and-no-right}
-use Rattle.laws.proofs.Split.{by-test}
-use Rattle.laws.proofs.Masks.{digit-lt, pack-same, on-pack, on-above, some-same, every-same}
+use Rattle.laws.specs.Below.{some}
+use Rattle.laws.specs.Masks.{_or_, differ, digit, on, pack}
+use Rattle.laws.proofs.Choice.{Tested, holds, fails, tested, pick-yes, pick-no, and-no-right, by-pick}
+use Rattle.laws.proofs.Below.{some-same, every-same}
+use Rattle.laws.proofs.Masks.{digit-lt, pack-same, on-pack, on-above}
 use Rattle.group.specs.Proc.{Proc, Active, Idle, Absent, isLive, isActive, counterBit, within, turned, lowered, raised, branched, decided, increment, counterLimit}
 use Rattle.loops.specs.declared.Turned.{Turned}
 use Rattle.loops.specs.Loops.{field, Opened, Turn, Turns, NoRoom, NoWord, wordAt, turnOf, turned as turnCells}
@@ -34,16 +35,16 @@ refused {l} why en e = record { number = en ∙ sym (ap stepNumber e); left = sy
 live-branched : (op k : ℕ) (jump wish : Bool) (p : Proc) → isLive p ≡ isLive (branched op k jump wish p)
 unfolding branched
 live-branched op k jump wish p =
-    by-test (λ (q : Proc). isLive p ≡ isLive q) (eqb op 1) (λ e. low p)
-    (λ e. by-test (λ (q : Proc). isLive p ≡ isLive q) (eqb op 2) (λ t. high p) (λ t. refl))
+    by-pick (λ (q : Proc). isLive p ≡ isLive q) (eqb op 1) _ _ (λ e. low p)
+    (λ e. by-pick (λ (q : Proc). isLive p ≡ isLive q) (eqb op 2) _ _ (λ t. high p) (λ t. refl))
   where
     low : (q : Proc) → isLive q ≡ isLive (lowered k q)
     low Active = refl
-    low (Idle n) = by-test (λ (r : Proc). true ≡ isLive r) (ltb n k) (λ e. refl) (λ e. refl)
+    low (Idle n) = by-pick (λ (r : Proc). true ≡ isLive r) (ltb n k) _ _ (λ e. refl) (λ e. refl)
     low Absent = refl
 
     high : (q : Proc) → isLive q ≡ isLive (raised jump wish q)
-    high Active = by-test (λ (r : Proc). true ≡ isLive r) (differ wish jump) (λ e. refl) (λ e. refl)
+    high Active = by-pick (λ (r : Proc). true ≡ isLive r) (differ wish jump) _ _ (λ e. refl) (λ e. refl)
     high (Idle n) = refl
     high Absent = refl
 
@@ -152,7 +153,7 @@ kept-turned :
     f (procs i) ≡ f (turnedIf else procs i)
 unfolding turnedIf
 kept-turned f h else procs i =
-    by-test (λ (q : Proc). f (procs i) ≡ f q) else (λ e. h (procs i)) (λ e. refl)
+    by-pick (λ (q : Proc). f (procs i) ≡ f q) else _ _ (λ e. h (procs i)) (λ e. refl)
 
 module _ {procs : ℕ → Proc} {live old p0 p1 p2 p3 p4 : ℕ} (m : MasksOf procs live old p0 p1 p2 p3 p4) (else : Bool)
     {active : ℕ} (ea : active ≡ activeMask (turnedIf else procs)) where
@@ -169,7 +170,7 @@ module _ {procs : ℕ → Proc} {live old p0 p1 p2 p3 p4 : ℕ} (m : MasksOf pro
         word4 = m .word4 ∙ pack-same 32 _ _ (λ i h. kept-turned (counterBit 4) (bit-turned 4) else procs i);
         counters =
             λ i.
-            by-test (λ (q : Proc). within counterLimit q ≡ true) else (λ e. turned-within counterLimit (procs i) (m .counters i)) (λ e. m .counters i);
+            by-pick (λ (q : Proc). within counterLimit q ≡ true) else _ _ (λ e. turned-within counterLimit (procs i) (m .counters i)) (λ e. m .counters i);
       }
 
 -- a decision looks at the 32 places alone

@@ -150,12 +150,8 @@ fn step_slot(
         let was = cells[group::ACTIVE];
         let active = planes::turn_if(first / slot::B_ELSE % slot::FLAGS == 1, was, cells);
         let boolean = (booleans >> (second % slot::BOOLEANS)) % 2;
-        let wish = planes::wishes(
-            first / slot::JUMP_FUNC % slot::JUMP_FUNCS,
-            boolean,
-            alu,
-            predicate,
-        );
+        let func = first / slot::JUMP_FUNC % slot::JUMP_FUNCS;
+        let wish = planes::wishes(func, boolean, alu, predicate);
         let wanted = planes::decides(first / slot::JUMP_ANY % slot::FLAGS == 1, active, wish);
         let jump = overrule(decision, wanted);
         return settle(first, second, slots, cells, active, wish, jump);

@@ -46,10 +46,11 @@ fn push(address: SlotNumber, slots: u32, cells: &mut [u32; group::CELLS]) -> u32
     requires { ⌜ (GroupGiven (now cells)) × (positionIn (now cells) < storeSlots) ⌝ }
     ensures { λ r. ⌜ GoDone (now (cells .entry)) (now (cells .exit)) r slots true (pushed (positionIn (now (cells .entry))) (address .0) (groupOf (now (cells .entry)) .returns)) ⌝ }
 {
+    let to = address.0;
     if cells[group::RETURN_3] != 0 {
         return refusal::number(Refusal::AtLimit);
     }
-    if slots < address.0 {
+    if slots < to {
         return refusal::number(Refusal::PastEnd);
     }
     let position = cells[group::POSITION];

@@ -13,9 +13,9 @@ use Rattle.layout.specs.declared.Layout.{Layout}
 use Rattle.layout.specs.declared.ByteAddress.{ByteAddress}
 use Rattle.address.specs.Address.{addressOf}
 use Rattle.command.specs.Format.{pitchOf, tiledOf, codeOf, sizeOf}
-use Rattle.memory.specs.Answers.{FourAsked}
 use Rattle.memory.specs.Elements.{bytesAt, startOf}
-use Rattle.superfine.specs.Superfine.{superfineWord, layoutOf, fourInside, fourHeld, fourBytes, fourOf, fourAtOf, superfineReadOf, cornersOf}
+use Rattle.superfine.specs.InLine.{FourAsked}
+use Rattle.superfine.specs.Superfine.{superfineWord, formatLayout, fourInside, fourHeld, fourBytes, fourOf, fourAtOf, superfineReadOf, cornersOf}
 use Rattle.memory.proofs.Pairs.{given, passed}
 use Rattle.memory.proofs.Places.{not-held, begins}
 use Rattle.superfine.proofs.Words.{small-size}
@@ -96,7 +96,7 @@ module _ (base format height x y first : ℕ) (m : List ℕ) where
   word-refused e = pick-no _ _ e
 
   -- the layout, as its fields were read
-  module _ (word : superfineWord base format ≡ true) (l : Layout) (same : l ≡ layoutOf base format height) where
+  module _ (word : superfineWord base format ≡ true) (l : Layout) (same : l ≡ formatLayout base format height) where
     reads : superfineReadOf base format height x y first m ≡ fourAtOf l x y first m
     unfolding superfineReadOf
     reads = pick-yes _ _ word ∙ ap (λ (k : Layout). fourAtOf k x y first m) (sym same)
@@ -122,7 +122,7 @@ module _ (base format height x y first : ℕ) (m : List ℕ) where
 pub layout-read :
     (base : ByteAddress) (format height pitch code size : ℕ) (tiled : Bool) → code ≡ codeOf format → size ≡ sizeOf code →
     pitch ≡ pitchOf format → tiled ≡ tiledOf format →
-    _≡_ {A = Layout} (record { base = base; pitch = pitch; height = height; size = size; tiled = tiled }) (layoutOf (base .0) format height)
+    _≡_ {A = Layout} (record { base = base; pitch = pitch; height = height; size = size; tiled = tiled }) (formatLayout (base .0) format height)
 layout-read base format height pitch code size tiled ec es ep et = rw (ep, et, es, ec)
 
 pub four-small : (base format code size : ℕ) → superfineWord base format ≡ true → code ≡ codeOf format → size ≡ sizeOf code → size ≤ 4

@@ -10,8 +10,8 @@ use Rattle.layout.specs.Layout.{wellFormed, windowRule}
 use Rattle.layout.specs.declared.Layout.{Layout}
 use Rattle.address.specs.Address.{stepOf, ifAccepted}
 use Rattle.memory.specs.Elements.{inOrder, readOf}
-use Rattle.memory.specs.Reads.{joined}
-use Rattle.superfine.specs.Superfine.{superfineWord, layoutOf, fourInside, fourHeld, fourBytes, fourOf, fourAtOf, superfineReadOf}
+use Rattle.superfine.specs.InLine.{joined}
+use Rattle.superfine.specs.Superfine.{superfineWord, formatLayout, fourInside, fourHeld, fourBytes, fourOf, fourAtOf, superfineReadOf}
 
 both :
     (i j h k : Bool) (v w : List ℕ) →
@@ -64,9 +64,9 @@ module _ (l : Layout) where
 pub four-reads :
     (base format height x y first : ℕ) (m : List ℕ) → superfineWord base format ≡ true →
     superfineReadOf base format height x y first m ≡
-    joined (readOf (layoutOf base format height) (x + 1) y first m)
-    (joined (readOf (layoutOf base format height) x (y + 1) first m)
-    (joined (readOf (layoutOf base format height) (x + 1) (y + 1) first m) (readOf (layoutOf base format height) x y first m)))
+    joined (readOf (formatLayout base format height) (x + 1) y first m)
+    (joined (readOf (formatLayout base format height) x (y + 1) first m)
+    (joined (readOf (formatLayout base format height) (x + 1) (y + 1) first m) (readOf (formatLayout base format height) x y first m)))
 unfolding superfineReadOf
 four-reads base format height x y first m word =
-    pick-yes _ _ word ∙ four-joined (layoutOf base format height) x y first m
+    pick-yes _ _ word ∙ four-joined (formatLayout base format height) x y first m

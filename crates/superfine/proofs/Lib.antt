@@ -1,4 +1,5 @@
 pub mod Around
 pub mod Channels
 pub mod FourReads
+pub mod InLine
 pub mod Words

@@ -24,8 +24,8 @@ superfineWord base format =
     allowed Base base and allowed Format format and superfineOf format and eqb (channelsOf (codeOf format)) 1
 
 -- the layout that base, format word and height describe
-abbrev pub layoutOf : ℕ → ℕ → ℕ → Layout
-layoutOf base format height =
+abbrev pub formatLayout : ℕ → ℕ → ℕ → Layout
+formatLayout base format height =
     record {
       base = record { 0 = base };
       pitch = pitchOf format;
@@ -63,7 +63,7 @@ fourAtOf l x y first m =
 
 unfoldable pub superfineReadOf : ℕ → ℕ → ℕ → ℕ → ℕ → ℕ → List ℕ → Told
 superfineReadOf base format height x y first m =
-    pick (superfineWord base format) (fourAtOf (layoutOf base format height) x y first m) (refuses 3)
+    pick (superfineWord base format) (fourAtOf (formatLayout base format height) x y first m) (refuses 3)
 
 -- the four addresses, or 3, 6 or 10
 unfoldable pub cornersOf : Layout → ℕ → ℕ → Told
@@ -75,5 +75,5 @@ cornersOf l x y =
 
 -- what the answer tells, case by case
 abbrev pub toldCorners : Corners → Told
-toldCorners (At right below across own) = gives (right ∷ below ∷ across ∷ own ∷ [])
+toldCorners (At right below across own) = gives (right .0 ∷ below .0 ∷ across .0 ∷ own .0 ∷ [])
 toldCorners (Refused why) = refuses (numberOf why)

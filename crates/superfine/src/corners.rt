@@ -1,5 +1,6 @@
 // The four addresses of a superfine read.
 use address::Translated;
+use layout::ByteAddress;
 use layout::Layout;
 use refusal::Refusal;
 ghost use mathlib.Core.Path.{_≡_};
@@ -11,17 +12,17 @@ ghost use Rattle.superfine.specs.Superfine.{cornersOf, toldCorners};
 // The addresses of (x + 1, y), (x, y + 1), (x + 1, y + 1) and (x, y).
 pub enum Corners {
     At {
-        right: u32,
-        below: u32,
-        across: u32,
-        own: u32,
+        right: ByteAddress,
+        below: ByteAddress,
+        across: ByteAddress,
+        own: ByteAddress,
     },
     Refused(Refusal),
 }
 
 // The four addresses, given that of (x, y). The pair is inside, so x and y are below 4,096 and can grow by 1.
-fn around(layout: Layout, x: u32, y: u32, own: u32) -> Corners
-    requires { ⌜ translateOf layout x y ≡ gives (own ∷ []) ⌝ }
+fn around(layout: Layout, x: u32, y: u32, own: ByteAddress) -> Corners
+    requires { ⌜ translateOf layout x y ≡ gives (own .0 ∷ []) ⌝ }
     ensures { λ r. ⌜ toldCorners r ≡ cornersOf layout x y ⌝ }
 {
     let Translated::At { address: right } = address::translate(layout, x + 1, y) else {
@@ -34,9 +35,9 @@ fn around(layout: Layout, x: u32, y: u32, own: u32) -> Corners
         return Corners::Refused(Refusal::PairOutside);
     };
     Corners::At {
-        right: right.0,
-        below: below.0,
-        across: across.0,
+        right,
+        below,
+        across,
         own,
     }
 }
@@ -48,6 +49,6 @@ pub fn addresses(layout: Layout, x: u32, y: u32) -> Corners
 {
     match address::translate(layout, x, y) {
         Translated::Refused(why) => Corners::Refused(why),
-        Translated::At { address } => around(layout, x, y, address.0),
+        Translated::At { address } => around(layout, x, y, address),
     }
 }

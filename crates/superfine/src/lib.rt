@@ -36,15 +36,15 @@ fn superfine_word(base: u32, format: u32) -> bool
 // doesn't hold all of each.
 fn four(
     memory: &[u8],
-    first: u32,
+    first: ByteAddress,
     size: u32,
-    right: u32,
-    below: u32,
-    across: u32,
-    own: u32,
+    right: ByteAddress,
+    below: ByteAddress,
+    across: ByteAddress,
+    own: ByteAddress,
 ) -> Reading
     requires { ⌜ size ≤ 4 ⌝ }
-    ensures { λ r. ⌜ Answered (fourOf first (now (memory .entry)) size right below across own) r ⌝ }
+    ensures { λ r. ⌜ Answered (fourOf (first .0) (now (memory .entry)) size (right .0) (below .0) (across .0) (own .0)) r ⌝ }
 {
     let length = memory.len();
     let Place::At(a) = place::start(right, size, first, length) else {
@@ -100,6 +100,6 @@ pub fn superfine(
             below,
             across,
             own,
-        } => four(memory, first.0, size, right, below, across, own),
+        } => four(memory, first, size, right, below, across, own),
     }
 }

@@ -6,8 +6,8 @@ ghost use mathlib.Core.Path.{_≡_};
 ghost use mathlib.Core.List.{_++_};
 ghost use lib.ListN.{length};
 ghost use Rattle.refusal.specs.Told.{gives};
-ghost use Rattle.memory.specs.Answers.{Answered, FourAsked};
-ghost use Rattle.memory.specs.Elements.{inLine};
+ghost use Rattle.memory.specs.Answers.{Answered};
+ghost use Rattle.superfine.specs.InLine.{FourAsked, inLine};
 
 // Four parts of `n` bytes each, one after the other.
 fn in_line(a: &[u8], b: &[u8], c: &[u8], d: &[u8], n: usize) -> [u8; 16]

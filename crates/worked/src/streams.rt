@@ -1,5 +1,10 @@
 // Document 01's whole stream: fifteen words, four commands, one run, 1,728 elements.
-pub fn whole_stream() -> [u32; 15] {
+ghost use mathlib.Core.Path.{_≡_};
+ghost use Rattle.worked.specs.Streams.{wholeStream};
+
+pub fn whole_stream() -> [u32; 15]
+    ensures { λ r. ⌜ r ≡ wholeStream ⌝ }
+{
     [
         0xC0010A00,
         0x1000,

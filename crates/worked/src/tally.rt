@@ -1,5 +1,7 @@
 // What a group of checks comes to.
 use libc::STDOUT_FILENO;
+ghost use mathlib.Core.Path.{_≡_};
+ghost use Rattle.worked.specs.Counts.{unchecked, counted, together};
 
 pub struct Tally {
     pub agreed: u64,
@@ -7,7 +9,10 @@ pub struct Tally {
 }
 
 impl Tally {
-    pub fn new() -> Self {
+    // No check yet.
+    pub fn new() -> Self
+        ensures { λ r. ⌜ r ≡ unchecked ⌝ }
+    {
         Tally {
             agreed: 0,
             differed: 0,
@@ -15,7 +20,9 @@ impl Tally {
     }
 
     // One check more.
-    pub fn with(self, ok: bool) -> Self {
+    pub fn with(self, ok: bool) -> Self
+        ensures { λ r. ⌜ r ≡ counted self ok ⌝ }
+    {
         if ok {
             Tally {
                 agreed: std::num::wrapping_add_u64(self.agreed, 1),
@@ -30,14 +37,16 @@ impl Tally {
     }
 
     // Two groups together.
-    pub fn and(self, other: Tally) -> Self {
+    pub fn and(self, other: Tally) -> Self
+        ensures { λ r. ⌜ r ≡ together self other ⌝ }
+    {
         Tally {
             agreed: std::num::wrapping_add_u64(self.agreed, other.agreed),
             differed: std::num::wrapping_add_u64(self.differed, other.differed),
         }
     }
 
-    // A line of the report.
+    // A line of the report. It returns nothing, and what is written no contract can say: the programs' stdout files do.
     pub fn print(self, name: &[u8]) {
         io::write_all(STDOUT_FILENO, name);
         io::write_all(STDOUT_FILENO, b": ");

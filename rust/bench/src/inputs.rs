@@ -2,24 +2,19 @@
 
 use bench::fast::address::translate;
 use bench::fast::layout::{judge, Layout};
+use boundary::headers::{
+    FLUSH_COND_OUT_CACHE, FLUSH_OUT_CACHE, INV_COND_OUT_CACHE, INV_CONSTB_CACHE, INV_CONSTF_CACHE,
+    INV_CONSTI_CACHE, INV_INP_CACHE, INV_INST_CACHE, SET_COND_OUT_FMT, SET_COND_OUT_MASK,
+    SET_COND_TEST, SET_CONSTB_FMT, SET_CONSTF_FMT, SET_CONSTI_FMT, SET_DOMAIN, SET_INP_FMT,
+    SET_INST_FMT, SET_OUT_FMT, SET_OUT_MASK, START_PROGRAM, WAIT_FOR_IDLE,
+};
 
-pub const WAIT_FOR_IDLE: u32 = 0xC000_0900;
-pub const SET_INST_FMT: u32 = 0xC001_0A00;
-pub const SET_INP_FMT: u32 = 0xC003_0B00;
-pub const SET_OUT_FMT: u32 = 0xC003_0C00;
-pub const SET_COND_OUT_FMT: u32 = 0xC002_0D00;
-pub const SET_DOMAIN: u32 = 0xC003_0700;
-pub const START: u32 = 0xC000_0800;
-const CONSTANTS: [u32; 3] = [0xC001_0E00, 0xC001_0F00, 0xC001_1000];
-const INVALIDATE_INSTRUCTIONS: u32 = 0xC000_1100;
-const INVALIDATE_CONSTANTS: [u32; 3] = [0xC000_1200, 0xC000_1300, 0xC000_1400];
-const INVALIDATE_CONDITIONAL: u32 = 0xC000_1500;
-const INVALIDATE_INPUTS: u32 = 0xC000_1600;
-const FLUSH_OUTPUTS: u32 = 0xC000_1700;
-const FLUSH_CONDITIONAL: u32 = 0xC000_1800;
-const SET_OUT_MASK: u32 = 0xC000_1900;
-const SET_COND_OUT_MASK: u32 = 0xC000_1A00;
-const SET_COND_TEST: u32 = 0xC000_1B00;
+/// The formats of constants, and the invalidations that go with them.
+const CONSTANTS: [(u32, u32); 3] = [
+    (SET_CONSTF_FMT, INV_CONSTF_CACHE),
+    (SET_CONSTI_FMT, INV_CONSTI_CACHE),
+    (SET_CONSTB_FMT, INV_CONSTB_CACHE),
+];
 
 const TILED: u32 = 1 << 16;
 const SUPERFINE: u32 = 1 << 17;
@@ -86,10 +81,10 @@ fn record(log: &mut Vec<u8>, kind: u8, number: u32) {
 
 fn job(stream: &mut Vec<u32>, random: &mut Random) {
     if random.once_in(2) {
-        stream.extend([INVALIDATE_INSTRUCTIONS, 0]);
+        stream.extend([INV_INST_CACHE, 0]);
         stream.extend([SET_INST_FMT, base(random, 8), 0x0400_0000 | pitch(random)]);
     }
-    for (set, invalidate) in CONSTANTS.into_iter().zip(INVALIDATE_CONSTANTS) {
+    for (set, invalidate) in CONSTANTS {
         if random.once_in(3) {
             stream.extend([invalidate, 0]);
             stream.extend([set, base(random, 8), 0x0400_0000 | pitch(random)]);
@@ -100,7 +95,7 @@ fn job(stream: &mut Vec<u32>, random: &mut Random) {
         let (base, format) = (base(random, 9), input_format(random));
         stream.extend([SET_INP_FMT, number, base, format, height(random)]);
     }
-    stream.extend([INVALIDATE_INPUTS, 0]);
+    stream.extend([INV_INP_CACHE, 0]);
     if random.once_in(2) {
         let number = random.below(4);
         stream.extend(output(random, number));
@@ -115,10 +110,10 @@ fn job(stream: &mut Vec<u32>, random: &mut Random) {
         stream.extend(domain(random));
     }
     for _ in 0..1 + random.below(2) {
-        stream.extend([START, 0]);
+        stream.extend([START_PROGRAM, 0]);
     }
     if random.once_in(2) {
-        stream.extend([FLUSH_OUTPUTS, 0]);
+        stream.extend([FLUSH_OUT_CACHE, 0]);
     }
     stream.extend([WAIT_FOR_IDLE, 0]);
 }
@@ -127,10 +122,10 @@ fn conditional(stream: &mut Vec<u32>, random: &mut Random) {
     let format = pitch(random);
     let base = base(random, 12);
     stream.extend([SET_COND_OUT_FMT, base, format, height(random)]);
-    stream.extend([INVALIDATE_CONDITIONAL, 0]);
+    stream.extend([INV_COND_OUT_CACHE, 0]);
     stream.extend([SET_COND_OUT_MASK, random.below(2)]);
     stream.extend([SET_COND_TEST, random.below(8)]);
-    stream.extend([FLUSH_CONDITIONAL, 0]);
+    stream.extend([FLUSH_COND_OUT_CACHE, 0]);
 }
 
 /// Words that leave a session ready to start, with this many outputs.

@@ -1,9 +1,10 @@
 //! Flow words for one group: programs, groups, steps and runs.
 
+use crate::lengths::{CELLS, SLOTS};
 use crate::{answer, lent, Answer};
 
-/// A loaded program: the store of 512 slots, two words each, of which the first
-/// ones run.
+/// A loaded program: the store of [`SLOTS`] slots, two words each, of which the
+/// first ones run.
 #[derive(Clone, Debug, PartialEq, Eq)]
 pub struct Program {
     store: Box<Store>,
@@ -12,16 +13,16 @@ pub struct Program {
 
 #[derive(Clone, Debug, PartialEq, Eq)]
 pub(crate) struct Store {
-    pub(crate) firsts: [u32; 512],
-    pub(crate) seconds: [u32; 512],
+    pub(crate) firsts: [u32; SLOTS],
+    pub(crate) seconds: [u32; SLOTS],
 }
 
 impl Program {
     /// Loads a program, two words a slot. 15.
     pub fn load(words: &[u32]) -> Answer<Program> {
         let mut store = Box::new(Store {
-            firsts: [0; 512],
-            seconds: [0; 512],
+            firsts: [0; SLOTS],
+            seconds: [0; SLOTS],
         });
         let mut slots = [0];
         let Store { firsts, seconds } = &mut *store;
@@ -39,7 +40,7 @@ impl Program {
     /// The two words of slot `number` of the store.
     ///
     /// # Panics
-    /// Where the number is 512 or more.
+    /// Where the number is [`SLOTS`] or more.
     #[inline]
     pub fn slot(&self, number: usize) -> [u32; 2] {
         [self.store.firsts[number], self.store.seconds[number]]
@@ -73,14 +74,14 @@ pub struct Report {
 /// program than the one it came from.
 #[derive(Clone, Copy, Debug, PartialEq, Eq)]
 pub struct Group {
-    pub(crate) cells: [u32; 20],
+    pub(crate) cells: [u32; CELLS],
 }
 
 impl Group {
     /// A fresh group of 1 to 32 processors. 13.
     #[inline]
     pub fn begin(size: u32) -> Answer<Group> {
-        let mut cells = [0; 20];
+        let mut cells = [0; CELLS];
         answer(lent::group_begin(size, &mut cells))?;
         Ok(Group { cells })
     }
@@ -164,7 +165,7 @@ impl Group {
 
     /// The cells as the header describes them.
     #[inline]
-    pub fn cells(&self) -> &[u32; 20] {
+    pub fn cells(&self) -> &[u32; CELLS] {
         &self.cells
     }
 }

@@ -17,15 +17,16 @@
 
 use crate::flow::{Group, Program};
 use crate::layout::Layout;
+use crate::lengths::{CELLS, DAYS, LOG, MARKS, OWN, SHARED, SLOTS, TALLIES};
 use crate::log::Replay;
 use crate::raw;
 use crate::session::Session;
 
 /// Arrays that no begin has filled yet.
 const UNFILLED: Session = Session {
-    own: [0; 17],
-    tallies: [0; 2],
-    shared: [0; 101],
+    own: [0; OWN],
+    tallies: [0; TALLIES],
+    shared: [0; SHARED],
 };
 
 /// A new session. This call has no refusal.
@@ -111,11 +112,11 @@ pub fn session_masks(session: &Session, masks: &mut [u32; 5]) -> u32 {
 
 /// A replay's five arrays, its session's last.
 type Arrays<'a> = (
-    &'a mut [u32; 10],
-    &'a mut [u64; 800],
-    &'a mut [u32; 17],
-    &'a mut [u64; 2],
-    &'a mut [u32; 101],
+    &'a mut [u32; LOG],
+    &'a mut [u64; MARKS],
+    &'a mut [u32; OWN],
+    &'a mut [u64; TALLIES],
+    &'a mut [u32; SHARED],
 );
 
 #[inline]
@@ -132,8 +133,8 @@ fn arrays(replay: &mut Replay) -> Arrays<'_> {
 #[inline]
 pub fn log_begin() -> Replay {
     let mut replay = Replay {
-        log: [0; 10],
-        marks: Box::new([0; 800]),
+        log: [0; LOG],
+        marks: Box::new([0; MARKS]),
         session: UNFILLED,
     };
     let (log, marks, own, tallies, shared) = arrays(&mut replay);
@@ -194,8 +195,8 @@ pub fn score_lease((first_day, days, owed): (u32, u32, u32)) -> u32 {
 pub fn score_month(
     replay: &Replay,
     (first_day, days, owed): (u32, u32, u32),
-    claimed: &mut [u64; 31],
-    served: &mut [u64; 31],
+    claimed: &mut [u64; DAYS],
+    served: &mut [u64; DAYS],
     month: &mut [u64; 3],
 ) -> u32 {
     let Replay {
@@ -339,8 +340,8 @@ pub fn element_superfine(
 #[inline]
 pub fn program_load(
     words: &[u32],
-    firsts: &mut [u32; 512],
-    seconds: &mut [u32; 512],
+    firsts: &mut [u32; SLOTS],
+    seconds: &mut [u32; SLOTS],
     slots: &mut [u32; 1],
 ) -> u32 {
     let (start, length) = (words.as_ptr(), words.len());
@@ -351,7 +352,7 @@ pub fn program_load(
 
 /// cells: a fresh group's. 13.
 #[inline]
-pub fn group_begin(size: u32, cells: &mut [u32; 20]) -> u32 {
+pub fn group_begin(size: u32, cells: &mut [u32; CELLS]) -> u32 {
     // SAFETY: one room, of the right length; no state is read.
     unsafe { raw::egretfold_group_begin(size, cells) }
 }

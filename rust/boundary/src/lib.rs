@@ -11,6 +11,8 @@
 //!   refused call left in a room;
 //! * this page: the comfortable functions and types, which most callers want.
 //!
+//! [`headers`] has the commands' header words by name, [`lengths`] the arrays' lengths.
+//!
 //! A refusal is document 01's number, as the `Err` of an [`Answer`].
 
 #![deny(unsafe_op_in_unsafe_fn)]
@@ -18,7 +20,9 @@
 mod command;
 mod element;
 mod flow;
+pub mod headers;
 mod layout;
+pub mod lengths;
 pub mod lent;
 mod log;
 mod raw;

@@ -1,15 +1,16 @@
 //! A station's log over midnight: bytes taken in pieces, cut anywhere, one session
 //! across all days, and what each day came to.
 
+use crate::lengths::{LOG, MARKS};
 use crate::{answer, lent, Session};
 
 /// A replay's state. Its arrays are private, so that it is always one that the
 /// library gave out. It may be cloned and both copies used.
 #[derive(Clone, Debug, PartialEq, Eq)]
 pub struct Replay {
-    pub(crate) log: [u32; 10],
+    pub(crate) log: [u32; LOG],
     // Boxed, so that a replay is cheap to move.
-    pub(crate) marks: Box<[u64; 800]>,
+    pub(crate) marks: Box<[u64; MARKS]>,
     pub(crate) session: Session,
 }
 

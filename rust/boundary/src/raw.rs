@@ -2,80 +2,82 @@
 //! array of a fixed length is a reference here (to C the same as a pointer), so
 //! that its length is checked; one with a length of its own is a pointer.
 
+use crate::lengths::{CELLS, DAYS, LOG, MARKS, OWN, SHARED, SLOTS, TALLIES};
+
 extern "C" {
     pub fn egretfold_session_begin(
-        own: &mut [u32; 17],
-        tallies: &mut [u64; 2],
-        shared: &mut [u32; 101],
+        own: &mut [u32; OWN],
+        tallies: &mut [u64; TALLIES],
+        shared: &mut [u32; SHARED],
     ) -> u32;
 
     pub fn egretfold_session_word(
-        own: &mut [u32; 17],
-        tallies: &mut [u64; 2],
-        shared: &mut [u32; 101],
+        own: &mut [u32; OWN],
+        tallies: &mut [u64; TALLIES],
+        shared: &mut [u32; SHARED],
         word: u32,
         command: &mut [u32; 6],
     ) -> u32;
 
     pub fn egretfold_session_feed(
-        own: &mut [u32; 17],
-        tallies: &mut [u64; 2],
-        shared: &mut [u32; 101],
+        own: &mut [u32; OWN],
+        tallies: &mut [u64; TALLIES],
+        shared: &mut [u32; SHARED],
         words: *const u32,
         length: usize,
         fed: &mut [u64; 2],
     ) -> u32;
 
-    pub fn egretfold_session_status(own: &[u32; 17], status: &mut [u32; 4]) -> u32;
+    pub fn egretfold_session_status(own: &[u32; OWN], status: &mut [u32; 4]) -> u32;
 
-    pub fn egretfold_session_tallies(tallies: &[u64; 2], counts: &mut [u64; 2]) -> u32;
+    pub fn egretfold_session_tallies(tallies: &[u64; TALLIES], counts: &mut [u64; 2]) -> u32;
 
-    pub fn egretfold_session_domain(own: &[u32; 17], domain: &mut [u32; 5]) -> u32;
+    pub fn egretfold_session_domain(own: &[u32; OWN], domain: &mut [u32; 5]) -> u32;
 
     pub fn egretfold_session_format(
-        own: &[u32; 17],
-        shared: &[u32; 101],
+        own: &[u32; OWN],
+        shared: &[u32; SHARED],
         header: u32,
         number: u32,
         format: &mut [u32; 4],
     ) -> u32;
 
-    pub fn egretfold_session_masks(shared: &[u32; 101], masks: &mut [u32; 5]) -> u32;
+    pub fn egretfold_session_masks(shared: &[u32; SHARED], masks: &mut [u32; 5]) -> u32;
 
     pub fn egretfold_log_begin(
-        log: &mut [u32; 10],
-        marks: &mut [u64; 800],
-        own: &mut [u32; 17],
-        tallies: &mut [u64; 2],
-        shared: &mut [u32; 101],
+        log: &mut [u32; LOG],
+        marks: &mut [u64; MARKS],
+        own: &mut [u32; OWN],
+        tallies: &mut [u64; TALLIES],
+        shared: &mut [u32; SHARED],
     ) -> u32;
 
     pub fn egretfold_log_feed(
-        log: &mut [u32; 10],
-        marks: &mut [u64; 800],
-        own: &mut [u32; 17],
-        tallies: &mut [u64; 2],
-        shared: &mut [u32; 101],
+        log: &mut [u32; LOG],
+        marks: &mut [u64; MARKS],
+        own: &mut [u32; OWN],
+        tallies: &mut [u64; TALLIES],
+        shared: &mut [u32; SHARED],
         bytes: *const u8,
         length: usize,
         taken: &mut [u64; 1],
     ) -> u32;
 
     pub fn egretfold_log_byte(
-        log: &mut [u32; 10],
-        marks: &mut [u64; 800],
-        own: &mut [u32; 17],
-        tallies: &mut [u64; 2],
-        shared: &mut [u32; 101],
+        log: &mut [u32; LOG],
+        marks: &mut [u64; MARKS],
+        own: &mut [u32; OWN],
+        tallies: &mut [u64; TALLIES],
+        shared: &mut [u32; SHARED],
         byte: u8,
     ) -> u32;
 
-    pub fn egretfold_log_status(log: &[u32; 10], status: &mut [u32; 7]) -> u32;
+    pub fn egretfold_log_status(log: &[u32; LOG], status: &mut [u32; 7]) -> u32;
 
     pub fn egretfold_log_part(
-        log: &[u32; 10],
-        marks: &[u64; 800],
-        tallies: &[u64; 2],
+        log: &[u32; LOG],
+        marks: &[u64; MARKS],
+        tallies: &[u64; TALLIES],
         part: u32,
         counts: &mut [u64; 2],
     ) -> u32;
@@ -83,14 +85,14 @@ extern "C" {
     pub fn egretfold_score_lease(first_day: u32, days: u32, owed: u32) -> u32;
 
     pub fn egretfold_score_month(
-        log: &[u32; 10],
-        marks: &[u64; 800],
-        tallies: &[u64; 2],
+        log: &[u32; LOG],
+        marks: &[u64; MARKS],
+        tallies: &[u64; TALLIES],
         first_day: u32,
         days: u32,
         owed: u32,
-        claimed: &mut [u64; 31],
-        served: &mut [u64; 31],
+        claimed: &mut [u64; DAYS],
+        served: &mut [u64; DAYS],
         month: &mut [u64; 3],
     ) -> u32;
 
@@ -179,18 +181,18 @@ extern "C" {
     pub fn egretfold_program_load(
         words: *const u32,
         length: usize,
-        firsts: &mut [u32; 512],
-        seconds: &mut [u32; 512],
+        firsts: &mut [u32; SLOTS],
+        seconds: &mut [u32; SLOTS],
         slots: &mut [u32; 1],
     ) -> u32;
 
-    pub fn egretfold_group_begin(size: u32, cells: &mut [u32; 20]) -> u32;
+    pub fn egretfold_group_begin(size: u32, cells: &mut [u32; CELLS]) -> u32;
 
     pub fn egretfold_group_step(
-        firsts: &[u32; 512],
-        seconds: &[u32; 512],
+        firsts: &[u32; SLOTS],
+        seconds: &[u32; SLOTS],
         slots: u32,
-        cells: &mut [u32; 20],
+        cells: &mut [u32; CELLS],
         alu: u32,
         predicate: u32,
         booleans: u32,
@@ -198,10 +200,10 @@ extern "C" {
     ) -> u32;
 
     pub fn egretfold_group_run(
-        firsts: &[u32; 512],
-        seconds: &[u32; 512],
+        firsts: &[u32; SLOTS],
+        seconds: &[u32; SLOTS],
         slots: u32,
-        cells: &mut [u32; 20],
+        cells: &mut [u32; CELLS],
         masks: *const u32,
         length: usize,
         booleans: u32,

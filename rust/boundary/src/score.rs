@@ -1,5 +1,6 @@
 //! A month of a station's log, scored against its lease line.
 
+use crate::lengths::DAYS;
 use crate::{answer, lent, Answer, Replay};
 
 /// An accepted lease line. Its numbers are private, so that there is no other.
@@ -40,7 +41,7 @@ pub struct Month {
 }
 
 impl Lease {
-    /// A lease of 1 to 31 days that owe at most 100,000,000 elements each, the last
+    /// A lease of 1 to [`DAYS`] days that owe at most 100,000,000 elements each, the last
     /// day's number below 2^32. 21.
     pub fn new(first_day: u32, days: u32, owed: u32) -> Answer<Lease> {
         answer(lent::score_lease((first_day, days, owed)))?;
@@ -74,7 +75,7 @@ impl Replay {
     /// words and unfinished records refuse nothing.
     pub fn score(&self, lease: &Lease) -> Answer<Month> {
         let numbers = (lease.first_day, lease.days, lease.owed);
-        let (mut claimed, mut served, mut month) = ([0; 31], [0; 31], [0; 3]);
+        let (mut claimed, mut served, mut month) = ([0; DAYS], [0; DAYS], [0; 3]);
         let number = lent::score_month(self, numbers, &mut claimed, &mut served, &mut month);
         answer(number)?;
         let day = |place: u32| ScoredDay {

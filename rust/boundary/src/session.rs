@@ -1,15 +1,16 @@
 //! A session: command words taken one by one or in pieces, the settings that
 //! they leave, and the tallies.
 
+use crate::lengths::{OWN, SHARED, TALLIES};
 use crate::{answer, lent, Answer, Command};
 
 /// A session's state. Its arrays are private, so that it is always one that the
 /// library gave out. It may be cloned and both copies used.
 #[derive(Clone, Debug, PartialEq, Eq)]
 pub struct Session {
-    pub(crate) own: [u32; 17],
-    pub(crate) tallies: [u64; 2],
-    pub(crate) shared: [u32; 101],
+    pub(crate) own: [u32; OWN],
+    pub(crate) tallies: [u64; TALLIES],
+    pub(crate) shared: [u32; SHARED],
 }
 
 /// What an accepted word answers.

@@ -1,17 +1,15 @@
 //! A station's log over midnight, asked through the safe functions. Also a first
 //! look at how a replay is used.
 
-use boundary::{lent, BytesFed, Day, LogStatus, Part, RefusedWord, Replay, Session};
-
-const SET_OUT: u32 = 0xC003_0C00;
-const START: u32 = 0xC000_0800;
+use boundary::headers::{SET_DOMAIN, SET_INST_FMT, SET_OUT_FMT, START_PROGRAM};
+use boundary::{lent, BytesFed, Day, Lease, LogStatus, Part, RefusedWord, Replay, Session};
 
 /// Document 01's whole stream up to its start, which claims 1,728 elements.
 #[rustfmt::skip]
 const SETTINGS: [u32; 13] = [
-    0xC001_0A00, 0x1000, 0x400_0010,
-    SET_OUT, 0, 0x800, 0x201_0064, 0x12,
-    0xC003_0700, 0, 0, 0x5F, 0x11,
+    SET_INST_FMT, 0x1000, 0x400_0010,
+    SET_OUT_FMT, 0, 0x800, 0x201_0064, 0x12,
+    SET_DOMAIN, 0, 0, 0x5F, 0x11,
 ];
 
 fn record(kind: u8, number: u32) -> Vec<u8> {
@@ -52,11 +50,11 @@ fn days(replay: &Replay) -> Vec<Day> {
 fn three_days() -> Vec<u8> {
     [
         words(&SETTINGS),
-        words(&[START, 0, START]),
+        words(&[START_PROGRAM, 0, START_PROGRAM]),
         midnight(100),
         words(&[0]),
         midnight(101),
-        words(&[START, 0, START, 0]),
+        words(&[START_PROGRAM, 0, START_PROGRAM, 0]),
         midnight(102),
     ]
     .concat()
@@ -146,7 +144,7 @@ fn bytes_one_by_one_are_a_piece() {
 #[test]
 fn a_wrong_kind_byte_is_18() {
     let mut replay = Replay::new();
-    let bytes = [three_days(), vec![3], words(&[START, 0])].concat();
+    let bytes = [three_days(), vec![3], words(&[START_PROGRAM, 0])].concat();
     assert_eq!(replay.feed(&bytes), fed(bytes.len() - 11, Some(18)));
     let stopped = replay.clone();
     assert_eq!(stopped.status().stopped, Some(18));
@@ -178,7 +176,7 @@ fn four_hundred_midnights_come_and_no_more() {
     let mut replay = Replay::new();
     assert_eq!(replay.feed(&words(&SETTINGS)), fed(65, None));
     assert_eq!(replay.feed(&all), fed(2_000, None));
-    assert_eq!(replay.feed(&words(&[START, 0])), fed(10, None));
+    assert_eq!(replay.feed(&words(&[START_PROGRAM, 0])), fed(10, None));
     assert_eq!(replay.status().days, Some((first, u32::MAX)));
     assert_eq!(replay.days().count(), 400);
     assert_eq!(replay.days().last(), Some(day(u32::MAX, 1)));
@@ -191,7 +189,12 @@ fn four_hundred_midnights_come_and_no_more() {
 
 #[test]
 fn the_days_go_on_after_a_refused_word() {
-    let bytes = [three_days(), words(&[SET_OUT, 4, START, 0]), midnight(103)].concat();
+    let bytes = [
+        three_days(),
+        words(&[SET_OUT_FMT, 4, START_PROGRAM, 0]),
+        midnight(103),
+    ]
+    .concat();
     let mut replay = Replay::new();
     assert_eq!(replay.feed(&bytes), fed(bytes.len(), None));
     let status = replay.status();
@@ -204,6 +207,73 @@ fn the_days_go_on_after_a_refused_word() {
     assert_eq!((status.stopped, status.days), (None, Some((100, 103))));
     assert_eq!(days(&replay)[2..], [day(102, 0), day(103, 0)]);
     assert!(replay.session().status().stopped);
+}
+
+/// Four outputs of the largest window, and the largest domain: a start claims 2^26
+/// elements.
+fn largest() -> Vec<u32> {
+    let mut words = vec![SET_INST_FMT, 0x1000, 0x400_0010];
+    for number in 0..4 {
+        words.extend([SET_OUT_FMT, number, number << 28, 0x1000, 0x1000]);
+    }
+    words.extend([SET_DOMAIN, 0, 0, 0xFFF, 0xFFF]);
+    words
+}
+
+#[test]
+fn a_day_may_claim_more_than_2_to_the_32_elements() {
+    let bytes = [
+        words(&largest()),
+        midnight(100),
+        words(&[START_PROGRAM, 0].repeat(65)),
+        midnight(101),
+        words(&[START_PROGRAM, 0]),
+    ]
+    .concat();
+    let mut replay = Replay::new();
+    assert_eq!(replay.feed(&bytes), fed(bytes.len(), None));
+    let part = |runs| Part {
+        runs,
+        claims: runs << 26,
+    };
+    assert_eq!((replay.part(1), replay.part(2)), (part(65), part(1)));
+    assert_eq!(replay.session().claims(), 66 << 26);
+    // What a day owes is at most 100,000,000, and so is what it is served.
+    let lease = Lease::new(100, 2, 100_000_000).expect("a lease line");
+    let month = replay.score(&lease).expect("a log that isn't stopped");
+    let days: Vec<(u64, u64)> = month.days.iter().map(|d| (d.claimed, d.served)).collect();
+    assert_eq!(days, [(65 << 26, 100_000_000), (1 << 26, 1 << 26)]);
+}
+
+/// Words in a row are taken many at a time; no number of them is a special one, nor
+/// is the place of a refused word among them.
+#[test]
+fn words_in_a_row_may_be_any_number() {
+    for count in [127, 128, 129, 255, 256, 257, 1_000] {
+        let row = [words(&SETTINGS), words(&[START_PROGRAM, 0].repeat(count))].concat();
+        for refused in [None, Some(127), Some(128), Some(129), Some(2 * count)] {
+            let mut bytes = [midnight(100), row.clone(), midnight(101), words(&[7])].concat();
+            if let Some(place) = refused {
+                // One of the words in the row is no header and no parameter.
+                let at = 5 * (1 + place) + 1;
+                bytes[at..at + 4].copy_from_slice(&[255; 4]);
+            }
+            let mut whole = Replay::new();
+            assert_eq!(whole.feed(&bytes), fed(bytes.len(), None));
+            let mut single = Replay::new();
+            bytes
+                .iter()
+                .for_each(|byte| assert_eq!(single.byte(*byte), Ok(())));
+            assert_eq!(whole, single, "{count} starts in a row, {refused:?}");
+            let place = refused.unwrap_or(SETTINGS.len() + 2 * count);
+            let midnights = if refused.is_some() { 1 } else { 2 };
+            let word = whole.status().refused.expect("a word that is refused");
+            assert_eq!(
+                (word.record, word.midnights),
+                (place as u64 + midnights, midnights as u32)
+            );
+        }
+    }
 }
 
 #[test]

@@ -1,16 +1,16 @@
 //! A month scored against its lease line, asked through the safe functions. Also a
 //! first look at how a score is used.
 
+use boundary::headers::{SET_DOMAIN, SET_INST_FMT, SET_OUT_FMT, START_PROGRAM};
+use boundary::lengths::DAYS;
 use boundary::{lent, Lease, Month, Replay, ScoredDay, Verdict};
-
-const START: u32 = 0xC000_0800;
 
 /// Document 01's whole stream up to its start, which claims 1,728 elements.
 #[rustfmt::skip]
 const SETTINGS: [u32; 13] = [
-    0xC001_0A00, 0x1000, 0x400_0010,
-    0xC003_0C00, 0, 0x800, 0x201_0064, 0x12,
-    0xC003_0700, 0, 0, 0x5F, 0x11,
+    SET_INST_FMT, 0x1000, 0x400_0010,
+    SET_OUT_FMT, 0, 0x800, 0x201_0064, 0x12,
+    SET_DOMAIN, 0, 0, 0x5F, 0x11,
 ];
 
 const CLAIM: u32 = 1_728;
@@ -29,12 +29,12 @@ fn midnight(day: u32) -> Vec<u8> {
 fn three_days() -> Vec<u8> {
     [
         words(&SETTINGS),
-        words(&[START, 0, START]),
+        words(&[START_PROGRAM, 0, START_PROGRAM]),
         midnight(100),
-        words(&[0, START, 0]),
+        words(&[0, START_PROGRAM, 0]),
         midnight(101),
         midnight(102),
-        words(&[START, 0]),
+        words(&[START_PROGRAM, 0]),
     ]
     .concat()
 }
@@ -144,7 +144,7 @@ fn a_stopped_replay_has_no_score() {
 
 #[test]
 fn a_refused_word_and_an_unfinished_record_refuse_nothing() {
-    let end = [words(&[7, START, 0]), vec![2, 103]].concat();
+    let end = [words(&[7, START_PROGRAM, 0]), vec![2, 103]].concat();
     let replay = replayed(&[three_days(), end].concat());
     let status = replay.status();
     assert_eq!(status.refused.map(|word| word.number), Some(2));
@@ -171,14 +171,14 @@ fn cutting_the_log_changes_nothing() {
 /// Rooms that were filled before the call.
 #[derive(Clone, Copy, Debug, PartialEq, Eq)]
 struct Rooms {
-    claimed: [u64; 31],
-    served: [u64; 31],
+    claimed: [u64; DAYS],
+    served: [u64; DAYS],
     month: [u64; 3],
 }
 
 const FILLED: Rooms = Rooms {
-    claimed: [9; 31],
-    served: [9; 31],
+    claimed: [9; DAYS],
+    served: [9; DAYS],
     month: [9; 3],
 };
 
@@ -217,7 +217,7 @@ fn a_refusal_writes_nothing_to_the_rooms() {
 #[test]
 fn the_rooms_past_the_last_day_are_0() {
     let replay = replayed(&three_days());
-    for days in 1..=31 {
+    for days in 1..=DAYS as u32 {
         let (number, rooms) = asked(&replay, (100, days, 1));
         assert_eq!(number, 0);
         let days = days as usize;

@@ -2,13 +2,8 @@
 //! safe functions: a worked case for each format code with each nibble of the mask,
 //! and what a start makes of silent outputs.
 
+use boundary::headers::{SET_DOMAIN, SET_INST_FMT, SET_OUT_FMT, SET_OUT_MASK, START_PROGRAM};
 use boundary::{Part, Replay, Session};
-
-const SET_INST: u32 = 0xC001_0A00;
-const SET_OUT: u32 = 0xC003_0C00;
-const SET_DOMAIN: u32 = 0xC003_0700;
-const SET_OUT_MASK: u32 = 0xC000_1900;
-const START: u32 = 0xC000_0800;
 
 /// For each format code the nibbles under which its output is silent.
 const SILENT: [&[u32]; 5] = [
@@ -25,17 +20,23 @@ const SILENT: [&[u32]; 5] = [
 ];
 
 /// The instruction format, and a domain of 5 x 3 pairs.
-const READY: [u32; 8] = [SET_INST, 0x1000, 0x400_0010, SET_DOMAIN, 3, 1, 7, 3];
+const READY: [u32; 8] = [SET_INST_FMT, 0x1000, 0x400_0010, SET_DOMAIN, 3, 1, 7, 3];
 
 /// Output `number` at this base, linear, with a window of 32 x 4 elements.
 fn output(number: u32, base: u32, code: u32) -> [u32; 5] {
-    [SET_OUT, number, base, code << 24 | 0x20, 4]
+    [SET_OUT_FMT, number, base, code << 24 | 0x20, 4]
 }
 
 /// The mask, the outputs, all else that a start needs, and the start.
 fn stream(mask: u32, outputs: &[[u32; 5]]) -> Vec<u32> {
     let outputs = outputs.concat();
-    [&[SET_OUT_MASK, mask], &outputs[..], &READY, &[START, 0]].concat()
+    [
+        &[SET_OUT_MASK, mask],
+        &outputs[..],
+        &READY,
+        &[START_PROGRAM, 0],
+    ]
+    .concat()
 }
 
 /// What the start comes to: its runs and claims, or its refusal. A piece and its
@@ -93,12 +94,12 @@ fn silent_outputs_are_passed_over_in_8_and_9() {
     assert_eq!(started(&stream(0x00E1, &[float, over])), Ok((1, 15)));
     assert_eq!(started(&stream(0x00EE, &[float, over])), Ok((1, 0)));
     // Too low for the domain.
-    let low = [SET_OUT, 2, 0x800, 0x0300_0020, 3];
+    let low = [SET_OUT_FMT, 2, 0x800, 0x0300_0020, 3];
     assert_eq!(started(&stream(0x0201, &[float, low])), Err(8));
     assert_eq!(started(&stream(0x0C01, &[float, low])), Ok((1, 15)));
     assert_eq!(started(&stream(0x0C00, &[float, low])), Ok((1, 0)));
     // 8 and 9 of those that count, in their order.
-    let low_over = [SET_OUT, 3, 0, 0x0200_0020, 3];
+    let low_over = [SET_OUT_FMT, 3, 0, 0x0200_0020, 3];
     let all = [float, over, low_over];
     assert_eq!(started(&stream(0x1011, &all)), Err(8));
     assert_eq!(started(&stream(0x0011, &all)), Err(9));
@@ -110,7 +111,7 @@ fn refusal_7_is_as_before() {
     for mask in [0, 0xFFFF] {
         assert_eq!(started(&stream(mask, &[])), Err(7));
         let silent = [&[SET_OUT_MASK, mask], &output(0, 0, 1)[..]].concat();
-        let start = [START, 0];
+        let start = [START_PROGRAM, 0];
         assert_eq!(started(&[&silent[..], &start].concat()), Err(7));
         for missing in [&READY[..3], &READY[3..]] {
             assert_eq!(started(&[&silent, missing, &start].concat()), Err(7));
@@ -126,7 +127,10 @@ fn the_mask_at_the_starts_last_word_counts() {
     let masks = [(0xFFFF, 15), (0xFF0F, 15), (0xFFEF, 15), (0x0010, 30)];
     for (runs, (mask, claims)) in (1..).zip(masks) {
         let earlier = session.claims();
-        assert_eq!(session.feed(&[SET_OUT_MASK, mask, START]).refusal, None);
+        assert_eq!(
+            session.feed(&[SET_OUT_MASK, mask, START_PROGRAM]).refusal,
+            None
+        );
         assert_eq!(session.claims(), earlier);
         assert!(session.word(0).is_ok());
         assert_eq!((session.runs(), session.claims()), (runs, claims));
@@ -143,11 +147,11 @@ fn a_camera_masked_for_a_day_has_runs_and_no_elements() {
     let log = [
         words(&[&output(0, 0, 3)[..], &READY].concat()),
         midnight(1),
-        words(&[START, 0, SET_OUT_MASK, 0xFFFC]),
+        words(&[START_PROGRAM, 0, SET_OUT_MASK, 0xFFFC]),
         midnight(2),
-        words(&[START, 0, START, 0, SET_OUT_MASK]),
+        words(&[START_PROGRAM, 0, START_PROGRAM, 0, SET_OUT_MASK]),
         midnight(3),
-        words(&[0xFFFE, START, 0]),
+        words(&[0xFFFE, START_PROGRAM, 0]),
     ];
     let mut replay = Replay::new();
     assert_eq!(replay.feed(&log.concat()).refusal, None);

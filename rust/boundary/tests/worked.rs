@@ -1,20 +1,16 @@
 //! Document 01's worked cases C1 to C12 and its whole stream, asked through the
 //! safe functions. Also a first look at how this crate is used.
 
+use boundary::headers::{SET_DOMAIN, SET_INST_FMT, SET_OUT_FMT, START_PROGRAM};
 use boundary::{layout, locate, parameters, read, superfine, translate, write, write_command};
 use boundary::{Command, Fed, Format, Group, Layout, Program, Reply, Session, Window};
 
-const SET_INST: u32 = 0xC001_0A00;
-const SET_OUT: u32 = 0xC003_0C00;
-const SET_DOMAIN: u32 = 0xC003_0700;
-const START: u32 = 0xC000_0800;
-
 #[rustfmt::skip]
 const STREAM: [u32; 15] = [
-    SET_INST, 0x1000, 0x400_0010,
-    SET_OUT, 0, 0x800, 0x201_0064, 0x12,
+    SET_INST_FMT, 0x1000, 0x400_0010,
+    SET_OUT_FMT, 0, 0x800, 0x201_0064, 0x12,
     SET_DOMAIN, 0, 0, 0x5F, 0x11,
-    START, 0,
+    START_PROGRAM, 0,
 ];
 
 fn shape(size: u32, base: u32, pitch: u32, height: u32, tiled: bool) -> Layout {
@@ -84,7 +80,7 @@ fn the_whole_stream_makes_one_run() {
         refusal,
     };
     assert_eq!(session.feed(first), fed(5, 1));
-    assert_eq!(session.status().open, Some((SET_OUT, 1)));
+    assert_eq!(session.status().open, Some((SET_OUT_FMT, 1)));
     assert_eq!(session.feed(second), fed(10, 3));
     assert_eq!(session.status().taken, 15);
     assert_eq!(session.status().open, None);
@@ -95,10 +91,10 @@ fn the_whole_stream_makes_one_run() {
         format: 0x400_0010,
         height: 1,
     };
-    assert_eq!(session.format(SET_INST, 0), Ok(Some(instructions)));
-    assert_eq!(session.format(SET_OUT, 1), Ok(None));
-    assert_eq!(session.format(SET_OUT, 4), Err(4));
-    assert_eq!(session.format(START, 0), Err(2));
+    assert_eq!(session.format(SET_INST_FMT, 0), Ok(Some(instructions)));
+    assert_eq!(session.format(SET_OUT_FMT, 1), Ok(None));
+    assert_eq!(session.format(SET_OUT_FMT, 4), Err(4));
+    assert_eq!(session.format(START_PROGRAM, 0), Err(2));
     assert_eq!(session.output_mask(), 65_535);
     assert_eq!((session.conditional_mask(), session.test()), (None, None));
 }
@@ -106,10 +102,10 @@ fn the_whole_stream_makes_one_run() {
 #[test]
 fn a_refused_word_stops_the_session() {
     let mut session = Session::new();
-    assert_eq!(session.word(START), Ok(Reply::Open));
+    assert_eq!(session.word(START_PROGRAM), Ok(Reply::Open));
     assert_eq!(session.word(0), Err(7));
     assert!(session.status().stopped);
-    assert_eq!(session.word(START), Err(1));
+    assert_eq!(session.word(START_PROGRAM), Err(1));
     assert_eq!(session.feed(&STREAM).refusal, Some(1));
     assert_eq!(session.feed(&[]).refusal, None);
 }
@@ -122,7 +118,7 @@ fn a_command_is_written_to_the_words_it_came_from() {
         last = session.word(*word).unwrap();
     }
     let fields = [0x1000, 0x400_0010, 0, 0];
-    let header = SET_INST;
+    let header = SET_INST_FMT;
     let command = Command { header, fields };
     assert_eq!(last, Reply::Done(command));
     let mut room = [7; 4];
@@ -130,7 +126,7 @@ fn a_command_is_written_to_the_words_it_came_from() {
     assert_eq!(room[..3], STREAM[..3]);
     assert_eq!(room[3], 7);
     assert_eq!(write_command(&command, &mut room[..2]), Err(11));
-    assert_eq!((parameters(SET_INST), parameters(0)), (Ok(2), Err(2)));
+    assert_eq!((parameters(SET_INST_FMT), parameters(0)), (Ok(2), Err(2)));
 }
 
 #[test]

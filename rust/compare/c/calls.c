@@ -276,12 +276,12 @@ static void check_lease_lines(void)
     agree("score_lease, past the last number", egretfold_score_lease(4294967266, 31, 1), 21);
 }
 
-static uint64_t claimed[31], served[31], month[3];
+static uint64_t claimed[EGRETFOLD_DAYS], served[EGRETFOLD_DAYS], month[3];
 
 /* All rooms of a score, the first numbers of each as given and the others 0. */
 static void check_month(const char *call, const uint64_t claims[3], const uint64_t serves[3], const uint64_t sums[3])
 {
-    for (unsigned i = 0; i < 31; i++) {
+    for (unsigned i = 0; i < EGRETFOLD_DAYS; i++) {
         agree(call, claimed[i], i < 3 ? claims[i] : 0);
         agree(call, served[i], i < 3 ? serves[i] : 0);
     }

@@ -1,69 +1,60 @@
-//! The command table as the cases need it, and made-up commands: formats with
-//! plausible windows, domains, masks, starts. Kept apart from both programs, so
-//! that a header that one of them lost is still asked for.
+//! The commands as the cases need them, and made-up ones: formats with plausible
+//! windows, domains, masks, starts. The headers are the boundary's names, apart from
+//! both programs, so that a header that one of them lost is still asked for.
 
 use crate::random::Random;
+use boundary::headers::{
+    self, FLUSH_COND_OUT_CACHE, FLUSH_OUT_CACHE, INV_COND_OUT_CACHE, INV_CONSTB_CACHE,
+    INV_CONSTF_CACHE, INV_CONSTI_CACHE, INV_INP_CACHE, INV_INST_CACHE, SET_COND_OUT_FMT,
+    SET_COND_OUT_MASK, SET_COND_TEST, SET_CONSTB_FMT, SET_CONSTF_FMT, SET_CONSTI_FMT, SET_DOMAIN,
+    SET_INP_FMT, SET_INST_FMT, SET_OUT_FMT, SET_OUT_MASK, START_PROGRAM, WAIT_FOR_IDLE,
+};
 use second::layout::Layout;
 
-pub const WAIT: u32 = 0xC000_0900;
-pub const SET_DOMAIN: u32 = 0xC003_0700;
-pub const START: u32 = 0xC000_0800;
-pub const SET_INST: u32 = 0xC001_0A00;
-pub const SET_INP: u32 = 0xC003_0B00;
-pub const SET_OUT: u32 = 0xC003_0C00;
-pub const SET_COND_OUT: u32 = 0xC002_0D00;
-pub const SET_CONSTF: u32 = 0xC001_0E00;
-pub const SET_CONSTI: u32 = 0xC001_0F00;
-pub const SET_CONSTB: u32 = 0xC001_1000;
-pub const SET_OUT_MASK: u32 = 0xC000_1900;
-pub const SET_COND_MASK: u32 = 0xC000_1A00;
-pub const SET_COND_TEST: u32 = 0xC000_1B00;
-
-/// Every header of the table, with document 01's name of its command.
-pub const TABLE: [(u32, &str); 21] = [
-    (WAIT, "wait_for_idle"),
-    (0xC000_1100, "invalidate instructions"),
-    (0xC000_1200, "invalidate float constants"),
-    (0xC000_1300, "invalidate integer constants"),
-    (0xC000_1400, "invalidate boolean constants"),
-    (0xC000_1500, "invalidate conditional output"),
-    (0xC000_1600, "invalidate inputs"),
-    (0xC000_1700, "flush outputs"),
-    (0xC000_1800, "flush conditional output"),
-    (SET_INST, "set_inst_fmt"),
-    (SET_CONSTF, "set_constf_fmt"),
-    (SET_CONSTI, "set_consti_fmt"),
-    (SET_CONSTB, "set_constb_fmt"),
-    (SET_INP, "set_inp_fmt"),
-    (SET_OUT, "set_out_fmt"),
-    (SET_COND_OUT, "set_cond_out_fmt"),
-    (SET_OUT_MASK, "set_out_mask"),
-    (SET_COND_MASK, "set_cond_out_mask"),
-    (SET_COND_TEST, "set_cond_test"),
-    (SET_DOMAIN, "set_domain"),
-    (START, "start_program"),
+/// Every header, first those of commands that set nothing.
+pub const HEADERS: [u32; 21] = [
+    WAIT_FOR_IDLE,
+    INV_INST_CACHE,
+    INV_CONSTF_CACHE,
+    INV_CONSTI_CACHE,
+    INV_CONSTB_CACHE,
+    INV_COND_OUT_CACHE,
+    INV_INP_CACHE,
+    FLUSH_OUT_CACHE,
+    FLUSH_COND_OUT_CACHE,
+    SET_INST_FMT,
+    SET_CONSTF_FMT,
+    SET_CONSTI_FMT,
+    SET_CONSTB_FMT,
+    SET_INP_FMT,
+    SET_OUT_FMT,
+    SET_COND_OUT_FMT,
+    SET_OUT_MASK,
+    SET_COND_OUT_MASK,
+    SET_COND_TEST,
+    SET_DOMAIN,
+    START_PROGRAM,
 ];
 
-/// wait_for_idle, the invalidations and the flushes: the table's first lines.
+/// wait_for_idle, the invalidations and the flushes: the first headers.
 const QUIET: usize = 9;
 
 /// The commands with a base and a format word alone.
-pub const LOW_FORMATS: [u32; 4] = [SET_INST, SET_CONSTF, SET_CONSTI, SET_CONSTB];
+pub const LOW_FORMATS: [u32; 4] = [SET_INST_FMT, SET_CONSTF_FMT, SET_CONSTI_FMT, SET_CONSTB_FMT];
 
 /// A header of the table, all twenty-one alike.
 pub fn known_header(random: &mut Random) -> u32 {
-    random.one_of(&TABLE).0
+    random.one_of(&HEADERS)
 }
 
 /// The header of a command that sets nothing.
 pub fn quiet_header(random: &mut Random) -> u32 {
-    random.one_of(&TABLE[..QUIET]).0
+    random.one_of(&HEADERS[..QUIET])
 }
 
 /// The name of the command with this header.
 pub fn name(header: u32) -> &'static str {
-    let line = TABLE.iter().find(|line| line.0 == header);
-    line.map_or(UNKNOWN, |line| line.1)
+    headers::name(header).unwrap_or(UNKNOWN)
 }
 
 /// The name of what is no command.
@@ -182,26 +173,26 @@ pub fn small_height(random: &mut Random) -> u32 {
 /// by themselves; a start may still be refused by its session.
 pub fn good_fields(random: &mut Random, header: u32) -> [u32; 4] {
     match header {
-        SET_INST | SET_CONSTF | SET_CONSTI | SET_CONSTB => {
+        SET_INST_FMT | SET_CONSTF_FMT | SET_CONSTI_FMT | SET_CONSTB_FMT => {
             [low_base(random), format_word(random, true), 0, 0]
         }
-        SET_INP => {
+        SET_INP_FMT => {
             let number = random.below(16);
             let format = input_format_word(random);
             [number, low_base(random), format, small_height(random)]
         }
-        SET_OUT => {
+        SET_OUT_FMT => {
             let number = random.below(4);
             let format = format_word(random, true);
             [number, low_base(random), format, small_height(random)]
         }
-        SET_COND_OUT => {
+        SET_COND_OUT_FMT => {
             let format = format_word(random, true);
             [low_base(random), format, small_height(random), 0]
         }
         SET_DOMAIN => good_domain(random, 4_095, 4_095),
         SET_OUT_MASK => [output_mask(random), 0, 0, 0],
-        SET_COND_MASK => [random.below(2), 0, 0, 0],
+        SET_COND_OUT_MASK => [random.below(2), 0, 0, 0],
         SET_COND_TEST => [random.below(8), 0, 0, 0],
         _ => [0; 4],
     }
@@ -239,22 +230,22 @@ fn edge(random: &mut Random, header: u32, place: usize, fields: &[u32; 4]) -> u3
     const BASES: [u32; 6] = [1, 1_024, 2_047, 0xFFFF_F800, 0xFFFF_F000, 0xFFFE_0000];
     const HEIGHTS: [u32; 8] = [0, 1, 4_095, 4_096, 4_097, 8_191, 8_192, u32::MAX];
     match (header, place) {
-        (SET_INP | SET_OUT, 0) => random.one_of(&NUMBERS),
-        (SET_INP | SET_OUT, 1) => random.one_of(&BASES),
-        (SET_INP | SET_OUT, 2) => edge_format(random, fields[2]),
-        (SET_INP | SET_OUT, _) => random.one_of(&HEIGHTS),
-        (SET_COND_OUT, 2) => random.one_of(&HEIGHTS),
-        (SET_INST | SET_CONSTF | SET_CONSTI | SET_CONSTB | SET_COND_OUT, 0) => {
+        (SET_INP_FMT | SET_OUT_FMT, 0) => random.one_of(&NUMBERS),
+        (SET_INP_FMT | SET_OUT_FMT, 1) => random.one_of(&BASES),
+        (SET_INP_FMT | SET_OUT_FMT, 2) => edge_format(random, fields[2]),
+        (SET_INP_FMT | SET_OUT_FMT, _) => random.one_of(&HEIGHTS),
+        (SET_COND_OUT_FMT, 2) => random.one_of(&HEIGHTS),
+        (SET_INST_FMT | SET_CONSTF_FMT | SET_CONSTI_FMT | SET_CONSTB_FMT | SET_COND_OUT_FMT, 0) => {
             random.one_of(&BASES)
         }
-        (SET_INST | SET_CONSTF | SET_CONSTI | SET_CONSTB | SET_COND_OUT, _) => {
+        (SET_INST_FMT | SET_CONSTF_FMT | SET_CONSTI_FMT | SET_CONSTB_FMT | SET_COND_OUT_FMT, _) => {
             edge_format(random, fields[1])
         }
         (SET_DOMAIN, 2) => fields[0].wrapping_sub(random.between(0, 2)),
         (SET_DOMAIN, 3) => fields[1].wrapping_sub(random.between(0, 2)),
         (SET_DOMAIN, _) => random.one_of(&[0, 4_095, 4_096, 8_191]),
         (SET_OUT_MASK, _) => random.one_of(&[0, 0xFFFF, 0x1_0000, 0x8000_0000]),
-        (SET_COND_MASK, _) => random.one_of(&[0, 1, 2, 3]),
+        (SET_COND_OUT_MASK, _) => random.one_of(&[0, 1, 2, 3]),
         (SET_COND_TEST, _) => random.one_of(&[0, 7, 8, 9]),
         _ => random.one_of(&[0, 1, 0x8000_0000]),
     }

@@ -6,6 +6,7 @@ use crate::case::{Agreed, Agreement, Case};
 use crate::groups::{seen, seen_in_second, Both};
 use crate::programs;
 use crate::random::Random;
+use boundary::lengths::{CELLS, SLOTS};
 use boundary::lent;
 use second::flow::{Group, Processor, Program, Report, Stepped};
 use second::Answer;
@@ -68,8 +69,8 @@ fn loaded(case: &mut Case, words: Vec<u32>) -> Agreed<Option<Loaded>> {
 type Slots = (u32, usize, Vec<[u32; 2]>);
 
 fn slots_of_product(program: &boundary::Program) -> Slots {
-    let slots = (0..512).map(|number| program.slot(number)).collect();
-    (program.slots(), 512, without_plain_end(slots))
+    let slots = (0..SLOTS).map(|number| program.slot(number)).collect();
+    (program.slots(), SLOTS, without_plain_end(slots))
 }
 
 fn slots_of_second(program: &Program) -> Slots {
@@ -88,7 +89,11 @@ fn without_plain_end(mut slots: Vec<[u32; 2]>) -> Vec<[u32; 2]> {
 }
 
 fn store_untouched(case: &mut Case, words: &[u32]) -> Agreement {
-    let filled = ([case.random.word(); 512], [case.random.word(); 512], [7]);
+    let filled = (
+        [case.random.word(); SLOTS],
+        [case.random.word(); SLOTS],
+        [7],
+    );
     let mut room = filled;
     lent::program_load(words, &mut room.0, &mut room.1, &mut room.2);
     let asked = || format!("a refused load of {} words", words.len());
@@ -111,7 +116,7 @@ fn begun(case: &mut Case) -> Agreed<Option<Both>> {
     let theirs = second.as_ref().map(seen_in_second).map_err(|n| *n);
     case.agree_answer(asked, &ours, &theirs)?;
     if product.is_err() {
-        let filled = [case.random.word(); 20];
+        let filled = [case.random.word(); CELLS];
         let mut cells = filled;
         lent::group_begin(size, &mut cells);
         case.untouched(asked, &cells, &filled)?;

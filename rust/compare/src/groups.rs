@@ -1,7 +1,11 @@
 //! A group's whole state, as either program has it.
 
 use crate::case::{Agreement, Case};
+use boundary::lengths::CELLS;
 use second::flow::{Group, Processor};
+
+/// The first of the product's cells past its returns.
+const REST: usize = 12;
 
 /// One group of each program, which take the same steps.
 #[derive(Clone)]
@@ -20,8 +24,8 @@ pub struct Seen {
     position: u32,
     /// Oldest first.
     returns: Vec<u32>,
-    /// The product's last cells, which are zeros.
-    rest: [u32; 8],
+    /// The product's cells past its returns, which are zeros.
+    rest: [u32; CELLS - REST],
 }
 
 impl Both {
@@ -37,8 +41,8 @@ pub fn seen(group: &boundary::Group) -> Seen {
     for (number, counter) in (0..).zip(&mut counters) {
         *counter = group.counter(number);
     }
-    let mut rest = [0; 8];
-    rest.copy_from_slice(&group.cells()[12..]);
+    let mut rest = [0; CELLS - REST];
+    rest.copy_from_slice(&group.cells()[REST..]);
     Seen {
         members: group.mask(),
         active: group.active(),
@@ -56,7 +60,7 @@ pub fn seen_in_second(group: &Group) -> Seen {
         counters: [0; 32],
         position: group.position,
         returns: group.returns.clone(),
-        rest: [0; 8],
+        rest: [0; CELLS - REST],
     };
     for (number, processor) in group.processors.iter().enumerate() {
         seen.members |= 1 << number;

@@ -186,6 +186,16 @@ fn words(taken: &[u8]) -> impl Iterator<Item = u32> + '_ {
     })
 }
 
+/// The product gathers the words of so many records at a time.
+const GATHERED: usize = 128;
+
+/// The most records of words that stand one after another.
+fn longest_run(log: &[u8]) -> usize {
+    let runs = log.chunks_exact(5).collect::<Vec<_>>();
+    let runs = runs.split(|record| record[0] != records::WORD);
+    runs.map(<[&[u8]]>::len).max().unwrap_or(0)
+}
+
 /// What the log was, for the tests to look at.
 fn count(case: &mut Case, log: &[u8], second: &Second) {
     let tally = &mut *case.tally;
@@ -203,6 +213,12 @@ fn count(case: &mut Case, log: &[u8], second: &Second) {
     }
     if second.days().iter().filter(|day| day.part.runs > 0).count() > 1 {
         tally.mark("logs with runs on several days");
+    }
+    if second.days().iter().any(|day| day.part.claims >= 1 << 32) {
+        tally.mark("logs with a day of 2^32 elements or more");
+    }
+    if longest_run(log) > GATHERED {
+        tally.mark("logs with more words in a row than are gathered");
     }
     if second.days().len() == 400 {
         tally.mark("logs with 400 midnights");

@@ -3,6 +3,11 @@
 //! of a length that can't be loaded.
 
 use crate::random::Random;
+use boundary::lengths::SLOTS;
+
+/// The most slots and the most words of a program.
+const MOST_SLOTS: u32 = SLOTS as u32;
+const MOST_WORDS: u32 = 2 * MOST_SLOTS;
 
 /// The fields of a slot, named as in document 01.
 #[derive(Clone, Copy, Default)]
@@ -104,23 +109,26 @@ pub fn any(random: &mut Random) -> Vec<u32> {
     words
 }
 
-/// Words that make no program: none, an odd number, or more than 512 slots.
+/// Words that make no program: none, an odd number, or more than there are slots.
 fn wrong_length(random: &mut Random) -> Vec<u32> {
     let count = match random.below(6) {
         0 => 0,
         1 => 2 * random.below(16) + 1,
-        2 => random.one_of(&[1_023, 1_025, 1_026, 1_027, 1_028]),
-        3 => random.between(1_024, 3_000),
+        2 => match random.below(5) {
+            0 => MOST_WORDS - 1,
+            past => MOST_WORDS + past,
+        },
+        3 => random.between(MOST_WORDS, 3_000),
         // Beside them the longest that can be loaded.
-        4 => 1_024,
-        _ => 2 * random.between(500, 520),
+        4 => MOST_WORDS,
+        _ => 2 * random.between(MOST_SLOTS - 12, MOST_SLOTS + 8),
     };
     (0..count).map(|_| random.word()).collect()
 }
 
 /// Slots with any allowed fields, which mostly jump to slots of the program.
 fn random_slots(random: &mut Random) -> Vec<[u32; 2]> {
-    let most = random.one_of(&[2, 8, 8, 24, 24, 64, 64, 512]);
+    let most = random.one_of(&[2, 8, 8, 24, 24, 64, 64, MOST_SLOTS]);
     let count = if random.once_in(4) {
         most
     } else {
@@ -142,10 +150,10 @@ fn random_slot(random: &mut Random, count: u32) -> Slot {
         b_op1: random.one_of(&[0, 0, DECREMENT, INCREMENT]),
         boolean: random.below(32),
         address: match random.below(24) {
-            0 => random.below(512),
-            1 => (count + 1).min(511),
+            0 => random.below(MOST_SLOTS),
+            1 => (count + 1).min(MOST_SLOTS - 1),
             2 => count - 1,
-            _ => random.between(0, count).min(511),
+            _ => random.between(0, count).min(MOST_SLOTS - 1),
         },
     }
 }

@@ -5,6 +5,7 @@
 use crate::case::{Agreement, Case};
 use crate::random::Random;
 use crate::records;
+use boundary::lengths::DAYS;
 use boundary::{lent, Lease as ProductLease, Month as ProductMonth, Replay as Product};
 use second::log::{Day, Replay as Second};
 use second::score::{Lease, Month, ScoredDay, Verdict};
@@ -12,7 +13,7 @@ use second::score::{Lease, Month, ScoredDay, Verdict};
 /// Lease lines that each log is scored against.
 const LEASES: u32 = 8;
 
-const MOST_DAYS: u32 = 31;
+const MOST_DAYS: u32 = DAYS as u32;
 const MOST_OWED: u32 = 100_000_000;
 
 pub fn run(case: &mut Case) -> Agreement {
@@ -174,7 +175,7 @@ fn of_product(month: ProductMonth) -> Month {
 }
 
 /// The rooms of the C function: claimed, served, month.
-type Rooms = ([u64; 31], [u64; 31], [u64; 3]);
+type Rooms = ([u64; DAYS], [u64; DAYS], [u64; 3]);
 
 /// The C function itself, with any lease line: a refusal touches no room, and an
 /// answer fills all of them.
@@ -186,7 +187,7 @@ fn rooms(
     asked: impl Fn() -> String,
 ) -> Agreement {
     let filled = case.random.long();
-    let mut rooms: Rooms = ([filled; 31], [filled; 31], [filled; 3]);
+    let mut rooms: Rooms = ([filled; DAYS], [filled; DAYS], [filled; 3]);
     let untouched = rooms;
     let numbers = (lease.first_day, lease.days, lease.owed);
     let (claimed, served, month) = (&mut rooms.0, &mut rooms.1, &mut rooms.2);
@@ -203,7 +204,7 @@ fn rooms(
 }
 
 fn in_rooms(month: &Month) -> Rooms {
-    let mut rooms: Rooms = ([0; 31], [0; 31], [0; 3]);
+    let mut rooms: Rooms = ([0; DAYS], [0; DAYS], [0; 3]);
     for (place, day) in month.days.iter().enumerate() {
         rooms.0[place] = day.claimed;
         rooms.1[place] = day.served;
@@ -244,6 +245,9 @@ fn count(case: &mut Case, lease: &Lease, log: &Second, expected: &Result<Month, 
     let claimed: u64 = month.days.iter().map(|day| day.claimed).sum();
     if month.verdict == Verdict::Short && claimed >= month.owed {
         tally.mark("short months that a surplus would fill");
+    }
+    if month.days.iter().any(|day| day.claimed >= 1 << 32) {
+        tally.mark("months with a day of 2^32 elements or more");
     }
     if let Some(name) = lie(lease, log) {
         tally.mark(name);

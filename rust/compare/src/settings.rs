@@ -1,8 +1,11 @@
 //! All that can be asked of a session, asked of both programs' sessions.
 
 use crate::case::{Agreement, Case};
-use crate::commands::{self, SET_COND_OUT, SET_CONSTB, SET_CONSTF, SET_CONSTI};
-use crate::commands::{SET_INP, SET_INST, SET_OUT};
+use crate::commands;
+use boundary::headers::{
+    SET_COND_OUT_FMT, SET_CONSTB_FMT, SET_CONSTF_FMT, SET_CONSTI_FMT, SET_INP_FMT, SET_INST_FMT,
+    SET_OUT_FMT,
+};
 use boundary::lent;
 use second::session::Format;
 use second::Answer;
@@ -31,13 +34,19 @@ pub struct Seen {
 }
 
 /// The headers that set one format each; outputs and inputs come behind them.
-const FORMATS: [u32; 5] = [SET_INST, SET_CONSTF, SET_CONSTI, SET_CONSTB, SET_COND_OUT];
+const FORMATS: [u32; 5] = [
+    SET_INST_FMT,
+    SET_CONSTF_FMT,
+    SET_CONSTI_FMT,
+    SET_CONSTB_FMT,
+    SET_COND_OUT_FMT,
+];
 
 /// Header and number of every format that a session can hold.
 fn formats() -> impl Iterator<Item = (u32, u32)> {
     let single = FORMATS.iter().map(|header| (*header, 0));
-    let outputs = (0..4).map(|number| (SET_OUT, number));
-    let inputs = (0..16).map(|number| (SET_INP, number));
+    let outputs = (0..4).map(|number| (SET_OUT_FMT, number));
+    let inputs = (0..16).map(|number| (SET_INP_FMT, number));
     single.chain(outputs).chain(inputs)
 }
 
@@ -62,7 +71,7 @@ impl Both {
         let header = match random.below(4) {
             0 => commands::known_header(random),
             1 => commands::unknown_header(random),
-            _ => random.one_of(&[SET_OUT, SET_INP]),
+            _ => random.one_of(&[SET_OUT_FMT, SET_INP_FMT]),
         };
         let number = match random.below(4) {
             0 => random.word(),
@@ -144,13 +153,13 @@ fn format_of_second(
     number: u32,
 ) -> Answer<Option<Format>> {
     match header {
-        SET_INST => Ok(session.instructions()),
-        SET_CONSTF => Ok(session.floats()),
-        SET_CONSTI => Ok(session.integers()),
-        SET_CONSTB => Ok(session.booleans()),
-        SET_COND_OUT => Ok(session.conditional()),
-        SET_OUT => session.output(number),
-        SET_INP => session.input(number),
+        SET_INST_FMT => Ok(session.instructions()),
+        SET_CONSTF_FMT => Ok(session.floats()),
+        SET_CONSTI_FMT => Ok(session.integers()),
+        SET_CONSTB_FMT => Ok(session.booleans()),
+        SET_COND_OUT_FMT => Ok(session.conditional()),
+        SET_OUT_FMT => session.output(number),
+        SET_INP_FMT => session.input(number),
         _ => Err(2),
     }
 }

@@ -1,8 +1,9 @@
 //! What the starts of a stream met, counted for the tests to look at: outputs that
 //! are silent or partly masked, and silent ones that would else be in the way.
 
-use crate::commands::{self, START};
+use crate::commands;
 use crate::tally::Tally;
+use boundary::headers::START_PROGRAM;
 use second::layout::judge;
 use second::session::{Format, Reply, Session};
 
@@ -43,7 +44,7 @@ pub fn of_words(tally: &mut Tally, words: impl Iterator<Item = u32>) {
     let mut session = Session::new();
     for word in words {
         match session.word(word) {
-            Ok(Reply::Done(command)) if command.header == START => count(tally, &session),
+            Ok(Reply::Done(command)) if command.header == START_PROGRAM => count(tally, &session),
             Ok(_) => {}
             Err(_) => return,
         }

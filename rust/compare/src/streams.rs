@@ -8,6 +8,7 @@ use crate::settings::{of_product, of_second, Both};
 use crate::starts;
 use crate::words;
 use crate::writer::for_product;
+use boundary::headers::START_PROGRAM;
 use boundary::lent;
 use second::command::{write, Command};
 use second::session::{Fed, Reply};
@@ -25,6 +26,9 @@ pub fn run(case: &mut Case) -> Agreement {
         case.agree(asked, &of_second(&both.second), &seen)?;
     }
     case.tally.add("starts passed", seen.runs);
+    if seen.claims > u64::from(u32::MAX) {
+        case.tally.mark("streams that claim 2^32 elements or more");
+    }
     case.tally.mark(match seen.stopped {
         true => "streams refused",
         false => "streams accepted",
@@ -48,7 +52,7 @@ pub fn word_by_word(case: &mut Case, mut both: Both, words: &[u32]) -> Agreed<Bo
             Ok(Reply::Done(command)) => {
                 case.tally.mark("commands completed");
                 case.tally.mark(commands::name(command.header));
-                if command.header == commands::START {
+                if command.header == START_PROGRAM {
                     starts::count(case.tally, &both.second);
                 }
                 written_back(case, &command, &words[header_at..=place])?;

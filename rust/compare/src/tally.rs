@@ -4,16 +4,13 @@
 
 use std::collections::BTreeMap;
 
-/// The highest number of a refusal: document 01's are 1 to 17; request 1 added 18
-/// and 19, request 5 added 21.
-pub const REFUSALS: usize = 21;
-
 #[derive(Clone, Debug, Default, PartialEq, Eq)]
 pub struct Tally {
     pub cases: u64,
     /// Calls that were accepted (by both programs, else the case ends).
     pub accepted: u64,
-    refused: [u64; REFUSALS + 1],
+    /// Each refusal's number has a count of its own, also one that no document has.
+    refused: BTreeMap<u32, u64>,
     marks: BTreeMap<&'static str, u64>,
 }
 
@@ -22,12 +19,11 @@ impl Tally {
         Tally::default()
     }
 
-    /// Counts one call's answer: 0 for accepted, else its refusal. A number that
-    /// is no refusal of document 01 has no place here: it is a difference.
+    /// Counts one call's answer: 0 for accepted, else its refusal.
     pub fn answer(&mut self, number: u32) {
-        match number as usize {
+        match number {
             0 => self.accepted += 1,
-            refusal => self.refused[refusal.min(REFUSALS)] += 1,
+            refusal => *self.refused.entry(refusal).or_insert(0) += 1,
         }
     }
 
@@ -39,8 +35,13 @@ impl Tally {
         *self.marks.entry(name).or_insert(0) += count;
     }
 
-    pub fn refused(&self, number: usize) -> u64 {
-        self.refused[number]
+    pub fn refused(&self, number: u32) -> u64 {
+        self.refused.get(&number).copied().unwrap_or(0)
+    }
+
+    /// The refusals that came up, in the order of their numbers.
+    pub fn refusals(&self) -> impl Iterator<Item = u32> + '_ {
+        self.refused.keys().copied()
     }
 
     pub fn marked(&self, name: &str) -> u64 {
@@ -50,8 +51,8 @@ impl Tally {
     pub fn merge(&mut self, other: &Tally) {
         self.cases += other.cases;
         self.accepted += other.accepted;
-        for (sum, count) in self.refused.iter_mut().zip(other.refused) {
-            *sum += count;
+        for (number, count) in &other.refused {
+            *self.refused.entry(*number).or_insert(0) += count;
         }
         for (name, count) in &other.marks {
             self.add(name, *count);
@@ -61,10 +62,8 @@ impl Tally {
     /// The counts in one line each, for people.
     pub fn describe(&self) -> String {
         let mut text = format!("  accepted {}", self.accepted);
-        for (number, count) in self.refused.iter().enumerate() {
-            if *count > 0 {
-                text += &format!(", refusal {number}: {count}");
-            }
+        for (number, count) in &self.refused {
+            text += &format!(", refusal {number}: {count}");
         }
         for (name, count) in &self.marks {
             text += &format!("\n  {name} {count}");
@@ -90,5 +89,22 @@ mod tests {
         assert_eq!((b.cases, b.accepted), (4, 2));
         assert_eq!((b.refused(3), b.refused(17), b.refused(1)), (2, 1, 0));
         assert_eq!((b.marked("runs"), b.marked("starts")), (2, 0));
+    }
+
+    #[test]
+    fn every_number_has_a_count_of_its_own() {
+        let mut tally = Tally::new();
+        for number in [21, 22, 22, u32::MAX] {
+            tally.answer(number);
+        }
+        assert_eq!(
+            (tally.refused(20), tally.refused(21), tally.refused(22)),
+            (0, 1, 2)
+        );
+        assert!(tally.refusals().eq([21, 22, u32::MAX]));
+        assert_eq!(
+            tally.describe(),
+            "  accepted 0, refusal 21: 1, refusal 22: 2, refusal 4294967295: 1"
+        );
     }
 }

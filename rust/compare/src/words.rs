@@ -2,14 +2,22 @@
 //! commands whose formats lie apart and whose domains fit; then, for half of
 //! them, damage.
 
-use crate::commands::{self, SET_COND_MASK, SET_COND_OUT, SET_COND_TEST, SET_DOMAIN};
-use crate::commands::{SET_INP, SET_INST, SET_OUT, SET_OUT_MASK, START};
+use crate::commands;
 use crate::random::Random;
+use boundary::headers::{
+    SET_COND_OUT_FMT, SET_COND_OUT_MASK, SET_COND_TEST, SET_DOMAIN, SET_INP_FMT, SET_INST_FMT,
+    SET_OUT_FMT, SET_OUT_MASK, START_PROGRAM,
+};
 use second::layout::{judge, Window};
 
 /// Every output's formats begin in a part of memory of its own, this many bytes
 /// from the next output's: more than most windows' spans.
 const PART: u32 = 1 << 23;
+
+/// The largest window has this many columns and rows, and as many bytes at most
+/// from its base on as lie between these bases.
+const LARGEST: u32 = 4_096;
+const LARGEST_PART: u32 = 1 << 28;
 
 /// An output that was set, with its window.
 #[derive(Clone, Copy)]
@@ -56,6 +64,11 @@ fn good(random: &mut Random) -> Vec<u32> {
         domain: false,
         careful: random.one_of(&[50, 200, 2_000]),
     };
+    if random.once_in(32) {
+        plan.careful = 10_000;
+        large(random, &mut plan);
+        return plan.words;
+    }
     if !random.once_in(8) {
         preamble(random, &mut plan);
     }
@@ -66,11 +79,31 @@ fn good(random: &mut Random) -> Vec<u32> {
     plan.words
 }
 
+/// Outputs of the largest window, the largest domain, and starts that claim 2^24
+/// elements with each output that isn't silent: 65 of them with four outputs come to
+/// more than 2^32.
+fn large(random: &mut Random, plan: &mut Plan) {
+    set_low_format(random, plan, SET_INST_FMT);
+    for number in 0..random.one_of(&[1, 3, 4, 4, 4, 4]) {
+        let format = random.below(5) << 24 | random.below(2) << 16 | LARGEST;
+        let base = number * LARGEST_PART;
+        put(random, plan, SET_OUT_FMT, [number, base, format, LARGEST]);
+    }
+    if random.once_in(4) {
+        set_mask(random, plan);
+    }
+    let last = LARGEST - 1;
+    put(random, plan, SET_DOMAIN, [0, 0, last, last]);
+    for _ in 0..random.one_of(&[64, 65, 65, 66, 130]) {
+        put(random, plan, START_PROGRAM, [0; 4]);
+    }
+}
+
 /// An instruction format and an output or more in any order, some under a mask
 /// that came before them, then a domain.
 fn preamble(random: &mut Random, plan: &mut Plan) {
     if random.coin() {
-        set_low_format(random, plan, SET_INST);
+        set_low_format(random, plan, SET_INST_FMT);
     }
     if random.once_in(3) {
         set_mask(random, plan);
@@ -79,7 +112,7 @@ fn preamble(random: &mut Random, plan: &mut Plan) {
         set_output(random, plan);
     }
     if !plan.instructions {
-        set_low_format(random, plan, SET_INST);
+        set_low_format(random, plan, SET_INST_FMT);
     }
     set_domain(random, plan);
 }
@@ -94,13 +127,13 @@ fn command(random: &mut Random, plan: &mut Plan) {
             let header = random.one_of(&commands::LOW_FORMATS);
             set_low_format(random, plan, header);
         }
-        4 | 5 => plain(random, plan, SET_INP),
-        6 => plain(random, plan, SET_COND_OUT),
+        4 | 5 => plain(random, plan, SET_INP_FMT),
+        6 => plain(random, plan, SET_COND_OUT_FMT),
         7 => {
             set_mask(random, plan);
             domain_again(random, plan);
         }
-        8 => plain(random, plan, SET_COND_MASK),
+        8 => plain(random, plan, SET_COND_OUT_MASK),
         9 => plain(random, plan, SET_COND_TEST),
         10 | 11 => {
             set_output(random, plan);
@@ -119,7 +152,7 @@ fn plain(random: &mut Random, plan: &mut Plan, header: u32) {
 
 fn set_low_format(random: &mut Random, plan: &mut Plan, header: u32) {
     plain(random, plan, header);
-    plan.instructions |= header == SET_INST;
+    plan.instructions |= header == SET_INST_FMT;
 }
 
 fn set_mask(random: &mut Random, plan: &mut Plan) {
@@ -140,7 +173,7 @@ fn domain_again(random: &mut Random, plan: &mut Plan) {
 /// over its last bytes, where refusal 9 begins, or at the very top of memory,
 /// where its span ends at 2^32. A silent one may lie over another as it likes.
 fn set_output(random: &mut Random, plan: &mut Plan) {
-    let mut fields = commands::good_fields(random, SET_OUT);
+    let mut fields = commands::good_fields(random, SET_OUT_FMT);
     let number = fields[0];
     let silent = commands::unmasked(plan.mask, number, fields[2]) == 0;
     let other = plan.outputs[random.below(4) as usize];
@@ -151,7 +184,7 @@ fn set_output(random: &mut Random, plan: &mut Plan) {
         (3..=5, Some(other)) if silent => other.base,
         _ => number * PART + (random.below(64) << 11),
     };
-    put(random, plan, SET_OUT, fields);
+    put(random, plan, SET_OUT_FMT, fields);
     let [_, base, format, height] = fields;
     if let Ok(window) = judge(&commands::layout(base, format, height)) {
         plan.outputs[number as usize] = Some(Output {
@@ -202,7 +235,7 @@ fn set_domain(random: &mut Random, plan: &mut Plan) {
 fn start(random: &mut Random, plan: &mut Plan) {
     let ready = plan.domain && plan.instructions && plan.outputs.iter().any(Option::is_some);
     if ready || random.once_in(16) {
-        put(random, plan, START, [0; 4]);
+        put(random, plan, START_PROGRAM, [0; 4]);
     }
 }
 

@@ -6,9 +6,9 @@
 //! One test for each kind, and two for the long ones, so that two processors
 //! have work.
 
-use compare::commands::TABLE;
+use compare::commands::{self, HEADERS};
 use compare::layouts::SHAPES;
-use compare::tally::{Tally, REFUSALS};
+use compare::tally::Tally;
 use compare::{run_cases, Kind};
 use std::ops::Range;
 
@@ -27,13 +27,14 @@ fn agree(kind: Kind, numbers: Range<u64>) -> Tally {
 }
 
 /// Demands that each of these refusals came up at least so often, and no other.
-fn refusals(tally: &Tally, expected: &[(usize, u64)]) {
-    for number in 1..=REFUSALS {
-        let seen = tally.refused(number);
-        match expected.iter().find(|line| line.0 == number) {
-            Some((_, least)) => assert!(seen >= *least, "refusal {number} came {seen} times"),
-            None => assert_eq!(seen, 0, "refusal {number} can't come up here"),
-        }
+fn refusals(tally: &Tally, expected: &[(u32, u64)]) {
+    for (number, least) in expected {
+        let seen = tally.refused(*number);
+        assert!(seen >= *least, "refusal {number} came {seen} times");
+    }
+    for number in tally.refusals() {
+        let known = expected.iter().any(|line| line.0 == number);
+        assert!(known, "refusal {number} can't come up here");
     }
 }
 
@@ -107,9 +108,11 @@ fn streams(numbers: Range<u64>) {
     marks(&tally, &[("streams accepted", 30_000)]);
     marks(&tally, &[("streams refused", 30_000)]);
     marks(&tally, &[("questions refused", 50_000)]);
+    let above = "streams that claim 2^32 elements or more";
+    marks(&tally, &[(above, 300)]);
     masked_starts(&tally, 6_000);
-    for (_, command) in TABLE {
-        marks(&tally, &[(command, 5_000)]);
+    for header in HEADERS {
+        marks(&tally, &[(commands::name(header), 5_000)]);
     }
     let words_at_fault = [(2, 10_000), (3, 10_000), (4, 1_000)];
     let last_parameters = [(5, 500), (6, 500), (7, 1_000), (8, 1_000), (9, 1_000)];
@@ -133,8 +136,8 @@ fn streams_second_half() {
 fn writer() {
     let tally = agree(Kind::Writer, 0..1_000_000);
     assert!(tally.accepted >= 1_000_000, "accepted: {}", tally.accepted);
-    for (_, command) in TABLE {
-        marks(&tally, &[(command, 5_000)]);
+    for header in HEADERS {
+        marks(&tally, &[(commands::name(header), 5_000)]);
     }
     let fields = [(3, 100_000), (4, 5_000), (5, 2_000), (6, 10_000)];
     let mut expected = vec![(2, 50_000), (11, 100_000)];
@@ -186,6 +189,9 @@ fn logs(numbers: Range<u64>) {
         &[("logs with runs before the first midnight", 4_000)],
     );
     marks(&tally, &[("logs with runs on several days", 4_000)]);
+    let above = "logs with a day of 2^32 elements or more";
+    let in_a_row = "logs with more words in a row than are gathered";
+    marks(&tally, &[(above, 20), (in_a_row, 2_000)]);
     masked_starts(&tally, 2_000);
     // Of words the first refusal counts, which is never 1.
     let words_at_fault = [(2, 4_000), (3, 6_000), (4, 1_000)];
@@ -236,6 +242,8 @@ fn scores() {
     ] {
         marks(&tally, &[(bound, 5_000)]);
     }
+    let above = "months with a day of 2^32 elements or more";
+    marks(&tally, &[(above, 50)]);
     let before = "leases with the day before the first midnight, which has claims";
     marks(&tally, &[(before, 1_000)]);
     marks(&tally, &[("scores of logs with a refused word", 3_000)]);

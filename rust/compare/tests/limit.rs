@@ -2,9 +2,9 @@
 //! product is really given that many words, less some; from there on it is
 //! compared with the second program, which can begin at that count.
 
+use boundary::headers::WAIT_FOR_IDLE;
 use boundary::Session;
 use compare::case::Case;
-use compare::commands::WAIT;
 use compare::random::Random;
 use compare::settings::Both;
 use compare::streams::word_by_word;
@@ -18,7 +18,7 @@ const LEFT: u64 = 40;
 
 /// A session that has taken all words up to there, every one of them accepted.
 fn near_the_limit() -> Session {
-    let piece: Vec<u32> = [WAIT, 0].repeat(500_000);
+    let piece: Vec<u32> = [WAIT_FOR_IDLE, 0].repeat(500_000);
     let mut session = Session::new();
     let mut wanted = LIMIT - LEFT;
     while wanted > 0 {

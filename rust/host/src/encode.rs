@@ -8,12 +8,12 @@
 //! * any number of words in hex;
 //! * nothing, or a remark from # on.
 
-use crate::cause::{self, Refused};
-use crate::failure::{Failure, Outcome};
-use crate::lines::Lines;
-use crate::names::{self, Kind, Line};
-use crate::numbers;
-use crate::source::Source;
+use crate::common::failure::{Failure, Outcome};
+use crate::common::names::{self, Kind, Line};
+use crate::explain::cause::{self, Refused};
+use crate::input::lines::Lines;
+use crate::input::numbers;
+use crate::input::source::Source;
 use boundary::Command;
 use clap::Args;
 use std::io::Write;

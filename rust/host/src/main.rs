@@ -2,62 +2,35 @@
 //! addresses and steps flow programs for people. Every answer is the product's,
 //! through the crate `boundary`; here it is only named, laid out and parsed.
 //!
-//! One module a subcommand: `score` (with `month` and `civil`, and its forms `card`,
-//! `rows` and `picture`, drawn from `cell`s), `decode` (with `walk`, and its forms `listing` and `json`), `encode`,
-//! `replay` (with `log`, and its forms in `days`), `address`, `locate` (with `owners`),
-//! `flow` (with `slots`, `steps`), `explain`, and `sample` for no arguments, which
-//! scores `station` 14's month. `names`, `tiles` and `refusals` hold the documents'
-//! tables; `source`, `words` and `lines` read, `file` and `svg` write; `settings` and
-//! `text` have shapes that several print; `cause` puts refusals in words; `work` is
-//! the working of an address by hand.
+//! A folder a subcommand, whose first page is the subcommand itself:
+//!
+//! * `score`: a lease line and a log; its forms are the `card`, the `rows` for
+//!   programs and the `picture`; `sample` is for no arguments, which scores
+//!   `station` 14's month;
+//! * `decode`: words given to a session by a `walk`; its forms are the `listing` and
+//!   `json`. `encode` is the way back, on one page;
+//! * `replay`: the `log` given to a replay; its forms are in `days`;
+//! * `address`, with `locate` and `tile`: the `work`ing of an address by hand,
+//!   and document 01's `tiles`;
+//! * `flow`: a program's `slots`, and the `steps` of a group;
+//! * `explain`: the table of `refusals`, and the `cause` of one that came.
+//!
+//! `input` reads what a user gives, and `common` has what several share.
 
 #![forbid(unsafe_code)]
 
 mod address;
-mod card;
-mod cause;
-mod cell;
-mod civil;
-mod days;
+mod common;
 mod decode;
 mod encode;
 mod explain;
-mod failure;
-mod file;
 mod flow;
-mod json;
-mod kinds;
-mod layouts;
-mod lines;
-mod listing;
-mod locate;
-mod log;
-mod month;
-mod names;
-mod numbers;
-mod owners;
-mod picture;
-mod progress;
-mod refusals;
+mod input;
 mod replay;
-mod rows;
-mod sample;
 mod score;
-mod settings;
-mod slots;
-mod source;
-mod station;
-mod steps;
-mod svg;
-mod text;
-mod tile;
-mod tiles;
-mod walk;
-mod words;
-mod work;
 
 use clap::{Parser, Subcommand};
-use failure::{Failure, Outcome};
+use common::failure::{Failure, Outcome};
 use std::io::{self, BufWriter, Write};
 use std::process::ExitCode;
 
@@ -92,10 +65,10 @@ enum What {
     #[command(after_help = address::EXAMPLES)]
     Address(address::Options),
     /// A byte address back to its pair and its place in the element
-    #[command(after_help = locate::EXAMPLES)]
-    Locate(locate::Options),
-    /// A tile drawn, with the place of each cell
-    Tile(tile::Options),
+    #[command(after_help = address::locate::EXAMPLES)]
+    Locate(address::locate::Options),
+    /// A tile drawn, with the place of each block
+    Tile(address::tile::Options),
     /// A flow program listed, or stepped with given masks
     #[command(after_help = flow::EXAMPLES)]
     Flow(flow::Options),
@@ -121,14 +94,14 @@ fn main() -> ExitCode {
 
 fn run(line: &Line, out: &mut dyn Write) -> Outcome {
     match &line.what {
-        None => sample::run(out),
+        None => score::sample::run(out),
         Some(What::Score(options)) => score::run(options, out),
         Some(What::Decode(options)) => decode::run(options, out),
         Some(What::Encode(options)) => encode::run(options, out),
         Some(What::Replay(options)) => replay::run(options, out),
         Some(What::Address(options)) => address::run(options, out),
-        Some(What::Locate(options)) => locate::run(options, out),
-        Some(What::Tile(options)) => tile::run(options, out),
+        Some(What::Locate(options)) => address::locate::run(options, out),
+        Some(What::Tile(options)) => address::tile::run(options, out),
         Some(What::Flow(options)) => flow::run(options, out),
         Some(What::Explain(options)) => explain::run(options, out),
     }

@@ -1,9 +1,8 @@
 -- `accept::take` meets its contract. Assumes nothing.
 use mathlib.Core.Path.{sym, ap, _∙_}
 use Rattle.command.specs.Table.{toldLine}
-use Rattle.command.proofs.Headers.{accepted-stands}
-use Rattle.accept.specs.Whole.{unbegun}
-use Rattle.accept.proofs.WholeCommands.{ready, piece-tried}
+use Rattle.command.proofs.Headers.{accepted-listed}
+use Rattle.accept.proofs.WholeCommands.{ready, own-asked, words-few, is-stopped, is-open, is-full, no-header, piece-tried}
 use borrow.Author.Needs.{needs}
 use Rattle.accept.proofs.take.Statement.{statement}
 use Rattle.accept.proofs.take.Tie as tie
@@ -12,25 +11,25 @@ sub-if1 : tie.Need-sub-if1
 sub-if1 c = search needs
 
 returns : tie.Need-returns
-returns c = unbegun
+returns c = words-few (c .before .before .args .own .now) (c .before .before .args .tallies .now) (c .before .before .args .shared .now) (c .before .before .pre .0) (c .before .before .args .words .now) (c .before .before .args .at) (c .if1 .taken)
 
 element-copy-out-if2 : tie.Need-element-copy-out-if2
 element-copy-out-if2 c = search needs
 
 returns-2 : tie.Need-returns-2
-returns-2 c = unbegun
+returns-2 c = is-stopped (c .before .before .before .before .args .own .now) (c .before .before .before .before .args .tallies .now) (c .before .before .before .before .args .shared .now) (c .before .before .before .before .pre .0) (c .before .before .before .before .args .words .now) (c .before .before .before .before .args .at) (c .if2 .taken)
 
 element-copy-out-if3 : tie.Need-element-copy-out-if3
 element-copy-out-if3 c = search needs
 
 returns-3 : tie.Need-returns-3
-returns-3 c = unbegun
+returns-3 c = is-open (c .before .before .before .before .before .before .args .own .now) (c .before .before .before .before .before .before .args .tallies .now) (c .before .before .before .before .before .before .args .shared .now) (c .before .before .before .before .before .before .pre .0) (c .before .before .before .before .before .before .args .words .now) (c .before .before .before .before .before .before .args .at) (c .if3 .taken)
 
 element-copy-out-if4 : tie.Need-element-copy-out-if4
 element-copy-out-if4 c = search needs
 
 returns-4 : tie.Need-returns-4
-returns-4 c = unbegun
+returns-4 c = is-full (c .before .before .before .before .before .before .before .before .args .own .now) (c .before .before .before .before .before .before .before .before .args .tallies .now) (c .before .before .before .before .before .before .before .before .args .shared .now) (c .before .before .before .before .before .before .before .before .pre .0) (c .before .before .before .before .before .before .before .before .args .words .now) (c .before .before .before .before .before .before .before .before .args .at) (c .if4 .taken)
 
 mul-line-of : tie.Need-mul-line-of
 mul-line-of c = search needs
@@ -84,13 +83,10 @@ shared-slice-read-take-line-4 : tie.Need-shared-slice-read-take-line-4
 shared-slice-read-take-line-4 c = search needs
 
 take-line-requires : tie.Need-take-line-requires
-take-line-requires c κs = (
-  accepted-stands _ _ (sym (c .before .before .before .before .before .before .before .before .before .before .line-of .ensures) ∙ ap toldLine (c .before .before .before .before .before .before .before .before .line .given .1)) .line,
-  ready _ _ _ (c .before .before .before .before .before .before .before .before .before .before .before .before .before .before .before .before .before .before .before .before .pre .0) (c .before .before .before .before .before .before .before .before .before .before .before .before .before .before .before .before .if2 .left) (c .before .before .before .before .before .before .before .before .before .before .before .before .before .before .if3 .left) (c .before .before .before .before .before .before .before .before .before .before .before .before .if4 .left),
-)
+take-line-requires c κs = (accepted-listed _ _ (sym (c .before .before .before .before .before .before .before .before .before .before .line-of .ensures) ∙ ap toldLine (c .before .before .before .before .before .before .before .before .line .given .1)) .line, own-asked (ready _ _ _ (c .before .before .before .before .before .before .before .before .before .before .before .before .before .before .before .before .before .before .before .before .pre .0) (c .before .before .before .before .before .before .before .before .before .before .before .before .before .before .before .before .if2 .left) (c .before .before .before .before .before .before .before .before .before .before .before .before .before .before .if3 .left) (c .before .before .before .before .before .before .before .before .before .before .before .before .if4 .left)))
 
 returns-5 : tie.Need-returns-5
-returns-5 c = unbegun
+returns-5 c = no-header (c .before .before .before .before .before .before .before .before .before .before .before .before .args .own .now) (c .before .before .before .before .before .before .before .before .before .before .before .before .args .tallies .now) (c .before .before .before .before .before .before .before .before .before .before .before .before .args .shared .now) (c .before .before .before .before .before .before .before .before .before .before .before .before .pre .0) (c .before .before .before .before .before .before .before .before .before .before .before .before .args .words .now) (c .before .before .before .before .before .before .before .before .before .before .before .before .args .at) (c .before .before .before .before .before .before .before .before .before .before .before .before .pre .1) (sym (c .before .before .line-of .ensures) ∙ ap toldLine (c .enum-told .given .1))
 
 returns-6 : tie.Need-returns-6
 returns-6 c = piece-tried (c .before .before .before .before .before .before .before .before .before .before .before .before .before .before .before .before .before .before .before .before .before .args .own .now) (c .before .before .before .before .before .before .before .before .before .before .before .before .before .before .before .before .before .before .before .before .before .args .tallies .now) (c .before .before .before .before .before .before .before .before .before .before .before .before .before .before .before .before .before .before .before .before .before .args .shared .now) (c .before .before .before .before .before .before .before .before .before .before .before .before .before .before .before .before .before .before .before .before .before .pre .0) _ _ (c .before .before .before .before .before .before .before .before .before .before .before .before .before .before .before .before .before .before .before .if1 .left) (c .before .before .before .before .before .before .before .before .before .before .before .before .before .before .before .before .before .before .before .before .before .pre .1) (ready _ _ _ (c .before .before .before .before .before .before .before .before .before .before .before .before .before .before .before .before .before .before .before .before .before .pre .0) (c .before .before .before .before .before .before .before .before .before .before .before .before .before .before .before .before .before .if2 .left) (c .before .before .before .before .before .before .before .before .before .before .before .before .before .before .before .if3 .left) (c .before .before .before .before .before .before .before .before .before .before .before .before .before .if4 .left)) _ (sym (c .before .before .before .before .before .before .before .before .before .before .before .line-of .ensures) ∙ ap toldLine (c .before .before .before .before .before .before .before .before .before .line .given .1)) _ _ _ _ _ (c .take-line .ensures)

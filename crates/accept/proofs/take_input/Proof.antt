@@ -1,6 +1,5 @@
 -- `accept::take_input` meets its contract. Assumes nothing.
-use Rattle.accept.specs.Whole.{untaken}
-use Rattle.accept.proofs.WholeCommands.{input-place, input-tried}
+use Rattle.accept.proofs.WholeCommands.{input-place, input-tried, denied, fine}
 use borrow.Author.Needs.{needs}
 use Rattle.accept.proofs.take_input.Statement.{statement}
 use Rattle.accept.proofs.take_input.Tie as tie
@@ -18,13 +17,17 @@ add-put : tie.Need-add-put
 add-put c = search needs
 
 put-requires : tie.Need-put-requires
-put-requires c κs = (c .before .before .before .before .before .pre .1, input-place _ _ _ _ (c .before .before .before .before .input .ensures (c .before .before .before .if1 .taken)))
+put-requires c κs =
+    let at-test = c .before .before .before in
+    (at-test .before .before .pre .1, input-place _ _ _ _ (fine _ (at-test .before .input .ensures) (at-test .if1 .taken)))
 
 returns : tie.Need-returns
-returns c = input-tried _ _ _ (c .before .before .count-words .ensures) _ _ _ _ _ _ (c .before .before .before .before .before .input .ensures (c .before .before .before .before .if1 .taken)) (c .put .ensures)
+returns c =
+    let at-test = c .before .before .before .before in
+    input-tried _ _ _ (c .before .before .count-words .ensures) _ _ _ _ _ _ (fine _ (at-test .before .input .ensures) (at-test .if1 .taken)) (c .put .ensures)
 
 returns-2 : tie.Need-returns-2
-returns-2 c t rest z = untaken
+returns-2 c t rest z = denied (c .before .input .ensures) (c .if1 .left)
 
 pub take-input-spec : {M : Type 1} → statement M
 take-input-spec = tie.close (tie.spec input-requires count-words-requires mul-put add-put put-requires returns returns-2)

@@ -1,102 +1,104 @@
 -- `accept::take_last` meets its contract: each arm by the command of its line. Assumes nothing.
 use mathlib.Core.Path.{refl}
 use native.Mathlib.Omega.{arith}
-use Rattle.command.specs.Commands.{storedLine, commandOf, wordsOf, fieldsOf}
+use Rattle.command.specs.Commands.{storedLine, commandOf}
 use Rattle.command.specs.declared.commands.Stored.the-variants.{Floats, Integers, Booleans}
-use Rattle.accept.proofs.WholeCommands.{at-last, quiet-last, quietAt, quiet-line}
-use borrow.Author.Needs.{needs}
+use Rattle.accept.specs.Whole.{lastWord}
+use Rattle.accept.proofs.WholeCommands.{room-for, room-shared, room-constants, room-start, at-line, quiet-at, quietAt, quiet-line}
 use Rattle.accept.proofs.take_last.Statement.{statement}
 use Rattle.accept.proofs.take_last.Tie as tie
 
 take-domain-requires : tie.Need-take-domain-requires
-take-domain-requires c κs = c .before .before .pre .1 .0
+take-domain-requires c κs = room-for (c .before .before .pre .1) _ (omega arith)
 
 take-start-requires : tie.Need-take-start-requires
-take-start-requires c κs = (c .before .before .before .before .pre .1 .0, c .before .before .before .before .pre .1 .1)
+take-start-requires c κs = room-start (c .before .before .before .before .pre .1) _ (omega arith)
 
 take-instructions-requires : tie.Need-take-instructions-requires
-take-instructions-requires c κs = c .before .before .pre .1 .0
+take-instructions-requires c κs = room-for (c .before .before .pre .1) _ (omega arith)
 
 take-input-requires : tie.Need-take-input-requires
-take-input-requires c κs = (c .before .before .before .pre .1 .0, c .before .before .before .pre .1 .1 .sized .shared-length)
+take-input-requires c κs = room-shared (c .before .before .before .pre .1) _ (omega arith)
 
 take-output-requires : tie.Need-take-output-requires
-take-output-requires c κs = (c .before .before .before .pre .1 .0, c .before .before .before .pre .1 .1 .sized .shared-length)
+take-output-requires c κs = room-shared (c .before .before .before .pre .1) _ (omega arith)
 
 take-conditional-requires : tie.Need-take-conditional-requires
-take-conditional-requires c κs = (c .before .before .before .pre .1 .0, c .before .before .before .pre .1 .1 .sized .shared-length)
+take-conditional-requires c κs = room-shared (c .before .before .before .pre .1) _ (omega arith)
 
 take-constants-requires : tie.Need-take-constants-requires
-take-constants-requires c κs = (c .before .before .before .pre .1 .0, (c .before .before .before .pre .1 .1 .sized .shared-length, omega arith))
+take-constants-requires c κs = room-constants (c .before .before .before .pre .1) _ _ (omega arith) (omega arith)
 
 take-constants-requires-2 : tie.Need-take-constants-requires-2
-take-constants-requires-2 c κs = (c .before .before .before .pre .1 .0, (c .before .before .before .pre .1 .1 .sized .shared-length, omega arith))
+take-constants-requires-2 c κs = room-constants (c .before .before .before .pre .1) _ _ (omega arith) (omega arith)
 
 take-constants-requires-3 : tie.Need-take-constants-requires-3
-take-constants-requires-3 c κs = (c .before .before .before .pre .1 .0, (c .before .before .before .pre .1 .1 .sized .shared-length, omega arith))
+take-constants-requires-3 c κs = room-constants (c .before .before .before .pre .1) _ _ (omega arith) (omega arith)
 
 take-mask-requires : tie.Need-take-mask-requires
-take-mask-requires c κs = (c .before .before .before .pre .1 .0, c .before .before .before .pre .1 .1 .sized .shared-length)
+take-mask-requires c κs = room-shared (c .before .before .before .pre .1) _ (omega arith)
 
 take-conditional-mask-requires : tie.Need-take-conditional-mask-requires
-take-conditional-mask-requires c κs = (c .before .before .before .pre .1 .0, c .before .before .before .pre .1 .1 .sized .shared-length)
+take-conditional-mask-requires c κs = room-shared (c .before .before .before .pre .1) _ (omega arith)
 
 take-test-requires : tie.Need-take-test-requires
-take-test-requires c κs = (c .before .before .before .pre .1 .0, c .before .before .before .pre .1 .1 .sized .shared-length)
+take-test-requires c κs = room-shared (c .before .before .before .pre .1) _ (omega arith)
 
 take-quiet-requires : tie.Need-take-quiet-requires
-take-quiet-requires c κs = c .before .before .pre .1 .0
+take-quiet-requires c κs = room-for (c .before .before .pre .1) _ (omega arith)
 
 returns : tie.Need-returns
 unfolding commandOf
-returns c rest = at-last _ _ _ _ _ _ _ _ _ _ _ _ _ _ _ (c .before .before .match .keys1) (c .take-domain .ensures _ _ _ (c .before .before .before .pre .1 .1 .sized))
+returns c rest = at-line lastWord _ _ _ _ _ _ _ _ _ _ _ _ _ _ (c .before .before .match .keys1) (c .take-domain .ensures _ _ _ (c .before .before .before .pre .1 .1 .sized))
 
 returns-2 : tie.Need-returns-2
 unfolding commandOf
-returns-2 c rest = at-last _ _ _ _ _ _ _ _ _ _ _ _ _ _ _ (c .before .before .before .before .match .keys2) (c .take-start .ensures _)
+returns-2 c rest = at-line lastWord _ _ _ _ _ _ _ _ _ _ _ _ _ _ (c .before .before .before .before .match .keys2) (c .take-start .ensures _)
 
 returns-3 : tie.Need-returns-3
 unfolding commandOf
-returns-3 c rest = at-last _ _ _ _ _ _ _ _ _ _ _ _ _ _ _ (c .before .before .match .keys3) (c .take-instructions .ensures _ _ _ (c .before .before .before .pre .1 .1 .sized))
+returns-3 c rest = at-line lastWord _ _ _ _ _ _ _ _ _ _ _ _ _ _ (c .before .before .match .keys3) (c .take-instructions .ensures _ _ _ (c .before .before .before .pre .1 .1 .sized))
 
 returns-4 : tie.Need-returns-4
 unfolding commandOf
-returns-4 c rest = at-last _ _ _ _ _ _ _ _ _ _ _ _ _ _ _ (c .before .before .before .match .keys4) (c .take-input .ensures _ _ (c .before .before .before .before .pre .1 .1 .sized))
+returns-4 c rest = at-line lastWord _ _ _ _ _ _ _ _ _ _ _ _ _ _ (c .before .before .before .match .keys4) (c .take-input .ensures _ _ (c .before .before .before .before .pre .1 .1 .sized))
 
 returns-5 : tie.Need-returns-5
 unfolding commandOf
-returns-5 c rest = at-last _ _ _ _ _ _ _ _ _ _ _ _ _ _ _ (c .before .before .before .match .keys5) (c .take-output .ensures _ _ (c .before .before .before .before .pre .1 .1 .sized))
+returns-5 c rest = at-line lastWord _ _ _ _ _ _ _ _ _ _ _ _ _ _ (c .before .before .before .match .keys5) (c .take-output .ensures _ _ (c .before .before .before .before .pre .1 .1 .sized))
 
 returns-6 : tie.Need-returns-6
 unfolding commandOf
-returns-6 c rest = at-last _ _ _ _ _ _ _ _ _ _ _ _ _ _ _ (c .before .before .before .match .keys6) (c .take-conditional .ensures _ _ (c .before .before .before .before .pre .1 .1 .sized))
+returns-6 c rest = at-line lastWord _ _ _ _ _ _ _ _ _ _ _ _ _ _ (c .before .before .before .match .keys6) (c .take-conditional .ensures _ _ (c .before .before .before .before .pre .1 .1 .sized))
 
 returns-7 : tie.Need-returns-7
 unfolding commandOf storedLine
-returns-7 c rest = at-last _ _ _ _ _ _ _ _ _ _ _ _ _ _ _ (c .before .before .before .match .keys7) (c .take-constants .ensures Floats refl _ _ (c .before .before .before .before .pre .1 .1 .sized))
+returns-7 c rest = at-line lastWord _ _ _ _ _ _ _ _ _ _ _ _ _ _ (c .before .before .before .match .keys7) (c .take-constants .ensures Floats refl _ _ (c .before .before .before .before .pre .1 .1 .sized))
 
 returns-8 : tie.Need-returns-8
 unfolding commandOf storedLine
-returns-8 c rest = at-last _ _ _ _ _ _ _ _ _ _ _ _ _ _ _ (c .before .before .before .match .keys8) (c .take-constants2 .ensures Integers refl _ _ (c .before .before .before .before .pre .1 .1 .sized))
+returns-8 c rest = at-line lastWord _ _ _ _ _ _ _ _ _ _ _ _ _ _ (c .before .before .before .match .keys8) (c .take-constants2 .ensures Integers refl _ _ (c .before .before .before .before .pre .1 .1 .sized))
 
 returns-9 : tie.Need-returns-9
 unfolding commandOf storedLine
-returns-9 c rest = at-last _ _ _ _ _ _ _ _ _ _ _ _ _ _ _ (c .before .before .before .match .keys9) (c .take-constants3 .ensures Booleans refl _ _ (c .before .before .before .before .pre .1 .1 .sized))
+returns-9 c rest = at-line lastWord _ _ _ _ _ _ _ _ _ _ _ _ _ _ (c .before .before .before .match .keys9) (c .take-constants3 .ensures Booleans refl _ _ (c .before .before .before .before .pre .1 .1 .sized))
 
 returns-10 : tie.Need-returns-10
 unfolding commandOf
-returns-10 c rest = at-last _ _ _ _ _ _ _ _ _ _ _ _ _ _ _ (c .before .before .before .match .keys10) (c .take-mask .ensures _ _ (c .before .before .before .before .pre .1 .1 .sized))
+returns-10 c rest = at-line lastWord _ _ _ _ _ _ _ _ _ _ _ _ _ _ (c .before .before .before .match .keys10) (c .take-mask .ensures _ _ (c .before .before .before .before .pre .1 .1 .sized))
 
 returns-11 : tie.Need-returns-11
 unfolding commandOf
-returns-11 c rest = at-last _ _ _ _ _ _ _ _ _ _ _ _ _ _ _ (c .before .before .before .match .keys11) (c .take-conditional-mask .ensures _ _ (c .before .before .before .before .pre .1 .1 .sized))
+returns-11 c rest = at-line lastWord _ _ _ _ _ _ _ _ _ _ _ _ _ _ (c .before .before .before .match .keys11) (c .take-conditional-mask .ensures _ _ (c .before .before .before .before .pre .1 .1 .sized))
 
 returns-12 : tie.Need-returns-12
 unfolding commandOf
-returns-12 c rest = at-last _ _ _ _ _ _ _ _ _ _ _ _ _ _ _ (c .before .before .before .match .keys12) (c .take-test .ensures _ _ (c .before .before .before .before .pre .1 .1 .sized))
+returns-12 c rest = at-line lastWord _ _ _ _ _ _ _ _ _ _ _ _ _ _ (c .before .before .before .match .keys12) (c .take-test .ensures _ _ (c .before .before .before .before .pre .1 .1 .sized))
 
 returns-13 : tie.Need-returns-13
-returns-13 c rest = at-last _ _ _ _ _ _ _ _ _ _ _ _ _ _ _ (quiet-line _ (c .before .before .before .pre .0) (c .before .before .match .rest)) (quiet-last _ _ _ _ _ _ _ _ _ _ _ _ (quietAt (c .before .before .before .args .line)) _ (c .take-quiet .ensures (quietAt (c .before .before .before .args .line)) _ _ _ (c .before .before .before .pre .1 .1 .sized)))
+returns-13 c rest =
+    let what = quietAt (c .before .before .before .args .line) in
+    quiet-at lastWord _ _ _ _ _ _ _ _ _ _ _ _ _ what (quiet-line _ (c .before .before .before .pre .0) (c .before .before .match .rest)) (c .take-quiet .ensures what _ _ _ (c .before .before .before .pre .1 .1 .sized))
 
 pub take-last-spec : {M : Type 1} → statement M
 take-last-spec =

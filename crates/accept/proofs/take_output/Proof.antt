@@ -1,6 +1,5 @@
 -- `accept::take_output` meets its contract. Assumes nothing.
-use Rattle.accept.specs.Whole.{untaken}
-use Rattle.accept.proofs.WholeCommands.{output-place, output-tried}
+use Rattle.accept.proofs.WholeCommands.{output-place, output-tried, denied, fine}
 use borrow.Author.Needs.{needs}
 use Rattle.accept.proofs.take_output.Statement.{statement}
 use Rattle.accept.proofs.take_output.Tie as tie
@@ -18,13 +17,17 @@ add-put : tie.Need-add-put
 add-put c = search needs
 
 put-requires : tie.Need-put-requires
-put-requires c κs = (c .before .before .before .before .before .pre .1, output-place _ _ _ _ (c .before .before .before .before .output .ensures (c .before .before .before .if1 .taken)))
+put-requires c κs =
+    let at-test = c .before .before .before in
+    (at-test .before .before .pre .1, output-place _ _ _ _ (fine _ (at-test .before .output .ensures) (at-test .if1 .taken)))
 
 returns : tie.Need-returns
-returns c = output-tried _ _ _ (c .before .before .count-words .ensures) _ _ _ _ _ _ (c .before .before .before .before .before .output .ensures (c .before .before .before .before .if1 .taken)) (c .put .ensures)
+returns c =
+    let at-test = c .before .before .before .before in
+    output-tried _ _ _ (c .before .before .count-words .ensures) _ _ _ _ _ _ (fine _ (at-test .before .output .ensures) (at-test .if1 .taken)) (c .put .ensures)
 
 returns-2 : tie.Need-returns-2
-returns-2 c t rest z = untaken
+returns-2 c t rest z = denied (c .before .output .ensures) (c .if1 .left)
 
 pub take-output-spec : {M : Type 1} → statement M
 take-output-spec = tie.close (tie.spec output-requires count-words-requires mul-put add-put put-requires returns returns-2)

@@ -1,8 +1,7 @@
 -- `address::translate` meets its contract: its number, told as an answer. Assumes nothing.
 use mathlib.Core.Path.{_∙_, sym, ap}
-use lib.Dec.{lit≤}
 use Rattle.address.specs.Address.{toldNumber}
-use Rattle.address.proofs.Answers.{told-address, told-refusal, refused-outside}
+use Rattle.address.proofs.Answers.{told-address, told-refused, refused-outside}
 use borrow.Author.Needs.{needs}
 use Rattle.address.proofs.translate.Statement.{statement}
 use Rattle.address.proofs.translate.Tie as tie
@@ -17,10 +16,10 @@ returns : tie.Need-returns
 returns c = sym (told-address _ (c .if1 .taken)) ∙ c .before .translate-numbers .ensures
 
 returns-2 : tie.Need-returns-2
-returns-2 c = sym (told-refusal 4294967299 (lit≤ tt)) ∙ ap toldNumber (sym (c .match .keys1)) ∙ c .before .before .translate-numbers .ensures
+returns-2 c = sym (told-refused 3) ∙ ap toldNumber (sym (c .match .keys1)) ∙ c .before .before .translate-numbers .ensures
 
 returns-3 : tie.Need-returns-3
-returns-3 c = sym (told-refusal 4294967302 (lit≤ tt)) ∙ ap toldNumber (sym (c .match .keys2)) ∙ c .before .before .translate-numbers .ensures
+returns-3 c = sym (told-refused 6) ∙ ap toldNumber (sym (c .match .keys2)) ∙ c .before .before .translate-numbers .ensures
 
 returns-4 : tie.Need-returns-4
 returns-4 c = refused-outside _ _ _ _ (c .before .before .translate-numbers .ensures) (c .before .if1 .left) (c .match .rest .0 .1) (c .match .rest .1)

@@ -9,7 +9,10 @@ returns : tie.Need-returns
 returns c = search needs
 
 slice-aggregate-last-answer : tie.Need-slice-aggregate-last-answer
-slice-aggregate-last-answer c = sym (length-take-le (c .before .before .before .args .count) (c .before .before .before .args .room .now) (c .before .if1 .left))
+slice-aggregate-last-answer c =
+    let at-if1 = c .before in
+    let entry = at-if1 .before .before in
+    sym (length-take-le (entry .args .count) (entry .args .room .now) (at-if1 .if1 .left))
 
 last-answer-requires : tie.Need-last-answer-requires
 last-answer-requires c κs = search needs

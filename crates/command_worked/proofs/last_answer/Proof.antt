@@ -36,7 +36,10 @@ loop-less : tie.Need-loop-less Inv-loop μ-loop
 loop-less c = search needs
 
 loop-again : tie.Need-loop-again Inv-loop μ-loop
-loop-again c = word-given _ _ (c .before .before .before .before .before .before .loop .inv) (c .word .ensures)
+loop-again c =
+    let at-loop-test = c .before .before .before .before .before in
+    let at-loop = at-loop-test .before in
+    word-given _ _ (at-loop .loop .inv) (c .word .ensures)
 
 returns : tie.Need-returns Inv-loop μ-loop
 returns c = search needs

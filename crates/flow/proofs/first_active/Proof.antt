@@ -3,7 +3,8 @@ use mathlib.Core.Path.{_≡_, sym}
 use Prim.Native.Nat.{_+_, _-_, _≤_}
 use native.Mathlib.Nat.{zero-add}
 use native.Mathlib.Omega.{arith}
-use Rattle.laws.specs.Masks.{on, least}
+use Rattle.laws.specs.Below.{least}
+use Rattle.laws.specs.Masks.{on}
 use Rattle.flow.proofs.Beginning.{found-here, look-on, found-none}
 use Rattle.flow.proofs.first_active.Statement.{statement}
 use Rattle.flow.proofs.first_active.Tie as tie

@@ -9,8 +9,8 @@ use borrow.Author.Needs.{needs}
 use Rattle.flow.proofs.one_step.Statement.{statement}
 use Rattle.flow.proofs.one_step.Tie as tie
 
-element-copy-out-position : tie.Need-element-copy-out-position
-element-copy-out-position c = search needs
+element-copy-out-here : tie.Need-element-copy-out-here
+element-copy-out-here c = search needs
 
 -- the program has ended
 returns : tie.Need-returns
@@ -95,7 +95,7 @@ pub one-step-spec : {M : Type 1} → statement M
 one-step-spec =
     tie.close
     (tie.spec
-    element-copy-out-position
+    element-copy-out-here
     returns
     returns-2
     cast-at

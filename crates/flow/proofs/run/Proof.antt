@@ -5,8 +5,8 @@ use borrow.Author.Needs.{needs}
 use Rattle.flow.proofs.run.Statement.{statement}
 use Rattle.flow.proofs.run.Tie as tie
 
-element-copy-out-if1 : tie.Need-element-copy-out-if1
-element-copy-out-if1 c = search needs
+element-copy-out-position : tie.Need-element-copy-out-position
+element-copy-out-position c = search needs
 
 -- the program has ended
 returns : tie.Need-returns
@@ -60,7 +60,7 @@ pub run-spec : {M : Type 1} → statement M
 run-spec =
     tie.close
     (tie.spec
-    element-copy-out-if1
+    element-copy-out-position
     returns
     make-steps-requires
     enum-known-made

@@ -15,23 +15,23 @@ well-formed-requires c κs = search needs
 returns : tie.Need-returns
 returns c = sym (judged-malformed _ _ _ _ _ (sym (c .before .well-formed .ensures) ∙ not-true _ (c .if1 .taken)))
 
-window-row-requires : tie.Need-window-row-requires
-window-row-requires c κs = sym (c .before .well-formed .ensures) ∙ not-false _ (c .if1 .left)
+window-stride-requires : tie.Need-window-stride-requires
+window-stride-requires c κs = sym (c .before .well-formed .ensures) ∙ not-false _ (c .if1 .left)
 
 returns-2 : tie.Need-returns-2
-returns-2 c = sym (judged-broken _ _ _ _ _ (sym (c .before .before .before .well-formed .ensures) ∙ not-false _ (c .before .before .if1 .left)) (unruled _ _ _ _ _ (sym (c .before .before .before .well-formed .ensures) ∙ not-false _ (c .before .before .if1 .left)) _ (c .before .window-row .ensures) (c .if2 .taken)))
+returns-2 c = sym (judged-broken _ _ _ _ _ (sym (c .before .before .before .well-formed .ensures) ∙ not-false _ (c .before .before .if1 .left)) (unruled _ _ _ _ _ (sym (c .before .before .before .well-formed .ensures) ∙ not-false _ (c .before .before .if1 .left)) _ (c .before .window-stride .ensures) (c .if2 .taken)))
 
-row-step-requires : tie.Need-row-step-requires
-row-step-requires c κs = form-size _ _ _ (sym (c .before .before .before .well-formed .ensures) ∙ not-false _ (c .before .before .if1 .left))
+table-step-requires : tie.Need-table-step-requires
+table-step-requires c κs = form-size _ _ _ (sym (c .before .before .before .well-formed .ensures) ∙ not-false _ (c .before .before .if1 .left))
 
-rows-taken-requires : tie.Need-rows-taken-requires
-rows-taken-requires c κs = (form-size _ _ _ (sym (c .before .before .before .before .well-formed .ensures) ∙ not-false _ (c .before .before .before .if1 .left)), rule-bounds _ _ _ _ _ ((ruled _ _ _ _ _ (sym (c .before .before .before .before .well-formed .ensures) ∙ not-false _ (c .before .before .before .if1 .left)) _ (c .before .before .window-row .ensures) (c .before .if2 .left)) .rule) .height-most)
+table-rows-requires : tie.Need-table-rows-requires
+table-rows-requires c κs = (form-size _ _ _ (sym (c .before .before .before .before .well-formed .ensures) ∙ not-false _ (c .before .before .before .if1 .left)), rule-bounds _ _ _ _ _ ((ruled _ _ _ _ _ (sym (c .before .before .before .before .well-formed .ensures) ∙ not-false _ (c .before .before .before .if1 .left)) _ (c .before .before .window-stride .ensures) (c .before .if2 .left)) .rule) .height-most)
 
 mul-t14 : tie.Need-mul-t14
-mul-t14 c = omega (arith, (window-span _ _ _ _ _ (sym (c .before .before .before .before .before .well-formed .ensures) ∙ not-false _ (c .before .before .before .before .if1 .left)) _ _ (ruled _ _ _ _ _ (sym (c .before .before .before .before .before .well-formed .ensures) ∙ not-false _ (c .before .before .before .before .if1 .left)) _ (c .before .before .before .window-row .ensures) (c .before .before .if2 .left)) (c .rows-taken .ensures)) .1)
+mul-t14 c = omega (arith, (window-span _ _ _ _ _ (sym (c .before .before .before .before .before .well-formed .ensures) ∙ not-false _ (c .before .before .before .before .if1 .left)) _ _ (ruled _ _ _ _ _ (sym (c .before .before .before .before .before .well-formed .ensures) ∙ not-false _ (c .before .before .before .before .if1 .left)) _ (c .before .before .before .window-stride .ensures) (c .before .before .if2 .left)) (c .table-rows .ensures)) .1)
 
 returns-3 : tie.Need-returns-3
-returns-3 c = sym (judged-accepted _ _ _ _ _ (sym (c .before .before .before .before .before .well-formed .ensures) ∙ not-false _ (c .before .before .before .before .if1 .left)) _ _ (c .before .row-step .ensures) ((window-span _ _ _ _ _ (sym (c .before .before .before .before .before .well-formed .ensures) ∙ not-false _ (c .before .before .before .before .if1 .left)) _ _ (ruled _ _ _ _ _ (sym (c .before .before .before .before .before .well-formed .ensures) ∙ not-false _ (c .before .before .before .before .if1 .left)) _ (c .before .before .before .window-row .ensures) (c .before .before .if2 .left)) (c .rows-taken .ensures)) .0) ((ruled _ _ _ _ _ (sym (c .before .before .before .before .before .well-formed .ensures) ∙ not-false _ (c .before .before .before .before .if1 .left)) _ (c .before .before .before .window-row .ensures) (c .before .before .if2 .left)) .rule))
+returns-3 c = sym (judged-accepted _ _ _ _ _ (sym (c .before .before .before .before .before .well-formed .ensures) ∙ not-false _ (c .before .before .before .before .if1 .left)) _ _ (c .before .table-step .ensures) ((window-span _ _ _ _ _ (sym (c .before .before .before .before .before .well-formed .ensures) ∙ not-false _ (c .before .before .before .before .if1 .left)) _ _ (ruled _ _ _ _ _ (sym (c .before .before .before .before .before .well-formed .ensures) ∙ not-false _ (c .before .before .before .before .if1 .left)) _ (c .before .before .before .window-stride .ensures) (c .before .before .if2 .left)) (c .table-rows .ensures)) .0) ((ruled _ _ _ _ _ (sym (c .before .before .before .before .before .well-formed .ensures) ∙ not-false _ (c .before .before .before .before .if1 .left)) _ (c .before .before .before .window-stride .ensures) (c .before .before .if2 .left)) .rule))
 
 pub judge-spec : {M : Type 1} → statement M
 judge-spec =
@@ -39,9 +39,9 @@ judge-spec =
     (tie.spec
     well-formed-requires
     returns
-    window-row-requires
+    window-stride-requires
     returns-2
-    row-step-requires
-    rows-taken-requires
+    table-step-requires
+    table-rows-requires
     mul-t14
     returns-3)

@@ -1,20 +1,26 @@
 -- `layout::row_step` meets its contract: the pitch cut down by shifts. Assumes nothing.
-use Rattle.layout.proofs.Powers.{cut-step}
 use borrow.Author.Needs.{needs}
+use native.Mathlib.Omega.{arith}
+use Rattle.layout.proofs.Powers.{step-read, cut-step}
 use Rattle.layout.proofs.row_step.Statement.{statement}
 use Rattle.layout.proofs.row_step.Tie as tie
 
-step-log-requires : tie.Need-step-log-requires
-step-log-requires c κs = search needs
+step-logs-requires : tie.Need-step-logs-requires
+step-logs-requires c κs = search needs
+
+power-at-requires : tie.Need-power-at-requires
+power-at-requires c κs = search needs
 
 shr-result : tie.Need-shr-result
-shr-result c = search needs
+shr-result c = omega (arith, step-read _ _ _ _ (c .before .before .pre) (c .power-at .ensures) (c .before .step-logs .ensures) .0)
 
 shl-result : tie.Need-shl-result
-shl-result c = search needs
+shl-result c = omega (arith, step-read _ _ _ _ (c .before .before .pre) (c .power-at .ensures) (c .before .step-logs .ensures) .0)
 
 returns : tie.Need-returns
-returns c = cut-step _ _ _ _ (c .before .fits .pitch .fits) (c .step-log .ensures .1)
+returns c =
+    cut-step _ _ _ _ (c .before .before .fits .pitch .fits)
+    (step-read _ _ _ _ (c .before .before .pre) (c .power-at .ensures) (c .before .step-logs .ensures) .1)
 
 pub row-step-spec : {M : Type 1} → statement M
-row-step-spec = tie.close (tie.spec step-log-requires shr-result shl-result returns)
+row-step-spec = tie.close (tie.spec step-logs-requires power-at-requires shr-result shl-result returns)

@@ -1,29 +1,17 @@
--- `layout::rows_log` meets its contract: the number read at each of the five sizes. Assumes nothing.
-use Rattle.layout.proofs.Window.{size-most}
-use Rattle.layout.proofs.Powers.{rows-log}
-use native.Mathlib.Omega.{arith}
+-- `layout::rows_log` meets its contract: the power read at the size. Assumes nothing.
 use borrow.Author.Needs.{needs}
+use Rattle.layout.proofs.Powers.{rows-read}
 use Rattle.layout.proofs.rows_log.Statement.{statement}
 use Rattle.layout.proofs.rows_log.Tie as tie
 
 rows-logs-requires : tie.Need-rows-logs-requires
 rows-logs-requires c κs = search needs
 
-mul-result : tie.Need-mul-result
-mul-result c = omega (arith, size-most _ (c .before .pre))
-
-cast-result : tie.Need-cast-result
-cast-result c = search needs
-
-shr-result : tie.Need-shr-result
-shr-result c = omega (arith, size-most _ (c .before .pre))
-
-cast-result-2 : tie.Need-cast-result-2
-cast-result-2 c = search needs
+power-at-requires : tie.Need-power-at-requires
+power-at-requires c κs = search needs
 
 returns : tie.Need-returns
-returns c = rw (c .rows-logs .ensures) (rows-log _ _ (c .before .pre))
+returns c = rows-read _ _ _ _ (c .before .before .pre) (c .power-at .ensures) (c .before .rows-logs .ensures)
 
 pub rows-log-spec : {M : Type 1} → statement M
-rows-log-spec =
-    tie.close (tie.spec rows-logs-requires mul-result cast-result shr-result cast-result-2 returns)
+rows-log-spec = tie.close (tie.spec rows-logs-requires power-at-requires returns)

@@ -1,14 +1,17 @@
--- `layout::step_logs` meets its contract. Assumes nothing.
-use Rattle.laws.proofs.Choice.{pick-yes, pick-no}
-use mathlib.Core.Path.{sym}
+-- `layout::step_logs` meets its contract: the two kinds of layout. Assumes nothing.
+use mathlib.Core.Path.{sym, subst}
+use mathlib.Core.Bool.{Bool}
+use Rattle.layout.specs.Layout.{unitOf}
+use Rattle.layout.specs.Powers.{Powers}
+use Rattle.layout.proofs.Powers.{step-powers}
 use Rattle.layout.proofs.step_logs.Statement.{statement}
 use Rattle.layout.proofs.step_logs.Tie as tie
 
 returns : tie.Need-returns
-returns c = sym (pick-yes _ _ (c .if1 .taken))
+returns c = subst (λ (t : Bool). Powers _ (unitOf t)) (sym (c .if1 .taken)) (step-powers .0)
 
 returns-2 : tie.Need-returns-2
-returns-2 c = sym (pick-no _ _ (c .if1 .left))
+returns-2 c = subst (λ (t : Bool). Powers _ (unitOf t)) (sym (c .if1 .left)) (step-powers .1)
 
 pub step-logs-spec : {M : Type 1} → statement M
 step-logs-spec = tie.close (tie.spec returns returns-2)

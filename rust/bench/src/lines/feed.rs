@@ -1,12 +1,13 @@
 //! Words fed to a session: a mixed stream in pieces of several lengths and word by word, and streams of one command.
 
-use crate::inputs::{
-    domain, instructions, mixed_stream, output, settings, Random, SET_INP_FMT, SET_INST_FMT,
-    SET_OUT_FMT, START, WAIT_FOR_IDLE,
-};
+use crate::inputs::{domain, instructions, mixed_stream, output, settings, Random};
 use crate::table::Table;
 use bench::fast::command::{write_command, Command, Format};
 use bench::fast::session as fast;
+use boundary::headers::{
+    SET_COND_OUT_FMT, SET_CONSTB_FMT, SET_CONSTF_FMT, SET_CONSTI_FMT, SET_INP_FMT, SET_INST_FMT,
+    SET_OUT_FMT, START_PROGRAM, WAIT_FOR_IDLE,
+};
 
 /// The mixed stream is about this long, a stream of one command about half.
 const WORDS: usize = 1 << 16;
@@ -15,10 +16,10 @@ const FORMATS: [(u32, u32); 7] = [
     (SET_INST_FMT, 1),
     (SET_INP_FMT, 16),
     (SET_OUT_FMT, 4),
-    (0xC002_0D00, 1),
-    (0xC001_0E00, 1),
-    (0xC001_0F00, 1),
-    (0xC001_1000, 1),
+    (SET_COND_OUT_FMT, 1),
+    (SET_CONSTF_FMT, 1),
+    (SET_CONSTI_FMT, 1),
+    (SET_CONSTB_FMT, 1),
 ];
 
 pub fn add(table: &mut Table) {
@@ -37,7 +38,7 @@ pub fn add(table: &mut Table) {
     );
     let domains = repeated(many, || domain(&mut random).to_vec());
     single(table, "only set_domain", 0, &domains);
-    let starts = repeated(many, || vec![START, 0]);
+    let starts = repeated(many, || vec![START_PROGRAM, 0]);
     single(table, "only start_program, 1 output", 1, &starts);
     single(table, "only start_program, 4 outputs", 4, &starts);
     let waits = repeated(many, || vec![WAIT_FOR_IDLE, 0]);

@@ -6,7 +6,7 @@
 
 #![forbid(unsafe_code)]
 
-#[path = "../station.rs"]
+#[path = "../score/station.rs"]
 #[allow(dead_code)] // the dates are for the card
 mod station;
 

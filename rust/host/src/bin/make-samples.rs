@@ -7,25 +7,22 @@
 
 #![forbid(unsafe_code)]
 
-#[path = "../station.rs"]
+#[path = "../score/station.rs"]
 #[allow(dead_code)] // what it owes and its dates are for the score
 mod station;
 
+use boundary::headers::{
+    SET_DOMAIN, SET_INST_FMT, SET_OUT_FMT, SET_OUT_MASK, START_PROGRAM, WAIT_FOR_IDLE,
+};
 use std::path::{Path, PathBuf};
 use std::{env, fs, io};
-
-const SET_DOMAIN: u32 = 0xC003_0700;
-const START: u32 = 0xC000_0800;
-const WAIT: u32 = 0xC000_0900;
-const SET_OUT: u32 = 0xC003_0C00;
-const SET_OUT_MASK: u32 = 0xC000_1900;
 
 /// What every start needs: document 01's whole stream up to its start. A start
 /// then claims 96 x 18 elements.
 #[rustfmt::skip]
 const SETTINGS: [u32; 13] = [
-    0xC001_0A00, 0x1000, 0x0400_0010,
-    SET_OUT, 0, 0x800, 0x0201_0064, 18,
+    SET_INST_FMT, 0x1000, 0x0400_0010,
+    SET_OUT_FMT, 0, 0x800, 0x0201_0064, 18,
     SET_DOMAIN, 0, 0, 95, 17,
 ];
 
@@ -63,13 +60,13 @@ impl Log {
 fn three_days() -> Log {
     Log::new()
         .words(&SETTINGS)
-        .words(&[START, 0, WAIT, 0, START])
+        .words(&[START_PROGRAM, 0, WAIT_FOR_IDLE, 0, START_PROGRAM])
         .midnight(101)
-        .words(&[0, WAIT, 0, START, 0])
+        .words(&[0, WAIT_FOR_IDLE, 0, START_PROGRAM, 0])
         .midnight(102)
-        .words(&[START, 0, WAIT, 0, SET_DOMAIN, 0, 0])
+        .words(&[START_PROGRAM, 0, WAIT_FOR_IDLE, 0, SET_DOMAIN, 0, 0])
         .midnight(103)
-        .words(&[47, 17, START, 0, START, 0])
+        .words(&[47, 17, START_PROGRAM, 0, START_PROGRAM, 0])
 }
 
 /// A word is refused on the second day, and the fourth midnight skips a day.
@@ -77,26 +74,26 @@ fn refused() -> Log {
     Log::new()
         .words(&SETTINGS)
         .midnight(101)
-        .words(&[START, 0, START, 0])
+        .words(&[START_PROGRAM, 0, START_PROGRAM, 0])
         .midnight(102)
-        .words(&[START, 0, SET_OUT, 4, START, 0])
+        .words(&[START_PROGRAM, 0, SET_OUT_FMT, 4, START_PROGRAM, 0])
         .midnight(103)
-        .words(&[START, 0])
+        .words(&[START_PROGRAM, 0])
         .midnight(105)
-        .words(&[START, 0])
+        .words(&[START_PROGRAM, 0])
 }
 
 /// Station 14's two cameras of 640 x 480 pixels, UINT8_4 in tiles, each with an output
 /// of its own. A frame claims 614,400 elements.
 #[rustfmt::skip]
 const CAMERAS: [u32; 18] = [
-    0xC001_0A00, 0x1000, 0x0400_0010,
-    SET_OUT, 0, 0x0010_0000, 0x0101_0280, 480,
-    SET_OUT, 1, 0x0030_0000, 0x0101_0280, 480,
+    SET_INST_FMT, 0x1000, 0x0400_0010,
+    SET_OUT_FMT, 0, 0x0010_0000, 0x0101_0280, 480,
+    SET_OUT_FMT, 1, 0x0030_0000, 0x0101_0280, 480,
     SET_DOMAIN, 0, 0, 639, 479,
 ];
 
-const FRAME: [u32; 4] = [START, 0, WAIT, 0];
+const FRAME: [u32; 4] = [START_PROGRAM, 0, WAIT_FOR_IDLE, 0];
 
 /// A frame an hour.
 const FRAMES: usize = 24;
@@ -124,7 +121,7 @@ fn station_14() -> Log {
         log = log.midnight(station::FIRST_DAY + date - 1).words(rest);
         let (day, cut): (Log, &[u32]) = match date {
             3 | 14 | 26 => (log.frames(FRAMES - 1).words(&FRAME[..1]), &FRAME[1..]),
-            9..=12 => (log.words(&[WAIT, 0].repeat(FRAMES)), &[]),
+            9..=12 => (log.words(&[WAIT_FOR_IDLE, 0].repeat(FRAMES)), &[]),
             19 => (log.frames(FRAMES).words(&SECOND_CAMERA_OFF), &[]),
             20 => {
                 let again = log.words(&CAMERAS).frames(FRAMES);
@@ -175,15 +172,15 @@ fn damaged() -> Vec<u8> {
 /// domain, which a silent output may; last the first is masked off too.
 #[rustfmt::skip]
 const MASKED: [u32; 20] = [
-    SET_OUT, 1, 0x4000, 0x0300_0060, 18,
-    START, 0,
+    SET_OUT_FMT, 1, 0x4000, 0x0300_0060, 18,
+    START_PROGRAM, 0,
     // bits for channels 2 and 3 alone, which FLOAT32_2 doesn't have
     SET_OUT_MASK, 0xFFCF,
-    SET_OUT, 1, 0x800, 0x0300_0060, 4,
-    START, 0,
+    SET_OUT_FMT, 1, 0x800, 0x0300_0060, 4,
+    START_PROGRAM, 0,
     // and of output 0 for channels 1 to 3, which FLOAT32_1 doesn't have
     SET_OUT_MASK, 0xFFCE,
-    START, 0,
+    START_PROGRAM, 0,
 ];
 
 /// A stream's words, low byte first.

@@ -2,6 +2,7 @@
 //! be, long input.
 
 use crate::common::{complained, egretfold, peak_on, root, told};
+use boundary::headers::WAIT_FOR_IDLE;
 use std::fs;
 use std::io::Write;
 use std::process::{Command, Stdio};
@@ -124,7 +125,7 @@ fn a_long_stream_takes_no_more_memory() {
 
 /// So many commands wait_for_idle, two words each.
 fn waits(count: usize) -> Vec<u8> {
-    let command = [0xC000_0900_u32, 0].map(u32::to_le_bytes).concat();
+    let command = [WAIT_FOR_IDLE, 0].map(u32::to_le_bytes).concat();
     command.repeat(count)
 }
 

@@ -4,16 +4,13 @@
 use crate::common::{
     complained, egretfold, last_line, midnights, peak_on, sample, told, words, Folder,
 };
+use boundary::headers::{SET_DOMAIN, START_PROGRAM, WAIT_FOR_IDLE};
 use compare::random::Random;
 use compare::records::{record, MIDNIGHT, WORD};
 use compare::words as streams;
 use serde_json::Value;
 use std::fs;
 use std::process::Command;
-
-const START: u32 = 0xC000_0800;
-const WAIT: u32 = 0xC000_0900;
-const SET_DOMAIN: u32 = 0xC003_0700;
 
 /// Bytes that the command reads at once.
 const PIECE: usize = 1 << 16;
@@ -134,7 +131,7 @@ fn a_refused_word_has_its_cause() {
 }
 
 fn words_of_waits(count: usize) -> Vec<u8> {
-    words(&[WAIT, 0]).repeat(count)
+    words(&[WAIT_FOR_IDLE, 0]).repeat(count)
 }
 
 #[test]
@@ -144,7 +141,7 @@ fn a_command_may_be_cut_by_every_midnight() {
             words(&[header, 9]),
             midnights(0..400),
             words(&[0, 8, 0]),
-            words(&[START]),
+            words(&[START_PROGRAM]),
         ]
     };
     // The header lies in the first piece and its last words in the next.
@@ -165,7 +162,7 @@ fn a_stop_has_its_cause() {
     let cases = [
         (vec![0], "byte 0, record 0, before the first midnight: refused 18, kind byte 00 is neither 01 nor 02"),
         (
-            [words(&[WAIT, 0]), vec![255, 1]].concat(),
+            [words(&[WAIT_FOR_IDLE, 0]), vec![255, 1]].concat(),
             "byte 10, record 2, before the first midnight: refused 18, kind byte FF is neither 01 nor 02",
         ),
         (

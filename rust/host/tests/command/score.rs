@@ -5,6 +5,7 @@ use crate::common::Folder;
 use crate::common::{
     complained, egretfold, last_line, midnights, peak_on, sample, told, with_input, words,
 };
+use boundary::headers::WAIT_FOR_IDLE;
 use std::fs;
 use std::os::unix::fs::symlink;
 use std::process::{Command, Output};
@@ -292,7 +293,7 @@ fn the_verdict_comes_with_its_card() {
 /// Memory stays the same for a long log.
 #[test]
 fn a_long_log_takes_no_more_memory() {
-    let piece = words(&[0xC000_0900, 0]).repeat(100_000);
+    let piece = words(&[WAIT_FOR_IDLE, 0]).repeat(100_000);
     let days = (0..32).map(|day| [midnights(day..day + 1), piece.clone()].concat());
     let (output, kilobytes) = peak_on("score - --first-day 0 --days 31 --owed 1", days);
     assert!(kilobytes < 16 << 10, "{kilobytes} kB for 32 MB of records");

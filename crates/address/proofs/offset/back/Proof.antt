@@ -6,23 +6,23 @@ use native.Mathlib.Omega.{arith}
 use Rattle.laws.proofs.Choice.{pick-yes, pick-no}
 use Rattle.address.specs.Asked.{StepAsked}
 use Rattle.address.specs.Offset.{xOf, yOf}
-use Rattle.address.proofs.Offsets.{cells}
+use Rattle.address.proofs.Offsets.{blocks}
 use Rattle.address.proofs.Sums.{row-pos, linear-x, linear-y}
 use borrow.Author.Needs.{needs}
 use Rattle.address.proofs.offset.back.Statement.{statement}
 use Rattle.address.proofs.offset.back.Tie as tie
 
 tiled-back-requires : tie.Need-tiled-back-requires
-tiled-back-requires c κs = subst (λ (t : Bool). StepAsked t (c .before .args .size) (c .before .args .row / c .before .args .size)) (c .if1 .taken) (c .before .pre .0)
+tiled-back-requires c κs = subst (λ (t : Bool). StepAsked t (c .before .args .size) (c .before .args .stride / c .before .args .size)) (c .if1 .taken) (c .before .pre .0)
 
 rem-elements : tie.Need-rem-elements
-rem-elements c = row-pos _ _ (cells _ (c .before .pre .0 .size) .s-pos) (c .before .pre .0 .least) (c .before .pre .1)
+rem-elements c = row-pos _ _ (blocks _ (c .before .pre .0 .size) .s-pos) (c .before .pre .0 .least) (c .before .pre .1)
 
 elements-requires : tie.Need-elements-requires
 elements-requires c κs = search needs
 
 div-t9 : tie.Need-div-t9
-div-t9 c = row-pos _ _ (cells _ (c .before .before .pre .0 .size) .s-pos) (c .before .before .pre .0 .least) (c .before .before .pre .1)
+div-t9 c = row-pos _ _ (blocks _ (c .before .before .pre .0 .size) .s-pos) (c .before .before .pre .0 .least) (c .before .before .pre .1)
 
 returns : tie.Need-returns
 unfolding xOf yOf
@@ -30,7 +30,7 @@ returns c = (c .tiled-back .ensures .0 ∙ sym (pick-yes _ _ (c .before .if1 .ta
 
 returns-2 : tie.Need-returns-2
 unfolding xOf yOf
-returns-2 c = (c .elements .ensures ∙ linear-x _ _ _ (cells _ (c .before .before .pre .0 .size) .s-pos) (c .before .before .pre .0 .least) (c .before .before .pre .1) ∙ sym (pick-no _ _ (c .before .if1 .left)), linear-y _ _ _ (cells _ (c .before .before .pre .0 .size) .s-pos) (c .before .before .pre .0 .least) (c .before .before .pre .1) ∙ sym (pick-no _ _ (c .before .if1 .left)))
+returns-2 c = (c .elements .ensures ∙ linear-x _ _ _ (blocks _ (c .before .before .pre .0 .size) .s-pos) (c .before .before .pre .0 .least) (c .before .before .pre .1) ∙ sym (pick-no _ _ (c .before .if1 .left)), linear-y _ _ _ (blocks _ (c .before .before .pre .0 .size) .s-pos) (c .before .before .pre .0 .least) (c .before .before .pre .1) ∙ sym (pick-no _ _ (c .before .if1 .left)))
 
 pub back-spec : {M : Type 1} → statement M
 back-spec =

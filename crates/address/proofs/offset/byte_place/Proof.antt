@@ -1,13 +1,13 @@
 -- `address::offset::byte_place` meets its contract. Assumes nothing.
 use native.Mathlib.Omega.{arith}
 use Rattle.address.specs.Offset.{bytePlace}
-use Rattle.address.proofs.Offsets.{cells}
+use Rattle.address.proofs.Offsets.{blocks}
 use Rattle.address.proofs.Sums.{masked-place}
 use Rattle.address.proofs.offset.byte_place.Statement.{statement}
 use Rattle.address.proofs.offset.byte_place.Tie as tie
 
 sub-result : tie.Need-sub-result
-sub-result c = omega (arith, cells _ (c .pre) .s-pos)
+sub-result c = omega (arith, blocks _ (c .pre) .s-pos)
 
 returns : tie.Need-returns
 unfolding bytePlace

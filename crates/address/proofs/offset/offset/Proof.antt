@@ -12,13 +12,13 @@ tiled-offset-requires : tie.Need-tiled-offset-requires
 tiled-offset-requires c κs = search needs
 
 mul-result : tie.Need-mul-result
-mul-result c = omega (arith, linear-sums (c .before .args .row) (c .before .pre .0) (c .before .pre .1))
+mul-result c = omega (arith, linear-sums (c .before .args .stride) (c .before .pre .0) (c .before .pre .1))
 
 mul-result-2 : tie.Need-mul-result-2
-mul-result-2 c = omega (arith, linear-sums (c .before .args .row) (c .before .pre .0) (c .before .pre .1))
+mul-result-2 c = omega (arith, linear-sums (c .before .args .stride) (c .before .pre .0) (c .before .pre .1))
 
 add-result : tie.Need-add-result
-add-result c = omega (arith, linear-sums (c .before .args .row) (c .before .pre .0) (c .before .pre .1))
+add-result c = omega (arith, linear-sums (c .before .args .stride) (c .before .pre .0) (c .before .pre .1))
 
 returns : tie.Need-returns
 unfolding offsetOf
@@ -26,7 +26,7 @@ returns c = c .tiled-offset .ensures ∙ sym (pick-yes _ _ (c .before .if1 .take
 
 returns-2 : tie.Need-returns-2
 unfolding offsetOf
-returns-2 c = linear-sums (c .before .args .row) (c .before .pre .0) (c .before .pre .1) .offset ∙ sym (pick-no _ _ (c .if1 .left))
+returns-2 c = linear-sums (c .before .args .stride) (c .before .pre .0) (c .before .pre .1) .offset ∙ sym (pick-no _ _ (c .if1 .left))
 
 pub offset-spec : {M : Type 1} → statement M
 offset-spec =

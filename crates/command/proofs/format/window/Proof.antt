@@ -23,8 +23,12 @@ judge-requires c κs = search needs
 
 returns : tie.Need-returns
 returns c =
-    c .judge .ensures ∙
-    window-read _ _ _ _ _ _ _ (c .before .before .before .before .pitch .ensures) (c .before .before .before .code .ensures) (c .before .before .size .ensures) (c .before .tiled .ensures)
+    let at-tiled = c .before in
+    let at-size = at-tiled .before in
+    let at-code = at-size .before in
+    let at-pitch = at-code .before in
+    c .judge .ensures
+    ∙ window-read _ _ _ _ _ _ _ (at-pitch .pitch .ensures) (at-code .code .ensures) (at-size .size .ensures) (at-tiled .tiled .ensures)
 
 pub window-spec : {M : Type 1} → statement M
 window-spec =

@@ -32,8 +32,15 @@ code-requires c κs = search needs
 returns-5 : tie.Need-returns-5
 unfolding formatAllowed
 returns-5 c =
-    ap (λ (n : ℕ). leb n 4) (c .code .ensures) ∙
-    sym (and-yes _ (eq-eqb _ _ (c .before .before .before .before .if1 .left)) ∙ and-yes _ (eq-eqb _ _ (c .before .before .before .if2 .left)) ∙ and-yes _ (eq-eqb _ _ (c .before .before .if3 .left)) ∙ and-yes _ (eq-eqb _ _ (c .before .if4 .left)))
+    let at-if4 = c .before in
+    let at-if3 = at-if4 .before in
+    let at-if2 = at-if3 .before in
+    let at-if1 = at-if2 .before in
+    ap (λ (n : ℕ). leb n 4) (c .code .ensures)
+    ∙ sym (and-yes _ (eq-eqb _ _ (at-if1 .if1 .left))
+    ∙ and-yes _ (eq-eqb _ _ (at-if2 .if2 .left))
+    ∙ and-yes _ (eq-eqb _ _ (at-if3 .if3 .left))
+    ∙ and-yes _ (eq-eqb _ _ (at-if4 .if4 .left)))
 
 pub format-allowed-spec : {M : Type 1} → statement M
 format-allowed-spec =

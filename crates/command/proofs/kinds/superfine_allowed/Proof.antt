@@ -15,7 +15,11 @@ channels-requires : tie.Need-channels-requires
 channels-requires c κs = search needs
 
 returns : tie.Need-returns
-returns c = superfine-asked _ _ _ (sym (c .before .before .before .superfine .ensures) ∙ c .before .before .if1 .taken) (c .before .code .ensures) (c .channels .ensures)
+returns c =
+    let at-code = c .before in
+    let at-if1 = at-code .before in
+    let at-superfine = at-if1 .before in
+    superfine-asked _ _ _ (sym (at-superfine .superfine .ensures) ∙ at-if1 .if1 .taken) (at-code .code .ensures) (c .channels .ensures)
 
 returns-2 : tie.Need-returns-2
 returns-2 c = superfine-free _ (sym (c .before .superfine .ensures) ∙ c .if1 .left)

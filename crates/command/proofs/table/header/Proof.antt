@@ -1,44 +1,15 @@
--- `command::table::header` meets its contract: a header is made of its line's operation and number of parameters.
--- Assumes nothing.
-use native.Mathlib.Omega.{arith}
+-- `command::table::header` meets its contract: the table's line. Assumes nothing.
 use borrow.Author.Needs.{needs}
-use Rattle.command.proofs.Headers.{header-rule, count-least, count-most}
+use Rattle.command.specs.Table.{headerOf}
 use Rattle.command.proofs.table.header.Statement.{statement}
 use Rattle.command.proofs.table.header.Tie as tie
 
-parameters-requires : tie.Need-parameters-requires
-parameters-requires c κs = search needs
-
-sub-result : tie.Need-sub-result
-sub-result c = rw (c .parameters .ensures) (omega (arith, header-rule _ (c .before .pre), count-least _ (c .before .pre), count-most _ (c .before .pre)))
-
-mul-result : tie.Need-mul-result
-mul-result c = rw (c .parameters .ensures) (omega (arith, header-rule _ (c .before .pre), count-least _ (c .before .pre), count-most _ (c .before .pre)))
-
-add-result : tie.Need-add-result
-add-result c = rw (c .parameters .ensures) (omega (arith, header-rule _ (c .before .pre), count-least _ (c .before .pre), count-most _ (c .before .pre)))
-
-add-result-2 : tie.Need-add-result-2
-add-result-2 c = search needs
-
-mul-result-2 : tie.Need-mul-result-2
-mul-result-2 c = search needs
-
-add-result-3 : tie.Need-add-result-3
-add-result-3 c = rw (c .parameters .ensures) (omega (arith, header-rule _ (c .before .pre), count-least _ (c .before .pre), count-most _ (c .before .pre)))
+header-at-requires : tie.Need-header-at-requires
+header-at-requires c κs = search needs
 
 returns : tie.Need-returns
-returns c = rw (c .parameters .ensures) (omega (arith, header-rule _ (c .before .pre), count-least _ (c .before .pre), count-most _ (c .before .pre)))
+unfolding headerOf
+returns c = c .header-at .ensures
 
 pub header-spec : {M : Type 1} → statement M
-header-spec =
-    tie.close
-    (tie.spec
-    parameters-requires
-    sub-result
-    mul-result
-    add-result
-    add-result-2
-    mul-result-2
-    add-result-3
-    returns)
+header-spec = tie.close (tie.spec header-at-requires returns)

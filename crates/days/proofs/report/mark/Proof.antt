@@ -17,7 +17,10 @@ number-at-requires-2 : tie.Need-number-at-requires-2
 number-at-requires-2 c κs = search needs
 
 returns : tie.Need-returns
-returns c = mark-numbers _ _ (c .before .before .before .before .args .marks .now) (c .before .before .before .before .args .k) (c .before .before .number-at .ensures) (c .number-at2 .ensures)
+returns c =
+    let at-number-at = c .before .before in
+    let entry = at-number-at .before .before in
+    mark-numbers _ _ (entry .args .marks .now) (entry .args .k) (at-number-at .number-at .ensures) (c .number-at2 .ensures)
 
 pub mark-spec : {M : Type 1} → statement M
 mark-spec =

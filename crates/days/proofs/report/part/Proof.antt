@@ -24,7 +24,13 @@ difference-requires-2 : tie.Need-difference-requires-2
 difference-requires-2 c κs = search needs
 
 returns-2 : tie.Need-returns-2
-returns-2 c = unfold viewed in part-some _ _ _ _ (c .before .before .before .before .if1 .left) _ _ (c .before .before .before .began .ensures) (c .before .before .ended .ensures) _ _ (c .before .difference .ensures) (c .difference2 .ensures)
+returns-2 c =
+    let at-difference = c .before in
+    let at-ended = at-difference .before in
+    let at-began = at-ended .before in
+    let at-if1 = at-began .before in
+    unfold viewed in part-some _ _ _ _ (at-if1 .if1 .left) _ _ (at-began .began .ensures) (at-ended .ended .ensures) _ _
+    (at-difference .difference .ensures) (c .difference2 .ensures)
 
 pub part-spec : {M : Type 1} → statement M
 part-spec =

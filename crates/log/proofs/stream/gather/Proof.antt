@@ -1,7 +1,7 @@
 -- `log::stream::gather` meets its contract. Assumes nothing.
 use borrow.Author.Needs.{needs}
 use Rattle.log.proofs.Records.{gathered-none, gathered-more}
-use Rattle.log.specs.Asked.{Gathered}
+use Rattle.log.specs.Asked.{batch, Gathered}
 use Prim.Native.Nat.{_-_}
 use mathlib.Core.Path.{_≡_}
 use lib.ListN.{length, drop, length-drop, length-set}
@@ -10,10 +10,10 @@ use Rattle.log.proofs.stream.gather.Statement.{statement}
 use Rattle.log.proofs.stream.gather.Tie as tie
 
 abbrev Inv-loop : tie.InvT-loop
-Inv-loop bytes at words₀ n₀ words n = Gathered (drop at bytes) n words × (length words ≡ 128)
+Inv-loop bytes at words₀ n₀ words n = Gathered (drop at bytes) n words × (length words ≡ batch)
 
 abbrev μ-loop : tie.MeasureT-loop
-μ-loop bytes at words₀ n₀ words n = 128 - n
+μ-loop bytes at words₀ n₀ words n = batch - n
 
 loop-holds : tie.Need-loop-holds Inv-loop μ-loop
 loop-holds c = (gathered-none _ _, c .before .pre .1)

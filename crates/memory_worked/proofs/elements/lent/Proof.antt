@@ -30,8 +30,8 @@ wrapping-sub-u32-requires c κs = search needs
 enum-told : tie.Need-enum-told Inv-loop μ-loop
 enum-told c = search needs
 
-standing-requires : tie.Need-standing-requires Inv-loop μ-loop
-standing-requires c κs = search needs
+bytes-from-requires : tie.Need-bytes-from-requires Inv-loop μ-loop
+bytes-from-requires c κs = search needs
 
 read-requires : tie.Need-read-requires Inv-loop μ-loop
 read-requires c κs = search needs
@@ -93,7 +93,7 @@ lent-spec =
     enum-known-address
     wrapping-sub-u32-requires
     enum-told
-    standing-requires
+    bytes-from-requires
     read-requires
     new-requires
     reads-requires

@@ -28,7 +28,11 @@ mul-marks : tie.Need-mul-marks
 mul-marks c = omega (arith, few _ _ _ (sym (c .before .before .may-begin .ensures) ∙ c .before .if1 .taken))
 
 element-write-marks : tie.Need-element-write-marks
-element-write-marks c = omega (arith, few _ _ _ (sym (c .before .before .may-begin .ensures) ∙ c .before .if1 .taken), c .before .before .before .before .before .pre .marks-length)
+element-write-marks c =
+    let at-if1 = c .before in
+    let at-may-begin = at-if1 .before in
+    let entry = at-may-begin .before .before .before in
+    omega (arith, few _ _ _ (sym (at-may-begin .may-begin .ensures) ∙ at-if1 .if1 .taken), entry .pre .marks-length)
 
 element-copy-out-marks-2 : tie.Need-element-copy-out-marks-2
 element-copy-out-marks-2 c = search needs
@@ -49,13 +53,22 @@ begin-day-requires : tie.Need-begin-day-requires
 begin-day-requires c κs = search needs
 
 returns : tie.Need-returns
-returns c = midnight-taken _ _ _ _ _ (sym (c .before .before .before .before .before .may-begin .ensures) ∙ c .before .before .before .before .if1 .taken) (c .before .before .before .before .before .before .before .before .pre .marks-length) (c .begin-day .ensures)
+returns c =
+    let at-if1 = c .before .before .before .before in
+    let at-may-begin = at-if1 .before in
+    let entry = at-may-begin .before .before .before in
+    midnight-taken _ _ _ _ _ (sym (at-may-begin .may-begin .ensures) ∙ at-if1 .if1 .taken) (entry .pre .marks-length)
+    (c .begin-day .ensures)
 
 stop-requires : tie.Need-stop-requires
 stop-requires c κs = search needs
 
 returns-2 : tie.Need-returns-2
-returns-2 c = midnight-refused _ _ _ _ _ (sym (c .before .before .before .may-begin .ensures) ∙ c .before .before .if1 .left) (c .before .before .before .before .before .before .pre .marks-length) (c .stop .ensures)
+returns-2 c =
+    let at-if1 = c .before .before in
+    let at-may-begin = at-if1 .before in
+    let entry = at-may-begin .before .before .before in
+    midnight-refused _ _ _ _ _ (sym (at-may-begin .may-begin .ensures) ∙ at-if1 .if1 .left) (entry .pre .marks-length) (c .stop .ensures)
 
 pub midnight-spec : {M : Type 1} → statement M
 midnight-spec =

@@ -3,7 +3,7 @@ use mathlib.Core.Path.{ap}
 use borrow.Author.Needs.{needs}
 use Rattle.command.specs.Kinds.{toldChecked}
 use Rattle.command.proofs.WriteBack.{lined}
-use Rattle.command.proofs.Judging.{command-refused, command-ruled}
+use Rattle.rules.proofs.Judging.{command-refused, command-ruled}
 use Rattle.rules.proofs.writer.check_command.Statement.{statement}
 use Rattle.rules.proofs.writer.check_command.Tie as tie
 

@@ -3,7 +3,7 @@ use mathlib.Core.Path.{ap, _∙_}
 use borrow.Author.Needs.{needs}
 use Rattle.command.specs.declared.kinds.Kind.{Kind}
 use Rattle.command.specs.Kinds.{checkOf, toldChecked}
-use Rattle.command.proofs.Judging.{refused-second, refused-third, refused-fourth, judged-first}
+use Rattle.rules.proofs.Judging.{refused-second, refused-third, refused-fourth, judged-first}
 use Rattle.rules.proofs.writer.check_places.Statement.{statement}
 use Rattle.rules.proofs.writer.check_places.Tie as tie
 

@@ -25,7 +25,12 @@ part-requires : tie.Need-part-requires
 part-requires c κs = search needs
 
 returns : tie.Need-returns
-returns c = claimed-part _ _ _ _ (sym (c .before .before .has-midnight .ensures) ∙ c .before .if1 .taken) _ (omega (arith, not-after _ _ _ (sym (c .before .before .has-midnight .ensures) ∙ c .before .if1 .taken), not-before _ _ _ (sym (c .before .before .has-midnight .ensures) ∙ c .before .if1 .taken))) _ (c .part .ensures)
+returns c =
+    let at-if1 = c .before in
+    let at-has-midnight = at-if1 .before in
+    let has-midnight-told = sym (at-has-midnight .has-midnight .ensures) ∙ at-if1 .if1 .taken in
+    claimed-part _ _ _ _ has-midnight-told _ (omega (arith, not-after _ _ _ has-midnight-told, not-before _ _ _ has-midnight-told)) _
+    (c .part .ensures)
 
 returns-2 : tie.Need-returns-2
 returns-2 c = claimed-none _ _ _ _ (sym (c .before .has-midnight .ensures) ∙ c .if1 .left)

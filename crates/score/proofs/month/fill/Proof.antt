@@ -33,7 +33,10 @@ mul-claimed : tie.Need-mul-claimed Inv-loop μ-loop
 mul-claimed c = search needs
 
 element-write-claimed : tie.Need-element-write-claimed Inv-loop μ-loop
-element-write-claimed c = omega (arith, claimed-length _ _ (c .before .before .before .loop .inv), c .before .before .before .loop .inv .bounded .few-days, c .before .before .loop-test .taken)
+element-write-claimed c =
+    let at-loop-test = c .before .before in
+    let at-loop = at-loop-test .before in
+    omega (arith, claimed-length _ _ (at-loop .loop .inv), at-loop .loop .inv .bounded .few-days, at-loop-test .loop-test .taken)
 
 cast-served : tie.Need-cast-served Inv-loop μ-loop
 cast-served c = search needs
@@ -42,10 +45,23 @@ mul-served : tie.Need-mul-served Inv-loop μ-loop
 mul-served c = search needs
 
 element-write-served : tie.Need-element-write-served Inv-loop μ-loop
-element-write-served c = omega (arith, served-length _ _ (c .before .before .before .loop .inv), c .before .before .before .loop .inv .bounded .few-days, c .before .before .loop-test .taken)
+element-write-served c =
+    let at-loop-test = c .before .before in
+    let at-loop = at-loop-test .before in
+    omega (arith, served-length _ _ (at-loop .loop .inv), at-loop .loop .inv .bounded .few-days, at-loop-test .loop-test .taken)
 
 add-total : tie.Need-add-total Inv-loop μ-loop
-add-total c = omega (arith, total-most _ _ (c .before .before .before .loop .inv), c .before .before .before .loop .inv .bounded .few-days, c .before .before .loop-test .taken, counted-most _ _ (c .before .before .before .loop .inv) (c .before .before .loop-test .taken) _ _ (c .before .claimed-on .ensures) (c .capped .ensures))
+add-total c =
+    let at-claimed-on = c .before in
+    let at-loop-test = at-claimed-on .before in
+    let at-loop = at-loop-test .before in
+    omega (
+      arith,
+      total-most _ _ (at-loop .loop .inv),
+      at-loop .loop .inv .bounded .few-days,
+      at-loop-test .loop-test .taken,
+      counted-most _ _ (at-loop .loop .inv) (at-loop-test .loop-test .taken) _ _ (at-claimed-on .claimed-on .ensures) (c .capped .ensures),
+    )
 
 add-k : tie.Need-add-k Inv-loop μ-loop
 add-k c = search needs
@@ -54,7 +70,11 @@ loop-less : tie.Need-loop-less Inv-loop μ-loop
 loop-less c = search needs
 
 loop-again : tie.Need-loop-again Inv-loop μ-loop
-loop-again c = filling-goes _ _ (c .before .before .before .loop .inv) (c .before .before .loop-test .taken) _ _ (c .before .claimed-on .ensures) (c .capped .ensures)
+loop-again c =
+    let at-claimed-on = c .before in
+    let at-loop-test = at-claimed-on .before in
+    let at-loop = at-loop-test .before in
+    filling-goes _ _ (at-loop .loop .inv) (at-loop-test .loop-test .taken) _ _ (at-claimed-on .claimed-on .ensures) (c .capped .ensures)
 
 returns : tie.Need-returns Inv-loop μ-loop
 returns c = filling-ends _ _ (c .before .loop .inv) (c .loop-test .left)

@@ -31,7 +31,7 @@ number-requires-2 c κs = search needs
 returns-2 : tie.Need-returns-2
 returns-2 c =
     let at-if2 = c .before in
-    let at-if1 = at-if2 .before .before in
+    let at-if1 = at-if2 .before in
     let entry = at-if1 .before .before in
     let cells = now (entry .args .cells) in
     gone-past cells (entry .args .slots) true
@@ -56,7 +56,7 @@ add-put-place c = search needs
 put-place-requires : tie.Need-put-place-requires
 put-place-requires c κs =
     let at-if2 = c .before .before .before .before .before in
-    let entry = at-if2 .before .before .before .before in
+    let entry = at-if2 .before .before .before in
     given-named (now (entry .args .cells)) (entry .pre .0)
 
 returns-3 : tie.Need-returns-3
@@ -64,7 +64,7 @@ unfolding digit
 returns-3 c =
     let at-position = c .before .before .before .before .before in
     let at-if2 = at-position .before in
-    let at-if1 = at-if2 .before .before in
+    let at-if1 = at-if2 .before in
     let entry = at-if1 .before .before in
     let cells = now (entry .args .cells) in
     gone-there cells (entry .args .slots) true

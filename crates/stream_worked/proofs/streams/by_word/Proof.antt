@@ -48,7 +48,11 @@ loop-less : tie.Need-loop-less Inv-loop μ-loop
 loop-less c = search needs
 
 loop-again : tie.Need-loop-again Inv-loop μ-loop
-loop-again c = word-given _ _ (c .before .before .before .before .before .before .before .before .before .before .loop .inv) (c .before .before .before .before .word .ensures)
+loop-again c =
+    let at-word = c .before .before .before .before in
+    let at-loop-test = at-word .before .before .before .before .before in
+    let at-loop = at-loop-test .before in
+    word-given _ _ (at-loop .loop .inv) (at-word .word .ensures)
 
 array-read-taken : tie.Need-array-read-taken Inv-loop μ-loop
 array-read-taken c = search needs

@@ -17,7 +17,11 @@ begin-requires : tie.Need-begin-requires
 begin-requires c κs = search needs
 
 slice-aggregate-feed : tie.Need-slice-aggregate-feed
-slice-aggregate-feed c = sym (length-take-le (c .before .before .before .before .before .before .before .before .before .before .args .cut) (c .before .before .before .before .before .before .before .before .before .before .args .words .now) (c .before .before .before .before .before .before .before .before .if1 .left))
+slice-aggregate-feed c =
+    let at-shared = c .before .before .before .before .before in
+    let at-if1 = at-shared .before .before .before in
+    let entry = at-if1 .before .before in
+    sym (length-take-le (entry .args .cut) (entry .args .words .now) (at-if1 .if1 .left))
 
 feed-requires : tie.Need-feed-requires
 feed-requires c κs = begun-given (c .before .before .before .before .begin .ensures)
@@ -35,13 +39,20 @@ part-feed-end : tie.Need-part-feed-end
 part-feed-end c = search needs
 
 feed-requires-2 : tie.Need-feed-requires-2
-feed-requires-2 c κs = piece-given _ (begun-given (c .before .before .before .before .before .before .before .before .before .begin .ensures)) (c .before .before .before .before .feed .ensures .held)
+feed-requires-2 c κs =
+    let at-feed = c .before .before .before .before in
+    let at-begin = at-feed .before .before .before .before .before in
+    piece-given _ (begun-given (at-begin .begin .ensures)) (at-feed .feed .ensures .held)
 
 array-read-taken : tie.Need-array-read-taken
 array-read-taken c = search needs
 
 word-requires : tie.Need-word-requires
-word-requires c κs = piece-given _ (piece-given _ (begun-given (c .before .before .before .before .before .before .before .before .before .before .before .before .before .begin .ensures)) (c .before .before .before .before .before .before .before .before .feed .ensures .held)) (c .before .before .before .feed2 .ensures .held)
+word-requires c κs =
+    let at-feed2 = c .before .before .before in
+    let at-feed = at-feed2 .before .before .before .before .before in
+    let at-begin = at-feed .before .before .before .before .before in
+    piece-given _ (piece-given _ (begun-given (at-begin .begin .ensures)) (at-feed .feed .ensures .held)) (at-feed2 .feed2 .ensures .held)
 
 number-of-requires : tie.Need-number-of-requires
 number-of-requires c κs = search needs

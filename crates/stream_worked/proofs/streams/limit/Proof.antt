@@ -37,7 +37,11 @@ loop-less : tie.Need-loop-less Inv-loop μ-loop
 loop-less c = search needs
 
 loop-again : tie.Need-loop-again Inv-loop μ-loop
-loop-again c = piece-given _ (c .before .before .before .before .before .before .before .before .loop .inv) (c .before .before .feed .ensures .held)
+loop-again c =
+    let at-feed = c .before .before in
+    let at-loop-test = at-feed .before .before .before .before .before in
+    let at-loop = at-loop-test .before in
+    piece-given _ (at-loop .loop .inv) (at-feed .feed .ensures .held)
 
 new-requires : tie.Need-new-requires Inv-loop μ-loop
 new-requires c κs = search needs
@@ -49,13 +53,20 @@ with-requires-2 : tie.Need-with-requires-2 Inv-loop μ-loop
 with-requires-2 c κs = search needs
 
 word-requires : tie.Need-word-requires Inv-loop μ-loop
-word-requires c κs = c .before .before .before .before .before .before .before .loop .inv
+word-requires c κs =
+    let at-new = c .before .before .before .before .before in
+    let at-loop = at-new .before .before in
+    at-loop .loop .inv
 
 number-of-requires : tie.Need-number-of-requires Inv-loop μ-loop
 number-of-requires c κs = search needs
 
 word-requires-2 : tie.Need-word-requires-2 Inv-loop μ-loop
-word-requires-2 c κs = word-given _ _ (c .before .before .before .before .before .before .before .before .before .before .before .before .loop .inv) (c .before .before .before .before .word .ensures)
+word-requires-2 c κs =
+    let at-word = c .before .before .before .before in
+    let at-with = at-word .before .before .before .before .before in
+    let at-loop = at-with .before .before .before in
+    word-given _ _ (at-loop .loop .inv) (at-word .word .ensures)
 
 number-of-requires-2 : tie.Need-number-of-requires-2 Inv-loop μ-loop
 number-of-requires-2 c κs = search needs

@@ -1,7 +1,7 @@
 -- `superfine::line::first_four` meets its contract: each arm hands over its size. Assumes nothing.
 use mathlib.Core.Path.{sym, ap, _∙_}
 use Prim.Native.Nat.{ℕ}
-use Rattle.memory.specs.Elements.{inLine}
+use Rattle.superfine.specs.InLine.{inLine}
 use borrow.Author.Needs.{needs}
 use Rattle.superfine.proofs.line.first_four.Statement.{statement}
 use Rattle.superfine.proofs.line.first_four.Tie as tie

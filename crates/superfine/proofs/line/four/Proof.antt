@@ -1,7 +1,7 @@
 -- `superfine::line::four` meets its contract. Assumes nothing.
 use mathlib.Core.Path.{refl}
-use Rattle.memory.specs.Elements.{inLine}
-use Rattle.memory.proofs.Copies.{reading-of-four}
+use Rattle.superfine.specs.InLine.{inLine}
+use Rattle.superfine.proofs.InLine.{reading-of-four}
 use borrow.Author.Needs.{needs}
 use Rattle.superfine.proofs.line.four.Statement.{statement}
 use Rattle.superfine.proofs.line.four.Tie as tie

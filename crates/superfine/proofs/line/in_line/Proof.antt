@@ -2,7 +2,8 @@
 use mathlib.Core.Path.{ap, _∙_}
 use mathlib.Core.List.{List}
 use Prim.Native.Nat.{ℕ, _*_}
-use Rattle.memory.specs.Elements.{stored, inLine}
+use Rattle.memory.specs.Elements.{overwritten}
+use Rattle.superfine.specs.InLine.{inLine}
 use borrow.Author.Needs.{needs}
 use Rattle.superfine.proofs.line.in_line.Statement.{statement}
 use Rattle.superfine.proofs.line.in_line.Tie as tie
@@ -27,7 +28,7 @@ put-requires-4 c κs = search needs
 
 returns : tie.Need-returns
 unfolding inLine
-returns c = c .put4 .ensures ∙ ap (λ (q : List ℕ). stored (c .before .before .before .before .before .before .before .before .args .n * 3) (c .before .before .before .before .before .before .before .before .args .d .now) q) (c .before .put3 .ensures ∙ ap (λ (q : List ℕ). stored (c .before .before .before .before .before .before .before .before .args .n * 2) (c .before .before .before .before .before .before .before .before .args .c .now) q) (c .before .before .put2 .ensures ∙ ap (λ (q : List ℕ). stored (c .before .before .before .before .before .before .before .before .args .n) (c .before .before .before .before .before .before .before .before .args .b .now) q) (c .before .before .before .put .ensures)))
+returns c = c .put4 .ensures ∙ ap (λ (q : List ℕ). overwritten (c .before .before .before .before .before .before .before .before .args .n * 3) (c .before .before .before .before .before .before .before .before .args .d .now) q) (c .before .put3 .ensures ∙ ap (λ (q : List ℕ). overwritten (c .before .before .before .before .before .before .before .before .args .n * 2) (c .before .before .before .before .before .before .before .before .args .c .now) q) (c .before .before .put2 .ensures ∙ ap (λ (q : List ℕ). overwritten (c .before .before .before .before .before .before .before .before .args .n) (c .before .before .before .before .before .before .before .before .args .b .now) q) (c .before .before .before .put .ensures)))
 
 pub in-line-spec : {M : Type 1} → statement M
 in-line-spec =

@@ -1,0 +1,2 @@
+pub mod FromLog
+pub mod Months

@@ -1,0 +1,27 @@
+-- `session::stream::refusal_of` meets its contract: each arm by its line. Assumes nothing.
+use mathlib.Core.Path.{_∙_}
+use Rattle.session.proofs.LastWords.{refusal-domain, refusal-start, refusal-window, start-number}
+use borrow.Author.Needs.{needs}
+use Rattle.session.proofs.stream.refusal_of.Statement.{statement}
+use Rattle.session.proofs.stream.refusal_of.Tie as tie
+
+readiness-requires : tie.Need-readiness-requires
+readiness-requires c κs = (c .before .pre .own-length, c .before .pre .shared-length)
+
+with-number-requires : tie.Need-with-number-requires
+with-number-requires c κs = start-number (c .before .before .args .own .now) (c .before .before .args .shared .now) _ (c .before .before .pre) (c .before .match .keys2) _ (c .readiness .ensures)
+
+-- a domain
+returns : tie.Need-returns
+returns c = refusal-domain _ _ (c .match .keys1)
+
+-- a start
+returns-2 : tie.Need-returns-2
+returns-2 c = c .with-number .ensures ∙ c .before .readiness .ensures ∙ refusal-start _ _ (c .before .before .match .keys2)
+
+-- a command that describes a window
+returns-3 : tie.Need-returns-3
+returns-3 c = refusal-window _ _ (c .match .rest .0 .1) (c .match .rest .1)
+
+pub refusal-of-spec : {M : Type 1} → statement M
+refusal-of-spec = tie.close (tie.spec readiness-requires with-number-requires returns returns-2 returns-3)

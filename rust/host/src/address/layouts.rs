@@ -1,0 +1,85 @@
+//! The options that describe a layout, for `address` and `locate`.
+
+use crate::common::failure::{Failure, Outcome};
+use crate::common::names::Kind;
+use crate::common::text;
+use crate::explain::cause;
+use crate::input::numbers;
+use boundary::{headers, Command, Layout};
+use clap::Args;
+
+#[derive(Args)]
+pub struct LayoutOptions {
+    /// The window's first byte, hex, a multiple of 800
+    #[arg(long, value_name = "ADDRESS", default_value = "0")]
+    base: String,
+    /// Elements from row to row before the cut, a multiple of 4
+    #[arg(long, value_name = "N", value_parser = numbers::count)]
+    pitch: Option<u32>,
+    /// Rows of the window
+    #[arg(long, value_name = "N", value_parser = numbers::count)]
+    height: Option<u32>,
+    /// Bytes of an element: 1, 2, 4, 8 or 16
+    #[arg(long, value_name = "N", value_parser = numbers::count)]
+    size: Option<u32>,
+    /// The window is tiled; linear without this
+    #[arg(long)]
+    tiled: bool,
+    /// A format word, hex, in place of pitch, size and tiled
+    #[arg(long, value_name = "WORD", value_parser = numbers::word,
+          conflicts_with_all = ["pitch", "size", "tiled"])]
+    format: Option<u32>,
+    /// Base and addresses are given in decimal, not in hex
+    #[arg(long)]
+    decimal: bool,
+}
+
+impl LayoutOptions {
+    pub fn layout(&self) -> Outcome<Layout> {
+        let base = self
+            .address(&self.base)
+            .map_err(|text| Failure::Wrong(format!("--base: {text}")))?;
+        match (self.format, self.pitch, self.size, self.height) {
+            (Some(word), _, _, Some(height)) => {
+                judge_format(word)?;
+                Ok(text::layout(base, word, height))
+            }
+            (None, Some(pitch), Some(size), Some(height)) => Ok(Layout {
+                base,
+                pitch,
+                height,
+                size,
+                tiled: self.tiled,
+            }),
+            _ => Err(Failure::wrong(
+                "a layout needs --pitch, --size and --height, or --format and --height",
+            )),
+        }
+    }
+
+    /// An address as the user gives it.
+    pub fn address(&self, text: &str) -> Result<u32, String> {
+        match self.decimal {
+            true => numbers::count(text),
+            false => numbers::word(text),
+        }
+    }
+}
+
+/// Has the product judge a format word, in a command that takes any.
+fn judge_format(word: u32) -> Outcome {
+    let command = Command {
+        header: headers::SET_COND_OUT_FMT,
+        fields: [0, word, 1, 0],
+    };
+    match boundary::write_command(&command, &mut [0; 5]) {
+        Err(3) => {
+            let cause = cause::reserved(Kind::Format, word);
+            Err(Failure::Refused(format!(
+                "--format {word:08X}: refused 3, {cause}"
+            )))
+        }
+        // What else there is to say of the window, its own call says.
+        _ => Ok(()),
+    }
+}

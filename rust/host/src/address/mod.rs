@@ -1,0 +1,118 @@
+//! `egretfold address`: a pair of a window to the address of its element.
+
+mod layouts;
+pub mod locate;
+mod owners;
+pub mod tile;
+pub mod tiles;
+pub mod work;
+
+use crate::address::layouts::LayoutOptions;
+use crate::address::work::Working;
+use crate::common::failure::{Failure, Outcome};
+use crate::common::kinds::Address;
+use crate::explain::cause;
+use crate::input::lines::Lines;
+use crate::input::numbers;
+use crate::input::source::Source;
+use boundary::Layout;
+use clap::Args;
+use serde_json::json;
+use std::io::Write;
+
+/// Printed behind the help text.
+pub const EXAMPLES: &str = "\
+Examples:
+  egretfold address --pitch 100 --height 20 --size 4 --tiled --work 37,18
+  egretfold address --base 800 --format 2010064 --height 12 0,0 95,11
+  seq 0 95 | sed 's/$/,0/' | egretfold address --pitch 100 --height 3 --size 4";
+
+#[derive(Args)]
+pub struct Options {
+    #[command(flatten)]
+    layout: LayoutOptions,
+    /// Pairs X,Y; a list on standard input, a pair a line, where none is given
+    #[arg(value_name = "X,Y", value_parser = numbers::pair)]
+    pairs: Vec<(u32, u32)>,
+    /// Shows the working by hand
+    #[arg(long)]
+    work: bool,
+    /// One JSON object a pair, a line each
+    #[arg(long)]
+    json: bool,
+}
+
+/// What was told of a refused pair.
+type Told = Option<String>;
+
+pub fn run(options: &Options, out: &mut dyn Write) -> Outcome {
+    let layout = options.layout.layout()?;
+    let mut first = None;
+    if options.pairs.is_empty() {
+        let mut lines = Lines::new(Source::open(None)?);
+        while let Some(line) = lines.next()? {
+            if !line.is_empty() {
+                let pair = numbers::pair(&line).map_err(|text| lines.wrong(&text))?;
+                let told = one(options, &layout, pair, out)?;
+                first = first.or(told.map(|told| lines.place(&told)));
+            }
+        }
+    }
+    for pair in &options.pairs {
+        first = first.or(one(options, &layout, *pair, out)?);
+    }
+    first.map_or(Ok(()), |told| Err(Failure::Refused(told)))
+}
+
+fn one(
+    options: &Options,
+    layout: &Layout,
+    (x, y): (u32, u32),
+    out: &mut dyn Write,
+) -> Outcome<Told> {
+    match boundary::translate(layout, x, y) {
+        Ok(address) => {
+            let work = match options.work {
+                true => Some(working(layout, x, y, address)?),
+                false => None,
+            };
+            if options.json {
+                let mut value = json!({"x": x, "y": y, "address": Address(address).to_string()});
+                if let Some(work) = work {
+                    value["work"] = work.json();
+                }
+                writeln!(out, "{value}")?;
+            } else {
+                writeln!(out, "({x}, {y})  {}  {address}", Address(address))?;
+                work.map_or(Ok(()), |work| work.show(layout, out))?;
+            }
+            Ok(None)
+        }
+        Err(number) => {
+            let refused = cause::refused(number, cause::of_pair(number, layout, x, y));
+            if options.json {
+                let cause = &refused.cause;
+                let value = json!({"x": x, "y": y, "refused": number, "cause": cause});
+                writeln!(out, "{value}")?;
+            } else {
+                writeln!(out, "({x}, {y})  {refused}")?;
+            }
+            Ok(Some(format!("pair ({x}, {y}): {refused}")))
+        }
+    }
+}
+
+/// The working, once it has come to the product's answer.
+fn working(layout: &Layout, x: u32, y: u32, address: u32) -> Outcome<Working> {
+    match work::there(layout, x, y) {
+        Some(there) if there.address == u64::from(address) => Ok(there.lines),
+        other => {
+            let worked = other.map(|there| there.address);
+            let at = Address(address);
+            Err(Failure::Wrong(format!(
+                "a fault of the program: the working of ({x}, {y}) comes to {worked:X?}, \
+                 the product to {at}"
+            )))
+        }
+    }
+}

@@ -1,0 +1,239 @@
+//! A session's settings as the product tells them, each with its name, and how
+//! they stand to one another.
+
+use crate::common::kinds::Address;
+use crate::common::names::{self, FormatWord, Kind, Line};
+use crate::common::text;
+use boundary::{headers, Format, Layout, Session};
+
+#[derive(Clone, Debug, PartialEq, Eq)]
+pub enum Value {
+    /// Of an input or the conditional output, over which a domain is laid.
+    Array(Format),
+    /// Of an output, over which a domain is laid, and whether it is silent under
+    /// the session's mask.
+    Output {
+        format: Format,
+        silent: bool,
+    },
+    /// Of instructions or constants.
+    Store(Format),
+    Domain([u32; 4]),
+    OutputMask(u32),
+    ConditionalMask(u32),
+    Test(u32),
+}
+
+#[derive(Clone, Debug, PartialEq, Eq)]
+pub struct Setting {
+    pub name: String,
+    pub value: Value,
+}
+
+/// The formats that have no number, by their commands.
+const SINGLE: [(u32, &str); 4] = [
+    (headers::SET_INST_FMT, "instructions"),
+    (headers::SET_CONSTF_FMT, "float constants"),
+    (headers::SET_CONSTI_FMT, "integer constants"),
+    (headers::SET_CONSTB_FMT, "boolean constants"),
+];
+
+/// All that is set, in an order of its own: formats, domain, masks, test.
+pub fn all(session: &Session) -> Vec<Setting> {
+    let mut list = Vec::new();
+    let mut put = |name: String, value: Option<Value>| {
+        list.extend(value.map(|value| Setting { name, value }));
+    };
+    let store = |header| set_format(session, header, 0).map(Value::Store);
+    let array = |header, number| set_format(session, header, number).map(Value::Array);
+    let mask = session.output_mask();
+    let output = |number| {
+        let format = set_format(session, headers::SET_OUT_FMT, number)?;
+        let silent = is_silent(mask, number, &format);
+        Some(Value::Output { format, silent })
+    };
+    for (header, name) in SINGLE {
+        put(name.into(), store(header));
+    }
+    for number in 0..names::INPUTS {
+        put(
+            format!("input {number}"),
+            array(headers::SET_INP_FMT, number),
+        );
+    }
+    for number in 0..names::OUTPUTS {
+        put(format!("output {number}"), output(number));
+    }
+    put(
+        "conditional output".into(),
+        array(headers::SET_COND_OUT_FMT, 0),
+    );
+    put("domain".into(), session.domain().map(Value::Domain));
+    put("output mask".into(), Some(Value::OutputMask(mask)));
+    put(
+        "conditional mask".into(),
+        session.conditional_mask().map(Value::ConditionalMask),
+    );
+    put("test".into(), session.test().map(Value::Test));
+    list
+}
+
+fn set_format(session: &Session, header: u32, number: u32) -> Option<Format> {
+    session.format(header, number).ok().flatten()
+}
+
+/// The outputs that are set, silent ones too, with their numbers.
+pub fn outputs(session: &Session) -> Vec<(u32, Format)> {
+    let output = |n| set_format(session, headers::SET_OUT_FMT, n).map(|format| (n, format));
+    (0..names::OUTPUTS).filter_map(output).collect()
+}
+
+/// The set outputs that aren't silent: those that refusals 8 and 9 ask about and
+/// that claim.
+pub fn counted(session: &Session) -> Vec<(u32, Format)> {
+    let mask = session.output_mask();
+    let mut list = outputs(session);
+    list.retain(|(number, format)| !is_silent(mask, *number, format));
+    list
+}
+
+/// Document 02's "silent": the mask has no bit for a channel that the output's
+/// format has.
+pub fn is_silent(mask: u32, number: u32, format: &Format) -> bool {
+    let channels = channels(format);
+    (0..channels).all(|channel| mask >> (4 * number + channel) & 1 == 0)
+}
+
+fn channels(format: &Format) -> u32 {
+    let element = FormatWord(format.format).element();
+    element.map_or(0, |element| element.channels)
+}
+
+pub fn layout(format: &Format) -> Layout {
+    text::layout(format.base, format.format, format.height)
+}
+
+/// The layout that a command's parameters describe, where it sets a format.
+/// Instructions and constants have height 1.
+pub fn layout_of(line: &Line, fields: &[u32]) -> Option<Layout> {
+    let field = |kind| {
+        let place = line.parameters.iter().position(|k| *k == kind)?;
+        fields.get(place).copied()
+    };
+    let height = match line.parameters.contains(&Kind::Height) {
+        true => field(Kind::Height)?,
+        false => 1,
+    };
+    Some(text::layout(
+        field(Kind::Base)?,
+        field(Kind::Format)?,
+        height,
+    ))
+}
+
+impl Setting {
+    /// The setting's value in words.
+    pub fn words(&self) -> String {
+        match &self.value {
+            Value::Array(format) | Value::Store(format) => format_words(format),
+            Value::Output { format, silent } => match silent {
+                true => format!("{}, silent: {}", format_words(format), masked_off(format)),
+                false => format_words(format),
+            },
+            Value::Domain(domain) => domain_words(domain),
+            Value::OutputMask(mask) => format!("{mask:04X}: {}", text::output_mask(*mask)),
+            Value::ConditionalMask(mask) => mask.to_string(),
+            Value::Test(test) => test.to_string(),
+        }
+    }
+}
+
+fn format_words(format: &Format) -> String {
+    let (base, word) = (Address(format.base), FormatWord(format.format));
+    let name = text::format_name(word);
+    let window = window(&layout(format));
+    format!("base {base}, {name}, pitch {}{window}", word.pitch())
+}
+
+/// Why a silent output is silent: all channels that its format has.
+fn masked_off(format: &Format) -> &'static str {
+    match channels(format) {
+        1 => "its channel 0 is masked off",
+        2 => "its channels 0 and 1 are masked off",
+        _ => "its channels 0 to 3 are masked off",
+    }
+}
+
+/// ", window 96 x 18, bytes 00000800 to 000037FF", by the product.
+pub fn window(layout: &Layout) -> String {
+    match boundary::layout(layout) {
+        Ok(window) => {
+            let last = u64::from(layout.base) + u64::from(window.span) - 1;
+            let first = Address(layout.base);
+            let (step, height) = (window.step, layout.height);
+            format!(", window {step} x {height}, bytes {first} to {last:08X}")
+        }
+        Err(_) => String::new(),
+    }
+}
+
+pub fn domain_words(domain: &[u32; 4]) -> String {
+    let [i0, j0, i1, j1] = *domain;
+    let (wide, high) = sides(domain);
+    let pairs = text::count(pairs(domain), "pair");
+    format!("({i0}, {j0}) to ({i1}, {j1}), {wide} x {high} = {pairs}")
+}
+
+/// How many columns and rows an accepted domain has.
+pub fn sides(domain: &[u32; 4]) -> (u32, u32) {
+    let [i0, j0, i1, j1] = *domain;
+    (i1 - i0 + 1, j1 - j0 + 1)
+}
+
+/// How many pairs an accepted domain has.
+pub fn pairs(domain: &[u32; 4]) -> u64 {
+    let (wide, high) = sides(domain);
+    u64::from(wide) * u64::from(high)
+}
+
+/// Where the domain leaves the window of an output that counts: refusal 8's two
+/// quantities.
+pub fn outside(session: &Session) -> Option<String> {
+    let [_, _, i1, j1] = session.domain()?;
+    counted(session).iter().find_map(|(number, format)| {
+        let step = boundary::layout(&layout(format)).ok()?.step;
+        let height = format.height;
+        if i1 >= step {
+            Some(format!(
+                "the domain's i1 {i1} is not below output {number}'s row step {step}"
+            ))
+        } else if j1 >= height {
+            Some(format!(
+                "the domain's j1 {j1} is not below output {number}'s height {height}"
+            ))
+        } else {
+            None
+        }
+    })
+}
+
+/// The first two outputs that count and whose spans meet: refusal 9's two
+/// quantities.
+pub fn shared_bytes(session: &Session) -> Option<String> {
+    let bytes = |(number, format): (u32, Format)| {
+        let window = boundary::layout(&layout(&format)).ok()?;
+        let first = u64::from(format.base);
+        Some((number, first, first + u64::from(window.span) - 1))
+    };
+    let spans: Vec<(u32, u64, u64)> = counted(session).into_iter().filter_map(bytes).collect();
+    for (place, (a, a_first, a_last)) in spans.iter().enumerate() {
+        for (b, b_first, b_last) in &spans[place + 1..] {
+            if a_first.max(b_first) <= a_last.min(b_last) {
+                return Some(format!(
+                    "spans share bytes: output {a} {a_first:08X} to {a_last:08X}, output {b} {b_first:08X} to {b_last:08X}"
+                ));
+            }
+        }
+    }
+    None
+}

@@ -1,0 +1,69 @@
+//! `egretfold decode`: a stream of command words as a listing.
+
+mod json;
+mod listing;
+pub mod walk;
+
+use crate::common::failure::{Failure, Outcome};
+use crate::decode::json::Json;
+use crate::decode::listing::{Listing, Summary, Terse};
+use crate::decode::walk::{Form, Walk};
+use crate::input::source::Source;
+use crate::input::words::Words;
+use clap::Args;
+use std::io::Write;
+use std::path::PathBuf;
+
+/// Printed behind the help text.
+pub const EXAMPLES: &str = "\
+Examples, from the repository's root:
+  egretfold decode samples/several.ctm
+  egretfold decode --hex samples/refused.hex
+  egretfold decode --summary --json samples/whole.ctm";
+
+#[derive(Args)]
+pub struct Options {
+    /// The stream: little-endian words; standard input for - or where none is given
+    file: Option<PathBuf>,
+    /// The stream is hex text
+    #[arg(long)]
+    hex: bool,
+    /// Only the counts and the settings at the end
+    #[arg(long, conflicts_with = "terse")]
+    summary: bool,
+    /// A line a command, by name, as `encode` reads it too
+    #[arg(long)]
+    terse: bool,
+    /// One JSON object a word, a start and for the whole, a line each
+    #[arg(long, conflicts_with = "terse")]
+    json: bool,
+}
+
+pub fn run(options: &Options, out: &mut dyn Write) -> Outcome {
+    let words = Words::new(Source::open(options.file.as_deref())?, options.hex);
+    let summary = options.summary;
+    if options.json {
+        show(words, &mut Json { out, summary })
+    } else if summary {
+        show(words, &mut Summary { out })
+    } else if options.terse {
+        let open = Vec::new();
+        show(words, &mut Terse { out, open })
+    } else {
+        show(words, &mut Listing { out })
+    }
+}
+
+/// Walks the words and ends with the stream's refusal, if there is one.
+pub fn show(words: Words, form: &mut dyn Form) -> Outcome {
+    let totals = Walk::new().run(words, form)?;
+    match totals.refused {
+        Some((position, refused)) => {
+            let name = totals.name;
+            Err(Failure::Refused(format!(
+                "{name}: word {position}: {refused}"
+            )))
+        }
+        None => Ok(()),
+    }
+}

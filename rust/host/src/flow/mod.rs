@@ -1,0 +1,255 @@
+//! `egretfold flow`: a program listed, or stepped with given masks, a row a step.
+
+mod slots;
+mod steps;
+
+use crate::common::failure::{Failure, Outcome};
+use crate::common::kinds::{SlotNumber, Word};
+use crate::common::text;
+use crate::explain::cause::{self, Refused};
+use crate::flow::slots::Slot;
+use crate::flow::steps::Row;
+use crate::input::lines::Lines;
+use crate::input::numbers;
+use crate::input::source::{self, Source};
+use crate::input::words::Words;
+use boundary::{Group, Program, Report};
+use clap::Args;
+use serde_json::json;
+use std::io::Write;
+use std::path::PathBuf;
+
+/// Printed behind the help text.
+pub const EXAMPLES: &str = "\
+Examples, from the repository's root:
+  egretfold flow --hex samples/branch.hex
+  egretfold flow --hex samples/branch.hex --processors 8 --masks samples/branch.masks
+  egretfold flow --hex samples/branch.hex --processors 8 0,0 --repeat 20";
+
+#[derive(Args)]
+pub struct Options {
+    /// The program, two words a slot, little-endian; - for standard input
+    file: Option<PathBuf>,
+    /// A step's masks, hex; without any the program is listed
+    #[arg(value_name = "ALU,PREDICATE", value_parser = masks)]
+    masks: Vec<(u32, u32)>,
+    /// Reads the masks from a file, a step a line
+    #[arg(long = "masks", value_name = "FILE", conflicts_with = "masks")]
+    list: Option<PathBuf>,
+    /// Goes through the masks this many times
+    #[arg(long, value_name = "N", default_value = "1", value_parser = numbers::count)]
+    repeat: u32,
+    /// Processors in the group, 1 to 32
+    #[arg(long, value_name = "N", default_value = "32", value_parser = numbers::count)]
+    processors: u32,
+    /// The 32 booleans, hex
+    #[arg(long, value_name = "WORD", default_value = "0", value_parser = numbers::word)]
+    booleans: u32,
+    /// The program is hex text
+    #[arg(long)]
+    hex: bool,
+    /// One JSON object a row and for the run, a line each
+    #[arg(long)]
+    json: bool,
+}
+
+/// A run takes its masks as one list, which is kept in memory.
+const MOST_STEPS: usize = 1_000_000;
+
+/// A program of more words than 1,024 gets 15, so there is no need to read all of
+/// a long file to know it.
+const MOST_WORDS: u64 = 1026;
+
+fn masks(text: &str) -> Result<(u32, u32), String> {
+    let parts = numbers::two(text);
+    let (alu, predicate) = parts.ok_or_else(|| format!("{text:?} is no ALU,PREDICATE"))?;
+    Ok((numbers::word(alu)?, numbers::word(predicate)?))
+}
+
+pub fn run(options: &Options, out: &mut dyn Write) -> Outcome {
+    let (name, program) = load(options)?;
+    let masks = all_masks(options)?;
+    if masks.is_empty() {
+        return steps::list(&program, options.json, out);
+    }
+    let size = options.processors;
+    let group = Group::begin(size).map_err(|number| {
+        let refused = cause::refused(number, Some("a group has 1 to 32 processors".into()));
+        Failure::Refused(format!("--processors {size}: {refused}"))
+    })?;
+    if !options.json {
+        let slots = text::count(u64::from(program.slots()), "slot");
+        let group_words = text::count(u64::from(size), "processor");
+        let booleans = Word(options.booleans);
+        writeln!(out, "{name}: {slots}, {group_words}, booleans {booleans}")?;
+        for line in steps::head(&group) {
+            writeln!(out, "{line}")?;
+        }
+    }
+    let stepped = step_all(options, &program, group, &masks, out)?;
+    report(options, &name, &program, group, &masks, stepped, out)
+}
+
+fn load(options: &Options) -> Outcome<(String, Program)> {
+    let source = Source::open(options.file.as_deref())?;
+    let name = source.name.clone();
+    let words = Words::new(source, options.hex).first(MOST_WORDS).all()?;
+    let program = Program::load(&words).map_err(|number| {
+        let more = if words.len() as u64 == MOST_WORDS {
+            " or more"
+        } else {
+            ""
+        };
+        let count = words.len();
+        let cause = format!("{count}{more} words are no program, which has 2 to 1024, two a slot");
+        Failure::Refused(format!("{name}: {}", cause::refused(number, Some(cause))))
+    })?;
+    Ok((name, program))
+}
+
+fn all_masks(options: &Options) -> Outcome<Vec<(u32, u32)>> {
+    let mut once = options.masks.clone();
+    if let Some(file) = &options.list {
+        if source::is_standard(Some(file)) && source::is_standard(options.file.as_deref()) {
+            return Err(Failure::wrong(
+                "program and masks can't both be on standard input",
+            ));
+        }
+        let mut lines = Lines::new(Source::open(Some(file))?);
+        while let Some(line) = lines.next()? {
+            if !line.is_empty() {
+                once.push(masks(&line).map_err(|text| lines.wrong(&text))?);
+            }
+        }
+    }
+    let steps = once.len().saturating_mul(options.repeat as usize);
+    if steps > MOST_STEPS {
+        let text = format!("masks for {steps} steps; {MOST_STEPS} are the most");
+        return Err(Failure::Wrong(text));
+    }
+    Ok(once.repeat(options.repeat as usize))
+}
+
+/// A step that was refused.
+struct RefusedStep {
+    step: usize,
+    number: SlotNumber,
+    refused: Refused,
+}
+
+/// Steps a copy of the group, a row a step, up to the masks' or the program's end,
+/// and answers where that ended.
+fn step_all(
+    options: &Options,
+    program: &Program,
+    mut group: Group,
+    masks: &[(u32, u32)],
+    out: &mut dyn Write,
+) -> Outcome<Result<Group, RefusedStep>> {
+    for (step, (alu, predicate)) in masks.iter().copied().enumerate() {
+        if group.position() >= program.slots() {
+            break;
+        }
+        let number = SlotNumber(group.position());
+        let stepped = match group.step(program, alu, predicate, options.booleans) {
+            Ok(stepped) => stepped,
+            Err(refusal) => {
+                let refused = cause::refused(refusal, slots::cause(refusal, program, &group));
+                return Ok(Err(RefusedStep {
+                    step,
+                    number,
+                    refused,
+                }));
+            }
+        };
+        let row = Row {
+            step,
+            number,
+            slot: Slot::of(program, number),
+            alu,
+            predicate,
+            stepped,
+            group: &group,
+        };
+        match options.json {
+            true => writeln!(out, "{}", row.json())?,
+            false => writeln!(out, "{}", row.text())?,
+        }
+    }
+    Ok(Ok(group))
+}
+
+/// The run's own report, from the fresh group over the whole list. It must end as
+/// the steps did.
+fn report(
+    options: &Options,
+    name: &str,
+    program: &Program,
+    mut group: Group,
+    masks: &[(u32, u32)],
+    stepped: Result<Group, RefusedStep>,
+    out: &mut dyn Write,
+) -> Outcome {
+    let list: Vec<u32> = masks.iter().flat_map(|(a, p)| [*a, *p]).collect();
+    match (group.run(program, &list, options.booleans), stepped) {
+        (Ok(report), Ok(by_steps)) if by_steps == group => {
+            show_report(options, program, &group, report, out)
+        }
+        (Err(number), Err(step)) if number == step.refused.number => {
+            show_refused(options, name, &step, out)
+        }
+        _ => Err(Failure::wrong(
+            "the run and its steps differ: this is a fault of the program",
+        )),
+    }
+}
+
+fn show_report(
+    options: &Options,
+    program: &Program,
+    group: &Group,
+    report: Report,
+    out: &mut dyn Write,
+) -> Outcome {
+    let ended = group.position() >= program.slots();
+    let (first, active) = (report.first, report.active);
+    if options.json {
+        let mut value = json!({ "steps": report.steps });
+        value["first_active"] = json!(first);
+        value["active"] = json!(active);
+        value["ended"] = json!(ended);
+        writeln!(out, "{}", json!({ "run": value }))?;
+        return Ok(());
+    }
+    let what = if ended { "program has" } else { "masks have" };
+    let steps = text::count(report.steps, "step");
+    let first = match first {
+        32 => "none".to_string(),
+        processor => processor.to_string(),
+    };
+    writeln!(
+        out,
+        "run: {steps}, first active processor {first}, {active} active; the {what} ended"
+    )?;
+    Ok(())
+}
+
+fn show_refused(options: &Options, name: &str, step: &RefusedStep, out: &mut dyn Write) -> Outcome {
+    let RefusedStep {
+        step,
+        number,
+        refused,
+    } = step;
+    if options.json {
+        let mut value = json!({"step": step, "slot": number.0});
+        value["refused"] = json!(refused.number);
+        value["cause"] = json!(refused.cause);
+        writeln!(out, "{}", json!({ "run": value }))?;
+    } else {
+        writeln!(out, "{step:>4}  {number:>4}  {refused}")?;
+        let number = refused.number;
+        writeln!(out, "run: refused {number}; the group is as before the run")?;
+    }
+    let told = format!("{name}: step {step}, slot {number}: {refused}");
+    Err(Failure::Refused(told))
+}

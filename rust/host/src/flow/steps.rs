@@ -1,0 +1,127 @@
+//! The rows of `flow`: a program's slots, and the steps of a group.
+
+use crate::common::failure::Outcome;
+use crate::common::kinds::{SlotNumber, Word};
+use crate::flow::slots::Slot;
+use boundary::{Group, Program, Stepped};
+use serde_json::{json, Value};
+use std::io::Write;
+
+/// The program's slots, a row each.
+pub fn list(program: &Program, as_json: bool, out: &mut dyn Write) -> Outcome {
+    if !as_json {
+        writeln!(out, "slot  first     second    fields")?;
+    }
+    for number in (0..program.slots()).map(SlotNumber) {
+        let slot = Slot::of(program, number);
+        let (first, second) = (Word(slot.first), Word(slot.second));
+        match as_json {
+            true => writeln!(out, "{}", slot_json(number, slot))?,
+            false => writeln!(out, "{number:>4}  {first}  {second}  {}", slot.words())?,
+        }
+    }
+    Ok(())
+}
+
+/// The width of the column of counters.
+fn width(group: &Group) -> usize {
+    (group.size() as usize).max("counters".len())
+}
+
+/// What stands above the steps' rows.
+pub fn head(group: &Group) -> [String; 2] {
+    let counters = format!("{:<w$}", "counters", w = width(group));
+    [
+        "counters: a character a processor, from 0 on: . active, else its branch counter, \
+         0 to 9, then a to v"
+            .to_string(),
+        format!(
+            "step  slot  alu       predicate  decision  next  active    {counters}  returns  fields"
+        ),
+    ]
+}
+
+/// A step that was made.
+pub struct Row<'a> {
+    pub step: usize,
+    pub number: SlotNumber,
+    pub slot: Slot,
+    pub alu: u32,
+    pub predicate: u32,
+    pub stepped: Stepped,
+    /// As the step left it.
+    pub group: &'a Group,
+}
+
+impl Row<'_> {
+    pub fn text(&self) -> String {
+        let (alu, predicate) = (Word(self.alu), Word(self.predicate));
+        let masks = format!("{alu}  {predicate} ");
+        let next = self.stepped.position;
+        let decision = format!("{:<8}  {next:>4}", self.decision());
+        let active = Word(self.group.active());
+        let counters = format!("{:<w$}", self.counters(), w = width(self.group));
+        let state = format!("{active}  {counters}  {:<7}", self.returns());
+        let (step, number, fields) = (self.step, self.number, self.slot.words());
+        format!("{step:>4}  {number:>4}  {masks}  {decision}  {state}  {fields}")
+    }
+
+    fn decision(&self) -> &'static str {
+        if self.stepped.jumped {
+            "jump"
+        } else {
+            "stay"
+        }
+    }
+
+    fn returns(&self) -> String {
+        let returns: Vec<String> = self.group.returns().iter().map(u32::to_string).collect();
+        match returns.is_empty() {
+            true => "-".to_string(),
+            false => returns.join(" "),
+        }
+    }
+
+    /// A character a processor: . for an active one, else its counter.
+    fn counters(&self) -> String {
+        let one = |p| match self.group.active() >> p & 1 {
+            1 => '.',
+            _ => char::from_digit(self.group.counter(p), 32).unwrap_or('?'),
+        };
+        (0..self.group.size()).map(one).collect()
+    }
+
+    pub fn json(&self) -> Value {
+        let idle = |p: &u32| self.group.active() >> p & 1 == 0;
+        let counter = |p| json!({"processor": p, "counter": self.group.counter(p)});
+        let counters: Vec<Value> = (0..self.group.size()).filter(idle).map(counter).collect();
+        let mut value = json!({ "step": self.step });
+        value["alu"] = json!(Word(self.alu).to_string());
+        value["predicate"] = json!(Word(self.predicate).to_string());
+        value["decision"] = json!(self.decision());
+        value["next"] = json!(self.stepped.position);
+        value["active"] = json!(Word(self.group.active()).to_string());
+        value["counters"] = json!(counters);
+        value["returns"] = json!(self.group.returns());
+        value["at"] = slot_json(self.number, self.slot);
+        value
+    }
+}
+
+fn slot_json(number: SlotNumber, slot: Slot) -> Value {
+    json!({
+        "slot": number.0,
+        "first": Word(slot.first).to_string(),
+        "second": Word(slot.second).to_string(),
+        "op": slot.op(),
+        "b_else": slot.b_else(),
+        "jump_any": slot.jump_any(),
+        "a_op": slot.a_op(),
+        "jump_func": format!("{:02X}", slot.jump_func()),
+        "b_pop_cnt": slot.b_pop_cnt(),
+        "b_op0": slot.b_op0(),
+        "b_op1": slot.b_op1(),
+        "boolean": slot.boolean(),
+        "address": slot.address(),
+    })
+}

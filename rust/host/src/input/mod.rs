@@ -1,0 +1,8 @@
+//! What a user gives: files and standard input, the lines and words in them, and
+//! numbers as they are written.
+
+pub mod lines;
+pub mod numbers;
+mod progress;
+pub mod source;
+pub mod words;

@@ -1,0 +1,147 @@
+//! The forms of `replay`: a table of the days, and JSON; also what `score` tells of a
+//! log beside its score.
+
+use crate::common::failure::Outcome;
+use crate::common::names;
+use crate::common::text;
+use crate::explain::cause::Refused;
+use crate::replay::log::{Log, RefusedAt, RECORD};
+use boundary::Part;
+use serde_json::{json, Value};
+use std::io::Write;
+
+/// A line for what ended before the first midnight, for each day and for all of
+/// it; then how the log ends and what was refused.
+pub fn table(log: &Log, out: &mut dyn Write) -> Outcome {
+    writeln!(out, "{:>10}  {:>10}  {:>17}", "day", "runs", "claimed")?;
+    line(out, "before", log.replay.before())?;
+    for day in log.replay.days() {
+        line(out, &day.number.to_string(), day.part)?;
+    }
+    line(out, "total", total(log))?;
+    writeln!(
+        out,
+        "{}: {}, {}",
+        text::count(log.records(), "record"),
+        text::count(log.words(), "word"),
+        text::count(u64::from(log.replay.status().midnights), "midnight"),
+    )?;
+    for note in notes(log) {
+        writeln!(out, "{note}")?;
+    }
+    Ok(())
+}
+
+fn line(out: &mut dyn Write, name: &str, part: Part) -> Outcome {
+    writeln!(out, "{name:>10}  {:>10}  {:>17}", part.runs, part.claims)?;
+    Ok(())
+}
+
+fn total(log: &Log) -> Part {
+    let session = log.replay.session();
+    Part {
+        runs: session.runs(),
+        claims: session.claims(),
+    }
+}
+
+/// What was refused, and what the log's end cuts.
+pub fn notes(log: &Log) -> Vec<String> {
+    let mut lines = Vec::new();
+    if let Some((place, refused)) = &log.word {
+        let after = text::count(log.words_after(), "word");
+        lines.push(format!("{place}: word {refused}"));
+        lines.push(format!("  the days go on, {after} after it without effect"));
+    }
+    if let Some((place, refused)) = &log.stop {
+        let after = text::count(log.bytes_after(), "byte");
+        lines.push(format!("{place}: {refused}"));
+        lines.push(format!(
+            "  the replay is stopped, {after} after it not taken"
+        ));
+    }
+    if let Some((name, taken, due)) = open(log) {
+        lines.push(format!(
+            "ends inside {name}: {taken} of its {due} parameters taken"
+        ));
+    }
+    let unfinished = log.replay.status().unfinished;
+    if unfinished > 0 {
+        let record = log.records();
+        lines.push(format!(
+            "ends inside record {record}: {unfinished} of its {RECORD} bytes, counted nowhere"
+        ));
+    }
+    lines
+}
+
+/// The open command at the end: its name, parameters taken, parameters due.
+fn open(log: &Log) -> Option<(&'static str, u32, u32)> {
+    let (header, taken) = log.replay.session().status().open?;
+    let due = boundary::parameters(header).unwrap_or(0);
+    Some((names::command_name(header), taken, due))
+}
+
+/// A line for what ended before the first midnight, for each day, and one for the
+/// whole.
+pub fn json(log: &Log, out: &mut dyn Write) -> Outcome {
+    let Part { runs, claims } = log.replay.before();
+    writeln!(
+        out,
+        "{}",
+        json!({"day": null, "runs": runs, "claims": claims})
+    )?;
+    for day in log.replay.days() {
+        let Part { runs, claims } = day.part;
+        let value = json!({"day": day.number, "runs": runs, "claims": claims});
+        writeln!(out, "{value}")?;
+    }
+    writeln!(out, "{}", json!({ "summary": summary(log) }))?;
+    Ok(())
+}
+
+/// All of a log but its days.
+pub fn summary(log: &Log) -> Value {
+    let status = log.replay.status();
+    let Part { runs, claims } = total(log);
+    let inputs: Vec<&String> = log.inputs.iter().map(|(name, _)| name).collect();
+    let word = log.word.as_ref().map(|word| {
+        let mut value = as_json(word);
+        value["words_after"] = json!(log.words_after());
+        value
+    });
+    let stop = log.stop.as_ref().map(|stop| {
+        let mut value = as_json(stop);
+        value["bytes_after"] = json!(log.bytes_after());
+        value
+    });
+    let open = open(log)
+        .map(|(name, taken, due)| json!({"command": name, "taken": taken, "parameters": due}));
+    json!({
+        "inputs": inputs,
+        "bytes": log.bytes,
+        "taken": log.taken,
+        "records": log.records(),
+        "words": log.words(),
+        "midnights": status.midnights,
+        "first_day": status.days.map(|(first, _)| first),
+        "last_day": status.days.map(|(_, last)| last),
+        "runs": runs,
+        "claims": claims,
+        "open": open,
+        "unfinished_bytes": status.unfinished,
+        "refused_word": word,
+        "refusal": stop,
+    })
+}
+
+fn as_json((place, Refused { number, cause }): &RefusedAt) -> Value {
+    let mut value = json!({"byte": place.byte, "record": place.record, "day": place.day});
+    if let Some((name, at)) = &place.input {
+        value["input"] = json!(name);
+        value["input_byte"] = json!(at);
+    }
+    value["refused"] = json!(number);
+    value["cause"] = json!(cause);
+    value
+}

@@ -1,0 +1,46 @@
+//! `egretfold replay`: a station's log, day by day.
+
+pub mod days;
+pub mod log;
+
+use crate::common::failure::{Failure, Outcome};
+use crate::input::source::Source;
+use crate::replay::log::Log;
+use clap::Args;
+use std::io::Write;
+use std::path::PathBuf;
+
+/// Printed behind the help text.
+pub const EXAMPLES: &str = "\
+A record is a byte of kind and a number of four bytes, low byte first: kind 1 a command
+word, kind 2 a midnight with the number of the day that begins. Exit status 1 also where
+a word was refused: the days go on, but later words add nothing.
+
+Examples, from the repository's root:
+  egretfold replay samples/three-days.log
+  egretfold replay --json samples/refused.log
+  head -c 98 samples/three-days.log | egretfold replay -";
+
+#[derive(Args)]
+pub struct Options {
+    /// The log; several files in their order are one log; standard input for - or where none is given
+    files: Vec<PathBuf>,
+    /// One JSON object a part and for the whole, a line each
+    #[arg(long)]
+    json: bool,
+}
+
+pub fn run(options: &Options, out: &mut dyn Write) -> Outcome {
+    let mut log = Log::new();
+    let ended = log.read(Source::open_all(&options.files)?);
+    match options.json {
+        true => days::json(&log, out)?,
+        false => days::table(&log, out)?,
+    }
+    ended?;
+    // What stopped the replay tells more than a word that it went on after.
+    match log.stop.as_ref().or(log.word.as_ref()) {
+        Some(refused) => Err(Failure::Refused(log.complaint(refused))),
+        None => Ok(()),
+    }
+}

@@ -1,0 +1,116 @@
+//! The card: a month as people read it.
+
+use crate::common::failure::Outcome;
+use crate::common::text;
+use crate::replay::days;
+use crate::score::month::{filled, Day, Score};
+use std::io::Write;
+
+/// Characters of a bar.
+const BAR: usize = 20;
+
+/// A heading, a row a day, the totals and the verdict; then what was refused and
+/// what the log's end cuts, since these explain a short month.
+pub fn text(score: &Score, out: &mut dyn Write) -> Outcome {
+    writeln!(out, "score of {}", score.log_name())?;
+    writeln!(out, "{}", lease(score))?;
+    writeln!(out)?;
+    for line in table(score) {
+        writeln!(out, "{line}")?;
+    }
+    writeln!(out)?;
+    writeln!(out, "{}", score.verdict())?;
+    for note in days::notes(score.log) {
+        writeln!(out, "{note}")?;
+    }
+    Ok(())
+}
+
+/// The lease line in words.
+fn lease(score: &Score) -> String {
+    let lease = &score.lease;
+    let (first, last) = (lease.first_day(), lease.last_day());
+    let days = match lease.days() {
+        1 => format!("day {first}"),
+        count => format!("{count} days, {first} to {last}"),
+    };
+    let dates = match score.dates() {
+        Some((first, last)) if first == last => format!(" ({first})"),
+        Some((first, last)) => format!(" ({first} to {last})"),
+        None => String::new(),
+    };
+    let owed = text::count(u64::from(lease.owed()), "element");
+    format!("lease of {days}{dates}, {owed} owed a day")
+}
+
+/// A row of the table: its columns, and behind them a bar and marks.
+struct Row {
+    columns: [String; 5],
+    behind: String,
+}
+
+/// The rows, each column as wide as it must be: numbers to the right, dates to the
+/// left.
+fn table(score: &Score) -> Vec<String> {
+    let mut rows = vec![Row {
+        columns: ["day", "date", "claimed", "served", "owed"].map(String::from),
+        behind: "served of owed".to_string(),
+    }];
+    rows.extend(score.days.iter().map(row));
+    rows.push(total(score));
+    let width = |place: usize| rows.iter().map(|row| row.columns[place].len()).max();
+    let [a, b, c, d, e] = [0, 1, 2, 3, 4].map(|place| width(place).unwrap_or(0));
+    let dated = score.dates().is_some();
+    let line = |row: &Row| {
+        let [day, date, claimed, served, owed] = &row.columns;
+        let date = match dated {
+            true => format!("  {date:<b$}"),
+            false => String::new(),
+        };
+        let numbers = format!("{claimed:>c$}  {served:>d$}  {owed:>e$}");
+        format!("{day:>a$}{date}  {numbers}  {}", row.behind)
+    };
+    rows.iter().map(line).collect()
+}
+
+fn row(day: &Day) -> Row {
+    let dark = if day.is_dark() { "  dark" } else { "" };
+    let absent = match day.in_log {
+        true => "",
+        false => "  no midnight in the log",
+    };
+    Row {
+        columns: [
+            day.number.to_string(),
+            day.date.map_or(String::new(), |date| date.to_string()),
+            day.claimed.to_string(),
+            day.served.to_string(),
+            day.owed.to_string(),
+        ],
+        behind: bar(day.served, day.owed) + dark + absent,
+    }
+}
+
+fn total(score: &Score) -> Row {
+    let claimed: u64 = score.days.iter().map(|day| day.claimed).sum();
+    let (served, owed) = (score.month.served, score.month.owed);
+    Row {
+        columns: [
+            "total".to_string(),
+            String::new(),
+            claimed.to_string(),
+            served.to_string(),
+            owed.to_string(),
+        ],
+        behind: bar(served, owed),
+    }
+}
+
+/// The served part of what is owed; dashes where nothing is.
+fn bar(served: u64, owed: u64) -> String {
+    if owed == 0 {
+        return format!("[{}]", "-".repeat(BAR));
+    }
+    let part = filled(served, owed, BAR as u64, 1) as usize;
+    format!("[{}{}]", "#".repeat(part), ".".repeat(BAR - part))
+}

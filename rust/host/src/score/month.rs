@@ -1,0 +1,157 @@
+//! A scored month with all that its forms show of it.
+
+use crate::common::text;
+use crate::replay::log::Log;
+use crate::score::civil::Date;
+use boundary::{Lease, Month, ScoredDay, Verdict};
+
+/// A month, its lease and the log that it is of.
+pub struct Score<'a> {
+    pub lease: Lease,
+    pub log: &'a Log,
+    pub month: Month,
+    pub days: Vec<Day>,
+}
+
+/// A day of the lease.
+pub struct Day {
+    pub number: u32,
+    pub date: Option<Date>,
+    pub claimed: u64,
+    pub served: u64,
+    pub owed: u64,
+    /// Whether the log has a midnight of this number.
+    pub in_log: bool,
+}
+
+/// How a day was served.
+#[derive(Clone, Copy, PartialEq, Eq)]
+pub enum Served {
+    InFull,
+    InPart,
+    /// Nothing of what it owes.
+    Dark,
+    NothingOwed,
+}
+
+impl Day {
+    pub fn kind(&self) -> Served {
+        match (self.served, self.owed) {
+            (_, 0) => Served::NothingOwed,
+            (0, _) => Served::Dark,
+            (served, owed) if served < owed => Served::InPart,
+            _ => Served::InFull,
+        }
+    }
+
+    pub fn is_dark(&self) -> bool {
+        self.kind() == Served::Dark
+    }
+}
+
+impl<'a> Score<'a> {
+    /// The product's month, with what is known of its days besides: a date for each or
+    /// for none, and which of them the log has.
+    pub fn new(lease: Lease, dates: Vec<Option<Date>>, month: Month, log: &'a Log) -> Score<'a> {
+        let ends = log.replay.status().days;
+        let in_log = |number| ends.map_or(false, |(first, last)| first <= number && number <= last);
+        let day = |(day, date): (&ScoredDay, Option<Date>)| Day {
+            number: day.number,
+            date,
+            claimed: day.claimed,
+            served: day.served,
+            owed: u64::from(lease.owed()),
+            in_log: in_log(day.number),
+        };
+        let days = month.days.iter().zip(dates).map(day).collect();
+        Score {
+            lease,
+            log,
+            month,
+            days,
+        }
+    }
+
+    /// How many days were served so.
+    pub fn count(&self, kind: Served) -> usize {
+        self.days.iter().filter(|day| day.kind() == kind).count()
+    }
+
+    /// The first and the last date, where dates are known.
+    pub fn dates(&self) -> Option<(Date, Date)> {
+        let (first, last) = (self.days.first()?, self.days.last()?);
+        first.date.zip(last.date)
+    }
+
+    /// The log by its inputs' names.
+    pub fn log_name(&self) -> String {
+        match self.log.inputs.as_slice() {
+            [(name, _)] => name.clone(),
+            [(first, _), .., (last, _)] => {
+                format!("{first} to {last}, {} inputs", self.log.inputs.len())
+            }
+            [] => String::new(),
+        }
+    }
+
+    /// What the month is called, in the request's words.
+    pub fn verdict_name(&self) -> &'static str {
+        match self.month.verdict {
+            Verdict::Full => "full",
+            Verdict::Short => "short",
+            Verdict::NothingOwed => "nothing owed",
+        }
+    }
+
+    /// The verdict with the days that it comes from.
+    pub fn verdict(&self) -> String {
+        let name = self.verdict_name();
+        let days = self.days.len();
+        match self.month.verdict {
+            Verdict::Full if days == 1 => format!("{name}: the day is served in full"),
+            Verdict::Full => format!("{name}: each of the {days} days is served in full"),
+            Verdict::NothingOwed => format!("{name}: no day of the lease owes an element"),
+            Verdict::Short => format!(
+                "{name}: of {}, {} served in full, {} in part, {} dark",
+                text::count(days as u64, "day"),
+                self.count(Served::InFull),
+                self.count(Served::InPart),
+                self.count(Served::Dark),
+            ),
+        }
+    }
+}
+
+/// How much of a bar's width the served part of what is owed fills: all of it only
+/// where all is served, and the least that shows where anything is.
+pub fn filled(served: u64, owed: u64, width: u64, least: u64) -> u64 {
+    match served {
+        0 => 0,
+        _ if served == owed => width,
+        _ => (width * served / owed).clamp(least, width - least),
+    }
+}
+
+#[cfg(test)]
+mod tests {
+    use super::filled;
+
+    #[test]
+    fn only_all_of_it_fills_a_bar_and_the_least_of_it_shows() {
+        const MOST: u64 = 100_000_000;
+        for (served, owed, width) in [
+            (0, 0, 0),
+            (0, MOST, 0),
+            (1, MOST, 1),
+            (MOST / 20 - 1, MOST, 1),
+            (MOST / 2, MOST, 10),
+            (MOST - 1, MOST, 19),
+            (MOST, MOST, 20),
+            (1, 1, 20),
+        ] {
+            assert_eq!(filled(served, owed, 20, 1), width, "{served} of {owed}");
+        }
+        assert_eq!(filled(1, MOST, 102, 3), 3);
+        assert_eq!(filled(MOST - 1, MOST, 102, 3), 99);
+    }
+}

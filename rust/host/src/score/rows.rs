@@ -1,0 +1,74 @@
+//! The forms of a month that programs read: JSON, and rows of comma-separated
+//! values.
+
+use crate::common::failure::Outcome;
+use crate::explain::cause::Refused;
+use crate::replay::days;
+use crate::replay::log::Log;
+use crate::score::month::{Score, Served};
+use crate::score::LeaseLine;
+use serde_json::{json, Value};
+use std::io::Write;
+
+/// A line for each day, and one for the month.
+pub fn json(score: &Score, line: &LeaseLine, out: &mut dyn Write) -> Outcome {
+    for day in &score.days {
+        let value = json!({
+            "day": day.number,
+            "date": day.date.map(|date| date.to_string()),
+            "claimed": day.claimed,
+            "served": day.served,
+            "owed": day.owed,
+            "dark": day.is_dark(),
+            "in_log": day.in_log,
+        });
+        writeln!(out, "{value}")?;
+    }
+    let mut summary = summary(line, Value::Null);
+    summary["served"] = json!(score.month.served);
+    summary["owed"] = json!(score.month.owed);
+    summary["verdict"] = json!(score.verdict_name());
+    summary["full_days"] = json!(score.count(Served::InFull));
+    summary["part_days"] = json!(score.count(Served::InPart));
+    summary["dark_days"] = json!(score.count(Served::Dark));
+    summary["log"] = days::summary(score.log);
+    writeln!(out, "{}", json!({ "summary": summary }))?;
+    Ok(())
+}
+
+/// The one line of a lease line that was refused: no log was read.
+pub fn refused_line(line: &LeaseLine, refused: &Refused, out: &mut dyn Write) -> Outcome {
+    let refusal = json!({"refused": refused.number, "cause": refused.cause});
+    writeln!(out, "{}", json!({ "summary": summary(line, refusal) }))?;
+    Ok(())
+}
+
+/// The one line of a log whose replay was stopped: no day has a score.
+pub fn refused_log(line: &LeaseLine, log: &Log, out: &mut dyn Write) -> Outcome {
+    let told = days::summary(log);
+    let mut summary = summary(line, told["refusal"].clone());
+    summary["log"] = told;
+    writeln!(out, "{}", json!({ "summary": summary }))?;
+    Ok(())
+}
+
+/// The lease line, and what was refused in place of a score.
+fn summary(line: &LeaseLine, refusal: Value) -> Value {
+    json!({
+        "lease": {"first_day": line.first_day, "days": line.days, "owed": line.owed},
+        "refusal": refusal,
+    })
+}
+
+/// A head and a row a day; numbers and dates need no quotes.
+pub fn csv(score: &Score, out: &mut dyn Write) -> Outcome {
+    let date = score.dates().map_or("", |_| "date,");
+    writeln!(out, "day,{date}claimed,served,owed,dark")?;
+    for day in &score.days {
+        let date = day.date.map_or(String::new(), |date| format!("{date},"));
+        let (claimed, served, owed) = (day.claimed, day.served, day.owed);
+        let dark = day.is_dark();
+        writeln!(out, "{},{date}{claimed},{served},{owed},{dark}", day.number)?;
+    }
+    Ok(())
+}
