@@ -58,7 +58,7 @@ use Rattle.score.proofs.Midnights.{midnight-records}
 use Rattle.score.proofs.Promises.{line-first, dark-day, refused-with, scored-as, log-refused, log-scored, in-pieces}
 use Rattle.score.proofs.Verdicts.{full-if, full-only-if, calling}
 use Rattle.group.specs.Proc.{wants, decided, branched}
-use Rattle.group.specs.Group.{allowed, fresh, turnedIf, wishOf, overLimit, wayOf, settled, slotStep, ended, groupStep}
+use Rattle.group.specs.Group.{allowed, fresh, turnedIf, wishOf, overLimit, wayOf, settled, jumpStep, slotStep, ended, groupStep}
 use Rattle.flow.specs.Cases.{oneWord, c9, c10, c11, c12}
 use Rattle.demands.specs.Cases.{Agree, cases}
 
@@ -186,6 +186,7 @@ pub worked-cases : Agree cases
 unfolding
     _and_ pick placeOf isSize widthOf heightOf wellFormed unitOf rowStep tileRows spanOf inBounds windowRule judgeOf xor blockWidth
     blockHeight codeOf insideOf tiledOffset linearOffset offsetOf ifAccepted inside addressOf translateOf _or_ differ digit on pack
-    some every wants decided branched allowed fresh turnedIf wishOf overLimit wayOf settled slotStep ended groupStep oneWord c9 c10 c11 c12
+    some every wants decided branched allowed fresh turnedIf wishOf overLimit wayOf settled jumpStep slotStep ended groupStep
+    oneWord c9 c10 c11 c12
 worked-cases =
     (refl, (refl, (refl, (refl, (refl, (refl, (refl, (refl, (refl, (refl, (refl, (refl, (refl, (refl, (refl, tt)))))))))))))))
