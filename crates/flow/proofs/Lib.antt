@@ -2,4 +2,5 @@ pub mod Answers
 pub mod Beginning
 pub mod Given
 pub mod Loading
+pub mod Looping
 pub mod Running

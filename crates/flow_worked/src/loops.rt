@@ -18,7 +18,14 @@ const ADDRESS: u32 = 0x10000;
 // A program of an opening that leaves to slot 3, a plain slot, and a close that goes back to it, with one integer word: the steps
 // that a run to its end makes, or 1000 and the refusal's number.
 fn steps_of(open: u32, close: u32, integer: u32) -> usize {
-    let words = [open, 3 * ADDRESS, flow::PLAIN_FIRST, flow::PLAIN_SECOND, close, ADDRESS];
+    let words = [
+        open,
+        3 * ADDRESS,
+        flow::PLAIN_FIRST,
+        flow::PLAIN_SECOND,
+        close,
+        ADDRESS,
+    ];
     let mut firsts = [0u32; group::SLOTS];
     let mut seconds = [0u32; group::SLOTS];
     let slots = match flow::load(&words, &mut firsts, &mut seconds) {
@@ -93,13 +100,18 @@ fn nested() {
     flow::step(&firsts, &seconds, 8, &mut cells, 0, 0, 0, &integers);
     flow::step(&reps, &seconds, 8, &mut cells, 0, 0, 0, &integers);
     flow::tell_loops(&cells, &mut room);
-    let full = crate::steps::told(
-        flow::step(&firsts, &seconds, 8, &mut cells, 0, 0, 0, &integers),
-    );
+    let full = crate::steps::told(flow::step(&firsts, &seconds, 8, &mut cells, 0, 0, 0, &integers));
     seconds[4] = 0x400;
-    let skipped = crate::steps::told(
-        flow::step(&firsts, &seconds, 8, &mut cells, 0, 0, 0, &integers),
-    );
+    let skipped = crate::steps::told(flow::step(
+        &firsts,
+        &seconds,
+        8,
+        &mut cells,
+        0,
+        0,
+        0,
+        &integers,
+    ));
     Tally::new()
         .with(outer == 7)
         .with(room[0] == 9)

@@ -39,11 +39,7 @@ fn one(
 {
     let firsts = [first; group::SLOTS];
     let seconds = [second; group::SLOTS];
-    told(
-        flow::step(
-            &firsts, &seconds, 4, cells, alu, predicate, booleans, &[3],
-        ),
-    )
+    told(flow::step(&firsts, &seconds, 4, cells, alu, predicate, booleans, &[3]))
 }
 
 // Whether a step gives this answer and leaves these processors active.
