@@ -111,7 +111,9 @@ returns-back (a ∷ (b ∷ (c ∷ (d ∷ (x ∷ l))))) h e = absurd (five (lengt
     five n h = omega arith
 
 -- the processors of a sound group as masks
-masks-of : (g : Group) → Sound counterLimit g → MasksOf (g .procs) (liveMask (g .procs)) (activeMask (g .procs)) (plane 0 (g .procs)) (plane 1 (g .procs)) (plane 2 (g .procs)) (plane 3 (g .procs)) (plane 4 (g .procs))
+masks-of : (g : Group) → Sound counterLimit g
+    → MasksOf (g .procs) (liveMask (g .procs)) (activeMask (g .procs)) (plane 0 (g .procs)) (plane 1 (g .procs)) (plane 2 (g .procs))
+    (plane 3 (g .procs)) (plane 4 (g .procs))
 masks-of g s =
     record {
       live-word = refl;
