@@ -1,7 +1,13 @@
 //! Document 01, "Stepping a group": a program of flow words, a group of
-//! processors, one step in its six numbered parts, and a run.
+//! processors, one step in its six numbered parts, and a run. The loops of
+//! document 02's request 4 have a file of their own.
+
+mod loops;
 
 use crate::{bits, Answer};
+use loops::{Integer, Op};
+
+pub use loops::Loop;
 
 /// The slots of a program's store.
 const STORE: usize = 512;
@@ -31,12 +37,14 @@ pub struct Program {
     pub running: u32,
 }
 
-/// A group: its processors, its position and its stored returns, oldest first.
+/// A group: its processors, its position, its stored returns, oldest first, and
+/// its open loops, outermost first.
 #[derive(Clone, Debug, PartialEq, Eq)]
 pub struct Group {
     pub processors: Vec<Processor>,
     pub position: u32,
     pub returns: Vec<u32>,
+    pub loops: Vec<Loop>,
 }
 
 /// What a step decided, and the position after it.
@@ -74,6 +82,7 @@ enum BranchOp {
 /// A slot's two words, taken apart into document 01's fields.
 #[derive(Clone, Copy, Debug, PartialEq, Eq)]
 struct Slot {
+    op: Op,
     b_else: bool,
     jump_any: bool,
     a_op: ReturnOp,
@@ -82,6 +91,8 @@ struct Slot {
     b_op0: BranchOp,
     b_op1: BranchOp,
     boolean: u32,
+    /// The number of an opening's integer word.
+    integer: u32,
     address: u32,
 }
 
@@ -112,17 +123,19 @@ impl Slot {
     /// fields that the step would not use.
     fn of(words: [u32; 2]) -> Answer<Slot> {
         let [first, second] = words;
-        // The one op here is 0, JUMP.
-        if bits(first, 3, 0) != 0 {
-            return Err(13);
-        }
+        let op = Op::of(bits(first, 3, 0))?;
         if bits(first, 23, 21) != 0 || bits(first, 31, 28) != 0 {
             return Err(13);
         }
-        if bits(second, 15, 5) != 0 || bits(second, 31, 25) != 0 {
+        if bits(second, 7, 5) != 0 || bits(second, 15, 13) != 0 || bits(second, 31, 25) != 0 {
+            return Err(13);
+        }
+        // Named for the openings alone.
+        if !op.opens() && bits(second, 12, 8) != 0 {
             return Err(13);
         }
         Ok(Slot {
+            op,
             b_else: bits(first, 4, 4) == 1,
             jump_any: bits(first, 5, 5) == 1,
             a_op: ReturnOp::of(bits(first, 7, 6))?,
@@ -131,6 +144,7 @@ impl Slot {
             b_op0: BranchOp::of(bits(first, 25, 24))?,
             b_op1: BranchOp::of(bits(first, 27, 26))?,
             boolean: bits(second, 4, 0),
+            integer: bits(second, 12, 8),
             address: bits(second, 24, 16),
         })
     }
@@ -256,11 +270,12 @@ impl Group {
             processors: vec![Processor::Active; size as usize],
             position: 0,
             returns: Vec::new(),
+            loops: Vec::new(),
         })
     }
 
-    /// One step: 16, 13, 14, 15. A refusal changes nothing, since all work is
-    /// done on a copy.
+    /// One step as document 01 alone has it, without integer words: every op but
+    /// JUMP gets 13.
     pub fn step(
         &mut self,
         program: &Program,
@@ -268,12 +283,38 @@ impl Group {
         predicate: u32,
         booleans: u32,
     ) -> Answer<Stepped> {
+        self.step_of(program, alu, predicate, booleans, None)
+    }
+
+    /// One step with this list of integer words, from which loops open.
+    pub fn step_with(
+        &mut self,
+        program: &Program,
+        alu: u32,
+        predicate: u32,
+        booleans: u32,
+        integers: &[u32],
+    ) -> Answer<Stepped> {
+        self.step_of(program, alu, predicate, booleans, Some(integers))
+    }
+
+    /// One step: 16, 13, 14, 15. A refusal changes nothing, since all work is
+    /// done on a copy.
+    fn step_of(
+        &mut self,
+        program: &Program,
+        alu: u32,
+        predicate: u32,
+        booleans: u32,
+        integers: Option<&[u32]>,
+    ) -> Answer<Stepped> {
         if program.has_ended(self.position) {
             return Err(16);
         }
         let slot = Slot::of(program.slots[self.position as usize])?;
+        let integer = Integer::asked_by(slot.op, slot.integer, integers)?;
         let mut next = self.clone();
-        let jumped = next.work(&slot, alu, predicate, booleans)?;
+        let jumped = next.work(&slot, integer, alu, predicate, booleans)?;
         // 6. The next position may be N, which ends the program.
         if next.position > program.running {
             return Err(15);
@@ -287,7 +328,14 @@ impl Group {
 
     /// Parts 1 to 5 of a step, worked on the group itself: 14. Says whether the
     /// group jumped.
-    fn work(&mut self, slot: &Slot, alu: u32, predicate: u32, booleans: u32) -> Answer<bool> {
+    fn work(
+        &mut self,
+        slot: &Slot,
+        integer: Integer,
+        alu: u32,
+        predicate: u32,
+        booleans: u32,
+    ) -> Answer<bool> {
         // 1. From here on "active" and "inactive" mean the new ones.
         if slot.b_else {
             work_b_else(&mut self.processors);
@@ -296,8 +344,11 @@ impl Group {
         let wishes: Vec<bool> = (0..self.processors.len() as u32)
             .map(|number| slot.wants(number, alu, predicate, booleans))
             .collect();
-        // 3.
-        let jump = decide(slot.jump_any, &self.processors, &wishes);
+        // 3. A loop decides by its count and overrides the wishes.
+        let jump = match slot.op {
+            Op::Jump => decide(slot.jump_any, &self.processors, &wishes),
+            _ => loops::decide(slot.op, integer, &mut self.loops)?,
+        };
         // 4.
         let b_op = if jump { slot.b_op1 } else { slot.b_op0 };
         match b_op {
@@ -314,10 +365,33 @@ impl Group {
         Ok(jump)
     }
 
+    /// A run as document 01 alone has it, without integer words: every op but
+    /// JUMP gets 13.
+    pub fn run(&mut self, program: &Program, masks: &[u32], booleans: u32) -> Answer<Report> {
+        self.run_of(program, masks, booleans, None)
+    }
+
+    /// A run with this list of integer words, one list for all its steps.
+    pub fn run_with(
+        &mut self,
+        program: &Program,
+        masks: &[u32],
+        booleans: u32,
+        integers: &[u32],
+    ) -> Answer<Report> {
+        self.run_of(program, masks, booleans, Some(integers))
+    }
+
     /// A run over a list of masks, alu then predicate for each step, up to the
     /// list's or the program's end. All or nothing: if a step is refused, the
     /// run gets its number and the state is as before.
-    pub fn run(&mut self, program: &Program, masks: &[u32], booleans: u32) -> Answer<Report> {
+    fn run_of(
+        &mut self,
+        program: &Program,
+        masks: &[u32],
+        booleans: u32,
+        integers: Option<&[u32]>,
+    ) -> Answer<Report> {
         if program.has_ended(self.position) {
             return Err(16);
         }
@@ -328,7 +402,7 @@ impl Group {
             if program.has_ended(next.position) {
                 break;
             }
-            next.step(program, pair[0], pair[1], booleans)?;
+            next.step_of(program, pair[0], pair[1], booleans, integers)?;
             steps += 1;
         }
         *self = next;

@@ -9,7 +9,8 @@
 //! * [`layout`]: what a layout is, the row step, the span, the window rule;
 //! * [`address`]: a pair's address, and the way back by search;
 //! * [`memory`]: elements read and written in lent memory, the superfine read;
-//! * [`flow`]: programs of flow words, and a group stepped through them;
+//! * [`flow`]: programs of flow words, and a group stepped through them, with the
+//!   loops of document 02's request 4;
 //! * [`log`]: a station's log over midnight, from document 02's request 1;
 //! * `silent`: outputs that a start passes over, from document 02's request 2;
 //! * [`score`]: a month of a log scored against its lease line, from document

@@ -36,6 +36,7 @@ fn group(processors: &[Processor]) -> Group {
         processors: processors.to_vec(),
         position: 0,
         returns: Vec::new(),
+        loops: Vec::new(),
     }
 }
 
