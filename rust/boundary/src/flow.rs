@@ -69,10 +69,11 @@ pub struct Report {
     pub active: u32,
 }
 
-/// An open loop. Its count is that of the turns left, the present one among them.
+/// An open loop. Its count is that of the turns left, the present one among them; a
+/// LOOP's aL gains the step with each further turn.
 #[derive(Clone, Copy, Debug, PartialEq, Eq)]
 pub enum Loop {
-    Loop { count: u32, al: u32 },
+    Loop { count: u32, al: u32, step: i32 },
     Rep { count: u32 },
 }
 
@@ -193,16 +194,25 @@ impl Group {
         let mut told = [0; 13];
         lent::group_loops(self, &mut told);
         let [al, loops @ ..] = &told;
-        let one = |numbers: &[u32]| match *numbers {
-            [1, count, al] => Some(Loop::Loop { count, al }),
+        // The cells have a LOOP's step in bits 23:16, as -128 to 127.
+        let step = |cell: u32| i32::from((cell >> 16) as u8 as i8);
+        let one = |(numbers, cell): (&[u32], &u32)| match *numbers {
+            [1, count, al] => Some(Loop::Loop {
+                count,
+                al,
+                step: step(*cell),
+            }),
             [3, count, _] => Some(Loop::Rep { count }),
             _ => None,
         };
-        // The innermost is told first.
-        Loops {
-            open: loops.chunks(3).rev().filter_map(one).collect(),
-            al: *al,
-        }
+        // Both have the innermost first.
+        let mut open: Vec<Loop> = loops
+            .chunks(3)
+            .zip(&self.cells[14..18])
+            .filter_map(one)
+            .collect();
+        open.reverse();
+        Loops { open, al: *al }
     }
 
     /// The cells as the header describes them.

@@ -23,6 +23,10 @@ fn word(count: u32, start: u32, step: i32) -> u32 {
     count | start << 8 | (step as u32 & 0xFF) << 16
 }
 
+fn counted(count: u32, al: u32, step: i32) -> Loop {
+    Loop::Loop { count, al, step }
+}
+
 fn load(slots: &[[u32; 2]]) -> Program {
     Program::load(&slots.concat()).unwrap()
 }
@@ -96,11 +100,7 @@ fn a_count_of_0_jumps_and_opens_nothing() {
 #[test]
 fn a_rep_hides_no_al() {
     let mut group = opened(&[(LOOP, word(2, 30, 5)), (LOOP, word(1, 40, 0)), (REP, 1)]);
-    let open = [
-        Loop::Loop { count: 2, al: 30 },
-        Loop::Loop { count: 1, al: 40 },
-        Loop::Rep { count: 1 },
-    ];
+    let open = [counted(2, 30, 5), counted(1, 40, 0), Loop::Rep { count: 1 }];
     assert_eq!(group.loops().open, open);
     assert_eq!(group.loops().al, 40);
     // The REP closes, then the inner LOOP; the outer's aL shows.
@@ -109,15 +109,16 @@ fn a_rep_hides_no_al() {
     assert!(!step(&mut group, ENDLOOP, 0, &[]).unwrap().jumped);
     assert_eq!(group.loops().al, 30);
     assert!(step(&mut group, ENDLOOP, 0, &[]).unwrap().jumped);
-    assert_eq!(group.loops().open, [Loop::Loop { count: 1, al: 35 }]);
+    assert_eq!(group.loops().open, [counted(1, 35, 5)]);
 }
 
 #[test]
 fn a_step_is_from_128_below_to_127_above() {
     for (step_of, start, then) in [(127, 128, 255), (-128, 128, 0), (-1, 1, 0)] {
         let mut group = opened(&[(LOOP, word(2, start, step_of))]);
+        assert_eq!(group.loops().open, [counted(2, start, step_of)]);
         assert!(step(&mut group, ENDLOOP, 0, &[]).unwrap().jumped);
-        assert_eq!(group.loops().al, then);
+        assert_eq!(group.loops().open, [counted(1, then, step_of)]);
         // One more step would lead out of 0 to 255; the last close adds none.
         assert!(!step(&mut group, ENDLOOP, 0, &[]).unwrap().jumped);
     }
