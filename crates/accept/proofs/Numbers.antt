@@ -13,7 +13,7 @@ pub numbered : (c : Command) → EachAllowed (lineOf c) (fieldsOf c) → Numbere
 unfolding lineOf fieldsOf countOf kindOf allowed
 numbered (command.Domain i0 j0 i1 j1) a = tt
 numbered command.Start a = tt
-numbered (command.Quiet what) a = tt
+numbered (command.Effectless what) a = tt
 numbered (command.Store what base format) a = tt
 numbered (command.Input number base format height) a = omega (arith, leb-true number 15 (a 0 (omega arith)))
 numbered (command.Output number base format height) a = omega (arith, leb-true number 3 (a 0 (omega arith)))

@@ -18,12 +18,12 @@ use Rattle.command.specs.Table.{headerOf, lineWith}
 use Rattle.command.specs.Commands.{noEffectLine, storedLine, lineOf, fieldsOf, wordsOf, commandOf}
 use Rattle.rules.specs.Writer.{judgeCommandOf}
 use Rattle.command.specs.declared.commands.NoEffect.{NoEffect}
-use Rattle.command.specs.declared.commands.NoEffect.the-variants as quiet
+use Rattle.command.specs.declared.commands.NoEffect.the-variants as noEffect
 use Rattle.command.specs.declared.commands.Stored.{Stored}
 use Rattle.command.specs.declared.commands.Stored.the-variants as stored
 use Rattle.command.specs.declared.commands.Command.{Command}
 use Rattle.command.specs.declared.commands.Command.the-variants as command
-use Rattle.rules.proofs.Fitting.{start-fits, quiet-fits, store-decided, mask-decided, conditional-mask-decided, test-decided, given-fine}
+use Rattle.rules.proofs.Fitting.{start-fits, effectless-fits, store-decided, mask-decided, conditional-mask-decided, test-decided, given-fine}
 use Rattle.command.proofs.Headers.{accepted-listed}
 use Rattle.rules.proofs.Readable.{readable}
 use Rattle.state.specs.State.{Open, Party, Shared, Session}
@@ -31,7 +31,7 @@ use Rattle.state.specs.Start.{readyOf, readinessOf}
 use Rattle.state.specs.Effects.{limit, buffer, domainFrom, withDomain, withInstructions, ownAfter, sharedAfter, after}
 use Rattle.start.specs.Rules.{startRuleOf}
 use Rattle.start.proofs.Readiness.{number-given, number-refused}
-use Rattle.accept.specs.Standing.{standing}
+use Rattle.accept.specs.AtWord.{atWord}
 use Rattle.state.specs.Asked.{Given, Held, HeldOwn, OwnAsked}
 use Rattle.state.specs.Cells.{Sized, partyOf, partyCells, tallyCells, sharedOf, sharedCells, sessionOf, setBuffer, ownLength, sharedLength}
 use Rattle.state.specs.Effects.{tookWords}
@@ -45,7 +45,7 @@ use Rattle.state.proofs.OwnPuts.{
   domain-own,
   start-own,
   store-own,
-  quiet-own,
+  effectless-own,
   input-own,
   output-own,
   conditional-own,
@@ -56,7 +56,7 @@ use Rattle.state.proofs.OwnPuts.{
 use Rattle.state.proofs.SharedPuts.{
   domain-shared,
   start-shared,
-  quiet-shared,
+  effectless-shared,
   instructions-shared,
   floats-shared,
   integers-shared,
@@ -71,22 +71,22 @@ use Rattle.state.proofs.SharedPuts.{
 use Rattle.accept.proofs.Numbers.{numbered}
 
 -- what a command does to the party's own settings, the words counted before or after it
-own-standing : (c : Command) (n : ℕ) (h : Shared) (p : Party) →
-    ownAfter c h (tookWords n p) ≡ standing (after c (record { party = p; shared = h })) (p .taken + n) (p .opened) .party
+own-at-word : (c : Command) (n : ℕ) (h : Shared) (p : Party) →
+    ownAfter c h (tookWords n p) ≡ atWord (after c (record { party = p; shared = h })) (p .taken + n) (p .opened) .party
 unfolding after ownAfter sharedAfter
-own-standing (command.Domain i0 j0 i1 j1) n h p = refl
-own-standing command.Start n h p = refl
-own-standing (command.Quiet what) n h p = refl
-own-standing (command.Store stored.Instructions base format) n h p = refl
-own-standing (command.Store stored.Floats base format) n h p = refl
-own-standing (command.Store stored.Integers base format) n h p = refl
-own-standing (command.Store stored.Booleans base format) n h p = refl
-own-standing (command.Input number base format height) n h p = refl
-own-standing (command.Output number base format height) n h p = refl
-own-standing (command.Conditional base format height) n h p = refl
-own-standing (command.OutputMask mask) n h p = refl
-own-standing (command.ConditionalMask mask) n h p = refl
-own-standing (command.Test test) n h p = refl
+own-at-word (command.Domain i0 j0 i1 j1) n h p = refl
+own-at-word command.Start n h p = refl
+own-at-word (command.Effectless what) n h p = refl
+own-at-word (command.Store stored.Instructions base format) n h p = refl
+own-at-word (command.Store stored.Floats base format) n h p = refl
+own-at-word (command.Store stored.Integers base format) n h p = refl
+own-at-word (command.Store stored.Booleans base format) n h p = refl
+own-at-word (command.Input number base format height) n h p = refl
+own-at-word (command.Output number base format height) n h p = refl
+own-at-word (command.Conditional base format height) n h p = refl
+own-at-word (command.OutputMask mask) n h p = refl
+own-at-word (command.ConditionalMask mask) n h p = refl
+own-at-word (command.Test test) n h p = refl
 
 module _ (c : Command) (n : ℕ) (l t h l1 : List ℕ) (e1 : l1 ≡ partyCells (tookWords n (partyOf l []))) where
   is-party : partyOf l1 t ≡ tookWords n (partyOf l t)
@@ -94,10 +94,10 @@ module _ (c : Command) (n : ℕ) (l t h l1 : List ℕ) (e1 : l1 ≡ partyCells (
   is-party = ap (λ (x : List ℕ). partyOf x t) e1
 
   abbrev left : Session
-  left = standing (after c (sessionOf l t h)) (partyOf l t .taken + n) (partyOf l t .opened)
+  left = atWord (after c (sessionOf l t h)) (partyOf l t .taken + n) (partyOf l t .opened)
 
   own-after : ownAfter c (sharedOf h) (partyOf l1 t) ≡ left .party
-  own-after = ap (ownAfter c (sharedOf h)) is-party ∙ own-standing c n (sharedOf h) (partyOf l t)
+  own-after = ap (ownAfter c (sharedOf h)) is-party ∙ own-at-word c n (sharedOf h) (partyOf l t)
 
   module _ (rest ws : List ℕ) (begins : ws ≡ wordsOf c ++ rest) (fine : judgeCommandOf c ≡ gives []) (rule : startRuleOf c (sessionOf l t h) ≡ gives []) where
     pub tried : (l2 t2 h2 : List ℕ) → HeldOwn (ownAfter c (sharedOf h) (partyOf l1 t)) l2 t2 →
@@ -142,14 +142,14 @@ module _ (l l1 : List ℕ) (m : ℕ) (e : l1 ≡ partyCells (tookWords m (partyO
       (domain-own l1 sized t (z .tallies-length) (sharedOf h) i0 j0 i1 j1 e2)
       (domain-shared h (z .shared-length) i0 j0 i1 j1)
 
-  pub quiet-tried : (n : ℕ) → n ≡ 0 → (what : NoEffect) →
-      OwnTried (command.Quiet what) (headerOf (noEffectLine what) ∷ n ∷ []) m m l l1
+  pub effectless-tried : (n : ℕ) → n ≡ 0 → (what : NoEffect) →
+      OwnTried (command.Effectless what) (headerOf (noEffectLine what) ∷ n ∷ []) m m l l1
   unfolding wordsOf lineOf fieldsOf startRuleOf
-  quiet-tried n none what t h rest z =
-      tried (command.Quiet what) m l t h l1 e rest _
-      (ap {B = List ℕ} (λ (x : ℕ). headerOf (noEffectLine what) ∷ x ∷ rest) none) (quiet-fits what) refl l1 t h
-      (quiet-own l1 sized t (z .tallies-length) (sharedOf h) what)
-      (quiet-shared h (z .shared-length) what)
+  effectless-tried n none what t h rest z =
+      tried (command.Effectless what) m l t h l1 e rest _
+      (ap {B = List ℕ} (λ (x : ℕ). headerOf (noEffectLine what) ∷ x ∷ rest) none) (effectless-fits what) refl l1 t h
+      (effectless-own l1 sized t (z .tallies-length) (sharedOf h) what)
+      (effectless-shared h (z .shared-length) what)
 
   pub instructions-tried : (b f : ℕ) → judgeCommandOf (command.Store stored.Instructions b f) ≡ gives [] → (l2 : List ℕ) →
       l2 ≡ partyCells (withInstructions (buffer b f 1) (partyOf l1 [])) →
@@ -304,10 +304,10 @@ module _ {l t h : List ℕ} {m : ℕ} (n : ℕ) (ne : n ≡ 0 → ⊥) where
   unfolding lineOf fieldsOf
   start-denied rest = untaken (byWords (other-words command.Start n rest refl ne))
 
-  pub quiet-denied : (what : NoEffect) (rest : List ℕ) →
-      Tried (command.Quiet what) (headerOf (noEffectLine what) ∷ n ∷ rest) m l t h 0 l t h
+  pub effectless-denied : (what : NoEffect) (rest : List ℕ) →
+      Tried (command.Effectless what) (headerOf (noEffectLine what) ∷ n ∷ rest) m l t h 0 l t h
   unfolding lineOf fieldsOf
-  quiet-denied what rest = untaken (byWords (other-words (command.Quiet what) n rest refl ne))
+  effectless-denied what rest = untaken (byWords (other-words (command.Effectless what) n rest refl ne))
 
 -- a start that the settings refuse
 pub start-unready : (l t h ws : List ℕ) {m : ℕ} (r : ℕ) →
@@ -342,17 +342,17 @@ own-asked y = (
   },
 )
 
-quiet-command : (what : NoEffect) (p0 p1 p2 p3 : ℕ) → commandOf (noEffectLine what) p0 p1 p2 p3 ≡ command.Quiet what
+effectless-command : (what : NoEffect) (p0 p1 p2 p3 : ℕ) → commandOf (noEffectLine what) p0 p1 p2 p3 ≡ command.Effectless what
 unfolding commandOf noEffectLine
-quiet-command quiet.Wait p0 p1 p2 p3 = refl
-quiet-command quiet.InvalidateInstructions p0 p1 p2 p3 = refl
-quiet-command quiet.InvalidateFloats p0 p1 p2 p3 = refl
-quiet-command quiet.InvalidateIntegers p0 p1 p2 p3 = refl
-quiet-command quiet.InvalidateBooleans p0 p1 p2 p3 = refl
-quiet-command quiet.InvalidateConditional p0 p1 p2 p3 = refl
-quiet-command quiet.InvalidateInputs p0 p1 p2 p3 = refl
-quiet-command quiet.FlushOutputs p0 p1 p2 p3 = refl
-quiet-command quiet.FlushConditional p0 p1 p2 p3 = refl
+effectless-command noEffect.Wait p0 p1 p2 p3 = refl
+effectless-command noEffect.InvalidateInstructions p0 p1 p2 p3 = refl
+effectless-command noEffect.InvalidateFloats p0 p1 p2 p3 = refl
+effectless-command noEffect.InvalidateIntegers p0 p1 p2 p3 = refl
+effectless-command noEffect.InvalidateBooleans p0 p1 p2 p3 = refl
+effectless-command noEffect.InvalidateConditional p0 p1 p2 p3 = refl
+effectless-command noEffect.InvalidateInputs p0 p1 p2 p3 = refl
+effectless-command noEffect.FlushOutputs p0 p1 p2 p3 = refl
+effectless-command noEffect.FlushConditional p0 p1 p2 p3 = refl
 
 -- by the line of the table
 module _ (words : Command → ℕ) (p0 p1 p2 p3 : ℕ) (rest l t h : List ℕ) (k : ℕ) (l1 t1 h1 : List ℕ) where
@@ -365,45 +365,45 @@ module _ (words : Command → ℕ) (p0 p1 p2 p3 : ℕ) (rest l t h : List ℕ) (
   pub at-line : (m n : ℕ) → m ≡ n → Attempt (of n) n → Attempt (of m) m
   at-line m n e q = subst (λ (x : ℕ). Attempt (of x) x) (sym e) q
 
-  pub quiet-at : (m : ℕ) (what : NoEffect) → m ≡ noEffectLine what → Attempt (command.Quiet what) (noEffectLine what) → Attempt (of m) m
-  quiet-at m what e q =
+  pub effectless-at : (m : ℕ) (what : NoEffect) → m ≡ noEffectLine what → Attempt (command.Effectless what) (noEffectLine what) → Attempt (of m) m
+  effectless-at m what e q =
       at-line m (noEffectLine what) e
-      (subst (λ (c : Command). Attempt c (noEffectLine what)) (sym (quiet-command what p0 p1 p2 p3)) q)
+      (subst (λ (c : Command). Attempt c (noEffectLine what)) (sym (effectless-command what p0 p1 p2 p3)) q)
 
 -- the commands without effect, at their lines
-unfoldable pub quietAt : ℕ → NoEffect
-quietAt line =
+unfoldable pub effectlessAt : ℕ → NoEffect
+effectlessAt line =
     getD
-    (quiet.Wait ∷
-    quiet.Wait ∷
-    quiet.Wait ∷
-    quiet.Wait ∷
-    quiet.Wait ∷
-    quiet.Wait ∷
-    quiet.Wait ∷
-    quiet.Wait ∷
-    quiet.Wait ∷
-    quiet.Wait ∷
-    quiet.InvalidateInstructions ∷
-    quiet.InvalidateFloats ∷
-    quiet.InvalidateIntegers ∷
-    quiet.InvalidateBooleans ∷
-    quiet.InvalidateConditional ∷
-    quiet.InvalidateInputs ∷
-    quiet.FlushOutputs ∷
-    quiet.FlushConditional ∷
+    (noEffect.Wait ∷
+    noEffect.Wait ∷
+    noEffect.Wait ∷
+    noEffect.Wait ∷
+    noEffect.Wait ∷
+    noEffect.Wait ∷
+    noEffect.Wait ∷
+    noEffect.Wait ∷
+    noEffect.Wait ∷
+    noEffect.Wait ∷
+    noEffect.InvalidateInstructions ∷
+    noEffect.InvalidateFloats ∷
+    noEffect.InvalidateIntegers ∷
+    noEffect.InvalidateBooleans ∷
+    noEffect.InvalidateConditional ∷
+    noEffect.InvalidateInputs ∷
+    noEffect.FlushOutputs ∷
+    noEffect.FlushConditional ∷
     [])
-    line quiet.Wait
+    line noEffect.Wait
 
-isQuiet : ℕ → Bool
-isQuiet line = eqb line (noEffectLine (quietAt line))
+isEffectless : ℕ → Bool
+isEffectless line = eqb line (noEffectLine (effectlessAt line))
 
-pub quiet-line : (line : ℕ) → line < 21 → NoneOf Unit (0 ∷ 1 ∷ 3 ∷ 4 ∷ 5 ∷ 6 ∷ 7 ∷ 8 ∷ 9 ∷ 18 ∷ 19 ∷ 20 ∷ []) line →
-    line ≡ noEffectLine (quietAt line)
-unfolding isQuiet quietAt noEffectLine every namedOr placeOf pick _and_
-quiet-line line h r =
-    eqb-true line (noEffectLine (quietAt line))
-    (otherwise isQuiet (0 ∷ 1 ∷ 3 ∷ 4 ∷ 5 ∷ 6 ∷ 7 ∷ 8 ∷ 9 ∷ 18 ∷ 19 ∷ 20 ∷ []) 21 refl line h r)
+pub effectless-line : (line : ℕ) → line < 21 → NoneOf Unit (0 ∷ 1 ∷ 3 ∷ 4 ∷ 5 ∷ 6 ∷ 7 ∷ 8 ∷ 9 ∷ 18 ∷ 19 ∷ 20 ∷ []) line →
+    line ≡ noEffectLine (effectlessAt line)
+unfolding isEffectless effectlessAt noEffectLine every namedOr placeOf pick _and_
+effectless-line line h r =
+    eqb-true line (noEffectLine (effectlessAt line))
+    (otherwise isEffectless (0 ∷ 1 ∷ 3 ∷ 4 ∷ 5 ∷ 6 ∷ 7 ∷ 8 ∷ 9 ∷ 18 ∷ 19 ∷ 20 ∷ []) 21 refl line h r)
 
 told-apart : {v : List ℕ} {n : ℕ} → gives v ≡ refuses n → ⊥
 told-apart h = let z : _≡_ {A = ℕ} 0 1 = cc in omega arith

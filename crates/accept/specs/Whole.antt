@@ -14,9 +14,13 @@ use Rattle.command.specs.declared.commands.Command.{Command}
 use Rattle.state.specs.Effects.{limit, after}
 use Rattle.state.specs.State.{Session}
 use Rattle.start.specs.Rules.{startRuleOf}
-use Rattle.accept.specs.Standing.{Idle, standing}
+use Rattle.accept.specs.AtWord.{Idle, atWord}
 use Rattle.state.specs.Asked.{Given, Held}
 use Rattle.state.specs.Cells.{Sized, partyOf, sessionOf, ownLength}
+
+-- the most words that a command has
+abbrev pub mostWords : ℕ
+mostWords = 5
 
 -- own cells with room for so many words more
 pub record RoomFor (words : ℕ) (own : List ℕ) : Type 0 where
@@ -27,7 +31,7 @@ pub record RoomFor (words : ℕ) (own : List ℕ) : Type 0 where
 pub record Ready (own tallies shared : List ℕ) : Type 0 where
   pub given : Given own tallies shared
   pub idle : Idle (sessionOf own tallies shared)
-  pub room : partyOf own tallies .taken + 5 ≤ limit
+  pub room : partyOf own tallies .taken + mostWords ≤ limit
 
 -- why a command isn't taken: the words aren't its own (a reserved parameter isn't 0), its fields cause a refusal, or the settings do
 pub data Denied (c : Command) (ws : List ℕ) (s : Session) : Type 0 where
@@ -42,7 +46,7 @@ pub data Tried (c : Command) (ws : List ℕ) (words : ℕ) (own tallies shared :
   accepted :
       (rest own1 tallies1 shared1 : List ℕ) → ws ≡ wordsOf c ++ rest → judgeCommandOf c ≡ gives [] →
       startRuleOf c (sessionOf own tallies shared) ≡ gives [] →
-      Held (standing (after c (sessionOf own tallies shared)) (partyOf own tallies .taken + words) (partyOf own tallies .opened)) own1 tallies1 shared1 →
+      Held (atWord (after c (sessionOf own tallies shared)) (partyOf own tallies .taken + words) (partyOf own tallies .opened)) own1 tallies1 shared1 →
       Tried c ws words own tallies shared words own1 tallies1 shared1
 
 -- the same of a command that changes own cells alone, and of one that changes own and shared cells
@@ -76,7 +80,7 @@ pub data Begun (ws own tallies shared : List ℕ) : ℕ → List ℕ → List �
       (c : Command) (n : ℕ) (own1 tallies1 shared1 : List ℕ) → Ready own tallies shared →
       Tried c ws (everyWord c) own tallies shared n own1 tallies1 shared1 → Begun ws own tallies shared n own1 tallies1 shared1
   unbegun :
-      (Ready own tallies shared → 5 ≤ length ws → (line : ℕ) → lineWith (getD ws 0 0) ≡ gives (line ∷ []) → ⊥) →
+      (Ready own tallies shared → mostWords ≤ length ws → (line : ℕ) → lineWith (getD ws 0 0) ≡ gives (line ∷ []) → ⊥) →
       Begun ws own tallies shared 0 own tallies shared
 
 -- the place of each constants' format

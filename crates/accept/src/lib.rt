@@ -19,7 +19,7 @@ ghost use Rattle.command.specs.declared.commands.NoEffect.{NoEffect};
 ghost use Rattle.command.specs.declared.commands.Stored.{Stored};
 ghost use Rattle.command.specs.declared.commands.Command.{Command};
 ghost use Rattle.state.specs.Asked.{Given, OwnAsked};
-ghost use Rattle.accept.specs.Whole.{Begun, KeptAt, LineTried, OwnTried, RoomFor, SharedTried, Tried, everyWord, lastWord};
+ghost use Rattle.accept.specs.Whole.{Begun, KeptAt, LineTried, OwnTried, RoomFor, SharedTried, Tried, everyWord, lastWord, mostWords};
 
 // The most words that a command has, and the words taken at which there is room for so many.
 const MOST_WORDS: usize = 5;
@@ -67,9 +67,9 @@ fn take_start(
     words
 }
 
-fn take_quiet(own: &mut [u32; state::OWN_CELLS], words: u32, reserved: u32) -> u32
+fn take_effectless(own: &mut [u32; state::OWN_CELLS], words: u32, reserved: u32) -> u32
     requires { ⌜ RoomFor words (now own) ⌝ }
-    ensures { λ r. ⌜ ((what : NoEffect) → OwnTried (Command.Quiet what) (headerOf (noEffectLine what) ∷ reserved ∷ []) words r (now (own .entry)) (now (own .exit))) ⌝ }
+    ensures { λ r. ⌜ ((what : NoEffect) → OwnTried (Command.Effectless what) (headerOf (noEffectLine what) ∷ reserved ∷ []) words r (now (own .entry)) (now (own .exit))) ⌝ }
 {
     if reserved == 0 {
         own::count_words(own, words);
@@ -254,7 +254,7 @@ fn take_line(
     p2: u32,
     p3: u32,
 ) -> u32
-    requires { ⌜ (line < 21) × (RoomFor 5 (now own) × OwnAsked (now own) (now tallies) (now shared)) ⌝ }
+    requires { ⌜ (line < 21) × (RoomFor mostWords (now own) × OwnAsked (now own) (now tallies) (now shared)) ⌝ }
     ensures { λ r. ⌜ LineTried line p0 p1 p2 p3 everyWord (now (own .entry)) (now (tallies .entry)) (now (shared .entry)) r (now (own .exit)) (now (tallies .exit)) (now (shared .exit)) ⌝ }
 {
     match line {
@@ -270,7 +270,7 @@ fn take_line(
         18 => take_mask(own, shared, 2, p0),
         19 => take_conditional_mask(own, shared, 2, p0),
         20 => take_test(own, shared, 2, p0),
-        _ => take_quiet(own, 2, p0),
+        _ => take_effectless(own, 2, p0),
     }
 }
 
@@ -302,7 +302,7 @@ pub fn take_last(
         18 => take_mask(own, shared, 1, p0),
         19 => take_conditional_mask(own, shared, 1, p0),
         20 => take_test(own, shared, 1, p0),
-        _ => take_quiet(own, 1, p0),
+        _ => take_effectless(own, 1, p0),
     }
 }
 

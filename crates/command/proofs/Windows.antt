@@ -16,7 +16,9 @@ use Rattle.laws.proofs.Table.{NoneOf}
 use Rattle.refusal.specs.Told.{gives, refuses, isGiven}
 use Rattle.layout.specs.Sizes.{isSize}
 use Rattle.layout.specs.Layout.{wellFormed, windowRule, rowStep, spanOf, judgeOf}
-use Rattle.command.specs.Format.{pitchOf, tiledOf, codeOf, sizeOf, channelsOf, windowOf}
+use Rattle.layout.proofs.Window.{judged-malformed, judged-broken, judged-accepted}
+use Rattle.command.specs.Format.{pitchOf, tiledOf, codeOf, sizeOf, channelsOf, windowOf, valueOf, windowSeen}
+use Rattle.command.specs.declared.format.Window.{Window}
 use Rattle.command.specs.Kinds.{formatAllowed, allowed}
 use Rattle.command.specs.declared.kinds.Kind.the-variants.{Base, Format, InputFormat}
 
@@ -56,6 +58,35 @@ pub window-read :
     size ≡ sizeOf code → tiled ≡ tiledOf format → judgeOf base pitch height size tiled ≡ windowOf base format height
 unfolding windowOf
 window-read base format height pitch code size tiled p c s t = cc
+
+-- what a window is seen to be, by the tests of its layout's numbers
+module _
+    (base format h p k s : ℕ)
+    (t : Bool)
+    (ep : p ≡ pitchOf format)
+    (ek : k ≡ codeOf format)
+    (es : s ≡ sizeOf k)
+    (et : t ≡ tiledOf format)
+  where
+    abbrev refused-window : Window
+    refused-window = record { given = false; step = 0; span = 0 }
+
+    abbrev read : judgeOf base p h s t ≡ windowOf base format h
+    read = window-read base format h p k s t ep ek es et
+
+    pub seen-malformed : wellFormed base p s ≡ false → refused-window ≡ windowSeen (windowOf base format h)
+    unfolding valueOf isGiven
+    seen-malformed w = ap windowSeen (sym (judged-malformed base p h s t w) ∙ read)
+
+    module _ (w : wellFormed base p s ≡ true) where
+      pub seen-broken : windowRule base t s (rowStep t s p) h ≡ false → refused-window ≡ windowSeen (windowOf base format h)
+      unfolding valueOf isGiven
+      seen-broken r = ap windowSeen (sym (judged-broken base p h s t w r) ∙ read)
+
+      pub seen-accepted : (e n : ℕ) → e ≡ rowStep t s p → n ≡ spanOf t s (rowStep t s p) h → windowRule base t s (rowStep t s p) h ≡ true →
+          record { given = true; step = e; span = n } ≡ windowSeen (windowOf base format h)
+      unfolding valueOf isGiven
+      seen-accepted e n step span r = ap windowSeen (sym (judged-accepted base p h s t w e n step span r) ∙ read)
 
 -- what an allowed format word has
 pub record Allowed (w : ℕ) : Type 0 where

@@ -32,7 +32,7 @@ use Rattle.command.specs.declared.commands.Command.{Command}
 use Rattle.command.specs.declared.commands.Command.the-variants.{
   Domain,
   Start,
-  Quiet,
+  Effectless,
   Store,
   Input,
   Output,
@@ -51,15 +51,15 @@ pub read-back : (c : Command) → again c ≡ c
 unfolding commandOf lineOf fieldsOf noEffectLine storedLine
 read-back (Domain i0 j0 i1 j1) = refl
 read-back Start = refl
-read-back (Quiet Wait) = refl
-read-back (Quiet InvalidateInstructions) = refl
-read-back (Quiet InvalidateFloats) = refl
-read-back (Quiet InvalidateIntegers) = refl
-read-back (Quiet InvalidateBooleans) = refl
-read-back (Quiet InvalidateConditional) = refl
-read-back (Quiet InvalidateInputs) = refl
-read-back (Quiet FlushOutputs) = refl
-read-back (Quiet FlushConditional) = refl
+read-back (Effectless Wait) = refl
+read-back (Effectless InvalidateInstructions) = refl
+read-back (Effectless InvalidateFloats) = refl
+read-back (Effectless InvalidateIntegers) = refl
+read-back (Effectless InvalidateBooleans) = refl
+read-back (Effectless InvalidateConditional) = refl
+read-back (Effectless InvalidateInputs) = refl
+read-back (Effectless FlushOutputs) = refl
+read-back (Effectless FlushConditional) = refl
 read-back (Store Instructions base format) = refl
 read-back (Store Floats base format) = refl
 read-back (Store Integers base format) = refl
@@ -137,15 +137,15 @@ pub lined : (c : Command) → Lined c
 unfolding lineOf fieldsOf placesOf noEffectLine storedLine countOf
 lined (Domain i0 j0 i1 j1) = record { line-most = lit< tt; fields-count = refl; fields-taken = refl }
 lined Start = record { line-most = lit< tt; fields-count = refl; fields-taken = refl }
-lined (Quiet Wait) = record { line-most = lit< tt; fields-count = refl; fields-taken = refl }
-lined (Quiet InvalidateInstructions) = record { line-most = lit< tt; fields-count = refl; fields-taken = refl }
-lined (Quiet InvalidateFloats) = record { line-most = lit< tt; fields-count = refl; fields-taken = refl }
-lined (Quiet InvalidateIntegers) = record { line-most = lit< tt; fields-count = refl; fields-taken = refl }
-lined (Quiet InvalidateBooleans) = record { line-most = lit< tt; fields-count = refl; fields-taken = refl }
-lined (Quiet InvalidateConditional) = record { line-most = lit< tt; fields-count = refl; fields-taken = refl }
-lined (Quiet InvalidateInputs) = record { line-most = lit< tt; fields-count = refl; fields-taken = refl }
-lined (Quiet FlushOutputs) = record { line-most = lit< tt; fields-count = refl; fields-taken = refl }
-lined (Quiet FlushConditional) = record { line-most = lit< tt; fields-count = refl; fields-taken = refl }
+lined (Effectless Wait) = record { line-most = lit< tt; fields-count = refl; fields-taken = refl }
+lined (Effectless InvalidateInstructions) = record { line-most = lit< tt; fields-count = refl; fields-taken = refl }
+lined (Effectless InvalidateFloats) = record { line-most = lit< tt; fields-count = refl; fields-taken = refl }
+lined (Effectless InvalidateIntegers) = record { line-most = lit< tt; fields-count = refl; fields-taken = refl }
+lined (Effectless InvalidateBooleans) = record { line-most = lit< tt; fields-count = refl; fields-taken = refl }
+lined (Effectless InvalidateConditional) = record { line-most = lit< tt; fields-count = refl; fields-taken = refl }
+lined (Effectless InvalidateInputs) = record { line-most = lit< tt; fields-count = refl; fields-taken = refl }
+lined (Effectless FlushOutputs) = record { line-most = lit< tt; fields-count = refl; fields-taken = refl }
+lined (Effectless FlushConditional) = record { line-most = lit< tt; fields-count = refl; fields-taken = refl }
 lined (Store Instructions base format) = record { line-most = lit< tt; fields-count = refl; fields-taken = refl }
 lined (Store Floats base format) = record { line-most = lit< tt; fields-count = refl; fields-taken = refl }
 lined (Store Integers base format) = record { line-most = lit< tt; fields-count = refl; fields-taken = refl }

@@ -25,7 +25,7 @@ use Rattle.command.specs.declared.commands.Command.{Command}
 use Rattle.command.specs.declared.commands.Command.the-variants.{
   Domain,
   Start,
-  Quiet,
+  Effectless,
   Store,
   Input,
   Output,
@@ -59,7 +59,7 @@ storedLine Booleans = 9
 unfoldable pub lineOf : Command → ℕ
 lineOf (Domain i0 j0 i1 j1) = 0
 lineOf Start = 1
-lineOf (Quiet what) = noEffectLine what
+lineOf (Effectless what) = noEffectLine what
 lineOf (Store what base format) = storedLine what
 lineOf (Input number base format height) = 4
 lineOf (Output number base format height) = 5
@@ -72,7 +72,7 @@ lineOf (Test test) = 20
 unfoldable pub fieldsOf : Command → List ℕ
 fieldsOf (Domain i0 j0 i1 j1) = i0 ∷ j0 ∷ i1 ∷ j1 ∷ []
 fieldsOf Start = 0 ∷ []
-fieldsOf (Quiet what) = 0 ∷ []
+fieldsOf (Effectless what) = 0 ∷ []
 fieldsOf (Store what base format) = base ∷ format ∷ []
 fieldsOf (Input number base format height) = number ∷ base ∷ format ∷ height ∷ []
 fieldsOf (Output number base format height) = number ∷ base ∷ format ∷ height ∷ []
@@ -100,7 +100,7 @@ abbrev pub commands : ℕ → ℕ → ℕ → ℕ → List Command
 commands p0 p1 p2 p3 =
     Domain p0 p1 p2 p3 ∷
     Start ∷
-    Quiet Wait ∷
+    Effectless Wait ∷
     Store Instructions p0 p1 ∷
     Input p0 p1 p2 p3 ∷
     Output p0 p1 p2 p3 ∷
@@ -108,14 +108,14 @@ commands p0 p1 p2 p3 =
     Store Floats p0 p1 ∷
     Store Integers p0 p1 ∷
     Store Booleans p0 p1 ∷
-    Quiet InvalidateInstructions ∷
-    Quiet InvalidateFloats ∷
-    Quiet InvalidateIntegers ∷
-    Quiet InvalidateBooleans ∷
-    Quiet InvalidateConditional ∷
-    Quiet InvalidateInputs ∷
-    Quiet FlushOutputs ∷
-    Quiet FlushConditional ∷
+    Effectless InvalidateInstructions ∷
+    Effectless InvalidateFloats ∷
+    Effectless InvalidateIntegers ∷
+    Effectless InvalidateBooleans ∷
+    Effectless InvalidateConditional ∷
+    Effectless InvalidateInputs ∷
+    Effectless FlushOutputs ∷
+    Effectless FlushConditional ∷
     OutputMask p0 ∷
     ConditionalMask p0 ∷
     Test p0 ∷

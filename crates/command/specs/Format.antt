@@ -5,8 +5,9 @@ use mathlib.Core.List.{[], _∷_}
 use Prim.Native.Nat.{ℕ, _/_, _%_, _^_}
 use lib.Dec.{eqb}
 use lib.ListN.{getD}
-use Rattle.refusal.specs.Told.{Told}
+use Rattle.refusal.specs.Told.{Told, gives, refuses, isGiven}
 use Rattle.layout.specs.Layout.{judgeOf}
+use Rattle.command.specs.declared.format.Window.{Window}
 
 -- "the pitch is the word's bits 12:0 with the low two zero"; the low two are reserved, so a word that is accepted has them zero
 unfoldable pub pitchOf : ℕ → ℕ
@@ -34,3 +35,12 @@ channelsOf code = getD (1 ∷ 4 ∷ 1 ∷ 2 ∷ 4 ∷ []) code 0
 -- the judgement of the layout that the three words describe
 unfoldable pub windowOf : ℕ → ℕ → ℕ → Told
 windowOf base format height = judgeOf base (pitchOf format) height (sizeOf (codeOf format)) (tiledOf format)
+
+-- value `k` of an answer, the first being 0; 0 where it has none
+unfoldable pub valueOf : Told → ℕ → ℕ
+valueOf (gives values) k = getD values k 0
+valueOf (refuses number) k = 0
+
+-- what that judgement tells of a window: whether it is accepted, its row step and its span
+abbrev pub windowSeen : Told → Window
+windowSeen t = record { given = isGiven t; step = valueOf t 0; span = valueOf t 1 }

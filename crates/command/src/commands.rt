@@ -31,7 +31,7 @@ pub enum Command {
     // start_program.
     Start,
     // wait_for_idle, the invalidations and the flushes.
-    Quiet(NoEffect),
+    Effectless(NoEffect),
     // set_inst_fmt, set_constf_fmt, set_consti_fmt, set_constb_fmt: base, format.
     Store(Stored, u32, u32),
     // set_inp_fmt, set_out_fmt: number, base, format, height.
@@ -56,7 +56,7 @@ pub fn build(line: u32, p0: u32, p1: u32, p2: u32, p3: u32) -> Command
     match line {
         0 => Command::Domain(p0, p1, p2, p3),
         1 => Command::Start,
-        2 => Command::Quiet(NoEffect::Wait),
+        2 => Command::Effectless(NoEffect::Wait),
         3 => Command::Store(Stored::Instructions, p0, p1),
         4 => Command::Input(p0, p1, p2, p3),
         5 => Command::Output(p0, p1, p2, p3),
@@ -64,14 +64,14 @@ pub fn build(line: u32, p0: u32, p1: u32, p2: u32, p3: u32) -> Command
         7 => Command::Store(Stored::Floats, p0, p1),
         8 => Command::Store(Stored::Integers, p0, p1),
         9 => Command::Store(Stored::Booleans, p0, p1),
-        10 => Command::Quiet(NoEffect::InvalidateInstructions),
-        11 => Command::Quiet(NoEffect::InvalidateFloats),
-        12 => Command::Quiet(NoEffect::InvalidateIntegers),
-        13 => Command::Quiet(NoEffect::InvalidateBooleans),
-        14 => Command::Quiet(NoEffect::InvalidateConditional),
-        15 => Command::Quiet(NoEffect::InvalidateInputs),
-        16 => Command::Quiet(NoEffect::FlushOutputs),
-        17 => Command::Quiet(NoEffect::FlushConditional),
+        10 => Command::Effectless(NoEffect::InvalidateInstructions),
+        11 => Command::Effectless(NoEffect::InvalidateFloats),
+        12 => Command::Effectless(NoEffect::InvalidateIntegers),
+        13 => Command::Effectless(NoEffect::InvalidateBooleans),
+        14 => Command::Effectless(NoEffect::InvalidateConditional),
+        15 => Command::Effectless(NoEffect::InvalidateInputs),
+        16 => Command::Effectless(NoEffect::FlushOutputs),
+        17 => Command::Effectless(NoEffect::FlushConditional),
         18 => Command::OutputMask(p0),
         19 => Command::ConditionalMask(p0),
         _ => Command::Test(p0),
@@ -113,7 +113,7 @@ pub fn line(command: Command) -> u32
     match command {
         Command::Domain(..) => 0,
         Command::Start => 1,
-        Command::Quiet(what) => no_effect_line(what),
+        Command::Effectless(what) => no_effect_line(what),
         Command::Store(what, ..) => stored_line(what),
         Command::Input(..) => 4,
         Command::Output(..) => 5,
@@ -131,7 +131,7 @@ pub fn fields(command: Command) -> Places
     match command {
         Command::Domain(i0, j0, i1, j1) => Places(i0, j0, i1, j1),
         Command::Start => Places(0, 0, 0, 0),
-        Command::Quiet(_) => Places(0, 0, 0, 0),
+        Command::Effectless(_) => Places(0, 0, 0, 0),
         Command::Store(_, base, format) => Places(base, format, 0, 0),
         Command::Input(number, base, format, height) => Places(number, base, format, height),
         Command::Output(number, base, format, height) => Places(number, base, format, height),

@@ -1,10 +1,7 @@
 // The fields of a format word, and the window that base, format and height describe.
-use layout::ByteAddress;
-use layout::Judged;
-use layout::Layout;
+use layout;
 ghost use mathlib.Core.Path.{_≡_};
-ghost use Rattle.layout.specs.Layout.{toldJudged};
-ghost use Rattle.command.specs.Format.{pitchOf, tiledOf, superfineOf, codeOf, sizeOf, channelsOf, windowOf};
+ghost use Rattle.command.specs.Format.{pitchOf, tiledOf, superfineOf, codeOf, sizeOf, channelsOf, windowOf, windowSeen};
 
 // Bits 12:0.
 pub fn pitch(format: u32) -> u32
@@ -59,15 +56,39 @@ pub fn channels(code: u32) -> u32
     }
 }
 
-// The row step and span of the window that the words describe, or its refusal. Words that passed their checks get 6 alone.
-pub fn window(base: u32, format: u32, height: u32) -> Judged
-    ensures { λ r. ⌜ toldJudged r ≡ windowOf base format height ⌝ }
+// A window as base, format word and height describe it: whether it is accepted, its row step and its span; 0 and 0 of one that
+// isn't.
+pub struct Window {
+    pub given: bool,
+    pub step: u32,
+    pub span: u32,
+}
+
+// The window that the words describe. Its layout is asked by numbers, so that nothing goes through memory.
+pub fn window_of(base: u32, format: u32, height: u32) -> Window
+    ensures { λ r. ⌜ r ≡ windowSeen (windowOf base format height) ⌝ }
 {
-    layout::judge(Layout {
-        base: ByteAddress(base),
-        pitch: pitch(format),
-        height,
-        size: size(code(format)),
-        tiled: tiled(format),
-    })
+    let pitch = pitch(format);
+    let size = size(code(format));
+    let tiled = tiled(format);
+    if !layout::well_formed(base, pitch, size) {
+        return Window {
+            given: false,
+            step: 0,
+            span: 0,
+        };
+    }
+    let row = layout::stream_stride(base, pitch, height, size, tiled);
+    if row < 1 {
+        return Window {
+            given: false,
+            step: 0,
+            span: 0,
+        };
+    }
+    Window {
+        given: true,
+        step: layout::row_step(pitch, size, tiled),
+        span: layout::rows_taken(height, size, tiled) * row,
+    }
 }

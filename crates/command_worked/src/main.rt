@@ -84,17 +84,17 @@ fn settings_back() -> Tally {
     t.with(back(Command::Test(0))).with(back(Command::Test(7)))
 }
 
-fn quiet_back() -> Tally {
+fn effectless_back() -> Tally {
     let t = Tally::new()
-        .with(back(Command::Quiet(NoEffect::Wait)))
-        .with(back(Command::Quiet(NoEffect::InvalidateInstructions)));
-    let t = t.with(back(Command::Quiet(NoEffect::InvalidateFloats)))
-        .with(back(Command::Quiet(NoEffect::InvalidateIntegers)));
-    let t = t.with(back(Command::Quiet(NoEffect::InvalidateBooleans)))
-        .with(back(Command::Quiet(NoEffect::InvalidateConditional)));
-    let t = t.with(back(Command::Quiet(NoEffect::InvalidateInputs)))
-        .with(back(Command::Quiet(NoEffect::FlushOutputs)));
-    t.with(back(Command::Quiet(NoEffect::FlushConditional)))
+        .with(back(Command::Effectless(NoEffect::Wait)))
+        .with(back(Command::Effectless(NoEffect::InvalidateInstructions)));
+    let t = t.with(back(Command::Effectless(NoEffect::InvalidateFloats)))
+        .with(back(Command::Effectless(NoEffect::InvalidateIntegers)));
+    let t = t.with(back(Command::Effectless(NoEffect::InvalidateBooleans)))
+        .with(back(Command::Effectless(NoEffect::InvalidateConditional)));
+    let t = t.with(back(Command::Effectless(NoEffect::InvalidateInputs)))
+        .with(back(Command::Effectless(NoEffect::FlushOutputs)));
+    t.with(back(Command::Effectless(NoEffect::FlushConditional)))
 }
 
 // A start's words stand at the whole stream's end, where they pass, and the command they complete writes them again.
@@ -111,7 +111,7 @@ fn start_back() -> Tally {
 
 fn main() {
     settings_back()
-        .and(quiet_back())
+        .and(effectless_back())
         .and(start_back())
         .print(b"commands written and read again");
 }

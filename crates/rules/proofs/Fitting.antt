@@ -36,7 +36,7 @@ use Rattle.command.specs.declared.commands.Command.{Command}
 use Rattle.command.specs.declared.commands.Command.the-variants.{
   Domain,
   Start,
-  Quiet,
+  Effectless,
   Store,
   Input,
   Output,
@@ -115,21 +115,21 @@ pub start-fits : judgeCommandOf Start ≡ gives []
 unfolding lineOf fieldsOf countOf kindOf allowed domainKept windowKept
 start-fits = writable Start (each (Passes 1 (0 ∷ [])) 1 (tt & refl)) (rule-fine Start refl refl)
 
-quiet-passes : (what : NoEffect) → EachAllowed (noEffectLine what) (0 ∷ [])
+effectless-passes : (what : NoEffect) → EachAllowed (noEffectLine what) (0 ∷ [])
 unfolding noEffectLine countOf kindOf allowed
-quiet-passes Wait = each (Passes 2 (0 ∷ [])) 1 (tt & refl)
-quiet-passes InvalidateInstructions = each (Passes 10 (0 ∷ [])) 1 (tt & refl)
-quiet-passes InvalidateFloats = each (Passes 11 (0 ∷ [])) 1 (tt & refl)
-quiet-passes InvalidateIntegers = each (Passes 12 (0 ∷ [])) 1 (tt & refl)
-quiet-passes InvalidateBooleans = each (Passes 13 (0 ∷ [])) 1 (tt & refl)
-quiet-passes InvalidateConditional = each (Passes 14 (0 ∷ [])) 1 (tt & refl)
-quiet-passes InvalidateInputs = each (Passes 15 (0 ∷ [])) 1 (tt & refl)
-quiet-passes FlushOutputs = each (Passes 16 (0 ∷ [])) 1 (tt & refl)
-quiet-passes FlushConditional = each (Passes 17 (0 ∷ [])) 1 (tt & refl)
+effectless-passes Wait = each (Passes 2 (0 ∷ [])) 1 (tt & refl)
+effectless-passes InvalidateInstructions = each (Passes 10 (0 ∷ [])) 1 (tt & refl)
+effectless-passes InvalidateFloats = each (Passes 11 (0 ∷ [])) 1 (tt & refl)
+effectless-passes InvalidateIntegers = each (Passes 12 (0 ∷ [])) 1 (tt & refl)
+effectless-passes InvalidateBooleans = each (Passes 13 (0 ∷ [])) 1 (tt & refl)
+effectless-passes InvalidateConditional = each (Passes 14 (0 ∷ [])) 1 (tt & refl)
+effectless-passes InvalidateInputs = each (Passes 15 (0 ∷ [])) 1 (tt & refl)
+effectless-passes FlushOutputs = each (Passes 16 (0 ∷ [])) 1 (tt & refl)
+effectless-passes FlushConditional = each (Passes 17 (0 ∷ [])) 1 (tt & refl)
 
-pub quiet-fits : (what : NoEffect) → judgeCommandOf (Quiet what) ≡ gives []
+pub effectless-fits : (what : NoEffect) → judgeCommandOf (Effectless what) ≡ gives []
 unfolding lineOf fieldsOf domainKept windowKept
-quiet-fits what = writable (Quiet what) (quiet-passes what) (rule-fine (Quiet what) refl refl)
+effectless-fits what = writable (Effectless what) (effectless-passes what) (rule-fine (Effectless what) refl refl)
 
 -- masks and the test
 mask-fits : (mask : ℕ) → mask < 65536 → judgeCommandOf (OutputMask mask) ≡ gives []

@@ -47,7 +47,7 @@ use Rattle.command.specs.declared.commands.Command.{Command}
 use Rattle.command.specs.declared.commands.Command.the-variants.{
   Domain,
   Start,
-  Quiet,
+  Effectless,
   Store,
   Input,
   Output,
@@ -103,15 +103,15 @@ spread : (c : Command) → Spread c
 unfolding fieldsUnrefused allUnrefused unrefused kindOf lineOf placesOf fieldsOf noEffectLine storedLine faultOf allowed pick _and_
 spread (Domain i0 j0 i1 j1) = record { three = refl; four = refl }
 spread Start = record { three = refl; four = refl }
-spread (Quiet Wait) = record { three = refl; four = refl }
-spread (Quiet InvalidateInstructions) = record { three = refl; four = refl }
-spread (Quiet InvalidateFloats) = record { three = refl; four = refl }
-spread (Quiet InvalidateIntegers) = record { three = refl; four = refl }
-spread (Quiet InvalidateBooleans) = record { three = refl; four = refl }
-spread (Quiet InvalidateConditional) = record { three = refl; four = refl }
-spread (Quiet InvalidateInputs) = record { three = refl; four = refl }
-spread (Quiet FlushOutputs) = record { three = refl; four = refl }
-spread (Quiet FlushConditional) = record { three = refl; four = refl }
+spread (Effectless Wait) = record { three = refl; four = refl }
+spread (Effectless InvalidateInstructions) = record { three = refl; four = refl }
+spread (Effectless InvalidateFloats) = record { three = refl; four = refl }
+spread (Effectless InvalidateIntegers) = record { three = refl; four = refl }
+spread (Effectless InvalidateBooleans) = record { three = refl; four = refl }
+spread (Effectless InvalidateConditional) = record { three = refl; four = refl }
+spread (Effectless InvalidateInputs) = record { three = refl; four = refl }
+spread (Effectless FlushOutputs) = record { three = refl; four = refl }
+spread (Effectless FlushConditional) = record { three = refl; four = refl }
 spread (Store Instructions base format) = record { three = refl; four = refl }
 spread (Store Floats base format) = record { three = refl; four = refl }
 spread (Store Integers base format) = record { three = refl; four = refl }

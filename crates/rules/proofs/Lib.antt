@@ -3,4 +3,3 @@ pub mod Judging
 pub mod Readable
 pub mod Room
 pub mod Rule
-pub mod Windows

@@ -15,7 +15,7 @@ use Rattle.command.specs.declared.commands.Command.{Command}
 use Rattle.command.specs.declared.commands.Command.the-variants.{
   Domain,
   Start,
-  Quiet,
+  Effectless,
   Store,
   Input,
   Output,
@@ -42,7 +42,7 @@ pub domain-other : (c : Command) → OneOf (1 ∷ 2 ∷ 3 ∷ 4 ∷ 5 ∷ 6 ∷ 
 unfolding domainKept
 domain-other (Domain i0 j0 i1 j1) e = absurd (miss (1 ∷ 2 ∷ 3 ∷ 4 ∷ 5 ∷ 6 ∷ 7 ∷ 8 ∷ 9 ∷ []) 0 tt e)
 domain-other Start e = refl
-domain-other (Quiet what) e = refl
+domain-other (Effectless what) e = refl
 domain-other (Store what base format) e = refl
 domain-other (Input number base format height) e = refl
 domain-other (Output number base format height) e = refl

@@ -9,7 +9,7 @@ use Rattle.command.specs.declared.commands.Command.{Command}
 use Rattle.command.specs.declared.commands.Command.the-variants.{
   Domain,
   Start,
-  Quiet,
+  Effectless,
   Store,
   Input,
   Output,
@@ -23,7 +23,7 @@ use Rattle.command.specs.declared.commands.Command.the-variants.{
 unfoldable pub domainKept : Command → Bool
 domainKept (Domain i0 j0 i1 j1) = leb i0 i1 and leb j0 j1
 domainKept Start = true
-domainKept (Quiet what) = true
+domainKept (Effectless what) = true
 domainKept (Store what base format) = true
 domainKept (Input number base format height) = true
 domainKept (Output number base format height) = true
@@ -36,7 +36,7 @@ domainKept (Test test) = true
 unfoldable pub windowKept : Command → Bool
 windowKept (Domain i0 j0 i1 j1) = true
 windowKept Start = true
-windowKept (Quiet what) = true
+windowKept (Effectless what) = true
 windowKept (Store what base format) = isGiven (windowOf base format 1)
 windowKept (Input number base format height) = isGiven (windowOf base format height)
 windowKept (Output number base format height) = isGiven (windowOf base format height)

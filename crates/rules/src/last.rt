@@ -2,7 +2,6 @@
 use command::commands::Command;
 use command::format;
 use command::kinds::Checked;
-use layout;
 use refusal::Refusal;
 ghost use mathlib.Core.Path.{_≡_};
 ghost use Rattle.refusal.specs.Told.{isGiven};
@@ -21,22 +20,12 @@ fn domain_kept(command: Command) -> bool
     }
 }
 
-// Whether the window of the three words is accepted. It is asked by numbers, so that nothing goes through memory.
+// Whether the window of the three words is accepted.
 pub fn is_window(base: u32, format: u32, height: u32) -> bool
     ensures { λ r. ⌜ r ≡ isGiven (windowOf base format height) ⌝ }
 {
-    let pitch = format::pitch(format);
-    let size = format::size(format::code(format));
-    let tiled = format::tiled(format);
-    if layout::well_formed(base, pitch, size) {
-        if 0 < layout::stream_stride(base, pitch, height, size, tiled) {
-            true
-        } else {
-            false
-        }
-    } else {
-        false
-    }
+    let window = format::window_of(base, format, height);
+    window.given
 }
 
 // Whether the window that a command describes, if it describes one, is accepted.
@@ -46,7 +35,7 @@ fn window_kept(command: Command) -> bool
     match command {
         Command::Domain(..) => true,
         Command::Start => true,
-        Command::Quiet(_) => true,
+        Command::Effectless(_) => true,
         Command::Store(_, base, format) => is_window(base, format, 1),
         Command::Input(_, base, format, height) => is_window(base, format, height),
         Command::Output(_, base, format, height) => is_window(base, format, height),

@@ -21,7 +21,7 @@ use Rattle.state.specs.State.{Open as Opened, Session, none}
 use Rattle.state.specs.Effects.{after}
 use Rattle.session.specs.Step.{Reply, stillOpen, completed, refused, Stepped, startRuleOf, stepOf}
 use Rattle.state.specs.Valid.{Valid}
-use Rattle.session.specs.Again.{fed, standing}
+use Rattle.session.specs.Again.{fed, atWord}
 use Rattle.accept.specs.Whole.{Ready, Tried, untaken, accepted as takenWhole, Begun, begun, unbegun}
 use Rattle.session.specs.Feed.{First, nothing, first, onward, ended, proceed, feedOf, joined}
 use Rattle.session.specs.Feed as piece
@@ -110,20 +110,20 @@ module _ (s : Session) (ws l t c : List ℕ) (i n : ℕ) (f : Fold s ws l t c i 
       (begins : drop i ws ≡ wordsOf x ++ later)
       (fine : judgeCommandOf x ≡ gives [])
       (rule : startRuleOf x (sessionOf l t c) ≡ gives [])
-      (held : Held (standing (after x (sessionOf l t c)) (sessionOf l t c .party .taken + length (wordsOf x)) (sessionOf l t c .party .opened)) l1 t1 c1)
+      (held : Held (atWord (after x (sessionOf l t c)) (sessionOf l t c .party .taken + length (wordsOf x)) (sessionOf l t c .party .opened)) l1 t1 c1)
     where
       abbrev size : ℕ
       size = length (wordsOf x)
 
       abbrev left : Session
-      left = standing (after x (sessionOf l t c)) (sessionOf l t c .party .taken + size) none
+      left = atWord (after x (sessionOf l t c)) (sessionOf l t c .party .taken + size) none
 
       read : feedOf (sessionOf l t c) (wordsOf x) ≡ fed size (x ∷ []) nothing left
       read = reads-back (sessionOf l t c) x (y .idle) fine (omega (arith, y .room, words-most x .1)) [] rule
 
       now-held : Held left l1 t1 c1
       now-held =
-          subst (λ (o : Opened). Held (standing (after x (sessionOf l t c)) (sessionOf l t c .party .taken + size) o) l1 t1 c1)
+          subst (λ (o : Opened). Held (atWord (after x (sessionOf l t c)) (sessionOf l t c .party .taken + size) o) l1 t1 c1)
           (y .idle .unopened) held
 
       valid : Valid left

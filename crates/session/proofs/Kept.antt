@@ -26,7 +26,7 @@ use Rattle.command.proofs.Headers.{count-least, count-most}
 use Rattle.rules.proofs.Rule.{rule-five}
 use Rattle.command.proofs.WriteBack.{made}
 use Rattle.state.specs.State.{Buffer, Open, Domain, Tally, Party, Shared, Session, none, newSession}
-use Rattle.state.specs.Start.{counts, pairsOf, claimOf}
+use Rattle.state.specs.Start.{counts, pairsOf, claimOf, mostClaim, mostPairs}
 use Rattle.state.specs.Effects.{limit, opening, took, stop, withParameter, buffer, ownAfter, sharedAfter, after}
 use Rattle.session.specs.Step.{Reply, stillOpen, completed, refused, Stepped, refusing, startRuleOf, stepOf}
 use Rattle.state.specs.Valid.{parametersOf, OpenValid, DomainValid, TallyValid, Valid}
@@ -99,10 +99,10 @@ set-domain i0 j0 i1 j1 a k =
     }
 
 -- no start claims more than 4,096 · 4,096 pairs of four outputs
-claim-most : (d : Domain) (mask : ℕ) (outputs : List Buffer) → DomainValid d → claimOf d mask outputs ≤ 67108864
+claim-most : (d : Domain) (mask : ℕ) (outputs : List Buffer) → DomainValid d → claimOf d mask outputs ≤ mostClaim
 unfolding claimOf pairsOf
 claim-most d mask outputs v =
-    mul-le-mul {n₂ = 16777216} {m₂ = 4} (mul-le-mul {n₂ = 4096} {m₂ = 4096} (omega (arith, v)) (omega (arith, v)))
+    mul-le-mul {n₂ = mostPairs} {m₂ = 4} (mul-le-mul {n₂ = 4096} {m₂ = 4096} (omega (arith, v)) (omega (arith, v)))
     (count-bounded 4 (counts mask outputs))
 
 -- what a whole command leaves of a session: the open command, the count and the flag stand; what it sets is valid
@@ -166,7 +166,7 @@ module _ (h : Shared) (p : Party) (n : ℕ) (d : DomainValid (p .domain)) (t : T
         outputs = refl;
         inputs = refl;
       }
-  effects (command.Quiet what) a u r = plain (command.Quiet what) refl refl refl refl refl refl refl refl refl
+  effects (command.Effectless what) a u r = plain (command.Effectless what) refl refl refl refl refl refl refl refl refl
   effects (command.Store stored.Instructions base format) a u r =
       plain (command.Store stored.Instructions base format) refl refl refl refl refl refl refl refl refl
   effects (command.Store stored.Floats base format) a u r =

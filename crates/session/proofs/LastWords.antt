@@ -34,10 +34,10 @@ use Rattle.state.specs.Valid.{parametersOf}
 use Rattle.start.proofs.Readiness.{number-given, number-refused, readiness-number}
 use Rattle.accept.specs.Whole.{RoomFor, Denied, byWords, byFields, bySettings, Tried, untaken, accepted, LineTried, lastWord}
 use Rattle.session.specs.Step.{Reply, completed, refused, startRuleOf, completing}
-use Rattle.session.specs.Again.{standing}
+use Rattle.session.specs.Again.{atWord}
 use Rattle.session.specs.Asked.{Left, CompleteAsked, RefusalAsked, readinessIn, refusalAt}
 use Rattle.session.proofs.Kept.{whole-words, whole-allowed}
-use Rattle.session.proofs.ReadBack.{after-standing}
+use Rattle.session.proofs.ReadBack.{after-at-word}
 use Rattle.session.proofs.Stepping.{whole-refused, whole-accepted}
 use Rattle.session.proofs.Ways.{whole}
 
@@ -89,7 +89,7 @@ refused-by-line : (c : Command) (s : Session) → isGiven (rules c s) ≡ false 
 unfolding lastRuleOf domainKept windowKept startRuleOf lineOf storedLine refusalAt pick
 refused-by-line (command.Domain i0 j0 i1 j1) s e = domain-rule (leb i0 i1 and leb j0 j1) e
 refused-by-line command.Start s e = unfold thenTold in number-refused _ _ _ _ (unready s e)
-refused-by-line (command.Quiet what) s e = unfold thenTold isGiven in one-answer e
+refused-by-line (command.Effectless what) s e = unfold thenTold isGiven in one-answer e
 refused-by-line (command.Store stored.Instructions b f) s e = one-rule 6 (isGiven (windowOf b f 1)) e
 refused-by-line (command.Store stored.Floats b f) s e = one-rule 6 (isGiven (windowOf b f 1)) e
 refused-by-line (command.Store stored.Integers b f) s e = one-rule 6 (isGiven (windowOf b f 1)) e
@@ -204,10 +204,10 @@ module _ (l t s : List ℕ) (a : CompleteAsked l t s) where
 
   -- taken at once: what is left is to close it
   abbrev left : Session
-  left = standing (after c ss) (partyOf l t .taken + 1) (partyOf l t .opened)
+  left = atWord (after c ss) (partyOf l t .taken + 1) (partyOf l t .opened)
 
-  left-closed : after c ss ≡ standing (after c ss) (partyOf l t .taken + 1) none
-  left-closed = after-standing c ss (partyOf l t .taken) (partyOf l t .opened)
+  left-closed : after c ss ≡ atWord (after c ss) (partyOf l t .taken + 1) none
+  left-closed = after-at-word c ss (partyOf l t .taken) (partyOf l t .opened)
 
   held-length : (l1 t1 s1 : List ℕ) → Held left l1 t1 s1 → length l1 ≡ ownLength
   unfolding partyCells

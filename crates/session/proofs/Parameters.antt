@@ -23,7 +23,7 @@ use Rattle.state.specs.State.{Open, Session, none}
 use Rattle.state.specs.Effects.{limit, withParameter, after}
 use Rattle.session.specs.Step.{completed, refused, Stepped, refusing, startRuleOf, judged, completing, placing, parameterStep, stepOf}
 use Rattle.session.specs.Feed.{nothing, first, Fed, onward, ended, proceed, feedOf}
-use Rattle.session.specs.Again.{fed, holding, standing}
+use Rattle.session.specs.Again.{fed, holding, atWord}
 use Rattle.session.proofs.Refusals.{going}
 
 -- one parameter more
@@ -36,11 +36,11 @@ held-more l (a ∷ b ∷ c ∷ []) w h = refl
 held-more l (a ∷ b ∷ c ∷ d ∷ ps) w h = absurd (omega arith)
 
 -- the start rule asks of the settings alone
-start-same : (c : Command) (s : Session) (n : ℕ) (o : Open) → startRuleOf c (standing s n o) ≡ startRuleOf c s
+start-same : (c : Command) (s : Session) (n : ℕ) (o : Open) → startRuleOf c (atWord s n o) ≡ startRuleOf c s
 unfolding startRuleOf
 start-same (command.Domain i0 j0 i1 j1) s n o = refl
 start-same command.Start s n o = refl
-start-same (command.Quiet what) s n o = refl
+start-same (command.Effectless what) s n o = refl
 start-same (command.Store what base format) s n o = refl
 start-same (command.Input number base format height) s n o = refl
 start-same (command.Output number base format height) s n o = refl
@@ -51,7 +51,7 @@ start-same (command.Test test) s n o = refl
 
 -- a whole command drops the open one, whatever it is
 judged-same : (t : Told) (c : Command) (s : Session) (n : ℕ) (o p : Open) →
-    judged t c (standing s n o) ≡ judged t c (standing s n p)
+    judged t c (atWord s n o) ≡ judged t c (atWord s n p)
 unfolding judged after
 judged-same (gives values) c s n o p = refl
 judged-same (refuses m) c s n o p = refl
@@ -74,20 +74,20 @@ module _ (s : Session) (unstopped : s .party .stopped ≡ 0) (c : Command) (a : 
 
   -- the answer where `m` words were taken before, and 17 comes
   abbrev filled-up : ℕ → Fed
-  filled-up m = fed (limit - m) [] (first 17) (refusing (standing s limit none) 17 .session)
+  filled-up m = fed (limit - m) [] (first 17) (refusing (atWord s limit none) 17 .session)
 
   module _ (m : ℕ) (ps : List ℕ) (q : ℕ) (qs : List ℕ) (e : ps ++ (q ∷ qs) ≡ fieldsOf c) (less : m < limit) where
     sized : length ps + suc (length qs) ≡ countOf l
     sized = sym (length-append ps (q ∷ qs)) ∙ ap length e ∙ lined c .fields-count
 
-    placed : stepOf (standing s m (holding l ps)) q ≡ placing (holding l (ps ++ (q ∷ []))) (standing s m (holding l ps))
+    placed : stepOf (atWord s m (holding l ps)) q ≡ placing (holding l (ps ++ (q ∷ []))) (atWord s m (holding l ps))
     unfolding stepOf parameterStep
     placed =
         pick-no _ _ (ne-eqb (s .party .stopped) 1 (λ k. omega (arith, unstopped))) ∙
         pick-no _ _ (lt-leb limit m less) ∙
         pick-no _ _ (ne-eqb l 21 (λ k. omega (arith, lined c .line-most))) ∙
         pick-yes _ _ fits ∙
-        ap (λ (o : Open). placing o (standing s m (holding l ps))) (held-more l ps q (omega (arith, sized, count-most l (lined c .line-most))))
+        ap (λ (o : Open). placing o (atWord s m (holding l ps))) (held-more l ps q (omega (arith, sized, count-most l (lined c .line-most))))
       where
         fits : allowed (kindOf l (length ps)) q ≡ true
         fits =
@@ -96,7 +96,7 @@ module _ (s : Session) (unstopped : s .party .stopped ≡ 0) (c : Command) (a : 
 
     -- a parameter that isn't the last
     filled : 0 < length qs →
-        stepOf (standing s m (holding l ps)) q ≡ going (standing s (m + 1) (holding l (ps ++ (q ∷ []))))
+        stepOf (atWord s m (holding l ps)) q ≡ going (atWord s (m + 1) (holding l (ps ++ (q ∷ []))))
     unfolding placing
     filled k =
         placed ∙
@@ -105,7 +105,7 @@ module _ (s : Session) (unstopped : s .party .stopped ≡ 0) (c : Command) (a : 
   module _ (n : ℕ) (room : n < limit) where
     -- the last
     ended-with : (ps : List ℕ) (q : ℕ) → ps ++ (q ∷ []) ≡ fieldsOf c →
-        stepOf (standing s n (holding l ps)) q ≡ judged told c (standing s n none)
+        stepOf (atWord s n (holding l ps)) q ≡ judged told c (atWord s n none)
     unfolding placing completing
     ended-with ps q e =
         placed n ps q [] e room ∙
@@ -116,39 +116,39 @@ module _ (s : Session) (unstopped : s .party .stopped ≡ 0) (c : Command) (a : 
         judged-same told c s n (holding l ps) none
       where
         here : Session
-        here = standing s n (holding l ps)
+        here = atWord s n (holding l ps)
 
     pub rest : (qs : List ℕ) (q : ℕ) (ps : List ℕ) (m : ℕ) → ps ++ (q ∷ qs) ≡ fieldsOf c → m + length qs ≡ n →
-        feedOf (standing s m (holding l ps)) (q ∷ qs) ≡ lastly (length qs) (judged told c (standing s n none))
+        feedOf (atWord s m (holding l ps)) (q ∷ qs) ≡ lastly (length qs) (judged told c (atWord s n none))
     unfolding feedOf lastly proceed
     rest [] q ps m e k =
         let same : m ≡ n = omega arith in
-        ap (λ (x : ℕ). lastly 0 (stepOf (standing s x (holding l ps)) q)) same ∙ ap (lastly 0) (ended-with ps q e)
+        ap (λ (x : ℕ). lastly 0 (stepOf (atWord s x (holding l ps)) q)) same ∙ ap (lastly 0) (ended-with ps q e)
     rest (q' ∷ qs) q ps m e k =
         ap (λ (t : Stepped). proceed (t .reply) (t .session) (feedOf (t .session) (q' ∷ qs)))
         (filled m ps q (q' ∷ qs) e (omega arith) (omega arith)) ∙
         ap (onward []) (rest qs q' (ps ++ (q ∷ [])) (m + 1) (append-assoc ps (q ∷ []) (q' ∷ qs) ∙ e) (omega arith))
 
   -- where the words don't all fit, 17 comes with the first that doesn't
-  pub full-piece : (m : ℕ) (o : Open) (q : ℕ) (qs : List ℕ) → m ≡ limit → feedOf (standing s m o) (q ∷ qs) ≡ filled-up m
+  pub full-piece : (m : ℕ) (o : Open) (q : ℕ) (qs : List ℕ) → m ≡ limit → feedOf (atWord s m o) (q ∷ qs) ≡ filled-up m
   unfolding feedOf stepOf proceed
   full-piece m o q qs e =
       ap (λ (t : Stepped). proceed (t .reply) (t .session) (feedOf (t .session) qs))
       (pick-no _ _ (ne-eqb (s .party .stopped) 1 (λ k. omega (arith, unstopped))) ∙
       pick-yes _ _ (le-leb limit m (omega arith))) ∙
-      ap₂ (λ (x y : ℕ). fed x [] (first 17) (refusing (standing s y none) 17 .session)) none-left e
+      ap₂ (λ (x y : ℕ). fed x [] (first 17) (refusing (atWord s y none) 17 .session)) none-left e
     where
       none-left : 0 ≡ limit - m
       none-left = omega arith
 
   pub onward-full : (m : ℕ) → m < limit → onward [] (filled-up (m + 1)) ≡ filled-up m
-  onward-full m h = ap (λ (x : ℕ). fed x [] (first 17) (refusing (standing s limit none) 17 .session)) (one-more m h)
+  onward-full m h = ap (λ (x : ℕ). fed x [] (first 17) (refusing (atWord s limit none) 17 .session)) (one-more m h)
     where
       one-more : (m : ℕ) → m < limit → suc (limit - (m + 1)) ≡ limit - m
       one-more m h = omega arith
 
   pub overfull : (qs : List ℕ) (q : ℕ) (ps : List ℕ) (m : ℕ) → ps ++ (q ∷ qs) ≡ fieldsOf c → m ≤ limit → limit < m + suc (length qs) →
-      feedOf (standing s m (holding l ps)) (q ∷ qs) ≡ filled-up m
+      feedOf (atWord s m (holding l ps)) (q ∷ qs) ≡ filled-up m
   unfolding feedOf proceed
   overfull [] q ps m e h k = full-piece m (holding l ps) q [] (omega arith)
   overfull (q' ∷ qs) q ps m e h k =
@@ -156,8 +156,8 @@ module _ (s : Session) (unstopped : s .party .stopped ≡ 0) (c : Command) (a : 
     where
       go : Tested (eqb m limit) →
           (m + 1 ≤ limit → limit < m + 1 + suc (length qs) →
-          feedOf (standing s (m + 1) (holding l (ps ++ (q ∷ [])))) (q' ∷ qs) ≡ filled-up (m + 1)) →
-          feedOf (standing s m (holding l ps)) (q ∷ q' ∷ qs) ≡ filled-up m
+          feedOf (atWord s (m + 1) (holding l (ps ++ (q ∷ [])))) (q' ∷ qs) ≡ filled-up (m + 1)) →
+          feedOf (atWord s m (holding l ps)) (q ∷ q' ∷ qs) ≡ filled-up m
       go (holds t) ih = full-piece m (holding l ps) q (q' ∷ qs) (eqb-true m limit t)
       go (fails t) ih =
           let ne : m ≡ limit → ⊥ = eqb-false m limit t in

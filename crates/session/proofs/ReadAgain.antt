@@ -20,7 +20,7 @@ use Rattle.state.specs.Effects.{limit, ownAfter, sharedAfter, after}
 use Rattle.session.specs.Step.{stillOpen, completed, refused, Stepped, startRuleOf, stepOf}
 use Rattle.session.specs.Feed.{nothing, Fed, proceed, feedOf, joined, written}
 use Rattle.state.specs.Valid.{Valid, heldOf}
-use Rattle.session.specs.Again.{Idle, fed, standing, SameSettings, ReadAgain, EachWritable}
+use Rattle.session.specs.Again.{Idle, fed, atWord, SameSettings, ReadAgain, EachWritable}
 use Rattle.session.proofs.Ways.{Way, wasStopped, stops, opens, fills, ends, way}
 use Rattle.session.proofs.Kept.{each-allowed, kept}
 use Rattle.session.proofs.Cut.{cut}
@@ -124,7 +124,7 @@ module _ (s u : Session) (e : SameSettings s u) where
   unfolding startRuleOf
   same-start (command.Domain i0 j0 i1 j1) = refl
   same-start command.Start = λ j. readyOf (e .domain j) (e .instructions j) (e .shared j .mask) (e .shared j .outputs)
-  same-start (command.Quiet what) = refl
+  same-start (command.Effectless what) = refl
   same-start (command.Store what base format) = refl
   same-start (command.Input number base format height) = refl
   same-start (command.Output number base format height) = refl
@@ -137,7 +137,7 @@ module _ (s u : Session) (e : SameSettings s u) where
   unfolding after ownAfter
   same-after (command.Domain i0 j0 i1 j1) = record { domain = refl; instructions = e .instructions; flag = refl }
   same-after command.Start = record { domain = e .domain; instructions = e .instructions; flag = refl }
-  same-after (command.Quiet what) = record { domain = e .domain; instructions = e .instructions; flag = refl }
+  same-after (command.Effectless what) = record { domain = e .domain; instructions = e .instructions; flag = refl }
   same-after (command.Store stored.Instructions base format) = record { domain = e .domain; instructions = refl; flag = refl }
   same-after (command.Store stored.Floats base format) = record { domain = e .domain; instructions = e .instructions; flag = refl }
   same-after (command.Store stored.Integers base format) = record { domain = e .domain; instructions = e .instructions; flag = refl }
@@ -149,7 +149,7 @@ module _ (s u : Session) (e : SameSettings s u) where
   same-after (command.ConditionalMask mask) = record { domain = e .domain; instructions = e .instructions; flag = refl }
   same-after (command.Test test) = record { domain = e .domain; instructions = e .instructions; flag = refl }
 
-  settings-after : (c : Command) (n : ℕ) → SameSettings (after c s) (standing (after c u) n none)
+  settings-after : (c : Command) (n : ℕ) → SameSettings (after c s) (atWord (after c u) n none)
   unfolding after
   settings-after c n =
       record {
@@ -171,7 +171,7 @@ unfolding joined written
 again-passed s c f p rest u e i k =
     let ws : List ℕ = written (f .commands) in
     let sizes : length (wordsOf c ++ ws) ≡ length (wordsOf c) + length ws = length-append (wordsOf c) ws in
-    let u' : Session = standing (after c u) (u .party .taken + length (wordsOf c)) none in
+    let u' : Session = atWord (after c u) (u .party .taken + length (wordsOf c)) none in
     let first-read : feedOf u (wordsOf c) ≡ fed (length (wordsOf c)) (c ∷ []) nothing u' =
     reads-back u c i (p .writes) (omega arith) (p .values) (sym (same-start s u e c) ∙ p .start)
     in

@@ -26,26 +26,26 @@ use Rattle.state.specs.Start.{readyOf}
 use Rattle.state.specs.Effects.{limit, ownAfter, sharedAfter, after}
 use Rattle.session.specs.Step.{Stepped, refusing, startRuleOf, judged}
 use Rattle.session.specs.Feed.{nothing, first, onward, proceed, feedOf}
-use Rattle.session.specs.Again.{Idle, fed, holding, standing, ReadAs, readWhole, deniedStart, filledUp}
+use Rattle.session.specs.Again.{Idle, fed, holding, atWord, ReadAs, readWhole, deniedStart, filledUp}
 use Rattle.session.proofs.Refusals.{header-taken}
 use Rattle.session.proofs.Parameters.{lastly, rest, full-piece, onward-full, overfull, lastly-completed, lastly-refused}
 
 -- a command does the same whatever the count
-pub after-standing : (c : Command) (s : Session) (n : ℕ) (o : Open) → after c (standing s n o) ≡ standing (after c s) (n + 1) none
+pub after-at-word : (c : Command) (s : Session) (n : ℕ) (o : Open) → after c (atWord s n o) ≡ atWord (after c s) (n + 1) none
 unfolding after ownAfter sharedAfter
-after-standing (command.Domain i0 j0 i1 j1) s n o = refl
-after-standing command.Start s n o = refl
-after-standing (command.Quiet what) s n o = refl
-after-standing (command.Store stored.Instructions base format) s n o = refl
-after-standing (command.Store stored.Floats base format) s n o = refl
-after-standing (command.Store stored.Integers base format) s n o = refl
-after-standing (command.Store stored.Booleans base format) s n o = refl
-after-standing (command.Input number base format height) s n o = refl
-after-standing (command.Output number base format height) s n o = refl
-after-standing (command.Conditional base format height) s n o = refl
-after-standing (command.OutputMask mask) s n o = refl
-after-standing (command.ConditionalMask mask) s n o = refl
-after-standing (command.Test test) s n o = refl
+after-at-word (command.Domain i0 j0 i1 j1) s n o = refl
+after-at-word command.Start s n o = refl
+after-at-word (command.Effectless what) s n o = refl
+after-at-word (command.Store stored.Instructions base format) s n o = refl
+after-at-word (command.Store stored.Floats base format) s n o = refl
+after-at-word (command.Store stored.Integers base format) s n o = refl
+after-at-word (command.Store stored.Booleans base format) s n o = refl
+after-at-word (command.Input number base format height) s n o = refl
+after-at-word (command.Output number base format height) s n o = refl
+after-at-word (command.Conditional base format height) s n o = refl
+after-at-word (command.OutputMask mask) s n o = refl
+after-at-word (command.ConditionalMask mask) s n o = refl
+after-at-word (command.Test test) s n o = refl
 
 -- a start is refused with 7, 8 or 9, and no other command is refused so
 record Number (n : ℕ) : Type 0 where
@@ -63,7 +63,7 @@ start-number : (c : Command) (s : Session) (n : ℕ) → startRuleOf c s ≡ ref
 unfolding startRuleOf readyOf
 start-number (command.Domain i0 j0 i1 j1) s n e = absurd (let z : _≡_ {A = ℕ} 0 1 = cc in omega arith)
 start-number command.Start s n e = ready-number _ _ _ n e
-start-number (command.Quiet what) s n e = absurd (let z : _≡_ {A = ℕ} 0 1 = cc in omega arith)
+start-number (command.Effectless what) s n e = absurd (let z : _≡_ {A = ℕ} 0 1 = cc in omega arith)
 start-number (command.Store what base format) s n e = absurd (let z : _≡_ {A = ℕ} 0 1 = cc in omega arith)
 start-number (command.Input number base format height) s n e = absurd (let z : _≡_ {A = ℕ} 0 1 = cc in omega arith)
 start-number (command.Output number base format height) s n e = absurd (let z : _≡_ {A = ℕ} 0 1 = cc in omega arith)
@@ -82,7 +82,7 @@ module _ (s : Session) (c : Command) (i : Idle s) (writes : judgeCommandOf c ≡
 
   -- its header, where there is room for a word
   header-first : (fs : List ℕ) → s .party .taken < limit →
-      feedOf s (headerOf (lineOf c) ∷ fs) ≡ onward [] (feedOf (standing s (s .party .taken + 1) (holding (lineOf c) [])) fs)
+      feedOf s (headerOf (lineOf c) ∷ fs) ≡ onward [] (feedOf (atWord s (s .party .taken + 1) (holding (lineOf c) [])) fs)
   unfolding feedOf proceed
   header-first fs room =
       ap (λ (t : Stepped). proceed (t .reply) (t .session) (feedOf (t .session) fs))
@@ -97,52 +97,52 @@ module _ (s : Session) (c : Command) (i : Idle s) (writes : judgeCommandOf c ≡
 
   -- where there is room for all its words
   module _ (room : s .party .taken + length (wordsOf c) ≤ limit) where
-    ends-as : feedOf s (wordsOf c) ≡ lastly size (judged (startRuleOf c s) c (standing s (s .party .taken + size) none))
+    ends-as : feedOf s (wordsOf c) ≡ lastly size (judged (startRuleOf c s) c (atWord s (s .party .taken + size) none))
     unfolding wordsOf lastly
     ends-as = go (fieldsOf c) refl
       where
         go : (fs : List ℕ) → fieldsOf c ≡ fs →
             feedOf s (headerOf (lineOf c) ∷ fs) ≡
-            lastly (length fs) (judged (startRuleOf c s) c (standing s (s .party .taken + length fs) none))
+            lastly (length fs) (judged (startRuleOf c s) c (atWord s (s .party .taken + length fs) none))
         go [] e = no-fields e
         go (q ∷ qs) e =
             header-first (q ∷ qs) (omega arith) ∙
             ap (onward [])
             (rest s (i .unstopped) c all-allowed (s .party .taken + suc (length qs)) (omega (arith, ap length e)) qs q [] (s .party .taken + 1) (sym e) (omega arith) ∙
-            ap (λ (t : Told). lastly (length qs) (judged t c (standing s (s .party .taken + suc (length qs)) none))) told-start)
+            ap (λ (t : Told). lastly (length qs) (judged t c (atWord s (s .party .taken + suc (length qs)) none))) told-start)
 
     -- it is read back: the command, as `after` says, with all its words taken
     pub reads-back : (v : List ℕ) → startRuleOf c s ≡ gives v →
         feedOf s (wordsOf c) ≡
-        fed (length (wordsOf c)) (c ∷ []) nothing (standing (after c s) (s .party .taken + length (wordsOf c)) none)
+        fed (length (wordsOf c)) (c ∷ []) nothing (atWord (after c s) (s .party .taken + length (wordsOf c)) none)
     unfolding wordsOf judged
     reads-back v r =
         ends-as ∙
-        ap (λ (t : Told). lastly size (judged t c (standing s (s .party .taken + size) none))) r ∙
-        lastly-completed size c (after c (standing s (s .party .taken + size) none)) ∙
-        ap (fed (suc size) (c ∷ []) nothing) (after-standing c s (s .party .taken + size) none) ∙
-        ap (λ (n : ℕ). fed (suc size) (c ∷ []) nothing (standing (after c s) n none)) counted
+        ap (λ (t : Told). lastly size (judged t c (atWord s (s .party .taken + size) none))) r ∙
+        lastly-completed size c (after c (atWord s (s .party .taken + size) none)) ∙
+        ap (fed (suc size) (c ∷ []) nothing) (after-at-word c s (s .party .taken + size) none) ∙
+        ap (λ (n : ℕ). fed (suc size) (c ∷ []) nothing (atWord (after c s) n none)) counted
       where
         counted : s .party .taken + size + 1 ≡ s .party .taken + suc size
         counted = omega arith
 
     -- unless the settings refuse it: with 7, 8 or 9, at its last word
     pub refuses-start : (n : ℕ) → startRuleOf c s ≡ refuses n →
-        feedOf s (wordsOf c) ≡ fed size [] (first n) (refusing (standing s (s .party .taken + size) none) n .session)
+        feedOf s (wordsOf c) ≡ fed size [] (first n) (refusing (atWord s (s .party .taken + size) none) n .session)
     unfolding judged
     refuses-start n r =
         ends-as ∙
-        ap (λ (t : Told). lastly size (judged t c (standing s (s .party .taken + size) none))) r ∙
-        lastly-refused size n (refusing (standing s (s .party .taken + size) none) n .session)
+        ap (λ (t : Told). lastly size (judged t c (atWord s (s .party .taken + size) none))) r ∙
+        lastly-refused size n (refusing (atWord s (s .party .taken + size) none) n .session)
 
   -- and 17, with the word that comes when the session is full
   pub refuses-full : s .party .taken ≤ limit → limit < s .party .taken + length (wordsOf c) →
-      feedOf s (wordsOf c) ≡ fed (limit - s .party .taken) [] (first 17) (refusing (standing s limit none) 17 .session)
+      feedOf s (wordsOf c) ≡ fed (limit - s .party .taken) [] (first 17) (refusing (atWord s limit none) 17 .session)
   unfolding wordsOf
   refuses-full h k = go (fieldsOf c) refl (tested (eqb (s .party .taken) limit))
     where
       go : (fs : List ℕ) → fieldsOf c ≡ fs → Tested (eqb (s .party .taken) limit) →
-          feedOf s (headerOf (lineOf c) ∷ fs) ≡ fed (limit - s .party .taken) [] (first 17) (refusing (standing s limit none) 17 .session)
+          feedOf s (headerOf (lineOf c) ∷ fs) ≡ fed (limit - s .party .taken) [] (first 17) (refusing (atWord s limit none) 17 .session)
       go fs e (holds t) =
           full-piece s (i .unstopped) c all-allowed (s .party .taken) (s .party .opened) (headerOf (lineOf c)) fs (eqb-true _ _ t)
       go [] e (fails t) = no-fields e

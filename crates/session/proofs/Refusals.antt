@@ -78,7 +78,7 @@ module _ (s : Session) where
   unfolding startRuleOf readyOf judged
   by-command (command.Domain i0 j0 i1 j1) = completes (command.Domain i0 j0 i1 j1) _
   by-command command.Start = by-start _ _ _ command.Start
-  by-command (command.Quiet what) = completes (command.Quiet what) _
+  by-command (command.Effectless what) = completes (command.Effectless what) _
   by-command (command.Store what base format) = completes (command.Store what base format) _
   by-command (command.Input number base format height) = completes (command.Input number base format height) _
   by-command (command.Output number base format height) = completes (command.Output number base format height) _

@@ -32,7 +32,7 @@ use Rattle.state.specs.Effects.{limit, buffer, ownAfter, sharedAfter, after}
 use Rattle.state.specs.Valid.{Valid}
 use Rattle.session.specs.Step.{Reply, stillOpen, completed, refused, Stepped, startRuleOf, stepOf}
 use Rattle.session.specs.Feed.{nothing, Fed, proceed, feedOf}
-use Rattle.session.specs.Again.{Idle, fed, standing}
+use Rattle.session.specs.Again.{Idle, fed, atWord}
 use Rattle.session.specs.Silent.{
   AllSilent,
   SilentSettings,
@@ -100,7 +100,7 @@ module _ (s : Session) (i : Idle s) (room : s .party .taken + 2 ≤ limit) (q : 
   start-writes = refl
 
   start-read : feedOf s startWords ≡
-      fed 2 (command.Start ∷ []) nothing (standing (after command.Start s) (s .party .taken + 2) none)
+      fed 2 (command.Start ∷ []) nothing (atWord (after command.Start s) (s .party .taken + 2) none)
   unfolding wordsOf fieldsOf
   start-read = reads-back s command.Start i start-writes room [] start-passes
 
@@ -179,7 +179,7 @@ coded-after : (c : Command) (h : Shared) → EachAllowed (lineOf c) (fieldsOf c)
 unfolding sharedAfter lineOf fieldsOf countOf kindOf allowed
 coded-after (command.Domain i0 j0 i1 j1) h f l a = a
 coded-after command.Start h f l a = a
-coded-after (command.Quiet what) h f l a = a
+coded-after (command.Effectless what) h f l a = a
 coded-after (command.Store stored.Instructions base format) h f l a = a
 coded-after (command.Store stored.Floats base format) h f l a = a
 coded-after (command.Store stored.Integers base format) h f l a = a

@@ -34,7 +34,7 @@ start-rule-same : (c : Command) (p q : Party) (h : Shared) → p .domain ≡ q .
 unfolding startRuleOf
 start-rule-same (command.Domain i0 j0 i1 j1) p q h d i = refl
 start-rule-same command.Start p q h d i = ap (λ x. readyOf x (p .instructions) (h .mask) (h .outputs)) d ∙ ap (λ x. readyOf (q .domain) x (h .mask) (h .outputs)) i
-start-rule-same (command.Quiet what) p q h d i = refl
+start-rule-same (command.Effectless what) p q h d i = refl
 start-rule-same (command.Store what base format) p q h d i = refl
 start-rule-same (command.Input number base format height) p q h d i = refl
 start-rule-same (command.Output number base format height) p q h d i = refl

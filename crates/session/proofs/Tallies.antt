@@ -42,7 +42,7 @@ one : (s : Session) (c : Command) → One s c (after c s)
 unfolding after ownAfter sharedAfter runOf claimBy domainAfter maskAfter outputsAfter
 one s (command.Domain i0 j0 i1 j1) = record { runs = sym (add-zero _); claims = sym (add-zero _); domain = refl; mask = refl; outputs = refl; count = refl }
 one s command.Start = record { runs = refl; claims = refl; domain = refl; mask = refl; outputs = refl; count = refl }
-one s (command.Quiet what) = record { runs = sym (add-zero _); claims = sym (add-zero _); domain = refl; mask = refl; outputs = refl; count = refl }
+one s (command.Effectless what) = record { runs = sym (add-zero _); claims = sym (add-zero _); domain = refl; mask = refl; outputs = refl; count = refl }
 one s (command.Store stored.Instructions base format) =
     record { runs = sym (add-zero _); claims = sym (add-zero _); domain = refl; mask = refl; outputs = refl; count = refl }
 one s (command.Store stored.Floats base format) =

@@ -12,7 +12,7 @@ use Rattle.state.specs.Effects.{limit, after}
 use Rattle.session.specs.Step.{refusing, startRuleOf}
 use Rattle.session.specs.Feed.{First, nothing, first, Fed, written}
 -- a running session without an open command, and one at another word: commands taken whole are stated by them too
-pub use Rattle.accept.specs.Standing.{Idle, standing}
+pub use Rattle.accept.specs.AtWord.{Idle, atWord}
 
 -- the answer to a piece: words taken, commands completed, the first refusal, and the session after it
 abbrev pub fed : ℕ → List Command → First → Session → Fed
@@ -28,15 +28,15 @@ pub data ReadAs (s : Session) (c : Command) : Fed → Type 0 where
   -- it is read back: the command, what `after` says of it, and all its words taken
   readWhole :
       (v : List ℕ) → startRuleOf c s ≡ gives v →
-      ReadAs s c (fed (length (wordsOf c)) (c ∷ []) nothing (standing (after c s) (s .party .taken + length (wordsOf c)) none))
+      ReadAs s c (fed (length (wordsOf c)) (c ∷ []) nothing (atWord (after c s) (s .party .taken + length (wordsOf c)) none))
   -- 7, 8 or 9, with its last word
   deniedStart :
       (n : ℕ) → startRuleOf c s ≡ refuses n → 7 ≤ n → n ≤ 9 →
-      ReadAs s c (fed (length (fieldsOf c)) [] (first n) (refusing (standing s (s .party .taken + length (fieldsOf c)) none) n .session))
+      ReadAs s c (fed (length (fieldsOf c)) [] (first n) (refusing (atWord s (s .party .taken + length (fieldsOf c)) none) n .session))
   -- 17, with the word that comes when the session has taken 1,000,000,000
   filledUp :
       limit < s .party .taken + length (wordsOf c) →
-      ReadAs s c (fed (limit - s .party .taken) [] (first 17) (refusing (standing s limit none) 17 .session))
+      ReadAs s c (fed (limit - s .party .taken) [] (first 17) (refusing (atWord s limit none) 17 .session))
 
 -- "the settings they first met": the same settings in two sessions
 pub record SameSettings (s u : Session) : Type 0 where

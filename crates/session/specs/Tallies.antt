@@ -14,7 +14,7 @@ use Rattle.state.specs.Effects.{buffer}
 unfoldable pub runOf : Command → ℕ
 runOf (command.Domain i0 j0 i1 j1) = 0
 runOf command.Start = 1
-runOf (command.Quiet what) = 0
+runOf (command.Effectless what) = 0
 runOf (command.Store what base format) = 0
 runOf (command.Input number base format height) = 0
 runOf (command.Output number base format height) = 0
@@ -27,7 +27,7 @@ runOf (command.Test test) = 0
 unfoldable pub claimBy : Command → Domain → ℕ → List Buffer → ℕ
 claimBy (command.Domain i0 j0 i1 j1) d mask outputs = 0
 claimBy command.Start d mask outputs = claimOf d mask outputs
-claimBy (command.Quiet what) d mask outputs = 0
+claimBy (command.Effectless what) d mask outputs = 0
 claimBy (command.Store what base format) d mask outputs = 0
 claimBy (command.Input number base format height) d mask outputs = 0
 claimBy (command.Output number base format height) d mask outputs = 0
@@ -40,7 +40,7 @@ claimBy (command.Test test) d mask outputs = 0
 unfoldable pub domainAfter : Command → Domain → Domain
 domainAfter (command.Domain i0 j0 i1 j1) d = record { isSet = 1; i0 = i0; j0 = j0; i1 = i1; j1 = j1 }
 domainAfter command.Start d = d
-domainAfter (command.Quiet what) d = d
+domainAfter (command.Effectless what) d = d
 domainAfter (command.Store what base format) d = d
 domainAfter (command.Input number base format height) d = d
 domainAfter (command.Output number base format height) d = d
@@ -52,7 +52,7 @@ domainAfter (command.Test test) d = d
 unfoldable pub maskAfter : Command → ℕ → ℕ
 maskAfter (command.Domain i0 j0 i1 j1) mask = mask
 maskAfter command.Start mask = mask
-maskAfter (command.Quiet what) mask = mask
+maskAfter (command.Effectless what) mask = mask
 maskAfter (command.Store what base format) mask = mask
 maskAfter (command.Input number base format height) mask = mask
 maskAfter (command.Output number base format height) mask = mask
@@ -64,7 +64,7 @@ maskAfter (command.Test test) mask = mask
 unfoldable pub outputsAfter : Command → List Buffer → List Buffer
 outputsAfter (command.Domain i0 j0 i1 j1) outputs = outputs
 outputsAfter command.Start outputs = outputs
-outputsAfter (command.Quiet what) outputs = outputs
+outputsAfter (command.Effectless what) outputs = outputs
 outputsAfter (command.Store what base format) outputs = outputs
 outputsAfter (command.Input number base format height) outputs = outputs
 outputsAfter (command.Output number base format height) outputs = set outputs number (buffer base format height)

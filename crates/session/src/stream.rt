@@ -204,6 +204,7 @@ pub fn feed(
             i = i + whole as usize;
             continue;
         }
+        let next = i + 1;
         let answer = word(own, tallies, shared, words[i]);
         if let Answer::Refused(why) = answer {
             return Fed {
@@ -213,7 +214,7 @@ pub fn feed(
             };
         }
         commands = commands + completed_by(answer);
-        i = i + 1;
+        i = next;
     }
     Fed {
         taken: WordPosition(i as u64),

@@ -16,16 +16,12 @@ use Rattle.laws.proofs.Choice.{pick-yes, pick-no, and-left, and-yes, and-no-lef
 use Rattle.refusal.specs.Number.{IsNumber}
 use Rattle.refusal.specs.Told.{Told, gives, refuses}
 use Rattle.refusal.specs.declared.Refusal.the-variants.{StartUnset, DomainOutside, SpansShared}
-use Rattle.layout.specs.Layout.{wellFormed, rowStep, spanOf, windowRule, judgeOf}
-use Rattle.layout.proofs.Window.{judged-malformed, judged-broken, judged-accepted}
-use Rattle.command.specs.Format.{pitchOf, tiledOf, codeOf, sizeOf, windowOf}
-use Rattle.command.proofs.Windows.{window-read}
+use Rattle.command.specs.Format.{valueOf, windowOf, windowSeen}
+use Rattle.command.specs.declared.format.Window.{Window}
 use Rattle.start.specs.declared.ready.Output.{Output}
-use Rattle.start.specs.declared.ready.Window.{Window}
 use Rattle.state.specs.State.{Buffer, Domain}
 use Rattle.state.specs.Cells.{bufferAt, partyOf, sharedOf}
 use Rattle.state.specs.Start.{
-  valueOf,
   stepOfBuffer,
   spanOfBuffer,
   output,
@@ -42,12 +38,13 @@ use Rattle.state.specs.Start.{
   readinessOf,
   pairsOf,
   claimOf,
+  mostClaim,
+  mostPairs,
 }
 use Rattle.state.specs.Valid.{DomainValid}
 use Rattle.start.specs.Windows.{
   cellsBuffer,
   countsBy,
-  windowSeen,
   outputOf,
   holdsPair,
   spansApart,
@@ -92,32 +89,6 @@ digit-picked : (t : Bool) → pick t 1 0 ≡ digit t
 unfolding pick digit
 digit-picked true = refl
 digit-picked false = refl
-
--- what a start sees of a window, by the tests of its layout's numbers
-module _
-    (base format h p k s : ℕ)
-    (t : Bool)
-    (ep : p ≡ pitchOf format)
-    (ek : k ≡ codeOf format)
-    (es : s ≡ sizeOf k)
-    (et : t ≡ tiledOf format)
-  where
-    abbrev read : judgeOf base p h s t ≡ windowOf base format h
-    read = window-read base format h p k s t ep ek es et
-
-    pub seen-malformed : wellFormed base p s ≡ false → record { step = 0; span = 0 } ≡ windowSeen (windowOf base format h)
-    unfolding valueOf
-    seen-malformed w = ap windowSeen (sym (judged-malformed base p h s t w) ∙ read)
-
-    module _ (w : wellFormed base p s ≡ true) where
-      pub seen-broken : windowRule base t s (rowStep t s p) h ≡ false → record { step = 0; span = 0 } ≡ windowSeen (windowOf base format h)
-      unfolding valueOf
-      seen-broken r = ap windowSeen (sym (judged-broken base p h s t w r) ∙ read)
-
-      pub seen-accepted : (e n : ℕ) → e ≡ rowStep t s p → n ≡ spanOf t s (rowStep t s p) h → windowRule base t s (rowStep t s p) h ≡ true →
-          record { step = e; span = n } ≡ windowSeen (windowOf base format h)
-      unfolding valueOf
-      seen-accepted e n step span r = ap windowSeen (sym (judged-accepted base p h s t w e n step span r) ∙ read)
 
 -- an output by the judgement of its window
 abbrev judged : Bool → ℕ → ℕ → Told → Output
@@ -405,16 +376,16 @@ module _ (bits flag format : ℕ) {t : Bool} (c : t ≡ countsBy bits flag forma
   one-uncounted e = (sym (pick-no 1 0 (sym c ∙ e)), omega arith)
 
 pub pairs-most : (i0 j0 i1 j1 : ℕ) → ((i0 ≤ i1) × (i1 < 4096)) × ((j0 ≤ j1) × (j1 < 4096)) →
-    (i1 - i0 + 1) * (j1 - j0 + 1) ≤ 16777216
+    (i1 - i0 + 1) * (j1 - j0 + 1) ≤ mostPairs
 pairs-most i0 j0 i1 j1 h = mul-le-mul {n₂ = 4096} {m₂ = 4096} (omega (arith, h)) (omega (arith, h))
 
-pub claim-fits : {p n : ℕ} → p ≤ 16777216 → n ≤ 4 → p * n ≤ 67108864
-claim-fits h k = mul-le-mul {n₂ = 16777216} {m₂ = 4} h k
+pub claim-fits : {p n : ℕ} → p ≤ mostPairs → n ≤ 4 → p * n ≤ mostClaim
+claim-fits h k = mul-le-mul {n₂ = mostPairs} {m₂ = 4} h k
 
 pub claim-told : (own shared : List ℕ) {p n : ℕ} →
-    (p ≡ (getD own 11 0 - getD own 9 0 + 1) * (getD own 12 0 - getD own 10 0 + 1)) × (p ≤ 16777216) →
+    (p ≡ (getD own 11 0 - getD own 9 0 + 1) * (getD own 12 0 - getD own 10 0 + 1)) × (p ≤ mostPairs) →
     (n ≡ count 4 (counts (sharedOf shared .mask) (sharedOf shared .outputs))) × (n ≤ 4) →
-    (p * n ≡ claimOf (partyOf own [] .domain) (sharedOf shared .mask) (sharedOf shared .outputs)) × (p * n ≤ 67108864)
+    (p * n ≡ claimOf (partyOf own [] .domain) (sharedOf shared .mask) (sharedOf shared .outputs)) × (p * n ≤ mostClaim)
 unfolding claimOf pairsOf partyOf
 claim-told own shared e f = (cc, claim-fits (e .1) (f .1))
 

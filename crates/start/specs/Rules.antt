@@ -10,7 +10,7 @@ use Rattle.state.specs.Start.{readyOf}
 unfoldable pub startRuleOf : Command → Session → Told
 startRuleOf (command.Domain i0 j0 i1 j1) s = gives []
 startRuleOf command.Start s = readyOf (s .party .domain) (s .party .instructions) (s .shared .mask) (s .shared .outputs)
-startRuleOf (command.Quiet what) s = gives []
+startRuleOf (command.Effectless what) s = gives []
 startRuleOf (command.Store what base format) s = gives []
 startRuleOf (command.Input number base format height) s = gives []
 startRuleOf (command.Output number base format height) s = gives []

@@ -3,11 +3,9 @@ use mathlib.Core.Bool.{Bool, true, false}
 use Prim.Native.Nat.{ℕ, _+_}
 use lib.Dec.{eqb, leb, ltb}
 use Rattle.laws.specs.Choice.{_and_, pick}
-use Rattle.refusal.specs.Told.{Told}
 use Rattle.start.specs.declared.ready.Output.{Output}
-use Rattle.start.specs.declared.ready.Window.{Window}
 use Rattle.state.specs.State.{Buffer}
-use Rattle.state.specs.Start.{valueOf, stepOfBuffer, spanOfBuffer, unmasked}
+use Rattle.state.specs.Start.{stepOfBuffer, spanOfBuffer, unmasked}
 
 -- four cells as the buffer that they hold
 abbrev pub cellsBuffer : ℕ → ℕ → ℕ → ℕ → Buffer
@@ -16,10 +14,6 @@ cellsBuffer isSet base format height = record { isSet = isSet; base = base; form
 -- an output counts, by its flag and format and the mask's bits from the output's own on: these are a mask in which it is output 0
 unfoldable pub countsBy : ℕ → ℕ → ℕ → Bool
 countsBy bits flag format = eqb flag 1 and unmasked bits 0 format
-
--- what a start sees of a window's judgement: row step and span, 0 and 0 of a refused one
-abbrev pub windowSeen : Told → Window
-windowSeen t = record { step = valueOf t 0; span = valueOf t 1 }
 
 -- of one that isn't set or is silent, nothing but that is looked at
 unfoldable pub outputOf : ℕ → Buffer → Output

@@ -12,14 +12,14 @@ ghost use Rattle.state.specs.Asked.{OwnAsked};
 ghost use Rattle.state.specs.Cells.{bufferAt, partyOf, sharedOf, tallyCells, ownLength, sharedLength};
 ghost use Rattle.state.specs.Effects.{ownAfter};
 ghost use Rattle.laws.specs.Below.{count};
-ghost use Rattle.state.specs.Start.{claimOf, counts};
+ghost use Rattle.state.specs.Start.{claimOf, counts, mostClaim, mostPairs};
 ghost use Rattle.state.specs.Valid.{DomainValid};
 ghost use Rattle.start.specs.Windows.{countsBy};
 
 // The number of pairs of a domain.
 fn pairs(i0: u32, j0: u32, i1: u32, j1: u32) -> u64
     requires { ⌜ ((i0 ≤ i1) × (i1 < 4096)) × ((j0 ≤ j1) × (j1 < 4096)) ⌝ }
-    ensures { λ r. ⌜ (r ≡ (i1 - i0 + 1) * (j1 - j0 + 1)) × (r ≤ 16777216) ⌝ }
+    ensures { λ r. ⌜ (r ≡ (i1 - i0 + 1) * (j1 - j0 + 1)) × (r ≤ mostPairs) ⌝ }
 {
     let columns = (i1 - i0 + 1) as u64;
     let rows = (j1 - j0 + 1) as u64;
@@ -53,7 +53,7 @@ fn counted_outputs(shared: &[u32; state::SHARED_CELLS]) -> u64
 // The elements that a start claims: the domain's pairs, for each output that counts.
 fn claim(own: &[u32; state::OWN_CELLS], shared: &[u32; state::SHARED_CELLS]) -> u64
     requires { ⌜ ((length (now own) ≡ ownLength) × (length (now shared) ≡ sharedLength)) × DomainValid (partyOf (now own) [] .domain) ⌝ }
-    ensures { λ r. ⌜ (r ≡ claimOf (partyOf (now (own .entry)) [] .domain) (sharedOf (now (shared .entry)) .mask) (sharedOf (now (shared .entry)) .outputs)) × (r ≤ 67108864) ⌝ }
+    ensures { λ r. ⌜ (r ≡ claimOf (partyOf (now (own .entry)) [] .domain) (sharedOf (now (shared .entry)) .mask) (sharedOf (now (shared .entry)) .outputs)) × (r ≤ mostClaim) ⌝ }
 {
     pairs(
         own[own::DOMAIN_I0],

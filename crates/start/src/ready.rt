@@ -1,6 +1,5 @@
 // What a start asks of the settings alone: 7, 8 and 9. Nothing here changes a cell.
 use command::format;
-use layout;
 use state::own;
 use state::settings;
 ghost use mathlib.Core.Path.{_≡_};
@@ -9,10 +8,10 @@ ghost use mathlib.Core.List.{[]};
 ghost use Prim.Native.Nat.{_%_, _^_, _<_};
 ghost use lib.ListN.{length};
 ghost use Rattle.laws.specs.Choice.{_and_, pick};
-ghost use Rattle.command.specs.Format.{channelsOf, windowOf};
+ghost use Rattle.command.specs.Format.{channelsOf};
 ghost use Rattle.state.specs.Cells.{bufferAt, partyOf, sharedOf, ownLength, sharedLength};
 ghost use Rattle.state.specs.Start.{readinessOf, unmasked};
-ghost use Rattle.start.specs.Windows.{cellsBuffer, countsBy, eachApart, eachHolds, holdsPair, keepsApart, outputOf, firstOf, someSet, spansApart, windowSeen};
+ghost use Rattle.start.specs.Windows.{cellsBuffer, countsBy, eachApart, eachHolds, holdsPair, keepsApart, outputOf, firstOf, someSet, spansApart};
 
 // An output as a start sees it: whether it is set, whether it counts, and its window. A window that is refused has row step
 // and span 0.
@@ -58,32 +57,6 @@ pub fn is_counted(bits: u32, flag: u32, format: u32) -> bool
     }
 }
 
-// A window's row step and span; 0 and 0 where it is refused.
-pub struct Window {
-    pub step: u32,
-    pub span: u32,
-}
-
-// The window that base, format and height describe. It is asked by numbers, so that nothing goes through memory.
-fn window_of(base: u32, format: u32, height: u32) -> Window
-    ensures { λ r. ⌜ r ≡ windowSeen (windowOf base format height) ⌝ }
-{
-    let pitch = format::pitch(format);
-    let size = format::size(format::code(format));
-    let tiled = format::tiled(format);
-    if !layout::well_formed(base, pitch, size) {
-        return Window { step: 0, span: 0 };
-    }
-    let row = layout::stream_stride(base, pitch, height, size, tiled);
-    if row < 1 {
-        return Window { step: 0, span: 0 };
-    }
-    Window {
-        step: layout::row_step(pitch, size, tiled),
-        span: layout::rows_taken(height, size, tiled) * row,
-    }
-}
-
 // The output that four cells describe. The window of one that isn't set or is silent is asked for nothing, so it isn't judged.
 fn output_of(bits: u32, flag: u32, base: u32, format: u32, height: u32) -> Output
     ensures { λ r. ⌜ r ≡ outputOf bits (cellsBuffer flag base format height) ⌝ }
@@ -99,7 +72,7 @@ fn output_of(bits: u32, flag: u32, base: u32, format: u32, height: u32) -> Outpu
             span: 0,
         };
     }
-    let window = window_of(base, format, height);
+    let window = format::window_of(base, format, height);
     Output {
         set: true,
         counts: true,
@@ -149,11 +122,11 @@ fn holds_pair(a: Output, i: u32, j: u32) -> bool
 }
 
 // Whether two spans share no byte. A span may end where 32 bits do, so the ends are in 64.
-fn spans_apart(base: u32, span: u32, other: u32, reach: u32) -> bool
-    ensures { λ r. ⌜ r ≡ spansApart base span other reach ⌝ }
+fn spans_apart(base: u32, span: u32, other: u32, extent: u32) -> bool
+    ensures { λ r. ⌜ r ≡ spansApart base span other extent ⌝ }
 {
     let end = base as u64 + span as u64;
-    let other_end = other as u64 + reach as u64;
+    let other_end = other as u64 + extent as u64;
     either(end <= other as u64, other_end <= base as u64)
 }
 

@@ -75,9 +75,9 @@ module _ (l : List ℕ) (h : length l ≡ ownLength) where
 
     -- commands that set nothing of a party's own
     module _ (s : Shared) where
-      pub quiet-own : (w : NoEffect) → HeldOwn (ownAfter (command.Quiet w) s p) l t
+      pub effectless-own : (w : NoEffect) → HeldOwn (ownAfter (command.Effectless w) s p) l t
       unfolding ownAfter
-      quiet-own w = same
+      effectless-own w = same
 
       pub input-own : (n b f g : ℕ) → HeldOwn (ownAfter (command.Input n b f g) s p) l t
       unfolding ownAfter

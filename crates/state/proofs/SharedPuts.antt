@@ -27,9 +27,9 @@ module _ (l : List ℕ) (h : length l ≡ sharedLength) where
   unfolding sharedAfter
   start-shared = sym (shared-canon l h)
 
-  pub quiet-shared : (what : NoEffect) → l ≡ cellsAfter (command.Quiet what)
+  pub effectless-shared : (what : NoEffect) → l ≡ cellsAfter (command.Effectless what)
   unfolding sharedAfter
-  quiet-shared what = sym (shared-canon l h)
+  effectless-shared what = sym (shared-canon l h)
 
   pub instructions-shared : (b f : ℕ) → l ≡ cellsAfter (command.Store stored.Instructions b f)
   unfolding sharedAfter

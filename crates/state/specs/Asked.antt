@@ -2,6 +2,7 @@
 use mathlib.Core.Path.{_≡_}
 use mathlib.Core.List.{List}
 use Prim.Native.Nat.{ℕ, _+_, _<_, _^_}
+use Rattle.state.specs.Start.{mostClaim}
 use Rattle.state.specs.State.{Party, Session}
 use Rattle.state.specs.Valid.{DomainValid, Valid}
 use Rattle.state.specs.Cells.{Sized, partyOf, sessionOf, partyCells, tallyCells, sharedCells}
@@ -27,4 +28,4 @@ pub record OwnAsked (own tallies shared : List ℕ) : Type 0 where
   pub sized : Sized own tallies shared
   pub domain : DomainValid (partyOf own tallies .domain)
   pub runs : partyOf own tallies .tally .runs + 1 < 2 ^ 64
-  pub claims : partyOf own tallies .tally .claims + 67108864 < 2 ^ 64
+  pub claims : partyOf own tallies .tally .claims + mostClaim < 2 ^ 64

@@ -154,7 +154,7 @@ unfoldable pub ownAfter : Command → Shared → Party → Party
 ownAfter (command.Domain i0 j0 i1 j1) h p = withDomain (domainFrom i0 j0 i1 j1) p
 ownAfter command.Start h p =
     withTally (record { runs = p .tally .runs + 1; claims = p .tally .claims + claimOf (p .domain) (h .mask) (h .outputs) }) p
-ownAfter (command.Quiet what) h p = p
+ownAfter (command.Effectless what) h p = p
 ownAfter (command.Store stored.Instructions base format) h p = withInstructions (buffer base format 1) p
 ownAfter (command.Store stored.Floats base format) h p = p
 ownAfter (command.Store stored.Integers base format) h p = p
@@ -170,7 +170,7 @@ ownAfter (command.Test test) h p = p
 unfoldable pub sharedAfter : Command → Shared → Shared
 sharedAfter (command.Domain i0 j0 i1 j1) h = h
 sharedAfter command.Start h = h
-sharedAfter (command.Quiet what) h = h
+sharedAfter (command.Effectless what) h = h
 sharedAfter (command.Store stored.Instructions base format) h = h
 sharedAfter (command.Store stored.Floats base format) h =
     withShared (h .mask) (h .conditionalMaskSet) (h .conditionalMask) (h .testSet) (h .test) (buffer base format 1) (h .integers)
@@ -204,7 +204,7 @@ sharedAfter (command.Test test) h =
 abbrev pub Numbered : Command → Type 0
 Numbered (command.Domain i0 j0 i1 j1) = Unit {0}
 Numbered command.Start = Unit {0}
-Numbered (command.Quiet what) = Unit {0}
+Numbered (command.Effectless what) = Unit {0}
 Numbered (command.Store what base format) = Unit {0}
 Numbered (command.Input number base format height) = number < 16
 Numbered (command.Output number base format height) = number < 4

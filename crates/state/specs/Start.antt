@@ -9,13 +9,8 @@ use Rattle.laws.specs.Choice.{_and_, pick}
 use Rattle.laws.specs.Below.{some, every, count}
 use Rattle.laws.specs.Masks.{on}
 use Rattle.refusal.specs.Told.{Told, gives, refuses}
-use Rattle.command.specs.Format.{channelsOf, codeOf, windowOf}
+use Rattle.command.specs.Format.{channelsOf, codeOf, valueOf, windowOf}
 use Rattle.state.specs.State.{Buffer, Domain, unset}
-
--- value `k` of an answer, 0 where it has none
-unfoldable pub valueOf : Told → ℕ → ℕ
-valueOf (gives values) k = getD values k 0
-valueOf (refuses n) k = 0
 
 -- a buffer's row step and span
 unfoldable pub stepOfBuffer : Buffer → ℕ
@@ -83,6 +78,13 @@ numberTold (refuses n) = n
 -- the same as one number: 0, 7, 8 or 9
 unfoldable pub readinessOf : Domain → Buffer → ℕ → List Buffer → ℕ
 readinessOf d instructions mask outputs = numberTold (readyOf d instructions mask outputs)
+
+-- a domain has at most 4,096 · 4,096 pairs, and four outputs claim each of them at most
+abbrev pub mostPairs : ℕ
+mostPairs = 16777216
+
+abbrev pub mostClaim : ℕ
+mostClaim = 67108864
 
 -- "the number of pairs in the domain"
 unfoldable pub pairsOf : Domain → ℕ

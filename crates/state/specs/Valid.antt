@@ -5,6 +5,7 @@ use mathlib.Core.List.{List, [], _∷_}
 use Prim.Native.Nat.{ℕ, _*_, _<_, _≤_}
 use lib.ListN.{length, getD, take}
 use lib.Dec.{eqb}
+use Rattle.state.specs.Start.{mostClaim}
 use Rattle.laws.specs.Choice.{pick}
 use Rattle.command.specs.Table.{headerOf, countOf}
 use Rattle.command.specs.Kinds.{allowed, kindOf}
@@ -29,7 +30,7 @@ pub record DomainValid (d : Domain) : Type 0 where
 -- a start takes two words and claims at most 4,096 · 4,096 · 4 elements, so 64 bits hold the tallies
 pub record TallyValid (t : Tally) (taken : ℕ) : Type 0 where
   pub runs-most : t .runs ≤ taken
-  pub claims-most : t .claims ≤ taken * 67108864
+  pub claims-most : t .claims ≤ taken * mostClaim
 
 pub record Valid (s : Session) : Type 0 where
   pub flag : s .party .stopped ≤ 1

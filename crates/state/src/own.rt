@@ -4,9 +4,8 @@ ghost use Prim.Native.Nat.{_+_, _<_, _≤_};
 ghost use mathlib.Core.List.{[]};
 ghost use lib.ListN.{length};
 ghost use Rattle.state.specs.State.{atLine, none};
-ghost use Rattle.state.specs.Effects.{buffer, domainFrom, opening, stop as stopped, took, withDomain, withInstructions, withParameter};
+ghost use Rattle.state.specs.Effects.{buffer, domainFrom, limit, opening, stop as stopped, took, tookWords, withDomain, withInstructions, withParameter};
 ghost use Rattle.state.specs.Cells.{partyOf, partyCells, ownLength};
-ghost use Rattle.state.specs.Effects.{tookWords};
 
 // A word's place in a piece or in a session, counted from 0: one of document 01's three kinds of number, never a byte
 // address or a slot number.
@@ -74,7 +73,7 @@ pub fn stop(own: &mut [u32; crate::OWN_CELLS])
 
 // One more word is taken.
 pub fn count_word(own: &mut [u32; crate::OWN_CELLS])
-    requires { ⌜ (length (now own) ≡ ownLength) × (partyOf (now own) [] .taken < 1000000000) ⌝ }
+    requires { ⌜ (length (now own) ≡ ownLength) × (partyOf (now own) [] .taken < limit) ⌝ }
     ensures { λ _. ⌜ now (own .exit) ≡ partyCells (took (partyOf (now (own .entry)) [])) ⌝ }
 {
     own[TAKEN] = own[TAKEN] + 1;
@@ -82,7 +81,7 @@ pub fn count_word(own: &mut [u32; crate::OWN_CELLS])
 
 // So many words more are taken.
 pub fn count_words(own: &mut [u32; crate::OWN_CELLS], words: u32)
-    requires { ⌜ (length (now own) ≡ ownLength) × (partyOf (now own) [] .taken + words ≤ 1000000000) ⌝ }
+    requires { ⌜ (length (now own) ≡ ownLength) × (partyOf (now own) [] .taken + words ≤ limit) ⌝ }
     ensures { λ _. ⌜ now (own .exit) ≡ partyCells (tookWords words (partyOf (now (own .entry)) [])) ⌝ }
 {
     own[TAKEN] = own[TAKEN] + words;
@@ -90,7 +89,7 @@ pub fn count_words(own: &mut [u32; crate::OWN_CELLS], words: u32)
 
 // A header is taken: the command of this line is open.
 pub fn open_line(own: &mut [u32; crate::OWN_CELLS], line: u32)
-    requires { ⌜ (length (now own) ≡ ownLength) × ((partyOf (now own) [] .taken < 1000000000) × (partyOf (now own) [] .opened ≡ none)) ⌝ }
+    requires { ⌜ (length (now own) ≡ ownLength) × ((partyOf (now own) [] .taken < limit) × (partyOf (now own) [] .opened ≡ none)) ⌝ }
     ensures { λ _. ⌜ now (own .exit) ≡ partyCells (took (opening (atLine line) (partyOf (now (own .entry)) []))) ⌝ }
 {
     own[LINE] = line;

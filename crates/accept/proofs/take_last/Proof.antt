@@ -4,7 +4,7 @@ use native.Mathlib.Omega.{arith}
 use Rattle.command.specs.Commands.{storedLine, commandOf}
 use Rattle.command.specs.declared.commands.Stored.the-variants.{Floats, Integers, Booleans}
 use Rattle.accept.specs.Whole.{lastWord}
-use Rattle.accept.proofs.WholeCommands.{room-for, room-shared, room-constants, room-start, at-line, quiet-at, quietAt, quiet-line}
+use Rattle.accept.proofs.WholeCommands.{room-for, room-shared, room-constants, room-start, at-line, effectless-at, effectlessAt, effectless-line}
 use Rattle.accept.proofs.take_last.Statement.{statement}
 use Rattle.accept.proofs.take_last.Tie as tie
 
@@ -44,8 +44,8 @@ take-conditional-mask-requires c κs = room-shared (c .before .before .before .p
 take-test-requires : tie.Need-take-test-requires
 take-test-requires c κs = room-shared (c .before .before .before .pre .1) _ (omega arith)
 
-take-quiet-requires : tie.Need-take-quiet-requires
-take-quiet-requires c κs = room-for (c .before .before .pre .1) _ (omega arith)
+take-effectless-requires : tie.Need-take-effectless-requires
+take-effectless-requires c κs = room-for (c .before .before .pre .1) _ (omega arith)
 
 returns : tie.Need-returns
 unfolding commandOf
@@ -97,8 +97,8 @@ returns-12 c rest = at-line lastWord _ _ _ _ _ _ _ _ _ _ _ _ _ _ (c .before .bef
 
 returns-13 : tie.Need-returns-13
 returns-13 c rest =
-    let what = quietAt (c .before .before .before .args .line) in
-    quiet-at lastWord _ _ _ _ _ _ _ _ _ _ _ _ _ what (quiet-line _ (c .before .before .before .pre .0) (c .before .before .match .rest)) (c .take-quiet .ensures what _ _ _ (c .before .before .before .pre .1 .1 .sized))
+    let what = effectlessAt (c .before .before .before .args .line) in
+    effectless-at lastWord _ _ _ _ _ _ _ _ _ _ _ _ _ what (effectless-line _ (c .before .before .before .pre .0) (c .before .before .match .rest)) (c .take-effectless .ensures what _ _ _ (c .before .before .before .pre .1 .1 .sized))
 
 pub take-last-spec : {M : Type 1} → statement M
 take-last-spec =
@@ -116,7 +116,7 @@ take-last-spec =
     take-mask-requires
     take-conditional-mask-requires
     take-test-requires
-    take-quiet-requires
+    take-effectless-requires
     returns
     returns-2
     returns-3

@@ -37,6 +37,9 @@ loop-less c = omega (arith, c .if1 .taken, c .before .before .before .before .be
 loop-again : tie.Need-loop-again Inv-loop μ-loop
 loop-again c = (fold-whole _ _ _ _ _ _ _ (c .before .before .before .before .before .before .loop .inv) _ _ _ _ (c .before .before .before .before .before .loop-test .taken) (c .if1 .taken) (c .before .take .ensures))
 
+add-next : tie.Need-add-next Inv-loop μ-loop
+add-next c = search needs
+
 mul-word : tie.Need-mul-word Inv-loop μ-loop
 mul-word c = search needs
 
@@ -49,6 +52,7 @@ word-requires c κs = (fold-same _ _ _ _ _ _ _ (c .before .before .before .befor
 enum-known-answer : tie.Need-enum-known-answer Inv-loop μ-loop
 enum-known-answer c = search needs
 
+-- a word is refused
 returns : tie.Need-returns Inv-loop μ-loop
 returns c = fold-refused _ _ _ _ _ _ _ (fold-same _ _ _ _ _ _ _ (c .before .before .before .before .before .before .before .before .before .before .before .before .before .before .loop .inv) _ _ _ _ (c .before .before .before .before .before .before .before .before .if1 .left) (c .before .before .before .before .before .before .before .before .before .take .ensures)) (c .before .before .before .before .before .before .before .before .before .before .before .before .before .loop-test .taken) _ _ _ _ _ (c .before .answer .given .1) (c .before .before .before .word .ensures)
 
@@ -58,15 +62,12 @@ completed-by-requires c κs = search needs
 add-commands-2 : tie.Need-add-commands-2 Inv-loop μ-loop
 add-commands-2 c = omega (arith, c .before .before .before .before .before .before .before .before .before .before .before .before .before .loop .inv .fewer, c .before .before .before .before .before .before .before .before .before .before .before .before .loop-test .taken, completed-most (replyOf (c .before .before .word .result)), c .completed-by .ensures)
 
-add-i-2 : tie.Need-add-i-2 Inv-loop μ-loop
-add-i-2 c = search needs
-
 loop-less-2 : tie.Need-loop-less-2 Inv-loop μ-loop
 loop-less-2 c = search needs
 
+-- a word is taken
 loop-again-2 : tie.Need-loop-again-2 Inv-loop μ-loop
-loop-again-2 c =
-    fold-goes _ _ _ _ _ _ _ (fold-same _ _ _ _ _ _ _ (c .before .before .before .before .before .before .before .before .before .before .before .before .before .loop .inv) _ _ _ _ (c .before .before .before .before .before .before .before .if1 .left) (c .before .before .before .before .before .before .before .before .take .ensures)) (c .before .before .before .before .before .before .before .before .before .before .before .before .loop-test .taken) _ _ _ (c .before .before .word .result) (c .before .match .keys2) (c .before .before .word .ensures) _ (c .completed-by .ensures)
+loop-again-2 c = fold-goes _ _ _ _ _ _ _ (fold-same _ _ _ _ _ _ _ (c .before .before .before .before .before .before .before .before .before .before .before .before .before .loop .inv) _ _ _ _ (c .before .before .before .before .before .before .before .if1 .left) (c .before .before .before .before .before .before .before .before .take .ensures)) (c .before .before .before .before .before .before .before .before .before .before .before .before .loop-test .taken) _ _ _ (c .before .before .word .result) (c .before .match .keys2) (c .before .before .word .ensures) _ (c .completed-by .ensures)
 
 returns-2 : tie.Need-returns-2 Inv-loop μ-loop
 returns-2 c = fold-ends _ _ _ _ _ _ _ (c .before .loop .inv) (c .loop-test .left)
@@ -84,6 +85,7 @@ feed-spec =
     add-i
     loop-less
     loop-again
+    add-next
     mul-word
     shared-slice-read-word
     word-requires
@@ -91,7 +93,6 @@ feed-spec =
     returns
     completed-by-requires
     add-commands-2
-    add-i-2
     loop-less-2
     loop-again-2
     returns-2)

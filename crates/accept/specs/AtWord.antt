@@ -9,8 +9,8 @@ pub record Idle (s : Session) : Type 0 where
   pub unopened : s .party .opened ≡ none
 
 -- a session that has taken `n` words and has the open command `o`, all else the same
-abbrev pub standing : Session → ℕ → Open → Session
-standing s n o =
+abbrev pub atWord : Session → ℕ → Open → Session
+atWord s n o =
     record {
       party =
           record {
