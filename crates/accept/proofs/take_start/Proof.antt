@@ -13,17 +13,31 @@ readiness-requires c κs = search needs
 
 -- the settings refuse the start
 returns-2 : tie.Need-returns-2
-returns-2 c rest = start-unready (c .before .before .before .before .args .own .now) (c .before .before .before .before .args .tallies .now) (c .before .before .before .before .args .shared .now) _ _ (c .before .readiness .ensures) (c .if2 .taken)
+returns-2 c rest =
+    let at-start = c .before .before .before .before in
+    start-unready (at-start .args .own .now) (at-start .args .tallies .now) (at-start .args .shared .now) _ _ (c .before .readiness .ensures)
+    (c .if2 .taken)
 
 count-words-requires : tie.Need-count-words-requires
 count-words-requires c κs = (c .before .before .before .before .before .pre .0 .own-length, c .before .before .before .before .before .pre .0 .room)
 
 count-start-requires : tie.Need-count-start-requires
-count-start-requires c κs = start-asked _ _ _ (c .before .before .count-words .ensures) (c .before .before .before .before .before .before .before .before .args .tallies .now) (c .before .before .before .before .before .before .before .before .args .shared .now) (c .before .before .before .before .before .before .before .before .pre .1)
+count-start-requires c κs =
+    let at-count-words = c .before .before in
+    let earlier = at-count-words .before .before .before .before .before in
+    let at-start = earlier .before in
+    start-asked _ _ _ (at-count-words .count-words .ensures) (at-start .args .tallies .now) (at-start .args .shared .now) (at-start .pre .1)
 
 -- it passes
 returns-3 : tie.Need-returns-3
-returns-3 c = start-tried _ _ _ (c .before .before .before .count-words .ensures) (c .before .before .before .before .before .before .before .before .before .args .tallies .now) (c .before .before .before .before .before .before .before .before .before .args .shared .now) (c .before .before .before .before .before .before .before .before .before .pre .1) _ (c .before .before .before .before .before .before .before .before .if1 .left) _ (c .before .before .before .before .before .before .readiness .ensures) (c .before .before .before .before .before .if2 .left) _ (c .count-start .ensures)
+returns-3 c =
+    let at-count-words = c .before .before .before in
+    let at-if2 = at-count-words .before .before in
+    let at-readiness = at-if2 .before in
+    let at-if1 = at-readiness .before .before in
+    let at-start = at-if1 .before in
+    start-tried _ _ _ (at-count-words .count-words .ensures) (at-start .args .tallies .now) (at-start .args .shared .now) (at-start .pre .1) _
+    (at-if1 .if1 .left) _ (at-readiness .readiness .ensures) (at-if2 .if2 .left) _ (c .count-start .ensures)
 
 pub take-start-spec : {M : Type 1} → statement M
 take-start-spec =

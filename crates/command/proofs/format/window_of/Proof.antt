@@ -25,25 +25,68 @@ well-formed-requires : tie.Need-well-formed-requires
 well-formed-requires c κs = search needs
 
 returns : tie.Need-returns
-returns c = seen-malformed _ _ _ _ _ _ _ (c .before .before .before .before .before .pitch .ensures) (c .before .before .before .before .code .ensures) (c .before .before .before .size .ensures) (c .before .before .tiled .ensures) (sym (c .before .well-formed .ensures) ∙ not-true _ (c .if1 .taken))
+returns c =
+    let at-tiled = c .before .before in
+    let at-size = at-tiled .before in
+    let at-code = at-size .before in
+    let at-pitch = at-code .before in
+    seen-malformed _ _ _ _ _ _ _ (at-pitch .pitch .ensures) (at-code .code .ensures) (at-size .size .ensures) (at-tiled .tiled .ensures)
+    (sym (c .before .well-formed .ensures) ∙ not-true _ (c .if1 .taken))
 
 stream-stride-requires : tie.Need-stream-stride-requires
 stream-stride-requires c κs = sym (c .before .well-formed .ensures) ∙ not-false _ (c .if1 .left)
 
 returns-2 : tie.Need-returns-2
-returns-2 c = seen-broken _ _ _ _ _ _ _ (c .before .before .before .before .before .before .before .pitch .ensures) (c .before .before .before .before .before .before .code .ensures) (c .before .before .before .before .before .size .ensures) (c .before .before .before .before .tiled .ensures) (sym (c .before .before .before .well-formed .ensures) ∙ not-false _ (c .before .before .if1 .left)) (unruled _ _ _ _ _ (sym (c .before .before .before .well-formed .ensures) ∙ not-false _ (c .before .before .if1 .left)) _ (c .before .stream-stride .ensures) (c .if2 .taken))
+returns-2 c =
+    let at-if1 = c .before .before in
+    let at-well-formed = at-if1 .before in
+    let at-tiled = at-well-formed .before in
+    let at-size = at-tiled .before in
+    let at-code = at-size .before in
+    let at-pitch = at-code .before in
+    let formed = sym (at-well-formed .well-formed .ensures) ∙ not-false _ (at-if1 .if1 .left) in
+    seen-broken _ _ _ _ _ _ _ (at-pitch .pitch .ensures) (at-code .code .ensures) (at-size .size .ensures) (at-tiled .tiled .ensures)
+    formed
+    (unruled _ _ _ _ _ formed _ (c .before .stream-stride .ensures) (c .if2 .taken))
 
 row-step-requires : tie.Need-row-step-requires
 row-step-requires c κs = form-size _ _ _ (sym (c .before .before .before .well-formed .ensures) ∙ not-false _ (c .before .before .if1 .left))
 
 rows-taken-requires : tie.Need-rows-taken-requires
-rows-taken-requires c κs = (form-size _ _ _ (sym (c .before .before .before .before .well-formed .ensures) ∙ not-false _ (c .before .before .before .if1 .left)), rule-bounds _ _ _ _ _ ((ruled _ _ _ _ _ (sym (c .before .before .before .before .well-formed .ensures) ∙ not-false _ (c .before .before .before .if1 .left)) _ (c .before .before .stream-stride .ensures) (c .before .if2 .left)) .rule) .height-most)
+rows-taken-requires c κs =
+    let at-stream-stride = c .before .before in
+    let at-if1 = at-stream-stride .before in
+    let at-well-formed = at-if1 .before in
+    let formed = sym (at-well-formed .well-formed .ensures) ∙ not-false _ (at-if1 .if1 .left) in
+    (form-size _ _ _ formed, rule-bounds _ _ _ _ _ ((ruled _ _ _ _ _ formed _ (at-stream-stride .stream-stride .ensures) (c .before .if2 .left)) .rule) .height-most)
 
 mul-t12 : tie.Need-mul-t12
-mul-t12 c = omega (arith, (window-span _ _ _ _ _ (sym (c .before .before .before .before .before .well-formed .ensures) ∙ not-false _ (c .before .before .before .before .if1 .left)) _ _ (ruled _ _ _ _ _ (sym (c .before .before .before .before .before .well-formed .ensures) ∙ not-false _ (c .before .before .before .before .if1 .left)) _ (c .before .before .before .stream-stride .ensures) (c .before .before .if2 .left)) (c .rows-taken .ensures)) .1)
+mul-t12 c =
+    let at-if2 = c .before .before in
+    let at-stream-stride = at-if2 .before in
+    let at-if1 = at-stream-stride .before in
+    let at-well-formed = at-if1 .before in
+    let formed = sym (at-well-formed .well-formed .ensures) ∙ not-false _ (at-if1 .if1 .left) in
+    let kept = ruled _ _ _ _ _ formed _ (at-stream-stride .stream-stride .ensures) (at-if2 .if2 .left) in
+    omega
+    (arith, (window-span _ _ _ _ _ formed _ _ kept (c .rows-taken .ensures)) .1)
 
 returns-3 : tie.Need-returns-3
-returns-3 c = seen-accepted _ _ _ _ _ _ _ (c .before .before .before .before .before .before .before .before .before .pitch .ensures) (c .before .before .before .before .before .before .before .before .code .ensures) (c .before .before .before .before .before .before .before .size .ensures) (c .before .before .before .before .before .before .tiled .ensures) (sym (c .before .before .before .before .before .well-formed .ensures) ∙ not-false _ (c .before .before .before .before .if1 .left)) _ _ (c .before .row-step .ensures) ((window-span _ _ _ _ _ (sym (c .before .before .before .before .before .well-formed .ensures) ∙ not-false _ (c .before .before .before .before .if1 .left)) _ _ (ruled _ _ _ _ _ (sym (c .before .before .before .before .before .well-formed .ensures) ∙ not-false _ (c .before .before .before .before .if1 .left)) _ (c .before .before .before .stream-stride .ensures) (c .before .before .if2 .left)) (c .rows-taken .ensures)) .0) ((ruled _ _ _ _ _ (sym (c .before .before .before .before .before .well-formed .ensures) ∙ not-false _ (c .before .before .before .before .if1 .left)) _ (c .before .before .before .stream-stride .ensures) (c .before .before .if2 .left)) .rule)
+returns-3 c =
+    let at-if2 = c .before .before in
+    let at-stream-stride = at-if2 .before in
+    let at-if1 = at-stream-stride .before in
+    let at-well-formed = at-if1 .before in
+    let at-tiled = at-well-formed .before in
+    let at-size = at-tiled .before in
+    let at-code = at-size .before in
+    let at-pitch = at-code .before in
+    let formed = sym (at-well-formed .well-formed .ensures) ∙ not-false _ (at-if1 .if1 .left) in
+    let kept = ruled _ _ _ _ _ formed _ (at-stream-stride .stream-stride .ensures) (at-if2 .if2 .left) in
+    seen-accepted _ _ _ _ _ _ _ (at-pitch .pitch .ensures) (at-code .code .ensures) (at-size .size .ensures) (at-tiled .tiled .ensures)
+    formed _ _ (c .before .row-step .ensures)
+    ((window-span _ _ _ _ _ formed _ _ kept (c .rows-taken .ensures)) .0)
+    (kept .rule)
 
 pub window-of-spec : {M : Type 1} → statement M
 window-of-spec =

@@ -21,29 +21,65 @@ element-copy-out-p3 : tie.Need-element-copy-out-p3
 element-copy-out-p3 c = search needs
 
 take-last-requires : tie.Need-take-last-requires
-take-last-requires c κs = last-asked (c .before .before .before .before .before .before .before .before .args .own .now) (c .before .before .before .before .before .before .before .before .args .tallies .now) (c .before .before .before .before .before .before .before .before .args .shared .now) (c .before .before .before .before .before .before .before .before .pre)
+take-last-requires c κs =
+    let earlier = c .before .before .before .before .before in
+    let at-start = earlier .before .before .before in
+    last-asked (at-start .args .own .now) (at-start .args .tallies .now) (at-start .args .shared .now) (at-start .pre)
 
 close-requires : tie.Need-close-requires
-close-requires c κs = last-length (c .before .before .before .before .before .before .before .before .before .before .before .args .own .now) (c .before .before .before .before .before .before .before .before .before .before .before .args .tallies .now) (c .before .before .before .before .before .before .before .before .before .before .before .args .shared .now) (c .before .before .before .before .before .before .before .before .before .before .before .pre) _ _ _ _ (c .before .before .take-last .ensures)
+close-requires c κs =
+    let at-take-last = c .before .before in
+    let earlier = at-take-last .before .before .before .before .before in
+    let at-start = earlier .before .before .before .before in
+    last-length (at-start .args .own .now) (at-start .args .tallies .now) (at-start .args .shared .now) (at-start .pre) _ _ _ _
+    (at-take-last .take-last .ensures)
 
 build-requires : tie.Need-build-requires
 unfolding partyOf
-build-requires c κs = c .before .before .before .before .before .before .before .before .before .before .before .before .pre .line
+build-requires c κs =
+    let earlier = c .before .before .before .before .before in
+    let earlier-2 = earlier .before .before .before .before .before in
+    let at-start = earlier-2 .before .before in
+    at-start .pre .line
 
 -- it is taken, and closed
 returns : tie.Need-returns
 unfolding partyOf
-returns c = last-done (c .before .before .before .before .before .before .before .before .before .before .before .before .before .args .own .now) (c .before .before .before .before .before .before .before .before .before .before .before .before .before .args .tallies .now) (c .before .before .before .before .before .before .before .before .before .before .before .before .before .args .shared .now) (c .before .before .before .before .before .before .before .before .before .before .before .before .before .pre) _ _ _ _ (c .before .before .before .before .take-last .ensures) (c .before .before .before .if1 .taken) _ (c .build .ensures) _ (c .before .close .ensures)
+returns c =
+    let at-if1 = c .before .before .before in
+    let at-take-last = at-if1 .before in
+    let earlier = at-take-last .before .before .before .before .before in
+    let at-start = earlier .before .before .before .before in
+    last-done (at-start .args .own .now) (at-start .args .tallies .now) (at-start .args .shared .now) (at-start .pre) _ _ _ _
+    (at-take-last .take-last .ensures) (at-if1 .if1 .taken) _ (c .build .ensures) _ (c .before .close .ensures)
 
 refusal-of-requires : tie.Need-refusal-of-requires
-refusal-of-requires c κs = refusal-asked (c .before .before .before .before .before .before .before .before .before .before .before .before .args .own .now) (c .before .before .before .before .before .before .before .before .before .before .before .before .args .tallies .now) (c .before .before .before .before .before .before .before .before .before .before .before .before .args .shared .now) (c .before .before .before .before .before .before .before .before .before .before .before .before .pre) _ _ _ _ (c .before .before .before .take-last .ensures) (c .before .before .if1 .left)
+refusal-of-requires c κs =
+    let at-if1 = c .before .before in
+    let at-take-last = at-if1 .before in
+    let earlier = at-take-last .before .before .before .before .before in
+    let at-start = earlier .before .before .before .before in
+    refusal-asked (at-start .args .own .now) (at-start .args .tallies .now) (at-start .args .shared .now) (at-start .pre) _ _ _ _
+    (at-take-last .take-last .ensures) (at-if1 .if1 .left)
 
 stop-requires : tie.Need-stop-requires
-stop-requires c κs = last-length (c .before .before .before .before .before .before .before .before .before .before .before .before .before .before .args .own .now) (c .before .before .before .before .before .before .before .before .before .before .before .before .before .before .args .tallies .now) (c .before .before .before .before .before .before .before .before .before .before .before .before .before .before .args .shared .now) (c .before .before .before .before .before .before .before .before .before .before .before .before .before .before .pre) _ _ _ _ (c .before .before .before .before .before .take-last .ensures)
+stop-requires c κs =
+    let at-take-last = c .before .before .before .before .before in
+    let earlier = at-take-last .before .before .before .before .before in
+    let at-start = earlier .before .before .before .before in
+    last-length (at-start .args .own .now) (at-start .args .tallies .now) (at-start .args .shared .now) (at-start .pre) _ _ _ _
+    (at-take-last .take-last .ensures)
 
 -- it is refused, and the session stopped
 returns-2 : tie.Need-returns-2
-returns-2 c = last-refused (c .before .before .before .before .before .before .before .before .before .before .before .before .before .before .before .args .own .now) (c .before .before .before .before .before .before .before .before .before .before .before .before .before .before .before .args .tallies .now) (c .before .before .before .before .before .before .before .before .before .before .before .before .before .before .before .args .shared .now) (c .before .before .before .before .before .before .before .before .before .before .before .before .before .before .before .pre) _ _ _ _ (c .before .before .before .before .before .before .take-last .ensures) (c .before .before .before .before .before .if1 .left) _ (c .before .before .refusal-of .ensures) _ (c .stop .ensures)
+returns-2 c =
+    let at-refusal-of = c .before .before in
+    let at-if1 = at-refusal-of .before .before .before in
+    let at-take-last = at-if1 .before in
+    let earlier = at-take-last .before .before .before .before .before in
+    let at-start = earlier .before .before .before .before in
+    last-refused (at-start .args .own .now) (at-start .args .tallies .now) (at-start .args .shared .now) (at-start .pre) _ _ _ _
+    (at-take-last .take-last .ensures) (at-if1 .if1 .left) _ (at-refusal-of .refusal-of .ensures) _ (c .stop .ensures)
 
 pub complete-spec : {M : Type 1} → statement M
 complete-spec =

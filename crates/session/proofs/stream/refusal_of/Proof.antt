@@ -9,7 +9,9 @@ readiness-requires : tie.Need-readiness-requires
 readiness-requires c κs = (c .before .pre .own-length, c .before .pre .shared-length)
 
 with-number-requires : tie.Need-with-number-requires
-with-number-requires c κs = start-number (c .before .before .args .own .now) (c .before .before .args .shared .now) _ (c .before .before .pre) (c .before .match .keys2) _ (c .readiness .ensures)
+with-number-requires c κs =
+    let at-start = c .before .before in
+    start-number (at-start .args .own .now) (at-start .args .shared .now) _ (at-start .pre) (c .before .match .keys2) _ (c .readiness .ensures)
 
 -- a domain
 returns : tie.Need-returns
