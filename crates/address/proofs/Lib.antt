@@ -1,5 +1,6 @@
 pub mod Answers
 pub mod Blocks
+pub mod Formula
 pub mod Inverse
 pub mod Offsets
 pub mod Printed

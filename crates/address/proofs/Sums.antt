@@ -3,7 +3,8 @@
 use mathlib.Core.Path.{_≡_, refl, sym, ap, _∙_, subst, subst₂}
 use mathlib.Core.Bool.{Bool, true, false}
 use Prim.Native.Nat.{ℕ, _+_, _-_, _*_, _/_, _%_, _<_, _≤_, _^_}
-use native.Mathlib.Nat.{mod-lt, mod-le, div-le-self, div-lt-iff-lt-mul, div-div-eq-div-mul, div-add-mod', mul-le-mul, mul-assoc, mul-comm, mul-pos, add-mul, add-mul-div-right}
+use native.Mathlib.Nat.{mod-lt, mod-le, div-le-self, div-lt-iff-lt-mul, div-div-eq-div-mul, div-add-mod', mul-le-mul, mul-assoc, mul-comm}
+use native.Mathlib.Nat.{mul-pos, add-mul, add-mul-div-right}
 use native.Mathlib.Omega.{arith}
 use lib.Arith.{digits-lt, digits-mod}
 use lib.Bits.{bitAnd, and-mask}
@@ -98,7 +99,8 @@ module _ (p q s e : ℕ) (a : BlockAsked p q s e) where
       pub back-sums : BackSums p q s o X Y
       back-sums =
           record {
-            x = mul-le-mul {n₂ = 2 ^ 24} {m₂ = 8} (eighth X column (ap (λ (n : ℕ). n / 8) eX ∙ block-column column row (o / 32 % 64)) (tile-sums .column)) (a .p-most);
+            x = mul-le-mul {n₂ = 2 ^ 24} {m₂ = 8}
+                (eighth X column (ap (λ (n : ℕ). n / 8) eX ∙ block-column column row (o / 32 % 64)) (tile-sums .column)) (a .p-most);
             y = mul-le-mul {n₂ = 2 ^ 24} {m₂ = 4} (eighth Y row (ap (λ (n : ℕ). n / 8) eY ∙ block-row column row (o / 32 % 64)) (tile-sums .row)) (a .q-most);
             x-rest = omega (arith, mod-lt (o % 32 / s) (tile .p-pos));
             y-rest = omega (arith, div-le-self (o % 32 / s) p, div-le-self (o % 32) s);
@@ -160,7 +162,8 @@ pub linear-sums : {s x y : ℕ} (r : ℕ) → PairAsked s (r / s) x y → r / s 
 unfolding linearOffset
 linear-sums {s} {x} {y} r a whole =
     record {
-      rows = mul-le-mul {n₂ = 4096} {m₂ = 2 ^ 16} (omega (arith, a .row)) (rw whole at (mul-le-mul {n₂ = 4096} {m₂ = 16} (a .step) (blocks s (a .size) .s-most)));
+      rows = mul-le-mul {n₂ = 4096} {m₂ = 2 ^ 16} (omega (arith, a .row))
+          (rw whole at (mul-le-mul {n₂ = 4096} {m₂ = 16} (a .step) (blocks s (a .size) .s-most)));
       bytes = mul-le-mul {n₂ = 4096} {m₂ = 16} (omega (arith, a .column, a .step)) (blocks s (a .size) .s-most);
       offset =
           ap (λ (n : ℕ). y * n + x * s) (sym whole) ∙ ap (λ (n : ℕ). n + x * s) (sym (mul-assoc y (r / s) s)) ∙

@@ -1,5 +1,6 @@
 pub mod Address
 pub mod Asked
+pub mod Formula
 pub mod Inverse
 pub mod Offset
 pub mod Printed

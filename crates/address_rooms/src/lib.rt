@@ -4,7 +4,7 @@ use address::Located;
 use layout::ByteAddress;
 use layout::Judged;
 use layout::Layout;
-ghost use Prim.Native.Nat.{_<_};
+ghost use Prim.Native.Nat.{_^_, _<_};
 ghost use Rattle.layout.specs.Layout.{judgeOf};
 ghost use Rattle.address.specs.Address.{layoutOf, translateOf, locateOf, toldNumber};
 ghost use Rattle.refusal.specs.Crossing.{Crosses};
@@ -43,14 +43,14 @@ pub fn judge(
 
 // A translation's number as status and room.
 fn cross(number: u64, room: &mut [u32; 1]) -> u32
-    requires { ⌜ number < 8589934592 ⌝ }
+    requires { ⌜ number < 2 ^ 33 ⌝ }
     ensures { λ r. ⌜ Crosses (toldNumber number) r (now (room .entry)) (now (room .exit)) ⌝ }
 {
-    if number < 4294967296 {
+    if number < address::REFUSED {
         *room = [number as u32];
         0
     } else {
-        (number - 4294967296) as u32
+        (number - address::REFUSED) as u32
     }
 }
 

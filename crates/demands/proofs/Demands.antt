@@ -1,118 +1,440 @@
--- The page of top theorems. Each has its statement in words, and a proof that cites the crate that has it.
+-- The page of top theorems, in the order of the demands: 1, 2, 3, then elements, flow, and the requests 1, 2, 3 and 5. Each statement has
+-- its sentence above it and a proof that only cites the file that has it. What a statement asks for is what its sentence says or what an
+-- entry asks for: a session, a replay or a group's cells that came from the entries (`Reached`, `Handed`), and bytes that are bytes.
 -- Assumes nothing.
 use mathlib.Core.Path.{_≡_, refl, _∙_}
-use mathlib.Core.Bool.{true, false}
-use mathlib.Core.List.{List, [], _++_}
-use Prim.Native.Nat.{ℕ, _+_, _≤_}
-use lib.ListN.{length}
+use mathlib.Core.Bool.{Bool, true, false}
+use mathlib.Core.List.{List, [], _∷_, _++_}
+use Prim.Native.Nat.{ℕ, _+_, _<_, _≤_}
+use lib.Count.{ones, trailingZeros}
+use lib.ListN.{length, take}
 use Rattle.laws.specs.Bits.{xor}
 use Rattle.laws.specs.Choice.{_and_, pick, placeOf}
 use Rattle.laws.specs.Below.{some, every, sum}
 use Rattle.laws.specs.Masks.{_or_, differ, digit, on, pack}
+use Rattle.refusal.specs.Told.{Told, gives, refuses}
 use Rattle.layout.specs.Sizes.{isSize, widthOf, heightOf}
 use Rattle.layout.specs.Layout.{wellFormed, unitOf, rowStep, tileRows, spanOf, inBounds, windowRule, judgeOf}
 use Rattle.layout.specs.declared.Layout.{Layout}
+use Rattle.layout.proofs.Window.{form-size}
 use Rattle.address.specs.Offset.{blockWidth, blockHeight, codeOf, insideOf, tiledOffset, linearOffset, offsetOf}
 use Rattle.address.specs.Address.{ifAccepted, inside, addressOf, translateOf}
-use Rattle.address.specs.Inverse.{Accepted, Inverse}
+use Rattle.address.specs.Inverse.{Accepted, Inside, Inverse}
+use Rattle.address.specs.Formula.{printedAddress, guideAddress}
+use Rattle.address.proofs.Formula.{printed, address-printed, address-guide}
 use Rattle.address.proofs.Inverse.{inverse}
-use Rattle.refusal.specs.Told.{gives}
-use Rattle.memory.specs.Elements.{Wrote}
+use Rattle.memory.specs.Bytes.{Touched}
+use Rattle.memory.specs.Elements.{readOf}
 use Rattle.memory.specs.Reads.{ReadBack}
+use Rattle.memory.proofs.Bytes.{touched}
 use Rattle.memory.proofs.ReadBack.{read-back}
+use Rattle.superfine.specs.InLine.{joined}
+use Rattle.superfine.specs.Superfine.{superfineWord, superfineReadOf, formatLayout}
+use Rattle.superfine.proofs.FourReads.{four-reads}
+use Rattle.command.specs.declared.commands.Command.the-variants as command
 use Rattle.state.specs.State.{Session, newSession}
 use Rattle.state.specs.Effects.{limit}
-use Rattle.session.specs.Step.{refused, stepOf}
-use Rattle.session.specs.Feed.{nothing, first, feedOf, written, fedPieces, uncut}
+use Rattle.state.specs.Asked.{Given}
+use Rattle.state.specs.Cells.{sessionOf}
 use Rattle.state.specs.Valid.{Valid, heldOf}
+use Rattle.session.specs.Step.{refused, startRuleOf, stepOf}
+use Rattle.session.specs.Feed.{nothing, first, ended as feedEnded, feedOf, written, fedPieces, uncut}
 use Rattle.session.specs.Refusals.{RefusedTo}
-use Rattle.session.specs.Again.{Idle, SameSettings, ReadAgain}
+use Rattle.session.specs.Again.{Idle, SameSettings}
+use Rattle.session.specs.Reached.{Reached, mostWords, allByWriter, ReadInFull}
 use Rattle.session.specs.Silent.{SilentSettings, startWords, EmptyRun, AsBefore}
-use Rattle.session.proofs.Silent.{silent-start, as-before}
 use Rattle.session.proofs.Cut.{cut-anywhere}
-use Rattle.session.proofs.WriteBack.{fed-back}
-use Rattle.session.proofs.ReadAgain.{read-again}
-use Rattle.session.proofs.Refusals.{refused-word}
-use Rattle.session.proofs.Tallies.{Tallied, tallied}
+use Rattle.session.proofs.Reached.{reached-valid, by-writer, back-by-writer, read-in-full, read-here}
+use Rattle.session.proofs.Refusals.{refused-word, refused-piece, stopped-for-good, stopped-piece}
+use Rattle.session.proofs.Silent.{silent-start, as-before}
+use Rattle.session.proofs.Tallies.{Tallied, tallied, counted}
 use Rattle.replay.specs.State.{Replay, newReplay}
-use Rattle.replay.specs.Step.{refused as byteRefused}
-use Rattle.log.specs.Bytes.{byteStep}
-use Rattle.log.specs.Feed.{replayOf, replayPieces}
-use Rattle.log.specs.Words.{wordsIn}
+use Rattle.replay.specs.Step.{refused as byteRefused, isKind, afterWord}
 use Rattle.replay.specs.Report.{partAt}
-use Rattle.log.specs.Refusals.{RefusedTo as LogRefusedTo}
-use Rattle.replay.specs.Cells.{ReplayValid}
-use Rattle.log.proofs.Cut.{refused-byte, cut-anywhere as bytes-cut-anywhere}
-use Rattle.log.proofs.Words.{one-session}
-use Rattle.log.proofs.Days.{all-runs, all-claims}
 use Rattle.log.specs.Asked.{Bytes8}
+use Rattle.log.specs.Bytes.{byteStep}
+use Rattle.log.specs.Feed.{ended as replayEnded, replayOf, replayPieces, recordBytes, afterWords}
+use Rattle.log.specs.Refusals.{RefusedTo as LogRefusedTo}
+use Rattle.log.specs.Unfinished.{OpenOnly}
+use Rattle.log.specs.Words.{wordsIn, reported}
+use Rattle.log.proofs.Cut.{refused-byte, stopped-piece as stopped-bytes, cut-anywhere as bytes-cut-anywhere}
+use Rattle.log.proofs.Days.{all-runs, all-claims, unfinished}
 use Rattle.log.proofs.Kept.{new-replay-valid, piece-valid}
+use Rattle.log.proofs.Records.{Ready, later-words}
+use Rattle.log.proofs.Words.{one-session, first-refusal}
 use Rattle.score.specs.Lease.{Lease, isLease}
 use Rattle.score.specs.Midnights.{among, daysIn}
+use Rattle.score.specs.Promises.{AllServed, Calling, Claimed, Refusing, Scoring}
 use Rattle.score.specs.Score.{servedAt, verdictOf, Month, monthOf, scored, refused as refusedScore, scoreOf, scoreOfLog}
 use Rattle.score.specs.declared.month.Verdict.the-variants.{Full}
-use Rattle.score.specs.Promises.{AllServed, Calling, Claimed, Refusing, Scoring}
 use Rattle.score.proofs.Dates.{claimed-from}
 use Rattle.score.proofs.Lines.{bounds}
 use Rattle.score.proofs.Midnights.{midnight-records}
 use Rattle.score.proofs.Promises.{line-first, dark-day, refused-with, scored-as, log-refused, log-scored, in-pieces}
 use Rattle.score.proofs.Verdicts.{full-if, full-only-if, calling}
-use Rattle.group.specs.Proc.{wants, decided, branched}
-use Rattle.group.specs.Group.{allowed, fresh, turnedIf, wishOf, overLimit, wayOf, settled, slotStep, ended, groupStep}
+use Rattle.group.specs.Proc.{mostProcessors, wants, decided, branched}
+use Rattle.group.specs.Group.{
+  Program,
+  Group,
+  Steps,
+  Fails,
+  firstActive,
+  numberActive,
+  allowed,
+  fresh,
+  turnedIf,
+  wishOf,
+  overLimit,
+  wayOf,
+  settled,
+  slotStep,
+  ended,
+  groupRun,
+  groupStep as flowStep,
+}
+use Rattle.group.specs.Cells as cells
+use Rattle.group.specs.Cells.{activeMask}
+use Rattle.flow.proofs.Counting.{mask-count, mask-first, mask-none}
 use Rattle.flow.specs.Cases.{oneWord, c9, c10, c11, c12}
-use Rattle.demands.specs.Cases.{Agree, cases}
+use Rattle.element_rooms.specs.Rooms.{WriteCrosses}
+use Rattle.session_rooms.specs.Rooms.{WordCrosses, FeedCrosses}
+use Rattle.replay.specs.Cells.{ReplayHeld, ReplayGiven}
+use Rattle.log.proofs.Handed.{begun-given}
+use Rattle.log_rooms.specs.Rooms.{BeginCrosses}
+use Rattle.log_rooms.specs.Pieces.{Arrays, replayAt, GivenAt, FedAt, Pieces}
+use Rattle.log_rooms.proofs.Cut.{any-pieces, pieces-given}
+use Rattle.score_rooms.specs.Rooms.{MonthCrosses, ScoreCrosses}
+use Rattle.score_rooms.proofs.FromLog.{score-from-log}
+use Rattle.demands.specs.Calls.{Call, Untouched}
+use Rattle.demands.specs.Cases.{Agree as Cases, cases}
+use Rattle.demands.specs.Days.{added, replayed, goneOn, AtMidnight, withDay, begun}
+use Rattle.demands.specs.Flow.{Agree, AllAgree, Made, Ran, Refused}
+use Rattle.demands.specs.Flow as flow
+use Rattle.demands.specs.Pieces.{Handed, WordRefused, InTurn, AsOne}
+use Rattle.demands.specs.Refused.{FirstRefused, Reported}
+use Rattle.demands.specs.Windows.{Fits, PairOutside, ByteShared}
+use Rattle.demands.proofs.Calls.{refused-call}
+use Rattle.demands.proofs.Days.{day-so-far, day-ended, before-first, days-stand}
+use Rattle.demands.proofs.Elements.{write-done}
+use Rattle.demands.proofs.Flow.{step-made, step-refused, run-walks, same-step, same-run, handed-made}
+use Rattle.demands.proofs.Pieces.{handed-reached, handed-given, word-refused, as-one}
+use Rattle.demands.proofs.Refused.{refused-place}
+use Rattle.demands.proofs.Windows.{passes, gets-eight, gets-nine}
 
--- Demand 1, for sessions: a refused word changes no setting and no tally; it stops the session and drops the open command, and
--- on a stopped session it changes nothing at all. (The calls that are lent memory, room or a group's state say the same in
--- their contracts.)
-pub demand1 : (s : Session) (w n : ℕ) → stepOf s w .reply ≡ refused n → RefusedTo s n (stepOf s w .session)
-demand1 = refused-word
+-- DEMAND 1. "Every entry answers, and bad input gets the refusal number in document 01. A refused call or word changes no byte of lent
+-- memory and no setting, except that a refused command word stops the session and drops the unfinished command. Words taken before it
+-- stand."
 
--- Demand 2: a stream cut anywhere, even inside a command, gives the same commands, settings and tallies as the uncut stream.
+-- A refused call changes no lent byte, whichever of the boundary's calls it is, and its status is the refusal's number, which isn't 0.
+pub demand1-calls :
+    {t : Told} {r : ℕ} {lent left : List (List ℕ)} → Call t r lent left → (n : ℕ) → t ≡ refuses n → Untouched n r lent left
+demand1-calls = refused-call
+
+-- A refused word, as a host sees it: tallies, shared settings and the answer's room are as before, and of the party's own part only the
+-- stop and the dropped command changed.
+pub demand1-words :
+    (own tallies shared : List ℕ) → Handed own tallies shared → (w r : ℕ) (own' tallies' shared' room room' : List ℕ) →
+    WordCrosses (stepOf (sessionOf own tallies shared) w) r own' tallies' shared' room room' →
+    (n : ℕ) → stepOf (sessionOf own tallies shared) w .reply ≡ refused n →
+    WordRefused n r own tallies shared room own' tallies' shared' room'
+demand1-words own tallies shared h = word-refused own tallies shared (handed-given h)
+
+-- The same of sessions, whatever their cells: with 1 nothing at all has changed; with 2 to 9 and 17, and no other number comes, nothing
+-- but the stop and the dropped command.
+pub demand1-sessions : (s : Session) (w n : ℕ) → stepOf s w .reply ≡ refused n → RefusedTo s n (stepOf s w .session)
+demand1-sessions = refused-word
+
+-- Words taken before a refusal stand: a refused piece leaves what its refused word leaves of the session after the words that were
+-- taken.
+pub demand1-pieces :
+    (s : Session) (ws : List ℕ) (n : ℕ) → feedOf s ws .refusal ≡ first n →
+    RefusedTo (feedOf s (take (feedOf s ws .taken) ws) .session) n (feedOf s ws .session)
+demand1-pieces = refused-piece
+
+-- A refused word has stopped the session for good, and a stopped session answers 1 to every word and changes nothing at all.
+pub demand1-stopped : (s : Session) (w n : ℕ) → stepOf s w .reply ≡ refused n → stepOf s w .session .party .stopped ≡ 1
+demand1-stopped = stopped-for-good
+
+pub demand1-stays : (s : Session) (w : ℕ) (ws : List ℕ) → s .party .stopped ≡ 1 → feedOf s (w ∷ ws) ≡ feedEnded (first 1) s
+demand1-stays = stopped-piece
+
+-- "Statements may assume that a session .. handed in came from these entries; it is proved that they give out only such states": arrays
+-- that begin, word and feed left are what these ask for, and the session in them is one that the entries reach; every such session is
+-- valid.
+pub demand1-given : {own tallies shared : List ℕ} → Handed own tallies shared → Given own tallies shared
+demand1-given = handed-given
+
+pub demand1-reached : {own tallies shared : List ℕ} → Handed own tallies shared → Reached (sessionOf own tallies shared)
+demand1-reached = handed-reached
+
+pub demand1-valid : {s : Session} → Reached s → Valid s
+demand1-valid = reached-valid
+
+-- DEMAND 2. "Accepted commands write back to the words they came from, and these read again, from the settings they first met, to the
+-- same commands. A stream cut anywhere, even inside a command, gives the same commands, settings and tallies as the uncut stream."
+
+-- Accepted commands write back: the words held before a piece, with those that it took, are what the writer puts into a room for its
+-- commands, one after the other, and the words of the command that is left open; also where a later word is refused.
+pub demand2-write-back :
+    (s : Session) → Reached s → (ws room : List ℕ) → mostWords ≤ length room →
+    heldOf (s .party .opened) ++ take (feedOf s ws .taken) ws ≡
+    allByWriter (feedOf s ws .commands) room ++ heldOf (feedOf s (take (feedOf s ws .taken) ws) .session .party .opened)
+demand2-write-back = back-by-writer
+
+-- What the writer puts are the commands' words.
+pub demand2-writer :
+    (s : Session) → Reached s → (ws room : List ℕ) → mostWords ≤ length room →
+    allByWriter (feedOf s ws .commands) room ≡ written (feedOf s ws .commands)
+demand2-writer = by-writer
+
+-- These words, read again by a session between two commands that has the settings they first met and room for them, give the same
+-- commands and settings, add the same to the tallies, and leave the session between two commands.
+pub demand2-read-again :
+    (s : Session) → Reached s → (ws : List ℕ) (u : Session) → Reached u → SameSettings s u → Idle u →
+    u .party .taken + length (written (feedOf s ws .commands)) ≤ limit →
+    ReadInFull s (feedOf s ws .commands) (feedOf s ws .session) u (feedOf u (written (feedOf s ws .commands)))
+demand2-read-again = read-in-full
+
+-- The session that they first met has room for them.
+pub demand2-read-here :
+    (s : Session) → Reached s → Idle s → (ws : List ℕ) →
+    ReadInFull s (feedOf s ws .commands) (feedOf s ws .session) s (feedOf s (written (feedOf s ws .commands)))
+demand2-read-here = read-here
+
+-- A stream cut anywhere gives the same commands, settings and tallies as the uncut stream.
 pub demand2-cut : (s : Session) (ps : List (List ℕ)) → fedPieces s ps ≡ feedOf s (uncut ps)
 demand2-cut = cut-anywhere
 
--- Demand 2: accepted commands write back to the words they came from; what is left over is the open command's words.
-pub demand2-write-back :
-    (s : Session) (ws : List ℕ) → Valid s → feedOf s ws .refusal ≡ nothing →
-    heldOf (s .party .opened) ++ ws ≡ written (feedOf s ws .commands) ++ heldOf (feedOf s ws .session .party .opened)
-demand2-write-back = fed-back
+-- The same over the arrays: calls of egretfold_session_feed with the pieces, one after the other, leave the status, the sums of words
+-- and commands and all three arrays that one call with the uncut words leaves.
+pub demand2-cut-calls :
+    {own tallies shared : List ℕ} → Handed own tallies shared → (ps : List (List ℕ)) (r n m : ℕ) (own₁ tallies₁ shared₁ : List ℕ) →
+    InTurn own tallies shared ps r n m own₁ tallies₁ shared₁ → (r' : ℕ) (own₂ tallies₂ shared₂ fed : List ℕ) →
+    FeedCrosses (feedOf (sessionOf own tallies shared) (uncut ps)) r' own₂ tallies₂ shared₂ fed →
+    AsOne r n m own₁ tallies₁ shared₁ r' own₂ tallies₂ shared₂ fed
+demand2-cut-calls h ps r n m own₁ tallies₁ shared₁ = as-one ps r n m own₁ tallies₁ shared₁ (handed-given h)
 
--- Demand 2: these words, read again from the settings they first met, give the same commands and the same settings.
-pub demand2-read-again :
-    (s : Session) (ws : List ℕ) → Valid s → (u : Session) → SameSettings s u → Idle u →
-    u .party .taken + length (written (feedOf s ws .commands)) ≤ limit →
-    ReadAgain (feedOf s ws .commands) (feedOf s ws .session) (feedOf u (written (feedOf s ws .commands)))
-demand2-read-again = read-again
-
--- Demand 2: runs and claims are those of the accepted words.
+-- "Run, claim and step counts are defined from the accepted words and steps": runs and claims are those of the commands, and the count
+-- that of the words taken.
 pub demand2-tallies : (s : Session) (ws : List ℕ) → Tallied s (feedOf s ws .commands) (feedOf s ws .session)
 demand2-tallies = tallied
 
--- Request 1: demand 2's cut rule for the bytes of a log: pieces cut anywhere, even inside a record, give what the uncut log gives.
+pub demand2-counted : (s : Session) (ws : List ℕ) → feedOf s ws .session .party .taken ≡ s .party .taken + feedOf s ws .taken
+demand2-counted = counted
+
+-- DEMAND 3. "Address translation has an exact inverse."
+
+-- "For every accepted layout, linear or tiled, at each of the five sizes, every pair inside its window goes by the guide's formula, as
+-- document 01 gives it, to an element": the formula and the table are those that are printed, line by line.
+pub demand3-formula :
+    (l : Layout) → Accepted l → (x y : ℕ) → Inside l x y → translateOf l x y ≡ gives (printedAddress l x y ∷ [])
+demand3-formula = printed
+
+-- It is the address by source 003's columns of bits, linear and tiled.
+pub demand3-guide : (l : Layout) → Accepted l → (x y : ℕ) → Inside l x y → addressOf l x y ≡ guideAddress l x y
+demand3-guide = address-guide
+
+pub demand3-address : (l : Layout) → Accepted l → (x y : ℕ) → addressOf l x y ≡ printedAddress l x y
+demand3-address l accepted = address-printed l (form-size (l .base .0) (l .pitch) (l .size) (accepted .form))
+
+-- "Every byte of that element leads back to that pair and to the byte's place in the element. Given any address at all, the way back
+-- refuses exactly when no pair inside the window owns the byte there. So two different pairs of one window never share a byte."
+pub demand3 : (l : Layout) → Accepted l → Inverse l
+demand3 = inverse
+
+-- ELEMENTS AND WINDOWS
+
+-- A write that answers 0 touches only the part of memory that holds the element: its bytes are those given, and every byte that the pair
+-- doesn't own is as before.
+pub element-bytes :
+    (l : Layout) (x y at : ℕ) (given before now : List ℕ) → WriteCrosses l x y at given 0 before now → Touched l x y at given before now
+element-bytes l x y at given before now c = touched l x y at given before now (write-done l x y at given before now c)
+
+-- So a read of that pair gives what was written, and a read of any other pair of the window answers as before.
+pub element-reads :
+    (l : Layout) (x y at : ℕ) (given before now : List ℕ) → WriteCrosses l x y at given 0 before now → ReadBack l x y at given before now
+element-reads l x y at given before now c = read-back l x y at given before now (write-done l x y at given before now c)
+
+-- The superfine read is four reads: (x+1, y), (x, y+1), (x+1, y+1), (x, y), in that order into channels 0 to 3.
+pub superfine-reads :
+    (base format height x y at : ℕ) (m : List ℕ) → superfineWord base format ≡ true →
+    superfineReadOf base format height x y at m ≡
+    joined (readOf (formatLayout base format height) (x + 1) y at m)
+    (joined (readOf (formatLayout base format height) x (y + 1) at m)
+    (joined (readOf (formatLayout base format height) (x + 1) (y + 1) at m) (readOf (formatLayout base format height) x y at m)))
+superfine-reads = four-reads
+
+-- A start that the settings don't refuse: every pair of the domain is inside each window that counts, and no byte lies in two spans that
+-- count. 8 comes with a pair of the domain that is outside such a window, 9 with a byte that two such spans share.
+pub start-fits : (s : Session) → Reached s → (v : List ℕ) → startRuleOf command.Start s ≡ gives v → Fits s
+start-fits = passes
+
+pub start-outside : (s : Session) → Reached s → startRuleOf command.Start s ≡ refuses 8 → PairOutside s
+start-outside = gets-eight
+
+pub start-shared : (s : Session) → Reached s → startRuleOf command.Start s ≡ refuses 9 → ByteShared s
+start-shared = gets-nine
+
+-- FLOW
+
+-- A step that is made, in document 01's order: what B_ELSE leaves, the wishes, the decision, what each processor becomes, the return
+-- stack, and the position.
+pub flow-step :
+    (limit : ℕ) (p : Program) (alu predicate booleans : ℕ) (g : Group) (jump : Bool) (g' : Group) →
+    flowStep limit p alu predicate booleans g ≡ Steps jump g' → Made limit p alu predicate booleans g jump g'
+flow-step = step-made
+
+-- A step that is refused has the cause of its number. "Order: 16, 13, 14, 15."
+pub flow-refused :
+    (limit : ℕ) (p : Program) (alu predicate booleans : ℕ) (g : Group) (n : ℕ) →
+    flowStep limit p alu predicate booleans g ≡ Fails n → Refused limit p alu predicate booleans g n
+flow-refused = step-refused
+
+-- A run is its steps, up to the list's or the program's end; if one is refused, the whole run is (and by demand 1 leaves the cells as
+-- they were).
+pub flow-run :
+    (limit : ℕ) (p : Program) (booleans : ℕ) (masks : List ℕ) (g : Group) → Ran limit p booleans masks g (groupRun limit p booleans masks g)
+flow-run = run-walks
+
+-- "Mask bits above the group are ignored": masks that say the same of every processor in the group give the same step and the same run.
+pub flow-masks :
+    (limit : ℕ) (p : Program) (booleans : ℕ) (g : Group) (alu predicate alu' predicate' : ℕ) → Agree g alu alu' →
+    Agree g predicate predicate' → flowStep limit p alu predicate booleans g ≡ flowStep limit p alu' predicate' booleans g
+flow-masks = same-step
+
+pub flow-run-masks :
+    (limit : ℕ) (p : Program) (booleans : ℕ) (ms ms' : List ℕ) (g : Group) → AllAgree g ms ms' →
+    groupRun limit p booleans ms g ≡ groupRun limit p booleans ms' g
+flow-run-masks = same-run
+
+-- The cells given out are those taken: what begin, step and run left is what step and run ask for.
+pub flow-given : {l : List ℕ} → flow.Handed l → cells.GroupGiven l
+flow-given = handed-made
+
+-- REQUEST 1, "One log over midnight"
+
+-- Pieces cut anywhere, even inside a record, give what the uncut log gives.
 pub log-cut : (r : Replay) (ps : List (List ℕ)) → replayPieces r ps ≡ replayOf r (uncut ps)
 log-cut = bytes-cut-anywhere
 
--- Request 1: a refused byte changes nothing but the stop and the dropped record, and on a stopped replay nothing at all.
+-- The same over the arrays: calls of egretfold_log_feed with the pieces, one after the other, leave the status, the sum of the bytes and
+-- all five arrays that one call with the uncut bytes leaves, and what they leave is what they ask for; so is a new replay.
+pub log-cut-calls :
+    (a : Arrays) → GivenAt a → (ps : List (List ℕ)) (status taken : ℕ) (a' : Arrays) → Pieces a ps status taken a' →
+    FedAt (replayOf (replayAt a) (uncut ps)) status taken a'
+log-cut-calls = any-pieces
+
+pub log-given :
+    (a : Arrays) → GivenAt a → (ps : List (List ℕ)) (status taken : ℕ) (a' : Arrays) → Pieces a ps status taken a' → GivenAt a'
+log-given = pieces-given
+
+pub log-begun : {log marks own tallies shared : List ℕ} → ReplayHeld newReplay log marks own tallies shared → ReplayGiven log marks own tallies shared
+log-begun = begun-given
+
+-- 18 and 19 "stop the replay and drop the open record. What came before stands; later bytes get that number again."
 pub log-refusals : (r : Replay) (b n : ℕ) → byteStep r b .reply ≡ byteRefused n → LogRefusedTo r n (byteStep r b .replay)
 log-refusals = refused-byte
 
--- Request 1: the replay's session is the one session fed with all the log's words, whatever the midnights.
+pub log-stopped :
+    (r : Replay) (b : ℕ) (bs : List ℕ) → (r .stoppedBy ≡ 0 → ⊥) → replayOf r (b ∷ bs) ≡ replayEnded (first (r .stoppedBy)) r
+log-stopped = stopped-bytes
+
+-- "Replay feeds the words to one session, across all midnights".
 pub log-session : (r : Replay) (bs : List ℕ) → replayOf r bs .replay .session ≡ feedOf (r .session) (wordsIn r bs) .session
 log-session = one-session
 
--- Request 1: what ended before the first midnight and on each day adds up to the session's runs and claims.
-pub log-runs : (r : Replay) → ReplayValid r → sum (r .midnights + 1) (λ k. partAt r k .runs) ≡ r .session .party .tally .runs
-log-runs = all-runs
+-- "A refused word's bytes are taken and the first such number is reported; the days go on and later words add nothing."
+pub log-first-refusal :
+    (r : Replay) (bs : List ℕ) →
+    replayOf r bs .replay .refused .number ≡ reported (feedOf (r .session) (wordsIn r bs) .refusal) (r .refused .number)
+log-first-refusal = first-refusal
 
-pub log-claims : (r : Replay) → ReplayValid r → sum (r .midnights + 1) (λ k. partAt r k .claims) ≡ r .session .party .tally .claims
-log-claims = all-claims
+pub log-later-words :
+    (r : Replay) (w n : ℕ) (ws : List ℕ) → stepOf (r .session) w .reply ≡ refused n → afterWords (afterWord r w) ws ≡ afterWord r w
+log-later-words = later-words
 
--- Request 5: a lease line that is refused gives 21, whatever the log: it comes before 18 and 19, and reads no log.
+-- The header's sentence: the first refused word stands in the record whose number, counted from 0, is the words that the session has
+-- taken plus the midnights before that word.
+pub log-refused-place :
+    (before : List ℕ) (w n : ℕ) → FirstRefused before w n → (later : List ℕ) →
+    Reported before n (replayed (before ++ (recordBytes 1 w ++ later)))
+log-refused-place = refused-place
+
+-- "gives runs and claimed elements for each day; what ends before the first midnight is given apart": a part is what the words since its
+-- midnight added, and once the next midnight has come it is what the words between the two added, whatever bytes come later.
+pub log-before-days :
+    (bytes : List ℕ) → replayed bytes .midnights ≡ 0 → partAt (replayed bytes) 0 ≡ added (newReplay .session) (wordsIn newReplay bytes)
+log-before-days = before-first
+
+pub log-day-so-far :
+    (before : List ℕ) (day : ℕ) (during : List ℕ) → Bytes8 before → AtMidnight (replayed before) day →
+    goneOn (begun before day) during .midnights ≡ begun before day .midnights →
+    partAt (replayed (withDay before day during)) (replayed before .midnights + 1) ≡
+    added (replayed before .session) (wordsIn (begun before day) during)
+log-day-so-far = day-so-far
+
+pub log-day :
+    (before : List ℕ) (day : ℕ) (during : List ℕ) → Bytes8 before → AtMidnight (replayed before) day →
+    goneOn (begun before day) during .midnights ≡ begun before day .midnights → Bytes8 during →
+    (next : ℕ) (later : List ℕ) → AtMidnight (goneOn (begun before day) during) next →
+    partAt (replayed ((withDay before day during ++ recordBytes 2 next) ++ later)) (replayed before .midnights + 1) ≡
+    added (replayed before .session) (wordsIn (begun before day) during)
+log-day = day-ended
+
+-- Days that have ended never change, whatever bytes come.
+pub log-days-stand :
+    (before later : List ℕ) (k : ℕ) → k < replayed before .midnights → partAt (replayed (before ++ later)) k ≡ partAt (replayed before) k
+log-days-stand = days-stand
+
+-- What ended before the first midnight and on each day adds up to the session's runs and claims.
+pub log-runs :
+    (bytes : List ℕ) → Bytes8 bytes →
+    sum (replayed bytes .midnights + 1) (λ k. partAt (replayed bytes) k .runs) ≡ replayed bytes .session .party .tally .runs
+log-runs bytes b = all-runs (replayed bytes) (piece-valid newReplay new-replay-valid bytes b)
+
+pub log-claims :
+    (bytes : List ℕ) → Bytes8 bytes →
+    sum (replayed bytes .midnights + 1) (λ k. partAt (replayed bytes) k .claims) ≡ replayed bytes .session .party .tally .claims
+log-claims bytes b = all-claims (replayed bytes) (piece-valid newReplay new-replay-valid bytes b)
+
+-- "an unfinished last record is reported as such and counted nowhere": up to four bytes of a record change the open record alone.
+pub log-unfinished :
+    (r : Replay) → Ready r → (kind : ℕ) (bs : List ℕ) → isKind kind ≡ true → length bs ≤ 3 →
+    OpenOnly r 0 (length (kind ∷ bs)) (replayOf r (kind ∷ bs))
+log-unfinished = unfinished
+
+-- REQUEST 2, "A masked camera is a silent camera"
+
+-- A start with a domain, an instruction format and an output set, and with every set output silent, is accepted: it is one run, and
+-- claims nothing.
+pub silent-run :
+    (s : Session) → Idle s → s .party .taken + 2 ≤ limit → SilentSettings s → EmptyRun s (feedOf s startWords)
+silent-run = silent-start
+
+-- Whatever words a new session was fed, where its mask is 65535 it judges a start, and counts its claim, as document 01 does.
+pub full-mask : (ws : List ℕ) → feedOf newSession ws .session .shared .mask ≡ 65535 → AsBefore (feedOf newSession ws .session)
+full-mask = as-before
+
+-- REQUEST 3, "The mask count in the stepper's hot path"
+
+-- For every mask, and every group whose active processors it shows, the mask's count of ones is document 01's number of
+-- processors active.
+pub mask-ones : (mask : ℕ) (g : Group) → mask ≡ activeMask (g .procs) → ones mask ≡ numberActive g
+mask-ones = mask-count
+
+-- And its trailing zeros are the first active processor, 32 for the empty mask.
+pub mask-zeros :
+    (mask : ℕ) (g : Group) → mask ≡ activeMask (g .procs) →
+    (trailingZeros mostProcessors mask ≡ firstActive g) × (mask ≡ 0 → firstActive g ≡ 32)
+mask-zeros mask g shown = (mask-first mask g shown, mask-none mask g shown)
+
+-- REQUEST 5, "Monthly score"
+
+-- A lease line that is refused gives 21, whatever the log: it comes before 18 and 19, and reads no log.
 pub score-line : (l : Lease) → isLease l ≡ false → (r : Replay) → scoreOf l r ≡ refusedScore 21
 score-line = line-first
 
--- Request 5: where the lease line is taken, a log whose bytes are refused gives that number, and any other log is scored.
+-- Where the lease line is taken, a log whose bytes are refused gives that number, and any other log is scored.
 pub score-log :
     (l : Lease) → isLease l ≡ true → (bytes : List ℕ) (n : ℕ) → replayOf newReplay bytes .refusal ≡ first n →
     scoreOfLog l bytes ≡ refusedScore n
@@ -123,69 +445,59 @@ pub score-month :
     scoreOfLog l bytes ≡ scored (monthOf l (replayOf newReplay bytes .replay))
 score-month = log-scored
 
--- Request 5: no other numbers refuse a score: 21 for the lease line, or else the 18 or 19 that stopped the replay of its log.
+-- No other numbers refuse a score: 21 for the lease line, or else the 18 or 19 that stopped the replay of its log.
 pub score-refusals :
     (l : Lease) (bytes : List ℕ) → Bytes8 bytes → (n : ℕ) → scoreOfLog l bytes ≡ refusedScore n →
     Refusing l (replayOf newReplay bytes .replay) n
 score-refusals l bytes b n = refused-with l (replayOf newReplay bytes .replay) (piece-valid newReplay new-replay-valid bytes b) n
 
--- Request 5: a score is of a lease line that was taken and of a replay that wasn't stopped, and served ≤ owed, day by day and in
+-- A score is of a lease line that was taken and of a replay that wasn't stopped, and served ≤ owed, day by day and in
 -- the month.
 pub score-given : (l : Lease) (r : Replay) (m : Month) → scoreOf l r ≡ scored m → Scoring l r m
 score-given = scored-as
 
--- Request 5: a day's claimed number is that of the day's part of the log, which began at a midnight with its number, or 0 where
+-- A day's claimed number is that of the day's part of the log, which began at a midnight with its number, or 0 where
 -- there is no such part. So what ended before the first midnight serves no day.
 pub score-days : (bytes : List ℕ) → Bytes8 bytes → (day : ℕ) → Claimed (replayOf newReplay bytes .replay) day
 score-days bytes b day = claimed-from (replayOf newReplay bytes .replay) (piece-valid newReplay new-replay-valid bytes b) day
 
--- Request 5: a day without a midnight record in the log is served 0: where its number is among none of the log's midnights.
+-- A day without a midnight record in the log is served 0: where its number is among none of the log's midnights.
 pub score-dark :
     (l : Lease) (bytes : List ℕ) (k : ℕ) → among (l .firstDay + k) (daysIn newReplay bytes) ≡ false →
     servedAt l (replayOf newReplay bytes .replay) k ≡ 0
 score-dark l bytes k e = dark-day l (replayOf newReplay bytes .replay) k (midnight-records bytes (l .firstDay + k) ∙ e)
 
--- Request 5: a station is called full exactly when every day owes more than 0 and is served in full.
+-- A station is called full exactly when every day owes more than 0 and is served in full.
 pub score-full-when : (l : Lease) (r : Replay) → AllServed l r → verdictOf l r ≡ Full
 score-full-when = full-if
 
 pub score-full-only-when : (l : Lease) → isLease l ≡ true → (r : Replay) → verdictOf l r ≡ Full → AllServed l r
 score-full-only-when l e r = full-only-if l r (bounds l e .some-days)
 
--- Request 5: where it isn't full, it is called "nothing owed" where it owes nothing, and else "short".
+-- Where it isn't full, it is called "nothing owed" where it owes nothing, and else "short".
 pub score-verdict : (l : Lease) → isLease l ≡ true → (r : Replay) → Calling l r (verdictOf l r)
 score-verdict l e r = calling l r (bounds l e .some-days)
 
--- Request 5: a log fed in pieces, cut anywhere, has the score of the uncut log.
+-- A log fed in pieces, cut anywhere, has the score of the uncut log.
 pub score-cut : (l : Lease) (ps : List (List ℕ)) → scoreOf l (replayPieces newReplay ps .replay) ≡ scoreOfLog l (uncut ps)
 score-cut = in-pieces
 
--- Elements in lent memory: after a write, a read of that pair gives what was written, and a read of any other pair of the
--- window answers as before.
-pub written-elements :
-    (l : Layout) (x y first : ℕ) (given before now : List ℕ) → Wrote l x y first given (gives []) before now →
-    ReadBack l x y first given before now
-written-elements = read-back
+-- From a replay that was begun, through the pieces of a log, cut anywhere, to a month's rooms: they hold the score of the uncut bytes.
+pub score-calls :
+    (l : Lease) (a : Arrays) (b : ℕ) → BeginCrosses b (a .log) (a .marks) (a .own) (a .tallies) (a .shared) →
+    (ps : List (List ℕ)) (status taken : ℕ) (a' : Arrays) → Pieces a ps status taken a' →
+    (r : ℕ) (claimed served month claimed' served' month' : List ℕ) →
+    ScoreCrosses l (a' .log) (a' .marks) (a' .tallies) r claimed served month claimed' served' month' →
+    MonthCrosses (scoreOfLog l (uncut ps)) r claimed served month claimed' served' month'
+score-calls = score-from-log
 
--- Demand 3: address translation has an exact inverse, for every accepted layout.
-pub demand3 : (l : Layout) → Accepted l → Inverse l
-demand3 = inverse
-
--- Request 2: a start with a domain, an instruction format and an output set, and with every set output silent, is accepted: it is
--- one run, and claims nothing.
-pub silent-run :
-    (s : Session) → Idle s → s .party .taken + 2 ≤ limit → SilentSettings s → EmptyRun s (feedOf s startWords)
-silent-run = silent-start
-
--- Request 2: whatever words a new session was fed, where its mask is 65535 it judges a start, and counts its claim, as document 01 does.
-pub full-mask : (ws : List ℕ) → feedOf newSession ws .session .shared .mask ≡ 65535 → AsBefore (feedOf newSession ws .session)
-full-mask = as-before
+-- THE WORKED CASES
 
 -- The worked cases C1 to C12 of document 01, all together.
-pub worked-cases : Agree cases
+pub worked-cases : Cases cases
 unfolding
     _and_ pick placeOf isSize widthOf heightOf wellFormed unitOf rowStep tileRows spanOf inBounds windowRule judgeOf xor blockWidth
     blockHeight codeOf insideOf tiledOffset linearOffset offsetOf ifAccepted inside addressOf translateOf _or_ differ digit on pack
-    some every wants decided branched allowed fresh turnedIf wishOf overLimit wayOf settled slotStep ended groupStep oneWord c9 c10 c11 c12
+    some every wants decided branched allowed fresh turnedIf wishOf overLimit wayOf settled slotStep ended flowStep oneWord c9 c10 c11 c12
 worked-cases =
     (refl, (refl, (refl, (refl, (refl, (refl, (refl, (refl, (refl, (refl, (refl, (refl, (refl, (refl, (refl, tt)))))))))))))))

@@ -1,17 +1,17 @@
--- A fresh group as the code writes it, and the turns of the loop that finds the first active processor. Assumes nothing.
+-- A fresh group as the code writes it. Assumes nothing.
 use mathlib.Core.Path.{_≡_, refl, sym, ap, _∙_}
 use mathlib.Core.Bool.{Bool, true, false}
 use mathlib.Core.List.{List}
-use Prim.Native.Nat.{ℕ, suc, _+_, _-_, _/_, _%_, _^_, _<_, _≤_}
+use Prim.Native.Nat.{ℕ, _-_, _/_, _^_, _<_, _≤_}
 use native.Mathlib.Omega.{arith}
 use lib.Dec.{eqb, ltb}
 use borrow.Author.Tests.{eqb-true, le-leb, lt-leb}
 use Rattle.laws.specs.Choice.{_and_}
-use Rattle.laws.specs.Below.{every, least}
-use Rattle.laws.specs.Masks.{digit, on, pack}
+use Rattle.laws.specs.Below.{every}
+use Rattle.laws.specs.Masks.{digit, pack}
 use Rattle.laws.proofs.Choice.{pick-yes, pick-no, and-intro, and-no-left, and-no-right, by-pick}
 use Rattle.laws.proofs.Below.{every-at}
-use Rattle.laws.proofs.Masks.{pack-same, least-odd, least-even}
+use Rattle.laws.proofs.Masks.{pack-same}
 use Rattle.refusal.specs.declared.Refusal.the-variants.{FlowField}
 use Rattle.flow.specs.declared.Begun.{Begun}
 use Rattle.flow.specs.declared.Begun.the-variants as begun
@@ -77,35 +77,3 @@ module _ (size : ℕ) where
 -- the cells of a fresh group are such as these entries give out
 pub begin-given : (size : ℕ) → size ≤ 32 → GroupGiven (cellsOf (fresh size))
 begin-given size h = given-of (fresh size) (fresh-sound counterLimit size h)
-
--- the loop over a mask's bits: what is found, and what is left to look at
-module _ (active rest i : ℕ) (e : least 32 (λ j. on j active) ≡ i + least (32 - i) (λ j. on j rest)) where
-  pub found-here : i < 32 → rest % 2 ≡ 1 → i ≡ least 32 (λ j. on j active)
-  found-here h odd =
-      let n : least (32 - i) (λ j. on j rest) ≡ 0 = ap (λ (k : ℕ). least k (λ j. on j rest)) (room h) ∙ least-odd (31 - i) rest odd in
-      omega arith
-    where
-      room : i < 32 → 32 - i ≡ suc (31 - i)
-      room h = omega arith
-
-  pub look-on :
-      i < 32 → (rest % 2 ≡ 1 → ⊥) →
-      least 32 (λ j. on j active) ≡ i + 1 + least (32 - (i + 1)) (λ j. on j (rest / 2))
-  look-on h even =
-      let n : least (32 - i) (λ j. on j rest) ≡ suc (least (31 - i) (λ j. on j (rest / 2))) =
-      ap (λ (k : ℕ). least k (λ j. on j rest)) (room h) ∙ least-even (31 - i) rest even in
-      let q : least (32 - (i + 1)) (λ j. on j (rest / 2)) ≡ least (31 - i) (λ j. on j (rest / 2)) =
-      ap (λ (k : ℕ). least k (λ j. on j (rest / 2))) (less h) in
-      omega arith
-    where
-      room : i < 32 → 32 - i ≡ suc (31 - i)
-      room h = omega arith
-
-      less : i < 32 → 32 - (i + 1) ≡ 31 - i
-      less h = omega arith
-
-  pub found-none : i ≡ 32 → i ≡ least 32 (λ j. on j active)
-  unfolding least
-  found-none z =
-      let n : least (32 - i) (λ j. on j rest) ≡ 0 = ap (λ (k : ℕ). least (32 - k) (λ j. on j rest)) z in
-      omega arith

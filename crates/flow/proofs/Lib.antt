@@ -1,5 +1,6 @@
 pub mod Answers
 pub mod Beginning
+pub mod Counting
 pub mod Given
 pub mod Loading
 pub mod Running

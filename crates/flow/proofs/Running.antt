@@ -24,7 +24,8 @@ use Rattle.flow.specs.declared.Ran.the-variants as ran
 use Rattle.flow.specs.declared.StepsMade.{StepsMade}
 use Rattle.flow.specs.declared.StepsMade.the-variants as stepsMade
 use Rattle.group.specs.Proc.{isActive, counterLimit}
-use Rattle.group.specs.Group.{Group, Outcome, Steps, Fails, Program, Run, Makes, Breaks, ended, groupStep, onceMore, goOn, groupSteps, groupRun, runTold, firstActive, numberActive}
+use Rattle.group.specs.Group.{Group, Outcome, Steps, Fails, Program, Run, Makes, Breaks, ended, groupStep, onceMore, goOn, groupSteps}
+use Rattle.group.specs.Group.{groupRun, runTold, firstActive, numberActive}
 use Rattle.group.specs.Cells.{activeIn, positionIn, groupOf, Sound, GroupGiven, runLeaves}
 use Rattle.stepper.specs.Answers.{NumberDone, programOf, stepIn, runIn}
 use Rattle.flow.specs.Answers.{refusalOf, RunDone, stepsTold, StepsDone}
@@ -274,7 +275,8 @@ steps-cut limit program booleans (x ∷ (y ∷ a)) b g e =
     even h = omega arith
 
     on-outcome :
-        ((g' : Group) → length a % 2 ≡ 0 → groupSteps limit program booleans (a ++ b) g' ≡ afterwards (groupSteps limit program booleans a g') (λ h. groupSteps limit program booleans b h)) →
+        ((g' : Group) → length a % 2 ≡ 0 → groupSteps limit program booleans (a ++ b) g'
+        ≡ afterwards (groupSteps limit program booleans a g') (λ h. groupSteps limit program booleans b h)) →
         (o : Outcome) →
         goOn o (λ g'. groupSteps limit program booleans (a ++ b) g') ≡
         afterwards (goOn o (λ g'. groupSteps limit program booleans a g')) (λ h. groupSteps limit program booleans b h)
@@ -282,7 +284,8 @@ steps-cut limit program booleans (x ∷ (y ∷ a)) b g e =
     on-outcome ih (Fails why) = refl
 
     by-step :
-        ((g' : Group) → length a % 2 ≡ 0 → groupSteps limit program booleans (a ++ b) g' ≡ afterwards (groupSteps limit program booleans a g') (λ h. groupSteps limit program booleans b h)) →
+        ((g' : Group) → length a % 2 ≡ 0 → groupSteps limit program booleans (a ++ b) g'
+        ≡ afterwards (groupSteps limit program booleans a g') (λ h. groupSteps limit program booleans b h)) →
         Tested (ended program g) →
         pick (ended program g) (Makes 0 g)
         (goOn (groupStep limit program x y booleans g) (λ g'. groupSteps limit program booleans (a ++ b) g')) ≡

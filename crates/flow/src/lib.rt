@@ -134,20 +134,11 @@ pub fn load(
     Loaded::Slots(n as u32)
 }
 
-// The first active processor: the lowest bit of the mask, 32 where it has none.
+// The first active processor: the trailing zeros of the mask, 32 where it is empty.
 pub fn first_active(active: u32) -> u32
     ensures { λ r. ⌜ r ≡ least mostProcessors (λ i. on i active) ⌝ }
 {
-    let mut rest = active;
-    let mut i = 0;
-    while i < group::PROCESSORS {
-        if rest % 2 == 1 {
-            return i;
-        }
-        rest = rest / 2;
-        i += 1;
-    }
-    i
+    u32::trailing_zeros(active)
 }
 
 // The number of active processors: the ones of the mask.

@@ -154,6 +154,22 @@ fn again() -> u32 {
     }
 }
 
+// Whether a run reports this first active processor and this number of them where its mask is `mask`.
+fn tells(mask: u32, first: u32, number: u32) -> bool {
+    flow::first_active(mask) == first && flow::number_active(mask) == number
+}
+
+// The empty mask, the full one, and every mask of one processor.
+fn counts() {
+    let mut tally = Tally::new()
+        .with(tells(0, 32, 0))
+        .with(tells(0xFFFFFFFF, 0, 32));
+    for bit in 0u32..32 {
+        tally = tally.with(tells(1u32 << bit, bit, 1));
+    }
+    tally.print(b"first active and number active");
+}
+
 pub fn run() {
     sizes();
     lengths();

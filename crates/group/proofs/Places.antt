@@ -15,7 +15,8 @@ use Rattle.laws.specs.Masks.{_or_, differ, digit, on, pack, Places}
 use Rattle.laws.proofs.Below.{every-none, some-same, every-at, none-at}
 use Rattle.laws.proofs.Masks.{pack-same, and-places, or-places, xor-places, not-places, on-zero, on-suc, pack-on, on-pack, none-zero}
 use Rattle.group.specs.declared.planes.Branched.{Branched}
-use Rattle.group.specs.Proc.{Proc, Active, Idle, Absent, isLive, isActive, counterBit, within, turned, wants, decided, lowered, raised, atLimit, branched, counterLimit}
+use Rattle.group.specs.Proc.{Proc, Active, Idle, Absent, isLive, isActive, counterBit, within, turned, wants, decided, lowered}
+use Rattle.group.specs.Proc.{raised, atLimit, branched, counterLimit}
 use Rattle.group.specs.Group.{turnedIf, wishOf}
 use Rattle.group.specs.Cells.{activeMask, plane, counterOf}
 use Rattle.group.specs.Masks.{MasksOf, shownAs, someAtLimit}

@@ -15,8 +15,10 @@ use Rattle.laws.proofs.Choice.{Tested, holds, fails, tested, pick-no, and-left,
 use Rattle.laws.proofs.Below.{none-at, every-at}
 use Rattle.laws.proofs.Masks.{on-pack, on-above}
 use Rattle.group.specs.Proc.{Proc, Active, Idle, Absent, isLive, isActive, counterBit, within, turned, lowered, raised, atLimit, branched, counterLimit}
-use Rattle.group.specs.Group.{Group, Outcome, Steps, Fails, Program, Way, Goes, Stuck, field, turnedIf, overLimit, popped, wayOf, arrived, settled, slotStep, ended, groupStep, allowed, fresh}
-use Rattle.group.specs.Cells.{liveIn, activeIn, planeIn, liveMask, activeMask, plane, counterOf, procOf, procAt, returnsIn, groupOf, cellsOf, aReturn, areReturns, Sound, GroupGiven, stepLeaves}
+use Rattle.group.specs.Group.{Group, Outcome, Steps, Fails, Program, Way, Goes, Stuck, field, turnedIf, overLimit, popped, wayOf}
+use Rattle.group.specs.Group.{arrived, settled, slotStep, ended, groupStep, allowed, fresh}
+use Rattle.group.specs.Cells.{liveIn, activeIn, planeIn, liveMask, activeMask, plane, counterOf, procOf, procAt, returnsIn, groupOf}
+use Rattle.group.specs.Cells.{cellsOf, aReturn, areReturns, Sound, GroupGiven, stepLeaves}
 use Rattle.group.specs.Masks.{MasksOf}
 
 -- two equal numbers, as a computed test at each counter
@@ -108,7 +110,9 @@ returns-back (a ∷ (b ∷ (c ∷ (d ∷ (x ∷ l))))) h e = absurd (five (lengt
     five n h = omega arith
 
 -- the processors of a sound group as masks
-masks-of : (g : Group) → Sound counterLimit g → MasksOf (g .procs) (liveMask (g .procs)) (activeMask (g .procs)) (plane 0 (g .procs)) (plane 1 (g .procs)) (plane 2 (g .procs)) (plane 3 (g .procs)) (plane 4 (g .procs))
+masks-of : (g : Group) → Sound counterLimit g
+    → MasksOf (g .procs) (liveMask (g .procs)) (activeMask (g .procs)) (plane 0 (g .procs)) (plane 1 (g .procs)) (plane 2 (g .procs))
+    (plane 3 (g .procs)) (plane 4 (g .procs))
 masks-of g s =
     record {
       live-word = refl;

@@ -23,15 +23,15 @@ use Rattle.memory.proofs.Places.{Held, is-held, asked, Course, course, 
 use Rattle.memory.proofs.Overwritten.{length-overwritten, part-overwritten, before-overwritten, after-overwritten}
 
 -- what a write that was done shows
-record Done (l : Layout) (x y first : ℕ) (given before : List ℕ) : Type 0 where
-  accepted : Accepted l
-  pair : Inside l x y
-  test : heldAt l x y first (length before) ≡ true
-  held : Held first (length before) (addressOf l x y) (l .size)
-  size : length given ≡ l .size
-  told : (answer : Told) → asked l x y first (length before) (heldAt l x y first (length before)) answer ≡ answer
+pub record Done (l : Layout) (x y first : ℕ) (given before : List ℕ) : Type 0 where
+  pub accepted : Accepted l
+  pub pair : Inside l x y
+  pub test : heldAt l x y first (length before) ≡ true
+  pub held : Held first (length before) (addressOf l x y) (l .size)
+  pub size : length given ≡ l .size
+  pub told : (answer : Told) → asked l x y first (length before) (heldAt l x y first (length before)) answer ≡ answer
 
-done :
+pub done :
     (l : Layout) (x y first : ℕ) (given before : List ℕ) → writeOf l x y first given before ≡ gives [] →
     Done l x y first given before
 unfolding writeOf

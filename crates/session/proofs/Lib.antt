@@ -6,6 +6,7 @@ pub mod LastWords
 pub mod Parameters
 pub mod ReadAgain
 pub mod ReadBack
+pub mod Reached
 pub mod Refusals
 pub mod Silent
 pub mod Stepping

@@ -2,6 +2,7 @@ pub mod Again
 pub mod Answers
 pub mod Asked
 pub mod Feed
+pub mod Reached
 pub mod Refusals
 pub mod Silent
 pub mod Step

@@ -13,8 +13,11 @@ use Rattle.laws.specs.Masks.{_or_, differ, digit, on, pack}
 use Rattle.laws.proofs.Choice.{Tested, holds, fails, tested, pick-yes, pick-no, by-pick}
 use Rattle.laws.proofs.Below.{some-same, every-same}
 use Rattle.laws.proofs.Masks.{digit-lt, pack-same, on-pack, on-above}
-use Rattle.group.specs.Proc.{Proc, Active, Idle, Absent, isLive, isActive, counterBit, within, turned, lowered, raised, branched, decided, increment, counterLimit}
-use Rattle.group.specs.Group.{Group, Outcome, Steps, Fails, Way, Goes, Stuck, field, bElse, jumpAny, aOp, jumpFunc, popCount, branchOp, booleanNumber, jumpAddress, allowed, turnedIf, wishOf, overLimit, wayOf, arrived, settled, slotStep, storeSlots, ended, groupStep}
+use Rattle.group.specs.Proc.{Proc, Active, Idle, Absent, isLive, isActive, counterBit, within, turned, lowered, raised, branched, decided}
+use Rattle.group.specs.Proc.{increment, counterLimit}
+use Rattle.group.specs.Group.{Group, Outcome, Steps, Fails, Way, Goes, Stuck, field, bElse, jumpAny, aOp, jumpFunc, popCount, branchOp}
+use Rattle.group.specs.Group.{booleanNumber, jumpAddress, allowed, turnedIf, wishOf, overLimit, wayOf, arrived, settled, slotStep}
+use Rattle.group.specs.Group.{storeSlots, ended, groupStep}
 use Rattle.group.specs.Cells.{liveIn, planeIn, positionIn, liveMask, activeMask, plane, withActive, groupOf, cellsWith, cellsOf, GroupGiven, stepLeaves}
 use Rattle.group.specs.Masks.{MasksOf, OwnMasksIn, withMasks, shownAs, someAtLimitIn}
 use Rattle.stepper.specs.Answers.{stepNumber, NumberDone, GoDone, stepIn}
@@ -120,7 +123,8 @@ module _ (l : List ℕ) (first second slots active wish : ℕ) (jump : Bool) (m 
           there =
               written ∙
               (λ j. withMasks (g .left j) (shownAs (λ i. branched (eop j) (popCount first) jump (on i wish) (withActive (g .left j) active i)))) ∙
-              (λ j. cellsWith (live-here j) (activeMask procsHere) (plane 0 procsHere) (plane 1 procsHere) (plane 2 procsHere) (plane 3 procsHere) (plane 4 procsHere) (g .at) (getD (g .rest) 0 0) (getD (g .rest) 1 0) (getD (g .rest) 2 0) (getD (g .rest) 3 0))
+              (λ j. cellsWith (live-here j) (activeMask procsHere) (plane 0 procsHere) (plane 1 procsHere) (plane 2 procsHere)
+              (plane 3 procsHere) (plane 4 procsHere) (g .at) (getD (g .rest) 0 0) (getD (g .rest) 1 0) (getD (g .rest) 2 0) (getD (g .rest) 3 0))
 
 -- the first half: B_ELSE keeps everybody in the group and every bit of a counter
 live-turned : (p : Proc) → isLive p ≡ isLive (turned p)

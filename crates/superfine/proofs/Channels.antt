@@ -110,7 +110,8 @@ module _ (base format height x y first : ℕ) (m : List ℕ) where
         superfineReadOf base format height x y first m ≡ fourOf first m (l .size) right below across own
     unfolding fourAtOf cornersOf
     corners-found right below across own told =
-        let g = given l (fourInside l x y) (addressOf l (x + 1) y ∷ addressOf l x (y + 1) ∷ addressOf l (x + 1) (y + 1) ∷ addressOf l x y ∷ []) (right ∷ below ∷ across ∷ own ∷ []) told in
+        let g = given l (fourInside l x y)
+        (addressOf l (x + 1) y ∷ addressOf l x (y + 1) ∷ addressOf l (x + 1) (y + 1) ∷ addressOf l x y ∷ []) (right ∷ below ∷ across ∷ own ∷ []) told in
         reads ∙ g .told _ ∙ sym (moved (g .same))
       where
         moved :

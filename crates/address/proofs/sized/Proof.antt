@@ -3,7 +3,8 @@ use mathlib.Core.Path.{_∙_, sym}
 use native.Mathlib.Omega.{arith}
 use borrow.Author.Tests.{not-true, not-false}
 use Rattle.address.specs.Address.{translateOf, layoutOf}
-use Rattle.address.proofs.Answers.{told-address, told-refused, malformed, ruleless, taken, whole, bytes-fit, past-all, past-row, in-row, outside-column, outside-row, pair-asked, address-fits, translated}
+use Rattle.address.proofs.Answers.{told-address, told-refused, malformed, ruleless, taken, whole, bytes-fit, past-all, past-row}
+use Rattle.address.proofs.Answers.{in-row, outside-column, outside-row, pair-asked, address-fits, translated}
 use borrow.Author.Needs.{needs}
 use Rattle.address.proofs.sized.Statement.{statement}
 use Rattle.address.proofs.sized.Tie as tie
@@ -13,38 +14,132 @@ well-formed-requires c κs = search needs
 
 returns : tie.Need-returns
 unfolding translateOf
-returns c = told-refused 3 ∙ sym (malformed (layoutOf (c .before .before .args .base) (c .before .before .args .pitch) (c .before .before .args .height) (c .before .before .args .size) (c .before .before .args .tiled)) _ (sym (c .before .well-formed .ensures) ∙ not-true _ (c .if1 .taken)))
+returns c =
+    let at-well-formed = c .before in
+    let args = at-well-formed .before .args in
+    let layout = layoutOf (args .base) (args .pitch) (args .height) (args .size) (args .tiled) in
+    told-refused 3 ∙ sym (malformed layout _ (sym (at-well-formed .well-formed .ensures) ∙ not-true _ (c .if1 .taken)))
 
 window-stride-requires : tie.Need-window-stride-requires
 window-stride-requires c κs = sym (c .before .well-formed .ensures) ∙ not-false _ (c .if1 .left)
 
 returns-2 : tie.Need-returns-2
 unfolding translateOf
-returns-2 c = told-refused 6 ∙ sym (ruleless (layoutOf (c .before .before .before .before .args .base) (c .before .before .before .before .args .pitch) (c .before .before .before .before .args .height) (c .before .before .before .before .args .size) (c .before .before .before .before .args .tiled)) _ (sym (c .before .before .before .well-formed .ensures) ∙ not-false _ (c .before .before .if1 .left)) _ (c .before .window-stride .ensures) (c .if2 .taken))
+returns-2 c =
+    let at-window-stride = c .before in
+    let at-if1 = at-window-stride .before in
+    let at-well-formed = at-if1 .before in
+    let args = at-well-formed .before .args in
+    let layout = layoutOf (args .base) (args .pitch) (args .height) (args .size) (args .tiled) in
+    let well-formed-told = sym (at-well-formed .well-formed .ensures) ∙ not-false _ (at-if1 .if1 .left) in
+    told-refused 6 ∙ sym (ruleless layout _ well-formed-told _ (at-window-stride .window-stride .ensures) (c .if2 .taken))
 
 returns-3 : tie.Need-returns-3
-returns-3 c = told-refused 10 ∙ sym (outside-column (layoutOf (c .before .before .before .before .before .args .base) (c .before .before .before .before .before .args .pitch) (c .before .before .before .before .before .args .height) (c .before .before .before .before .before .args .size) (c .before .before .before .before .before .args .tiled)) _ (taken (layoutOf (c .before .before .before .before .before .args .base) (c .before .before .before .before .before .args .pitch) (c .before .before .before .before .before .args .height) (c .before .before .before .before .before .args .size) (c .before .before .before .before .before .args .tiled)) (sym (c .before .before .before .before .well-formed .ensures) ∙ not-false _ (c .before .before .before .if1 .left)) _ (c .before .before .window-stride .ensures) (c .before .if2 .left)) _ _ (past-all (layoutOf (c .before .before .before .before .before .args .base) (c .before .before .before .before .before .args .pitch) (c .before .before .before .before .before .args .height) (c .before .before .before .before .before .args .size) (c .before .before .before .before .before .args .tiled)) (sym (c .before .before .before .before .well-formed .ensures) ∙ not-false _ (c .before .before .before .if1 .left)) _ (c .before .before .window-stride .ensures) (c .before .if2 .left) _ (c .if3 .taken)))
+returns-3 c =
+    let at-if2 = c .before in
+    let at-window-stride = at-if2 .before in
+    let at-if1 = at-window-stride .before in
+    let at-well-formed = at-if1 .before in
+    let args = at-well-formed .before .args in
+    let layout = layoutOf (args .base) (args .pitch) (args .height) (args .size) (args .tiled) in
+    let well-formed-told = sym (at-well-formed .well-formed .ensures) ∙ not-false _ (at-if1 .if1 .left) in
+    let past-all-here =
+    past-all layout well-formed-told _ (at-window-stride .window-stride .ensures) (at-if2 .if2 .left) _ (c .if3 .taken) in
+    let taken-here = taken layout well-formed-told _ (at-window-stride .window-stride .ensures) (at-if2 .if2 .left) in
+    told-refused 10 ∙ sym (outside-column layout _ taken-here _ _ past-all-here)
 
 mul-if4 : tie.Need-mul-if4
-mul-if4 c = omega (arith, bytes-fit (layoutOf (c .before .before .before .before .before .args .base) (c .before .before .before .before .before .args .pitch) (c .before .before .before .before .before .args .height) (c .before .before .before .before .before .args .size) (c .before .before .before .before .before .args .tiled)) (sym (c .before .before .before .before .well-formed .ensures) ∙ not-false _ (c .before .before .before .if1 .left)) _ (c .before .before .window-stride .ensures) (c .before .if2 .left) (c .before .before .before .before .before .args .x) (c .if3 .left))
+mul-if4 c =
+    let at-if2 = c .before in
+    let at-window-stride = at-if2 .before in
+    let at-if1 = at-window-stride .before in
+    let at-well-formed = at-if1 .before in
+    let args = at-well-formed .before .args in
+    let layout = layoutOf (args .base) (args .pitch) (args .height) (args .size) (args .tiled) in
+    let well-formed-told = sym (at-well-formed .well-formed .ensures) ∙ not-false _ (at-if1 .if1 .left) in
+    omega (
+      arith,
+      bytes-fit layout well-formed-told _ (at-window-stride .window-stride .ensures) (at-if2 .if2 .left) (args .x) (c .if3 .left),
+    )
 
 returns-4 : tie.Need-returns-4
-returns-4 c = told-refused 10 ∙ sym (outside-column (layoutOf (c .before .before .before .before .before .before .args .base) (c .before .before .before .before .before .before .args .pitch) (c .before .before .before .before .before .before .args .height) (c .before .before .before .before .before .before .args .size) (c .before .before .before .before .before .before .args .tiled)) _ (taken (layoutOf (c .before .before .before .before .before .before .args .base) (c .before .before .before .before .before .before .args .pitch) (c .before .before .before .before .before .before .args .height) (c .before .before .before .before .before .before .args .size) (c .before .before .before .before .before .before .args .tiled)) (sym (c .before .before .before .before .before .well-formed .ensures) ∙ not-false _ (c .before .before .before .before .if1 .left)) _ (c .before .before .before .window-stride .ensures) (c .before .before .if2 .left)) _ _ (past-row (layoutOf (c .before .before .before .before .before .before .args .base) (c .before .before .before .before .before .before .args .pitch) (c .before .before .before .before .before .before .args .height) (c .before .before .before .before .before .before .args .size) (c .before .before .before .before .before .before .args .tiled)) (sym (c .before .before .before .before .before .well-formed .ensures) ∙ not-false _ (c .before .before .before .before .if1 .left)) _ (c .before .before .before .window-stride .ensures) (c .before .before .if2 .left) _ (c .if4 .taken)))
+returns-4 c =
+    let at-if2 = c .before .before in
+    let at-window-stride = at-if2 .before in
+    let at-if1 = at-window-stride .before in
+    let at-well-formed = at-if1 .before in
+    let args = at-well-formed .before .args in
+    let layout = layoutOf (args .base) (args .pitch) (args .height) (args .size) (args .tiled) in
+    let well-formed-told = sym (at-well-formed .well-formed .ensures) ∙ not-false _ (at-if1 .if1 .left) in
+    let past-row-here =
+    past-row layout well-formed-told _ (at-window-stride .window-stride .ensures) (at-if2 .if2 .left) _ (c .if4 .taken) in
+    let taken-here = taken layout well-formed-told _ (at-window-stride .window-stride .ensures) (at-if2 .if2 .left) in
+    told-refused 10 ∙ sym (outside-column layout _ taken-here _ _ past-row-here)
 
 returns-5 : tie.Need-returns-5
-returns-5 c = told-refused 10 ∙ sym (outside-row (layoutOf (c .before .before .before .before .before .before .before .args .base) (c .before .before .before .before .before .before .before .args .pitch) (c .before .before .before .before .before .before .before .args .height) (c .before .before .before .before .before .before .before .args .size) (c .before .before .before .before .before .before .before .args .tiled)) _ (taken (layoutOf (c .before .before .before .before .before .before .before .args .base) (c .before .before .before .before .before .before .before .args .pitch) (c .before .before .before .before .before .before .before .args .height) (c .before .before .before .before .before .before .before .args .size) (c .before .before .before .before .before .before .before .args .tiled)) (sym (c .before .before .before .before .before .before .well-formed .ensures) ∙ not-false _ (c .before .before .before .before .before .if1 .left)) _ (c .before .before .before .before .window-stride .ensures) (c .before .before .before .if2 .left)) _ _ (c .if5 .taken))
+returns-5 c =
+    let at-if2 = c .before .before .before in
+    let at-window-stride = at-if2 .before in
+    let at-if1 = at-window-stride .before in
+    let at-well-formed = at-if1 .before in
+    let args = at-well-formed .before .args in
+    let layout = layoutOf (args .base) (args .pitch) (args .height) (args .size) (args .tiled) in
+    let taken-here = taken layout (sym (at-well-formed .well-formed .ensures) ∙ not-false _ (at-if1 .if1 .left)) _
+    (at-window-stride .window-stride .ensures) (at-if2 .if2 .left) in
+    told-refused 10 ∙ sym (outside-row layout _ taken-here _ _ (c .if5 .taken))
 
 offset-requires : tie.Need-offset-requires
-offset-requires c κs = (pair-asked (layoutOf (c .before .before .before .before .before .before .before .args .base) (c .before .before .before .before .before .before .before .args .pitch) (c .before .before .before .before .before .before .before .args .height) (c .before .before .before .before .before .before .before .args .size) (c .before .before .before .before .before .before .before .args .tiled)) _ (taken (layoutOf (c .before .before .before .before .before .before .before .args .base) (c .before .before .before .before .before .before .before .args .pitch) (c .before .before .before .before .before .before .before .args .height) (c .before .before .before .before .before .before .before .args .size) (c .before .before .before .before .before .before .before .args .tiled)) (sym (c .before .before .before .before .before .before .well-formed .ensures) ∙ not-false _ (c .before .before .before .before .before .if1 .left)) _ (c .before .before .before .before .window-stride .ensures) (c .before .before .before .if2 .left)) _ _ (in-row (layoutOf (c .before .before .before .before .before .before .before .args .base) (c .before .before .before .before .before .before .before .args .pitch) (c .before .before .before .before .before .before .before .args .height) (c .before .before .before .before .before .before .before .args .size) (c .before .before .before .before .before .before .before .args .tiled)) (sym (c .before .before .before .before .before .before .well-formed .ensures) ∙ not-false _ (c .before .before .before .before .before .if1 .left)) _ (c .before .before .before .before .window-stride .ensures) (c .before .before .before .if2 .left) _ (c .before .if4 .left)) (c .if5 .left), whole (layoutOf (c .before .before .before .before .before .before .before .args .base) (c .before .before .before .before .before .before .before .args .pitch) (c .before .before .before .before .before .before .before .args .height) (c .before .before .before .before .before .before .before .args .size) (c .before .before .before .before .before .before .before .args .tiled)) (sym (c .before .before .before .before .before .before .well-formed .ensures) ∙ not-false _ (c .before .before .before .before .before .if1 .left)) _ (c .before .before .before .before .window-stride .ensures) (c .before .before .before .if2 .left))
+offset-requires c κs =
+    let at-if4 = c .before in
+    let at-if2 = at-if4 .before .before in
+    let at-window-stride = at-if2 .before in
+    let at-if1 = at-window-stride .before in
+    let at-well-formed = at-if1 .before in
+    let args = at-well-formed .before .args in
+    let layout = layoutOf (args .base) (args .pitch) (args .height) (args .size) (args .tiled) in
+    let well-formed-told = sym (at-well-formed .well-formed .ensures) ∙ not-false _ (at-if1 .if1 .left) in
+    let in-row-here =
+    in-row layout well-formed-told _ (at-window-stride .window-stride .ensures) (at-if2 .if2 .left) _ (at-if4 .if4 .left) in
+    let taken-here = taken layout well-formed-told _ (at-window-stride .window-stride .ensures) (at-if2 .if2 .left) in (
+      pair-asked layout _ taken-here _ _ in-row-here (c .if5 .left),
+      whole layout well-formed-told _ (at-window-stride .window-stride .ensures) (at-if2 .if2 .left),
+    )
 
 add-result : tie.Need-add-result
-add-result c = record { fits = address-fits (layoutOf (c .before .before .before .before .before .before .before .before .args .base) (c .before .before .before .before .before .before .before .before .args .pitch) (c .before .before .before .before .before .before .before .before .args .height) (c .before .before .before .before .before .before .before .before .args .size) (c .before .before .before .before .before .before .before .before .args .tiled)) _ (taken (layoutOf (c .before .before .before .before .before .before .before .before .args .base) (c .before .before .before .before .before .before .before .before .args .pitch) (c .before .before .before .before .before .before .before .before .args .height) (c .before .before .before .before .before .before .before .before .args .size) (c .before .before .before .before .before .before .before .before .args .tiled)) (sym (c .before .before .before .before .before .before .before .well-formed .ensures) ∙ not-false _ (c .before .before .before .before .before .before .if1 .left)) _ (c .before .before .before .before .before .window-stride .ensures) (c .before .before .before .before .if2 .left)) _ _ (in-row (layoutOf (c .before .before .before .before .before .before .before .before .args .base) (c .before .before .before .before .before .before .before .before .args .pitch) (c .before .before .before .before .before .before .before .before .args .height) (c .before .before .before .before .before .before .before .before .args .size) (c .before .before .before .before .before .before .before .before .args .tiled)) (sym (c .before .before .before .before .before .before .before .well-formed .ensures) ∙ not-false _ (c .before .before .before .before .before .before .if1 .left)) _ (c .before .before .before .before .before .window-stride .ensures) (c .before .before .before .before .if2 .left) _ (c .before .before .if4 .left)) (c .before .if5 .left) _ (c .offset .ensures) }
+add-result c =
+    let at-if5 = c .before in
+    let at-if4 = at-if5 .before in
+    let at-if2 = at-if4 .before .before in
+    let at-window-stride = at-if2 .before in
+    let at-if1 = at-window-stride .before in
+    let at-well-formed = at-if1 .before in
+    let args = at-well-formed .before .args in
+    let layout = layoutOf (args .base) (args .pitch) (args .height) (args .size) (args .tiled) in
+    let well-formed-told = sym (at-well-formed .well-formed .ensures) ∙ not-false _ (at-if1 .if1 .left) in
+    let in-row-here =
+    in-row layout well-formed-told _ (at-window-stride .window-stride .ensures) (at-if2 .if2 .left) _ (at-if4 .if4 .left) in
+    let taken-here = taken layout well-formed-told _ (at-window-stride .window-stride .ensures) (at-if2 .if2 .left) in
+    record { fits = address-fits layout _ taken-here _ _ in-row-here (at-if5 .if5 .left) _ (c .offset .ensures) }
 
 cast-result : tie.Need-cast-result
 cast-result c = search needs
 
 returns-6 : tie.Need-returns-6
-returns-6 c = told-address _ (address-fits (layoutOf (c .before .before .before .before .before .before .before .before .args .base) (c .before .before .before .before .before .before .before .before .args .pitch) (c .before .before .before .before .before .before .before .before .args .height) (c .before .before .before .before .before .before .before .before .args .size) (c .before .before .before .before .before .before .before .before .args .tiled)) _ (taken (layoutOf (c .before .before .before .before .before .before .before .before .args .base) (c .before .before .before .before .before .before .before .before .args .pitch) (c .before .before .before .before .before .before .before .before .args .height) (c .before .before .before .before .before .before .before .before .args .size) (c .before .before .before .before .before .before .before .before .args .tiled)) (sym (c .before .before .before .before .before .before .before .well-formed .ensures) ∙ not-false _ (c .before .before .before .before .before .before .if1 .left)) _ (c .before .before .before .before .before .window-stride .ensures) (c .before .before .before .before .if2 .left)) _ _ (in-row (layoutOf (c .before .before .before .before .before .before .before .before .args .base) (c .before .before .before .before .before .before .before .before .args .pitch) (c .before .before .before .before .before .before .before .before .args .height) (c .before .before .before .before .before .before .before .before .args .size) (c .before .before .before .before .before .before .before .before .args .tiled)) (sym (c .before .before .before .before .before .before .before .well-formed .ensures) ∙ not-false _ (c .before .before .before .before .before .before .if1 .left)) _ (c .before .before .before .before .before .window-stride .ensures) (c .before .before .before .before .if2 .left) _ (c .before .before .if4 .left)) (c .before .if5 .left) _ (c .offset .ensures)) ∙ sym (translated (layoutOf (c .before .before .before .before .before .before .before .before .args .base) (c .before .before .before .before .before .before .before .before .args .pitch) (c .before .before .before .before .before .before .before .before .args .height) (c .before .before .before .before .before .before .before .before .args .size) (c .before .before .before .before .before .before .before .before .args .tiled)) _ (taken (layoutOf (c .before .before .before .before .before .before .before .before .args .base) (c .before .before .before .before .before .before .before .before .args .pitch) (c .before .before .before .before .before .before .before .before .args .height) (c .before .before .before .before .before .before .before .before .args .size) (c .before .before .before .before .before .before .before .before .args .tiled)) (sym (c .before .before .before .before .before .before .before .well-formed .ensures) ∙ not-false _ (c .before .before .before .before .before .before .if1 .left)) _ (c .before .before .before .before .before .window-stride .ensures) (c .before .before .before .before .if2 .left)) _ _ (in-row (layoutOf (c .before .before .before .before .before .before .before .before .args .base) (c .before .before .before .before .before .before .before .before .args .pitch) (c .before .before .before .before .before .before .before .before .args .height) (c .before .before .before .before .before .before .before .before .args .size) (c .before .before .before .before .before .before .before .before .args .tiled)) (sym (c .before .before .before .before .before .before .before .well-formed .ensures) ∙ not-false _ (c .before .before .before .before .before .before .if1 .left)) _ (c .before .before .before .before .before .window-stride .ensures) (c .before .before .before .before .if2 .left) _ (c .before .before .if4 .left)) (c .before .if5 .left) _ (c .offset .ensures))
+returns-6 c =
+    let at-if5 = c .before in
+    let at-if4 = at-if5 .before in
+    let at-if2 = at-if4 .before .before in
+    let at-window-stride = at-if2 .before in
+    let at-if1 = at-window-stride .before in
+    let at-well-formed = at-if1 .before in
+    let args = at-well-formed .before .args in
+    let layout = layoutOf (args .base) (args .pitch) (args .height) (args .size) (args .tiled) in
+    let well-formed-told = sym (at-well-formed .well-formed .ensures) ∙ not-false _ (at-if1 .if1 .left) in
+    let in-row-here =
+    in-row layout well-formed-told _ (at-window-stride .window-stride .ensures) (at-if2 .if2 .left) _ (at-if4 .if4 .left) in
+    let taken-here = taken layout well-formed-told _ (at-window-stride .window-stride .ensures) (at-if2 .if2 .left) in
+    let address-fits-here = address-fits layout _ taken-here _ _ in-row-here (at-if5 .if5 .left) _ (c .offset .ensures) in
+    told-address _ address-fits-here ∙ sym (translated layout _ taken-here _ _ in-row-here (at-if5 .if5 .left) _ (c .offset .ensures))
 
 pub sized-spec : {M : Type 1} → statement M
 sized-spec =

@@ -24,19 +24,44 @@ sized-requires-5 : tie.Need-sized-requires-5
 sized-requires-5 c κs = search needs
 
 returns : tie.Need-returns
-returns c = c .sized .ensures ∙ ap (λ (s : ℕ). translateOf (layoutOf (c .before .before .args .base) (c .before .before .args .pitch) (c .before .before .args .height) s true) (c .before .before .args .x) (c .before .before .args .y)) (sym (c .before .match .keys1))
+returns c =
+    let at-match = c .before in
+    let args = at-match .before .args in
+    c .sized .ensures
+    ∙ ap (λ (s : ℕ). translateOf (layoutOf (args .base) (args .pitch) (args .height) s true) (args .x) (args .y))
+    (sym (at-match .match .keys1))
 
 returns-2 : tie.Need-returns-2
-returns-2 c = c .sized2 .ensures ∙ ap (λ (s : ℕ). translateOf (layoutOf (c .before .before .args .base) (c .before .before .args .pitch) (c .before .before .args .height) s true) (c .before .before .args .x) (c .before .before .args .y)) (sym (c .before .match .keys2))
+returns-2 c =
+    let at-match = c .before in
+    let args = at-match .before .args in
+    c .sized2 .ensures
+    ∙ ap (λ (s : ℕ). translateOf (layoutOf (args .base) (args .pitch) (args .height) s true) (args .x) (args .y))
+    (sym (at-match .match .keys2))
 
 returns-3 : tie.Need-returns-3
-returns-3 c = c .sized3 .ensures ∙ ap (λ (s : ℕ). translateOf (layoutOf (c .before .before .args .base) (c .before .before .args .pitch) (c .before .before .args .height) s true) (c .before .before .args .x) (c .before .before .args .y)) (sym (c .before .match .keys3))
+returns-3 c =
+    let at-match = c .before in
+    let args = at-match .before .args in
+    c .sized3 .ensures
+    ∙ ap (λ (s : ℕ). translateOf (layoutOf (args .base) (args .pitch) (args .height) s true) (args .x) (args .y))
+    (sym (at-match .match .keys3))
 
 returns-4 : tie.Need-returns-4
-returns-4 c = c .sized4 .ensures ∙ ap (λ (s : ℕ). translateOf (layoutOf (c .before .before .args .base) (c .before .before .args .pitch) (c .before .before .args .height) s true) (c .before .before .args .x) (c .before .before .args .y)) (sym (c .before .match .keys4))
+returns-4 c =
+    let at-match = c .before in
+    let args = at-match .before .args in
+    c .sized4 .ensures
+    ∙ ap (λ (s : ℕ). translateOf (layoutOf (args .base) (args .pitch) (args .height) s true) (args .x) (args .y))
+    (sym (at-match .match .keys4))
 
 returns-5 : tie.Need-returns-5
-returns-5 c = c .sized5 .ensures ∙ ap (λ (s : ℕ). translateOf (layoutOf (c .before .before .args .base) (c .before .before .args .pitch) (c .before .before .args .height) s true) (c .before .before .args .x) (c .before .before .args .y)) (sym (c .before .match .keys5))
+returns-5 c =
+    let at-match = c .before in
+    let args = at-match .before .args in
+    c .sized5 .ensures
+    ∙ ap (λ (s : ℕ). translateOf (layoutOf (args .base) (args .pitch) (args .height) s true) (args .x) (args .y))
+    (sym (at-match .match .keys5))
 
 returns-6 : tie.Need-returns-6
 returns-6 c = sizeless _ _ _ _ _ _ _ (c .match .rest)

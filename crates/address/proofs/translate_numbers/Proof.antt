@@ -13,10 +13,20 @@ linear-number-requires : tie.Need-linear-number-requires
 linear-number-requires c κs = search needs
 
 returns : tie.Need-returns
-returns c = c .tiled-number .ensures ∙ ap (λ (t : Bool). translateOf (layoutOf (c .before .before .args .base) (c .before .before .args .pitch) (c .before .before .args .height) (c .before .before .args .size) t) (c .before .before .args .x) (c .before .before .args .y)) (sym (c .before .if1 .taken))
+returns c =
+    let at-if1 = c .before in
+    let args = at-if1 .before .args in
+    c .tiled-number .ensures
+    ∙ ap (λ (t : Bool). translateOf (layoutOf (args .base) (args .pitch) (args .height) (args .size) t) (args .x) (args .y))
+    (sym (at-if1 .if1 .taken))
 
 returns-2 : tie.Need-returns-2
-returns-2 c = c .linear-number .ensures ∙ ap (λ (t : Bool). translateOf (layoutOf (c .before .before .args .base) (c .before .before .args .pitch) (c .before .before .args .height) (c .before .before .args .size) t) (c .before .before .args .x) (c .before .before .args .y)) (sym (c .before .if1 .left))
+returns-2 c =
+    let at-if1 = c .before in
+    let args = at-if1 .before .args in
+    c .linear-number .ensures
+    ∙ ap (λ (t : Bool). translateOf (layoutOf (args .base) (args .pitch) (args .height) (args .size) t) (args .x) (args .y))
+    (sym (at-if1 .if1 .left))
 
 pub translate-numbers-spec : {M : Type 1} → statement M
 translate-numbers-spec =

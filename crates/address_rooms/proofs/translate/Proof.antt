@@ -12,18 +12,20 @@ tiled-number-requires c κs = search needs
 
 cross-requires : tie.Need-cross-requires
 cross-requires c κs =
-    number-small
-    (layoutOf (c .before .before .before .args .base) (c .before .before .before .args .pitch) (c .before .before .before .args .height) (c .before .before .before .args .size) true)
-    (c .before .before .before .args .x) (c .before .before .before .args .y) _ (c .before .tiled-number .ensures)
+    let at-tiled-number = c .before in
+    let args = at-tiled-number .before .before .args in
+    let layout = layoutOf (args .base) (args .pitch) (args .height) (args .size) true in
+    number-small layout (args .x) (args .y) _ (at-tiled-number .tiled-number .ensures)
 
 linear-number-requires : tie.Need-linear-number-requires
 linear-number-requires c κs = search needs
 
 cross-requires-2 : tie.Need-cross-requires-2
 cross-requires-2 c κs =
-    number-small
-    (layoutOf (c .before .before .before .args .base) (c .before .before .before .args .pitch) (c .before .before .before .args .height) (c .before .before .before .args .size) false)
-    (c .before .before .before .args .x) (c .before .before .before .args .y) _ (c .before .linear-number .ensures)
+    let at-linear-number = c .before in
+    let args = at-linear-number .before .before .args in
+    let layout = layoutOf (args .base) (args .pitch) (args .height) (args .size) false in
+    number-small layout (args .x) (args .y) _ (at-linear-number .linear-number .ensures)
 
 -- a tiled layout
 returns : tie.Need-returns

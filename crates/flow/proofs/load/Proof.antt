@@ -85,16 +85,16 @@ loop-less c = omega arith
 
 loop-again : tie.Need-loop-again Inv-loop μ-loop
 loop-again c =
-    let s = c .before .before .before .before .before .before .before .before .before in (
+    let at-loop = c .before .before .before in
+    let at-if1 = at-loop .before .before .before .before .before in
+    let s = at-if1 .before in (
       omega arith,
-      c .before .before .before .loop .inv .1,
-      c .before .before .before .loop .inv .2,
-      simp length-set (c .before .before .before .loop .inv .3),
-      simp length-set (c .before .before .before .loop .inv .4),
-      firsts-turn (now (s .args .words)) (c .before .before .before .loop .k) (omega arith) (omega arith)
-          (c .before .before .before .loop .inv .5),
-      seconds-turn (now (s .args .words)) (c .before .before .before .loop .k) (omega arith) (omega arith)
-          (c .before .before .before .loop .inv .6),
+      at-loop .loop .inv .1,
+      at-loop .loop .inv .2,
+      simp length-set (at-loop .loop .inv .3),
+      simp length-set (at-loop .loop .inv .4),
+      firsts-turn (now (s .args .words)) (at-loop .loop .k) (omega arith) (omega arith) (at-loop .loop .inv .5),
+      seconds-turn (now (s .args .words)) (at-loop .loop .k) (omega arith) (omega arith) (at-loop .loop .inv .6),
     )
 
 cast-t24 : tie.Need-cast-t24 Inv-loop μ-loop
@@ -102,11 +102,13 @@ cast-t24 c = omega arith
 
 returns-4 : tie.Need-returns-4 Inv-loop μ-loop
 returns-4 c =
-    let s = c .before .before .before .before .before .before .before in
-    load-done (now (s .args .words)) (now (s .args .firsts)) (now (s .args .seconds)) (c .before .loop .k)
-    (c .before .before .before .before .before .before .if1 .left)
-    (c .before .before .before .before .before .if2 .left) (c .before .before .before .before .if3 .left)
-    (omega arith) (c .before .loop .inv .5) (c .before .loop .inv .6)
+    let at-loop = c .before in
+    let at-if3 = at-loop .before .before .before in
+    let at-if2 = at-if3 .before in
+    let at-if1 = at-if2 .before in
+    let s = at-if1 .before in
+    load-done (now (s .args .words)) (now (s .args .firsts)) (now (s .args .seconds)) (at-loop .loop .k) (at-if1 .if1 .left)
+    (at-if2 .if2 .left) (at-if3 .if3 .left) (omega arith) (at-loop .loop .inv .5) (at-loop .loop .inv .6)
 
 pub load-spec : {M : Type 1} → statement M
 load-spec =

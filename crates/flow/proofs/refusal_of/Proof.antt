@@ -21,7 +21,11 @@ returns-3 c = sym (ap refusalOf (c .match .keys3))
 
 returns-4 : tie.Need-returns-4
 unfolding refusalOf
-returns-4 c = sym (pick-no _ _ (ne-eqb (c .before .args .number) 13 (c .match .rest .0 .0 .1)) ∙ pick-no _ _ (ne-eqb (c .before .args .number) 14 (c .match .rest .0 .1)) ∙ pick-no _ _ (ne-eqb (c .before .args .number) 15 (c .match .rest .1)))
+returns-4 c =
+    let args = c .before .args in
+    sym (pick-no _ _ (ne-eqb (args .number) 13 (c .match .rest .0 .0 .1))
+    ∙ pick-no _ _ (ne-eqb (args .number) 14 (c .match .rest .0 .1))
+    ∙ pick-no _ _ (ne-eqb (args .number) 15 (c .match .rest .1)))
 
 pub refusal-of-spec : {M : Type 1} → statement M
 refusal-of-spec = tie.close (tie.spec returns returns-2 returns-3 returns-4)

@@ -11,7 +11,16 @@ rows-log-requires : tie.Need-rows-log-requires
 rows-log-requires c κs = form-size _ _ _ (c .before .pre)
 
 stride-by-requires : tie.Need-stride-by-requires
-stride-by-requires c κs = record { form = c .before .before .pre; stride-few = c .before .stride-log .ensures .0; stride-unit = c .before .stride-log .ensures .1; rows-few = c .rows-log .ensures .0; rows-unit = c .rows-log .ensures .1 }
+stride-by-requires c κs =
+    let at-stride-log = c .before in
+    let entry = at-stride-log .before in
+    record {
+      form = entry .pre;
+      stride-few = at-stride-log .stride-log .ensures .0;
+      stride-unit = at-stride-log .stride-log .ensures .1;
+      rows-few = c .rows-log .ensures .0;
+      rows-unit = c .rows-log .ensures .1;
+    }
 
 returns : tie.Need-returns
 returns c = search needs

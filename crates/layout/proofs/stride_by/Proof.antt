@@ -17,19 +17,35 @@ shl-stride : tie.Need-shl-stride
 shl-stride c = search needs
 
 returns : tie.Need-returns
-returns c = no-stride _ _ _ _ _ (c .before .pre .form) _ (cut-stride _ _ _ _ (form-size _ _ _ (c .before .pre .form)) (form-pitch _ _ _ (c .before .pre .form)) (c .before .pre .stride-unit)) (c .if1 .taken)
+returns c =
+    let entry = c .before in
+    no-stride _ _ _ _ _ (entry .pre .form) _
+    (cut-stride _ _ _ _ (form-size _ _ _ (entry .pre .form)) (form-pitch _ _ _ (entry .pre .form)) (entry .pre .stride-unit))
+    (c .if1 .taken)
 
 mul-if2 : tie.Need-mul-if2
 mul-if2 c = omega (arith, size-most _ (form-size _ _ _ (c .before .pre .form)))
 
 returns-2 : tie.Need-returns-2
-returns-2 c = long-stride _ _ _ _ _ (c .before .before .pre .form) _ (cut-stride _ _ _ _ (form-size _ _ _ (c .before .before .pre .form)) (form-pitch _ _ _ (c .before .before .pre .form)) (c .before .before .pre .stride-unit)) (c .if2 .taken)
+returns-2 c =
+    let entry = c .before .before in
+    long-stride _ _ _ _ _ (entry .pre .form) _
+    (cut-stride _ _ _ _ (form-size _ _ _ (entry .pre .form)) (form-pitch _ _ _ (entry .pre .form)) (entry .pre .stride-unit))
+    (c .if2 .taken)
 
 returns-3 : tie.Need-returns-3
-returns-3 c = no-height _ _ _ _ _ (c .before .before .before .pre .form) _ (cut-stride _ _ _ _ (form-size _ _ _ (c .before .before .before .pre .form)) (form-pitch _ _ _ (c .before .before .before .pre .form)) (c .before .before .before .pre .stride-unit)) (c .if3 .taken)
+returns-3 c =
+    let entry = c .before .before .before in
+    no-height _ _ _ _ _ (entry .pre .form) _
+    (cut-stride _ _ _ _ (form-size _ _ _ (entry .pre .form)) (form-pitch _ _ _ (entry .pre .form)) (entry .pre .stride-unit))
+    (c .if3 .taken)
 
 returns-4 : tie.Need-returns-4
-returns-4 c = great-height _ _ _ _ _ (c .before .before .before .before .pre .form) _ (cut-stride _ _ _ _ (form-size _ _ _ (c .before .before .before .before .pre .form)) (form-pitch _ _ _ (c .before .before .before .before .pre .form)) (c .before .before .before .before .pre .stride-unit)) (c .if4 .taken)
+returns-4 c =
+    let entry = c .before .before .before .before in
+    great-height _ _ _ _ _ (entry .pre .form) _
+    (cut-stride _ _ _ _ (form-size _ _ _ (entry .pre .form)) (form-pitch _ _ _ (entry .pre .form)) (entry .pre .stride-unit))
+    (c .if4 .taken)
 
 shl-rows : tie.Need-shl-rows
 shl-rows c = search needs
@@ -38,7 +54,9 @@ sub-rows : tie.Need-sub-rows
 sub-rows c = unit-least _ _ _ (form-size _ _ _ (c .before .before .before .before .pre .form)) (c .before .before .before .before .pre .rows-unit)
 
 add-rows : tie.Need-add-rows
-add-rows c = omega (arith, unit-fits _ _ _ (form-size _ _ _ (c .before .before .before .before .pre .form)) (c .before .before .before .before .pre .rows-unit) _ (c .if4 .left))
+add-rows c =
+    let entry = c .before .before .before .before in
+    omega (arith, unit-fits _ _ _ (form-size _ _ _ (entry .pre .form)) (entry .pre .rows-unit) _ (c .if4 .left))
 
 shr-rows : tie.Need-shr-rows
 shr-rows c = search needs
@@ -50,16 +68,59 @@ sub-if5 : tie.Need-sub-if5
 sub-if5 c = search needs
 
 mul-if5 : tie.Need-mul-if5
-mul-if5 c = omega (arith, span-most _ _ _ _ _ (c .before .before .before .before .pre .form) _ (cut-stride _ _ _ _ (form-size _ _ _ (c .before .before .before .before .pre .form)) (form-pitch _ _ _ (c .before .before .before .before .pre .form)) (c .before .before .before .before .pre .stride-unit)) (c .before .before .before .if1 .left) (c .before .before .if2 .left) (c .before .if3 .left) (c .if4 .left) _ (filled-rows _ _ _ (form-size _ _ _ (c .before .before .before .before .pre .form)) (c .before .before .before .before .pre .rows-unit) _ (c .if4 .left)))
+mul-if5 c =
+    let at-if3 = c .before in
+    let at-if2 = at-if3 .before in
+    let at-if1 = at-if2 .before in
+    let entry = at-if1 .before in
+    let cut-stride-here =
+    cut-stride _ _ _ _ (form-size _ _ _ (entry .pre .form)) (form-pitch _ _ _ (entry .pre .form)) (entry .pre .stride-unit) in
+    let filled-rows-here = filled-rows _ _ _ (form-size _ _ _ (entry .pre .form)) (entry .pre .rows-unit) _ (c .if4 .left) in
+    omega (
+      arith,
+      span-most _ _ _ _ _ (entry .pre .form) _ cut-stride-here (at-if1 .if1 .left) (at-if2 .if2 .left) (at-if3 .if3 .left) (c .if4 .left) _
+          filled-rows-here,
+    )
 
 sub-if5-2 : tie.Need-sub-if5-2
-sub-if5-2 c = omega (arith, span-least _ _ _ _ _ (c .before .before .before .before .pre .form) _ (cut-stride _ _ _ _ (form-size _ _ _ (c .before .before .before .before .pre .form)) (form-pitch _ _ _ (c .before .before .before .before .pre .form)) (c .before .before .before .before .pre .stride-unit)) (c .before .before .before .if1 .left) (c .before .before .if2 .left) (c .before .if3 .left) (c .if4 .left) _ (filled-rows _ _ _ (form-size _ _ _ (c .before .before .before .before .pre .form)) (c .before .before .before .before .pre .rows-unit) _ (c .if4 .left)))
+sub-if5-2 c =
+    let at-if3 = c .before in
+    let at-if2 = at-if3 .before in
+    let at-if1 = at-if2 .before in
+    let entry = at-if1 .before in
+    let cut-stride-here =
+    cut-stride _ _ _ _ (form-size _ _ _ (entry .pre .form)) (form-pitch _ _ _ (entry .pre .form)) (entry .pre .stride-unit) in
+    let filled-rows-here = filled-rows _ _ _ (form-size _ _ _ (entry .pre .form)) (entry .pre .rows-unit) _ (c .if4 .left) in
+    omega (
+      arith,
+      span-least _ _ _ _ _ (entry .pre .form) _ cut-stride-here (at-if1 .if1 .left) (at-if2 .if2 .left) (at-if3 .if3 .left) (c .if4 .left) _
+          filled-rows-here,
+    )
 
 returns-5 : tie.Need-returns-5
-returns-5 c = too-high _ _ _ _ _ (c .before .before .before .before .before .pre .form) _ (cut-stride _ _ _ _ (form-size _ _ _ (c .before .before .before .before .before .pre .form)) (form-pitch _ _ _ (c .before .before .before .before .before .pre .form)) (c .before .before .before .before .before .pre .stride-unit)) (c .before .before .before .before .if1 .left) (c .before .before .before .if2 .left) (c .before .before .if3 .left) (c .before .if4 .left) _ (filled-rows _ _ _ (form-size _ _ _ (c .before .before .before .before .before .pre .form)) (c .before .before .before .before .before .pre .rows-unit) _ (c .before .if4 .left)) (c .if5 .taken)
+returns-5 c =
+    let at-if4 = c .before in
+    let at-if3 = at-if4 .before in
+    let at-if2 = at-if3 .before in
+    let at-if1 = at-if2 .before in
+    let entry = at-if1 .before in
+    let cut-stride-here =
+    cut-stride _ _ _ _ (form-size _ _ _ (entry .pre .form)) (form-pitch _ _ _ (entry .pre .form)) (entry .pre .stride-unit) in
+    too-high _ _ _ _ _ (entry .pre .form) _ cut-stride-here (at-if1 .if1 .left) (at-if2 .if2 .left) (at-if3 .if3 .left) (at-if4 .if4 .left)
+    _ (filled-rows _ _ _ (form-size _ _ _ (entry .pre .form)) (entry .pre .rows-unit) _ (at-if4 .if4 .left)) (c .if5 .taken)
 
 returns-6 : tie.Need-returns-6
-returns-6 c = kept _ _ _ _ _ (c .before .before .before .before .before .pre .form) _ (cut-stride _ _ _ _ (form-size _ _ _ (c .before .before .before .before .before .pre .form)) (form-pitch _ _ _ (c .before .before .before .before .before .pre .form)) (c .before .before .before .before .before .pre .stride-unit)) (c .before .before .before .before .if1 .left) (c .before .before .before .if2 .left) (c .before .before .if3 .left) (c .before .if4 .left) _ (filled-rows _ _ _ (form-size _ _ _ (c .before .before .before .before .before .pre .form)) (c .before .before .before .before .before .pre .rows-unit) _ (c .before .if4 .left)) (c .before .before .before .before .before .fits .base .fits) (c .if5 .left)
+returns-6 c =
+    let at-if4 = c .before in
+    let at-if3 = at-if4 .before in
+    let at-if2 = at-if3 .before in
+    let at-if1 = at-if2 .before in
+    let entry = at-if1 .before in
+    let cut-stride-here =
+    cut-stride _ _ _ _ (form-size _ _ _ (entry .pre .form)) (form-pitch _ _ _ (entry .pre .form)) (entry .pre .stride-unit) in
+    kept _ _ _ _ _ (entry .pre .form) _ cut-stride-here (at-if1 .if1 .left) (at-if2 .if2 .left) (at-if3 .if3 .left) (at-if4 .if4 .left) _
+    (filled-rows _ _ _ (form-size _ _ _ (entry .pre .form)) (entry .pre .rows-unit) _ (at-if4 .if4 .left)) (entry .fits .base .fits)
+    (c .if5 .left)
 
 pub stride-by-spec : {M : Type 1} → statement M
 stride-by-spec =

@@ -21,8 +21,13 @@ div-result c = omega (arith, rows-bounds _ _ (c .before .pre .0) _ (c .rows-unit
 
 mul-result : tie.Need-mul-result
 mul-result c =
-    omega
-    (arith, rows-bounds _ _ (c .before .pre .0) _ (c .rows-unit .ensures), c .before .pre .1, div-mul-le-self (c .before .args .height + (c .rows-unit .result - 1)) (c .rows-unit .result))
+    let entry = c .before in
+    omega (
+      arith,
+      rows-bounds _ _ (entry .pre .0) _ (c .rows-unit .ensures),
+      entry .pre .1,
+      div-mul-le-self (entry .args .height + (c .rows-unit .result - 1)) (c .rows-unit .result),
+    )
 
 returns : tie.Need-returns
 returns c = table-rows _ _ (c .before .pre .0) _ (c .rows-unit .ensures) _

@@ -26,9 +26,13 @@ is-size-requires c κs = search needs
 returns-4 : tie.Need-returns-4
 unfolding wellFormed
 returns-4 c =
-    c .is-size .ensures ∙
-    sym
-    (and-yes _ (eq-eqb _ _ (c .before .before .before .if1 .left)) ∙ and-yes _ (eq-eqb _ _ (c .before .before .if2 .left)) ∙ and-yes _ (le-leb _ _ (c .before .if3 .left)))
+    let at-if3 = c .before in
+    let at-if2 = at-if3 .before in
+    let at-if1 = at-if2 .before in
+    c .is-size .ensures
+    ∙ sym (and-yes _ (eq-eqb _ _ (at-if1 .if1 .left))
+    ∙ and-yes _ (eq-eqb _ _ (at-if2 .if2 .left))
+    ∙ and-yes _ (le-leb _ _ (at-if3 .if3 .left)))
 
 pub well-formed-spec : {M : Type 1} → statement M
 well-formed-spec = tie.close (tie.spec returns returns-2 returns-3 is-size-requires returns-4)

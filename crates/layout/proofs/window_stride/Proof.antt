@@ -14,16 +14,31 @@ rows-log-requires : tie.Need-rows-log-requires
 rows-log-requires c κs = form-size _ _ _ (c .before .before .pre)
 
 stride-by-requires : tie.Need-stride-by-requires
-stride-by-requires c κs = record { form = c .before .before .before .pre; stride-few = c .before .stride-log .ensures .0; stride-unit = c .before .stride-log .ensures .1; rows-few = c .rows-log .ensures .0; rows-unit = c .rows-log .ensures .1 }
+stride-by-requires c κs =
+    let at-stride-log = c .before in
+    let entry = at-stride-log .before .before in
+    record {
+      form = entry .pre;
+      stride-few = at-stride-log .stride-log .ensures .0;
+      stride-unit = at-stride-log .stride-log .ensures .1;
+      rows-few = c .rows-log .ensures .0;
+      rows-unit = c .rows-log .ensures .1;
+    }
 
 stride-by-requires-2 : tie.Need-stride-by-requires-2
 stride-by-requires-2 c κs = linear-asked _ _ _ (c .before .pre)
 
 returns : tie.Need-returns
-returns c = c .stride-by .ensures ∙ sym (ap (λ (t : Bool). strideOf (c .before .before .before .before .args .base) (c .before .before .before .before .args .pitch) (c .before .before .before .before .args .height) (c .before .before .before .before .args .size) t) (c .before .before .before .if1 .taken))
+returns c =
+    let at-if1 = c .before .before .before in
+    let args = at-if1 .before .args in
+    c .stride-by .ensures ∙ sym (ap (λ (t : Bool). strideOf (args .base) (args .pitch) (args .height) (args .size) t) (at-if1 .if1 .taken))
 
 returns-2 : tie.Need-returns-2
-returns-2 c = c .stride-by2 .ensures ∙ sym (ap (λ (t : Bool). strideOf (c .before .before .args .base) (c .before .before .args .pitch) (c .before .before .args .height) (c .before .before .args .size) t) (c .before .if1 .left))
+returns-2 c =
+    let at-if1 = c .before in
+    let args = at-if1 .before .args in
+    c .stride-by2 .ensures ∙ sym (ap (λ (t : Bool). strideOf (args .base) (args .pitch) (args .height) (args .size) t) (at-if1 .if1 .left))
 
 pub window-stride-spec : {M : Type 1} → statement M
 window-stride-spec =

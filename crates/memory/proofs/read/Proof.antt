@@ -34,13 +34,22 @@ part-one-end : tie.Need-part-one-end
 part-one-end c = ends-inside _ _ _ _ _ _ (sym (c .before .before .before .before .find .ensures) ∙ ap toldPlace (c .before .before .a .given .1))
 
 one-requires : tie.Need-one-requires
-one-requires c κs = small-element _ _ _ _ _ _ (sym (c .before .before .before .before .before .find .ensures) ∙ ap toldPlace (c .before .before .before .a .given .1))
+one-requires c κs =
+    let at-a = c .before .before .before in
+    let at-find = at-a .before .before in
+    small-element _ _ _ _ _ _ (sym (at-find .find .ensures) ∙ ap toldPlace (at-a .a .given .1))
 
 returns : tie.Need-returns
-returns c = told-so (read-refused _ _ _ _ _ _ (sym (c .before .before .before .before .find .ensures) ∙ ap toldPlace (c .before .before .why .given .1))) (c .refused .ensures)
+returns c =
+    let at-why = c .before .before in
+    let at-find = at-why .before .before in
+    told-so (read-refused _ _ _ _ _ _ (sym (at-find .find .ensures) ∙ ap toldPlace (at-why .why .given .1))) (c .refused .ensures)
 
 returns-2 : tie.Need-returns-2
-returns-2 c = told-so (read-found _ _ _ _ _ _ (sym (c .before .before .before .before .before .before .find .ensures) ∙ ap toldPlace (c .before .before .before .before .a .given .1))) (c .one .ensures)
+returns-2 c =
+    let at-a = c .before .before .before .before in
+    let at-find = at-a .before .before in
+    told-so (read-found _ _ _ _ _ _ (sym (at-find .find .ensures) ∙ ap toldPlace (at-a .a .given .1))) (c .one .ensures)
 
 pub read-spec : {M : Type 1} → statement M
 read-spec =

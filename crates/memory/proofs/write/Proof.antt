@@ -19,10 +19,16 @@ cast-size : tie.Need-cast-size
 cast-size c = search needs
 
 returns : tie.Need-returns
-returns c = write-unfit _ _ _ _ _ _ _ (sym (c .before .before .before .before .before .find .ensures) ∙ ap toldPlace (c .before .before .before .a .given .1)) (c .if1 .taken)
+returns c =
+    let at-a = c .before .before .before in
+    let at-find = at-a .before .before in
+    write-unfit _ _ _ _ _ _ _ (sym (at-find .find .ensures) ∙ ap toldPlace (at-a .a .given .1)) (c .if1 .taken)
 
 add-store : tie.Need-add-store
-add-store c = record { fits = end-fits _ _ _ _ _ _ (sym (c .before .before .before .before .before .find .ensures) ∙ ap toldPlace (c .before .before .before .a .given .1)) }
+add-store c =
+    let at-a = c .before .before .before in
+    let at-find = at-a .before .before in
+    record { fits = end-fits _ _ _ _ _ _ (sym (at-find .find .ensures) ∙ ap toldPlace (at-a .a .given .1)) }
 
 sub-store : tie.Need-sub-store
 sub-store c = search needs
@@ -31,7 +37,10 @@ part-store-start : tie.Need-part-store-start
 part-store-start c = search needs
 
 part-store-end : tie.Need-part-store-end
-part-store-end c = ends-inside _ _ _ _ _ _ (sym (c .before .before .before .before .before .find .ensures) ∙ ap toldPlace (c .before .before .before .a .given .1))
+part-store-end c =
+    let at-a = c .before .before .before in
+    let at-find = at-a .before .before in
+    ends-inside _ _ _ _ _ _ (sym (at-find .find .ensures) ∙ ap toldPlace (at-a .a .given .1))
 
 store-requires : tie.Need-store-requires
 store-requires c κs = search needs
@@ -43,7 +52,13 @@ same-length : tie.Need-same-length
 same-length c = search needs
 
 returns-3 : tie.Need-returns-3
-returns-3 c = write-done _ _ _ _ _ _ _ (sym (c .before .before .before .before .before .before .before .before .before .find .ensures) ∙ ap toldPlace (c .before .before .before .before .before .before .before .a .given .1)) _ (c .before .before .before .before .if1 .left) (c .before .before .store .ensures)
+returns-3 c =
+    let at-store = c .before .before in
+    let at-if1 = at-store .before .before in
+    let at-a = at-if1 .before .before .before in
+    let at-find = at-a .before .before in
+    write-done _ _ _ _ _ _ _ (sym (at-find .find .ensures) ∙ ap toldPlace (at-a .a .given .1)) _ (at-if1 .if1 .left)
+    (at-store .store .ensures)
 
 pub write-spec : {M : Type 1} → statement M
 write-spec =

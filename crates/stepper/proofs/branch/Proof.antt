@@ -34,7 +34,14 @@ put-masks-requires : tie.Need-put-masks-requires
 put-masks-requires c κs = search needs
 
 returns : tie.Need-returns
-returns c = c .put-masks .ensures ∙ ap (withMasks (now (c .before .before .before .before .before .before .before .before .before .before .args .cells))) (branch-lower (withActive (now (c .before .before .before .before .before .before .before .before .before .before .args .cells)) (c .before .before .before .before .before .before .before .before .before .before .args .active)) (c .before .before .before .before .before .before .before .before .before .before .args .op) (c .before .before .before .before .before .before .before .before .before .before .args .count) (c .before .before .before .before .before .before .before .before .before .before .args .wish) (c .before .before .before .before .before .before .before .before .before .before .args .jump) (c .before .before .lower .ensures) (c .before .before .before .before .before .before .before .before .before .if1 .taken))
+returns c =
+    let at-lower = c .before .before in
+    let at-lower-arg2 = at-lower .before .before .before .before .before in
+    let at-if1 = at-lower-arg2 .before .before in
+    let args = at-if1 .before .args in
+    let branch-lower-here = branch-lower (withActive (now (args .cells)) (args .active)) (args .op) (args .count) (args .wish) (args .jump)
+    (at-lower .lower .ensures) (at-if1 .if1 .taken) in
+    c .put-masks .ensures ∙ ap (withMasks (now (args .cells))) branch-lower-here
 
 element-copy-out-raise : tie.Need-element-copy-out-raise
 element-copy-out-raise c = search needs
@@ -61,13 +68,27 @@ put-masks-requires-2 : tie.Need-put-masks-requires-2
 put-masks-requires-2 c κs = search needs
 
 returns-2 : tie.Need-returns-2
-returns-2 c = c .put-masks2 .ensures ∙ ap (withMasks (now (c .before .before .before .before .before .before .before .before .before .before .before .args .cells))) (branch-raise (withActive (now (c .before .before .before .before .before .before .before .before .before .before .before .args .cells)) (c .before .before .before .before .before .before .before .before .before .before .before .args .active)) (c .before .before .before .before .before .before .before .before .before .before .before .args .op) (c .before .before .before .before .before .before .before .before .before .before .before .args .count) (c .before .before .before .before .before .before .before .before .before .before .before .args .wish) (c .before .before .before .before .before .before .before .before .before .before .before .args .jump) (c .before .before .raise .ensures) (c .before .before .before .before .before .before .before .before .before .if2 .taken))
+returns-2 c =
+    let at-raise = c .before .before in
+    let at-raise-arg2 = at-raise .before .before .before .before .before in
+    let at-if2 = at-raise-arg2 .before .before in
+    let args = at-if2 .before .before .args in
+    let branch-raise-here = branch-raise (withActive (now (args .cells)) (args .active)) (args .op) (args .count) (args .wish) (args .jump)
+    (at-raise .raise .ensures) (at-if2 .if2 .taken) in
+    c .put-masks2 .ensures ∙ ap (withMasks (now (args .cells))) branch-raise-here
 
 element-write-cells : tie.Need-element-write-cells
 element-write-cells c = search needs
 
 returns-3 : tie.Need-returns-3
-returns-3 c = active-cell (now (c .before .before .args .cells)) (c .before .before .pre .0) (c .before .before .args .active) (masks-shown (c .before .before .pre .2) ∙ branch-none (withActive (now (c .before .before .args .cells)) (c .before .before .args .active)) (c .before .before .args .op) (c .before .before .args .count) (c .before .before .args .wish) (c .before .before .args .jump) (c .before .if1 .left) (c .if2 .left))
+returns-3 c =
+    let at-if1 = c .before in
+    let entry = at-if1 .before in
+    let args = entry .args in
+    let cells-told = masks-shown (entry .pre .2)
+    ∙ branch-none (withActive (now (args .cells)) (args .active)) (args .op) (args .count) (args .wish) (args .jump) (at-if1 .if1 .left)
+    (c .if2 .left) in
+    active-cell (now (args .cells)) (entry .pre .0) (args .active) cells-told
 
 pub branch-spec : {M : Type 1} → statement M
 branch-spec =

@@ -21,7 +21,11 @@ refused-requires : tie.Need-refused-requires
 refused-requires c κs = search needs
 
 returns : tie.Need-returns
-returns c = told-so (right-unheld _ _ _ _ _ _ _ _ (sym (c .before .before .before .start .ensures) ∙ ap toldPlace (c .before .enum-told .given .1))) (c .refused .ensures)
+returns c =
+    let at-enum-told = c .before in
+    let at-start = at-enum-told .before .before in
+    told-so (right-unheld _ _ _ _ _ _ _ _ (sym (at-start .start .ensures) ∙ ap toldPlace (at-enum-told .enum-told .given .1)))
+    (c .refused .ensures)
 
 start-requires-2 : tie.Need-start-requires-2
 start-requires-2 c κs = search needs
@@ -36,7 +40,11 @@ refused-requires-2 : tie.Need-refused-requires-2
 refused-requires-2 c κs = search needs
 
 returns-2 : tie.Need-returns-2
-returns-2 c = told-so (below-unheld _ _ _ _ _ _ _ _ (sym (c .before .before .before .start2 .ensures) ∙ ap toldPlace (c .before .enum-told2 .given .1))) (c .refused2 .ensures)
+returns-2 c =
+    let at-enum-told2 = c .before in
+    let at-start2 = at-enum-told2 .before .before in
+    told-so (below-unheld _ _ _ _ _ _ _ _ (sym (at-start2 .start2 .ensures) ∙ ap toldPlace (at-enum-told2 .enum-told2 .given .1)))
+    (c .refused2 .ensures)
 
 start-requires-3 : tie.Need-start-requires-3
 start-requires-3 c κs = search needs
@@ -51,7 +59,11 @@ refused-requires-3 : tie.Need-refused-requires-3
 refused-requires-3 c κs = search needs
 
 returns-3 : tie.Need-returns-3
-returns-3 c = told-so (across-unheld _ _ _ _ _ _ _ _ (sym (c .before .before .before .start3 .ensures) ∙ ap toldPlace (c .before .enum-told3 .given .1))) (c .refused3 .ensures)
+returns-3 c =
+    let at-enum-told3 = c .before in
+    let at-start3 = at-enum-told3 .before .before in
+    told-so (across-unheld _ _ _ _ _ _ _ _ (sym (at-start3 .start3 .ensures) ∙ ap toldPlace (at-enum-told3 .enum-told3 .given .1)))
+    (c .refused3 .ensures)
 
 start-requires-4 : tie.Need-start-requires-4
 start-requires-4 c κs = search needs
@@ -66,10 +78,19 @@ refused-requires-4 : tie.Need-refused-requires-4
 refused-requires-4 c κs = search needs
 
 returns-4 : tie.Need-returns-4
-returns-4 c = told-so (own-unheld _ _ _ _ _ _ _ _ (sym (c .before .before .before .start4 .ensures) ∙ ap toldPlace (c .before .enum-told4 .given .1))) (c .refused4 .ensures)
+returns-4 c =
+    let at-enum-told4 = c .before in
+    let at-start4 = at-enum-told4 .before .before in
+    told-so (own-unheld _ _ _ _ _ _ _ _ (sym (at-start4 .start4 .ensures) ∙ ap toldPlace (at-enum-told4 .enum-told4 .given .1)))
+    (c .refused4 .ensures)
 
 add-four : tie.Need-add-four
-add-four c = record { fits = part-fits _ _ _ _ _ (sym (c .before .before .before .before .before .before .before .before .before .before .before .before .before .before .before .start .ensures) ∙ ap toldPlace (c .before .before .before .before .before .before .before .before .before .before .before .before .before .a .given .1)) }
+add-four c =
+    let at-c = c .before .before .before .before .before in
+    let at-match2 = at-c .before .before .before .before .before in
+    let at-a = at-match2 .before .before .before in
+    let at-start = at-a .before .before in
+    record { fits = part-fits _ _ _ _ _ (sym (at-start .start .ensures) ∙ ap toldPlace (at-a .a .given .1)) }
 
 sub-four : tie.Need-sub-four
 sub-four c = search needs
@@ -78,10 +99,19 @@ part-four-start : tie.Need-part-four-start
 part-four-start c = search needs
 
 part-four-end : tie.Need-part-four-end
-part-four-end c = part-ends _ _ _ _ _ (sym (c .before .before .before .before .before .before .before .before .before .before .before .before .before .before .before .start .ensures) ∙ ap toldPlace (c .before .before .before .before .before .before .before .before .before .before .before .before .before .a .given .1))
+part-four-end c =
+    let at-c = c .before .before .before .before .before in
+    let at-match2 = at-c .before .before .before .before .before in
+    let at-a = at-match2 .before .before .before in
+    let at-start = at-a .before .before in
+    part-ends _ _ _ _ _ (sym (at-start .start .ensures) ∙ ap toldPlace (at-a .a .given .1))
 
 add-four-2 : tie.Need-add-four-2
-add-four-2 c = record { fits = part-fits _ _ _ _ _ (sym (c .before .before .before .before .before .before .before .before .before .before .before .before .start2 .ensures) ∙ ap toldPlace (c .before .before .before .before .before .before .before .before .before .before .b .given .1)) }
+add-four-2 c =
+    let at-known-told3 = c .before .before .before .before .before in
+    let at-b = at-known-told3 .before .before .before .before .before in
+    let at-start2 = at-b .before .before in
+    record { fits = part-fits _ _ _ _ _ (sym (at-start2 .start2 .ensures) ∙ ap toldPlace (at-b .b .given .1)) }
 
 sub-four-2 : tie.Need-sub-four-2
 sub-four-2 c = search needs
@@ -90,10 +120,18 @@ part-four-start-2 : tie.Need-part-four-start-2
 part-four-start-2 c = search needs
 
 part-four-end-2 : tie.Need-part-four-end-2
-part-four-end-2 c = part-ends _ _ _ _ _ (sym (c .before .before .before .before .before .before .before .before .before .before .before .before .start2 .ensures) ∙ ap toldPlace (c .before .before .before .before .before .before .before .before .before .before .b .given .1))
+part-four-end-2 c =
+    let at-known-told3 = c .before .before .before .before .before in
+    let at-b = at-known-told3 .before .before .before .before .before in
+    let at-start2 = at-b .before .before in
+    part-ends _ _ _ _ _ (sym (at-start2 .start2 .ensures) ∙ ap toldPlace (at-b .b .given .1))
 
 add-four-3 : tie.Need-add-four-3
-add-four-3 c = record { fits = part-fits _ _ _ _ _ (sym (c .before .before .before .before .before .before .before .before .before .start3 .ensures) ∙ ap toldPlace (c .before .before .before .before .before .before .before .c .given .1)) }
+add-four-3 c =
+    let at-start4 = c .before .before .before .before .before in
+    let at-c = at-start4 .before .before in
+    let at-start3 = at-c .before .before in
+    record { fits = part-fits _ _ _ _ _ (sym (at-start3 .start3 .ensures) ∙ ap toldPlace (at-c .c .given .1)) }
 
 sub-four-3 : tie.Need-sub-four-3
 sub-four-3 c = search needs
@@ -102,10 +140,17 @@ part-four-start-3 : tie.Need-part-four-start-3
 part-four-start-3 c = search needs
 
 part-four-end-3 : tie.Need-part-four-end-3
-part-four-end-3 c = part-ends _ _ _ _ _ (sym (c .before .before .before .before .before .before .before .before .before .start3 .ensures) ∙ ap toldPlace (c .before .before .before .before .before .before .before .c .given .1))
+part-four-end-3 c =
+    let at-start4 = c .before .before .before .before .before in
+    let at-c = at-start4 .before .before in
+    let at-start3 = at-c .before .before in
+    part-ends _ _ _ _ _ (sym (at-start3 .start3 .ensures) ∙ ap toldPlace (at-c .c .given .1))
 
 add-four-4 : tie.Need-add-four-4
-add-four-4 c = record { fits = part-fits _ _ _ _ _ (sym (c .before .before .before .before .before .before .start4 .ensures) ∙ ap toldPlace (c .before .before .before .before .d .given .1)) }
+add-four-4 c =
+    let at-d = c .before .before .before .before in
+    let at-start4 = at-d .before .before in
+    record { fits = part-fits _ _ _ _ _ (sym (at-start4 .start4 .ensures) ∙ ap toldPlace (at-d .d .given .1)) }
 
 sub-four-4 : tie.Need-sub-four-4
 sub-four-4 c = search needs
@@ -114,13 +159,43 @@ part-four-start-4 : tie.Need-part-four-start-4
 part-four-start-4 c = search needs
 
 part-four-end-4 : tie.Need-part-four-end-4
-part-four-end-4 c = part-ends _ _ _ _ _ (sym (c .before .before .before .before .before .before .start4 .ensures) ∙ ap toldPlace (c .before .before .before .before .d .given .1))
+part-four-end-4 c =
+    let at-d = c .before .before .before .before in
+    let at-start4 = at-d .before .before in
+    part-ends _ _ _ _ _ (sym (at-start4 .start4 .ensures) ∙ ap toldPlace (at-d .d .given .1))
 
 four-requires : tie.Need-four-requires
-four-requires c κs = four-asked _ _ _ _ _ _ _ _ _ _ _ (sym (c .before .before .before .before .before .before .before .before .before .before .before .before .before .before .before .before .before .before .before .start .ensures) ∙ ap toldPlace (c .before .before .before .before .before .before .before .before .before .before .before .before .before .before .before .before .before .a .given .1)) (sym (c .before .before .before .before .before .before .before .before .before .before .before .before .before .before .before .start2 .ensures) ∙ ap toldPlace (c .before .before .before .before .before .before .before .before .before .before .before .before .before .b .given .1)) (sym (c .before .before .before .before .before .before .before .before .before .before .before .start3 .ensures) ∙ ap toldPlace (c .before .before .before .before .before .before .before .before .before .c .given .1)) (sym (c .before .before .before .before .before .before .before .start4 .ensures) ∙ ap toldPlace (c .before .before .before .before .before .d .given .1)) (c .before .before .before .before .before .before .before .before .before .before .before .before .before .before .before .before .before .before .before .before .before .pre)
+four-requires c κs =
+    let at-d = c .before .before .before .before .before in
+    let at-start4 = at-d .before .before in
+    let at-c = at-start4 .before .before in
+    let at-start3 = at-c .before .before in
+    let at-b = at-start3 .before .before in
+    let at-start2 = at-b .before .before in
+    let at-a = at-start2 .before .before in
+    let at-start = at-a .before .before in
+    let entry = at-start .before .before in
+    four-asked _ _ _ _ _ _ _ _ _ _ _ (sym (at-start .start .ensures) ∙ ap toldPlace (at-a .a .given .1))
+    (sym (at-start2 .start2 .ensures) ∙ ap toldPlace (at-b .b .given .1))
+    (sym (at-start3 .start3 .ensures) ∙ ap toldPlace (at-c .c .given .1))
+    (sym (at-start4 .start4 .ensures) ∙ ap toldPlace (at-d .d .given .1)) (entry .pre)
 
 returns-5 : tie.Need-returns-5
-returns-5 c = told-so (four-read _ _ _ _ _ _ _ _ _ _ _ (sym (c .before .before .before .before .before .before .before .before .before .before .before .before .before .before .before .before .before .before .before .before .start .ensures) ∙ ap toldPlace (c .before .before .before .before .before .before .before .before .before .before .before .before .before .before .before .before .before .before .a .given .1)) (sym (c .before .before .before .before .before .before .before .before .before .before .before .before .before .before .before .before .start2 .ensures) ∙ ap toldPlace (c .before .before .before .before .before .before .before .before .before .before .before .before .before .before .b .given .1)) (sym (c .before .before .before .before .before .before .before .before .before .before .before .before .start3 .ensures) ∙ ap toldPlace (c .before .before .before .before .before .before .before .before .before .before .c .given .1)) (sym (c .before .before .before .before .before .before .before .before .start4 .ensures) ∙ ap toldPlace (c .before .before .before .before .before .before .d .given .1))) (c .four .ensures)
+returns-5 c =
+    let at-known-told4 = c .before .before .before .before .before in
+    let at-d = at-known-told4 .before in
+    let at-start4 = at-d .before .before in
+    let at-c = at-start4 .before .before in
+    let at-start3 = at-c .before .before in
+    let at-b = at-start3 .before .before in
+    let at-start2 = at-b .before .before in
+    let at-a = at-start2 .before .before in
+    let at-start = at-a .before .before in
+    let start2-told = sym (at-start2 .start2 .ensures) ∙ ap toldPlace (at-b .b .given .1) in
+    let start3-told = sym (at-start3 .start3 .ensures) ∙ ap toldPlace (at-c .c .given .1) in
+    let start4-told = sym (at-start4 .start4 .ensures) ∙ ap toldPlace (at-d .d .given .1) in
+    let start-told = sym (at-start .start .ensures) ∙ ap toldPlace (at-a .a .given .1) in
+    told-so (four-read _ _ _ _ _ _ _ _ _ _ _ start-told start2-told start3-told start4-told) (c .four .ensures)
 
 pub four-spec : {M : Type 1} → statement M
 four-spec =

@@ -42,13 +42,46 @@ enum-known-right : tie.Need-enum-known-right
 enum-known-right c = search needs
 
 four-requires : tie.Need-four-requires
-four-requires c κs = four-small _ _ _ _ (sym (c .before .before .before .before .before .before .before .before .before .superfine-word .ensures) ∙ not-false _ (c .before .before .before .before .before .before .before .before .if1 .left)) (c .before .before .before .before .before .before .before .code .ensures) (c .before .before .before .before .before .before .size .ensures)
+four-requires c κs =
+    let at-pitch = c .before .before .before .before .before in
+    let at-size = at-pitch .before in
+    let at-code = at-size .before in
+    let at-if1 = at-code .before in
+    let at-superfine-word = at-if1 .before in
+    four-small _ _ _ _ (sym (at-superfine-word .superfine-word .ensures) ∙ not-false _ (at-if1 .if1 .left)) (at-code .code .ensures)
+    (at-size .size .ensures)
 
 returns-2 : tie.Need-returns-2
-returns-2 c = told-so (corners-refused _ _ _ _ _ _ _ (sym (c .before .before .before .before .before .before .before .before .before .before .superfine-word .ensures) ∙ not-false _ (c .before .before .before .before .before .before .before .before .before .if1 .left)) _ (layout-read _ _ _ _ _ _ _ (c .before .before .before .before .before .before .before .before .code .ensures) (c .before .before .before .before .before .before .before .size .ensures) (c .before .before .before .before .before .before .pitch .ensures) (c .before .before .before .before .before .tiled .ensures)) _ (sym (c .before .before .before .before .addresses .ensures) ∙ ap toldCorners (c .before .before .why .given .1))) (c .refused2 .ensures)
+returns-2 c =
+    let at-why = c .before .before in
+    let at-addresses = at-why .before .before in
+    let at-tiled = at-addresses .before in
+    let at-pitch = at-tiled .before in
+    let at-size = at-pitch .before in
+    let at-code = at-size .before in
+    let at-if1 = at-code .before in
+    let at-superfine-word = at-if1 .before in
+    let layout-read-here =
+    layout-read _ _ _ _ _ _ _ (at-code .code .ensures) (at-size .size .ensures) (at-pitch .pitch .ensures) (at-tiled .tiled .ensures) in
+    let superfine-word-told = sym (at-superfine-word .superfine-word .ensures) ∙ not-false _ (at-if1 .if1 .left) in
+    let addresses-told = sym (at-addresses .addresses .ensures) ∙ ap toldCorners (at-why .why .given .1) in
+    told-so (corners-refused _ _ _ _ _ _ _ superfine-word-told _ layout-read-here _ addresses-told) (c .refused2 .ensures)
 
 returns-3 : tie.Need-returns-3
-returns-3 c = told-so (corners-found _ _ _ _ _ _ _ (sym (c .before .before .before .before .before .before .before .before .before .before .superfine-word .ensures) ∙ not-false _ (c .before .before .before .before .before .before .before .before .before .if1 .left)) _ (layout-read _ _ _ _ _ _ _ (c .before .before .before .before .before .before .before .before .code .ensures) (c .before .before .before .before .before .before .before .size .ensures) (c .before .before .before .before .before .before .pitch .ensures) (c .before .before .before .before .before .tiled .ensures)) _ _ _ _ (sym (c .before .before .before .before .addresses .ensures) ∙ ap toldCorners (c .before .before .right .given .1))) (c .four .ensures)
+returns-3 c =
+    let at-right = c .before .before in
+    let at-addresses = at-right .before .before in
+    let at-tiled = at-addresses .before in
+    let at-pitch = at-tiled .before in
+    let at-size = at-pitch .before in
+    let at-code = at-size .before in
+    let at-if1 = at-code .before in
+    let at-superfine-word = at-if1 .before in
+    let layout-read-here =
+    layout-read _ _ _ _ _ _ _ (at-code .code .ensures) (at-size .size .ensures) (at-pitch .pitch .ensures) (at-tiled .tiled .ensures) in
+    let addresses-told = sym (at-addresses .addresses .ensures) ∙ ap toldCorners (at-right .right .given .1) in
+    let superfine-word-told = sym (at-superfine-word .superfine-word .ensures) ∙ not-false _ (at-if1 .if1 .left) in
+    told-so (corners-found _ _ _ _ _ _ _ superfine-word-told _ layout-read-here _ _ _ _ addresses-told) (c .four .ensures)
 
 pub superfine-spec : {M : Type 1} → statement M
 superfine-spec =

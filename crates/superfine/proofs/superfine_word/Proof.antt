@@ -31,7 +31,17 @@ channels-requires : tie.Need-channels-requires
 channels-requires c κs = search needs
 
 returns-4 : tie.Need-returns-4
-returns-4 c = by-channels _ _ _ _ (sym (c .before .before .before .before .before .before .before .is-allowed .ensures) ∙ not-false _ (c .before .before .before .before .before .before .if1 .left)) (sym (c .before .before .before .before .before .is-allowed2 .ensures) ∙ not-false _ (c .before .before .before .before .if2 .left)) (sym (c .before .before .before .superfine .ensures) ∙ not-false _ (c .before .before .if3 .left)) (c .before .code .ensures) (c .channels .ensures)
+returns-4 c =
+    let at-code = c .before in
+    let at-if3 = at-code .before in
+    let at-superfine = at-if3 .before in
+    let at-if2 = at-superfine .before in
+    let at-is-allowed2 = at-if2 .before in
+    let at-if1 = at-is-allowed2 .before in
+    let at-is-allowed = at-if1 .before in
+    by-channels _ _ _ _ (sym (at-is-allowed .is-allowed .ensures) ∙ not-false _ (at-if1 .if1 .left))
+    (sym (at-is-allowed2 .is-allowed2 .ensures) ∙ not-false _ (at-if2 .if2 .left))
+    (sym (at-superfine .superfine .ensures) ∙ not-false _ (at-if3 .if3 .left)) (at-code .code .ensures) (c .channels .ensures)
 
 pub superfine-word-spec : {M : Type 1} → statement M
 superfine-word-spec =

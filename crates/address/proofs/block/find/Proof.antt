@@ -53,7 +53,13 @@ add-t22 : tie.Need-add-t22
 add-t22 c = search needs
 
 returns : tie.Need-returns
-returns c = (block-x-of _ _ _ _ _ (c .before .before .before .flip .ensures .0) (c .before .before .flip2 .ensures .0) _ (c .before .flip3 .ensures .0), block-y-of _ _ _ _ _ (c .before .before .before .flip .ensures .0) (c .before .before .flip2 .ensures .0) _ (c .flip4 .ensures .0))
+returns c =
+    let at-flip3 = c .before in
+    let at-flip2 = at-flip3 .before in
+    let at-flip = at-flip2 .before in (
+      block-x-of _ _ _ _ _ (at-flip .flip .ensures .0) (at-flip2 .flip2 .ensures .0) _ (at-flip3 .flip3 .ensures .0),
+      block-y-of _ _ _ _ _ (at-flip .flip .ensures .0) (at-flip2 .flip2 .ensures .0) _ (c .flip4 .ensures .0),
+    )
 
 pub find-spec : {M : Type 1} → statement M
 find-spec =

@@ -13,7 +13,10 @@ use Rattle.address.proofs.offset.back.Statement.{statement}
 use Rattle.address.proofs.offset.back.Tie as tie
 
 tiled-back-requires : tie.Need-tiled-back-requires
-tiled-back-requires c κs = subst (λ (t : Bool). StepAsked t (c .before .args .size) (c .before .args .stride / c .before .args .size)) (c .if1 .taken) (c .before .pre .0)
+tiled-back-requires c κs =
+    let entry = c .before in
+    let args = entry .args in
+    subst (λ (t : Bool). StepAsked t (args .size) (args .stride / args .size)) (c .if1 .taken) (entry .pre .0)
 
 rem-elements : tie.Need-rem-elements
 rem-elements c = row-pos _ _ (blocks _ (c .before .pre .0 .size) .s-pos) (c .before .pre .0 .least) (c .before .pre .1)
@@ -30,7 +33,13 @@ returns c = (c .tiled-back .ensures .0 ∙ sym (pick-yes _ _ (c .before .if1 .ta
 
 returns-2 : tie.Need-returns-2
 unfolding xOf yOf
-returns-2 c = (c .elements .ensures ∙ linear-x _ _ _ (blocks _ (c .before .before .pre .0 .size) .s-pos) (c .before .before .pre .0 .least) (c .before .before .pre .1) ∙ sym (pick-no _ _ (c .before .if1 .left)), linear-y _ _ _ (blocks _ (c .before .before .pre .0 .size) .s-pos) (c .before .before .pre .0 .least) (c .before .before .pre .1) ∙ sym (pick-no _ _ (c .before .if1 .left)))
+returns-2 c =
+    let at-if1 = c .before in
+    let entry = at-if1 .before in
+    let s-pos = blocks _ (entry .pre .0 .size) .s-pos in (
+      c .elements .ensures ∙ linear-x _ _ _ s-pos (entry .pre .0 .least) (entry .pre .1) ∙ sym (pick-no _ _ (at-if1 .if1 .left)),
+      linear-y _ _ _ s-pos (entry .pre .0 .least) (entry .pre .1) ∙ sym (pick-no _ _ (at-if1 .if1 .left)),
+    )
 
 pub back-spec : {M : Type 1} → statement M
 back-spec =

@@ -27,25 +27,59 @@ div-element : tie.Need-div-element
 div-element c = search needs
 
 mul-t14 : tie.Need-mul-t14
-mul-t14 c = omega (arith, (back-sums _ _ _ _ (c .before .before .pre .0) (c .before .before .args .o) (c .before .before .fits .o .fits) (c .before .before .pre .1) _ _ (c .before .find .ensures .0) (c .before .find .ensures .1)))
+mul-t14 c =
+    let at-find = c .before in
+    let entry = at-find .before in
+    omega (
+      arith,
+      (back-sums _ _ _ _ (entry .pre .0) (entry .args .o) (entry .fits .o .fits) (entry .pre .1) _ _ (at-find .find .ensures .0)
+          (at-find .find .ensures .1)),
+    )
 
 rem-t11 : tie.Need-rem-t11
 rem-t11 c = search needs
 
 add-t13 : tie.Need-add-t13
-add-t13 c = omega (arith, (back-sums _ _ _ _ (c .before .before .pre .0) (c .before .before .args .o) (c .before .before .fits .o .fits) (c .before .before .pre .1) _ _ (c .before .find .ensures .0) (c .before .find .ensures .1)))
+add-t13 c =
+    let at-find = c .before in
+    let entry = at-find .before in
+    omega (
+      arith,
+      (back-sums _ _ _ _ (entry .pre .0) (entry .args .o) (entry .fits .o .fits) (entry .pre .1) _ _ (at-find .find .ensures .0)
+          (at-find .find .ensures .1)),
+    )
 
 mul-t12 : tie.Need-mul-t12
-mul-t12 c = omega (arith, (back-sums _ _ _ _ (c .before .before .before .pre .0) (c .before .before .before .args .o) (c .before .before .before .fits .o .fits) (c .before .before .before .pre .1) _ _ (c .before .before .find .ensures .0) (c .before .before .find .ensures .1)))
+mul-t12 c =
+    let at-find = c .before .before in
+    let entry = at-find .before in
+    omega (
+      arith,
+      (back-sums _ _ _ _ (entry .pre .0) (entry .args .o) (entry .fits .o .fits) (entry .pre .1) _ _ (at-find .find .ensures .0)
+          (at-find .find .ensures .1)),
+    )
 
 div-t15 : tie.Need-div-t15
 div-t15 c = search needs
 
 add-t16 : tie.Need-add-t16
-add-t16 c = omega (arith, (back-sums _ _ _ _ (c .before .before .before .pre .0) (c .before .before .before .args .o) (c .before .before .before .fits .o .fits) (c .before .before .before .pre .1) _ _ (c .before .before .find .ensures .0) (c .before .before .find .ensures .1)))
+add-t16 c =
+    let at-find = c .before .before in
+    let entry = at-find .before in
+    omega (
+      arith,
+      (back-sums _ _ _ _ (entry .pre .0) (entry .args .o) (entry .fits .o .fits) (entry .pre .1) _ _ (at-find .find .ensures .0)
+          (at-find .find .ensures .1)),
+    )
 
 returns : tie.Need-returns
-returns c = (x-of _ _ _ _ (c .before .before .before .pre .0) (c .before .before .before .args .o) (c .before .before .before .fits .o .fits) (c .before .before .before .pre .1) _ _ (c .before .before .find .ensures .0) (c .before .before .find .ensures .1), y-of _ _ _ _ (c .before .before .before .pre .0) (c .before .before .before .args .o) (c .before .before .before .fits .o .fits) (c .before .before .before .pre .1) _ _ (c .before .before .find .ensures .0) (c .before .before .find .ensures .1))
+returns c =
+    let at-find = c .before .before in
+    let entry = at-find .before in
+    let o = entry .args .o in (
+      x-of _ _ _ _ (entry .pre .0) o (entry .fits .o .fits) (entry .pre .1) _ _ (at-find .find .ensures .0) (at-find .find .ensures .1),
+      y-of _ _ _ _ (entry .pre .0) o (entry .fits .o .fits) (entry .pre .1) _ _ (at-find .find .ensures .0) (at-find .find .ensures .1),
+    )
 
 pub back-in-tiles-spec : {M : Type 1} → statement M
 back-in-tiles-spec =

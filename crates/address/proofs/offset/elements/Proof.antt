@@ -19,7 +19,11 @@ returns-4 : tie.Need-returns-4
 returns-4 c = ap (λ (n : ℕ). c .before .args .o / n) (sym (c .match .keys4))
 
 returns-5 : tie.Need-returns-5
-returns-5 c = ap (λ (n : ℕ). c .before .args .o / n) (sym (sixteen _ (c .before .pre) (c .match .rest .0 .0 .0 .1) (c .match .rest .0 .0 .1) (c .match .rest .0 .1) (c .match .rest .1)))
+returns-5 c =
+    let entry = c .before in
+    let sixteen-here =
+    sixteen _ (entry .pre) (c .match .rest .0 .0 .0 .1) (c .match .rest .0 .0 .1) (c .match .rest .0 .1) (c .match .rest .1) in
+    ap (λ (n : ℕ). entry .args .o / n) (sym sixteen-here)
 
 pub elements-spec : {M : Type 1} → statement M
 elements-spec = tie.close (tie.spec returns returns-2 returns-3 returns-4 returns-5)

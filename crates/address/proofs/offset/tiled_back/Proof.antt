@@ -27,22 +27,54 @@ back-in-tiles-requires-4 c κs = step-arm (c .before .args .stride) (c .match .k
 
 back-in-tiles-requires-5 : tie.Need-back-in-tiles-requires-5
 unfolding blockWidth blockHeight widthOf heightOf placeOf pick
-back-in-tiles-requires-5 c κs = step-arm (c .before .args .stride) (sixteen _ (c .before .pre .size) (c .match .rest .0 .0 .0 .1) (c .match .rest .0 .0 .1) (c .match .rest .0 .1) (c .match .rest .1)) (c .before .pre)
+back-in-tiles-requires-5 c κs =
+    let entry = c .before in
+    let sixteen-here =
+    sixteen _ (entry .pre .size) (c .match .rest .0 .0 .0 .1) (c .match .rest .0 .0 .1) (c .match .rest .0 .1) (c .match .rest .1) in
+    step-arm (entry .args .stride) sixteen-here (entry .pre)
 
 returns : tie.Need-returns
-returns c = (c .back-in-tiles .ensures .0 ∙ ap (λ (n : ℕ). tiledX n (c .before .before .args .stride / n) (c .before .before .args .o)) (sym (c .before .match .keys1)), c .back-in-tiles .ensures .1 ∙ ap (λ (n : ℕ). tiledY n (c .before .before .args .stride / n) (c .before .before .args .o)) (sym (c .before .match .keys1)))
+returns c =
+    let at-match = c .before in
+    let args = at-match .before .args in (
+      c .back-in-tiles .ensures .0 ∙ ap (λ (n : ℕ). tiledX n (args .stride / n) (args .o)) (sym (at-match .match .keys1)),
+      c .back-in-tiles .ensures .1 ∙ ap (λ (n : ℕ). tiledY n (args .stride / n) (args .o)) (sym (at-match .match .keys1)),
+    )
 
 returns-2 : tie.Need-returns-2
-returns-2 c = (c .back-in-tiles2 .ensures .0 ∙ ap (λ (n : ℕ). tiledX n (c .before .before .args .stride / n) (c .before .before .args .o)) (sym (c .before .match .keys2)), c .back-in-tiles2 .ensures .1 ∙ ap (λ (n : ℕ). tiledY n (c .before .before .args .stride / n) (c .before .before .args .o)) (sym (c .before .match .keys2)))
+returns-2 c =
+    let at-match = c .before in
+    let args = at-match .before .args in (
+      c .back-in-tiles2 .ensures .0 ∙ ap (λ (n : ℕ). tiledX n (args .stride / n) (args .o)) (sym (at-match .match .keys2)),
+      c .back-in-tiles2 .ensures .1 ∙ ap (λ (n : ℕ). tiledY n (args .stride / n) (args .o)) (sym (at-match .match .keys2)),
+    )
 
 returns-3 : tie.Need-returns-3
-returns-3 c = (c .back-in-tiles3 .ensures .0 ∙ ap (λ (n : ℕ). tiledX n (c .before .before .args .stride / n) (c .before .before .args .o)) (sym (c .before .match .keys3)), c .back-in-tiles3 .ensures .1 ∙ ap (λ (n : ℕ). tiledY n (c .before .before .args .stride / n) (c .before .before .args .o)) (sym (c .before .match .keys3)))
+returns-3 c =
+    let at-match = c .before in
+    let args = at-match .before .args in (
+      c .back-in-tiles3 .ensures .0 ∙ ap (λ (n : ℕ). tiledX n (args .stride / n) (args .o)) (sym (at-match .match .keys3)),
+      c .back-in-tiles3 .ensures .1 ∙ ap (λ (n : ℕ). tiledY n (args .stride / n) (args .o)) (sym (at-match .match .keys3)),
+    )
 
 returns-4 : tie.Need-returns-4
-returns-4 c = (c .back-in-tiles4 .ensures .0 ∙ ap (λ (n : ℕ). tiledX n (c .before .before .args .stride / n) (c .before .before .args .o)) (sym (c .before .match .keys4)), c .back-in-tiles4 .ensures .1 ∙ ap (λ (n : ℕ). tiledY n (c .before .before .args .stride / n) (c .before .before .args .o)) (sym (c .before .match .keys4)))
+returns-4 c =
+    let at-match = c .before in
+    let args = at-match .before .args in (
+      c .back-in-tiles4 .ensures .0 ∙ ap (λ (n : ℕ). tiledX n (args .stride / n) (args .o)) (sym (at-match .match .keys4)),
+      c .back-in-tiles4 .ensures .1 ∙ ap (λ (n : ℕ). tiledY n (args .stride / n) (args .o)) (sym (at-match .match .keys4)),
+    )
 
 returns-5 : tie.Need-returns-5
-returns-5 c = (c .back-in-tiles5 .ensures .0 ∙ ap (λ (n : ℕ). tiledX n (c .before .before .args .stride / n) (c .before .before .args .o)) (sym (sixteen _ (c .before .before .pre .size) (c .before .match .rest .0 .0 .0 .1) (c .before .match .rest .0 .0 .1) (c .before .match .rest .0 .1) (c .before .match .rest .1))), c .back-in-tiles5 .ensures .1 ∙ ap (λ (n : ℕ). tiledY n (c .before .before .args .stride / n) (c .before .before .args .o)) (sym (sixteen _ (c .before .before .pre .size) (c .before .match .rest .0 .0 .0 .1) (c .before .match .rest .0 .0 .1) (c .before .match .rest .0 .1) (c .before .match .rest .1))))
+returns-5 c =
+    let at-match = c .before in
+    let entry = at-match .before in
+    let args = entry .args in
+    let size-told = sym (sixteen _ (entry .pre .size) (at-match .match .rest .0 .0 .0 .1) (at-match .match .rest .0 .0 .1)
+    (at-match .match .rest .0 .1) (at-match .match .rest .1)) in (
+      c .back-in-tiles5 .ensures .0 ∙ ap (λ (n : ℕ). tiledX n (args .stride / n) (args .o)) size-told,
+      c .back-in-tiles5 .ensures .1 ∙ ap (λ (n : ℕ). tiledY n (args .stride / n) (args .o)) size-told,
+    )
 
 pub tiled-back-spec : {M : Type 1} → statement M
 tiled-back-spec =

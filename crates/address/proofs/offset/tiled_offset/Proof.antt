@@ -27,22 +27,44 @@ in-tiles-requires-4 c κs = pair-arm (c .before .args .stride) (c .match .keys4)
 
 in-tiles-requires-5 : tie.Need-in-tiles-requires-5
 unfolding blockWidth blockHeight widthOf heightOf placeOf pick
-in-tiles-requires-5 c κs = pair-arm (c .before .args .stride) (sixteen _ (c .before .pre .size) (c .match .rest .0 .0 .0 .1) (c .match .rest .0 .0 .1) (c .match .rest .0 .1) (c .match .rest .1)) (c .before .pre)
+in-tiles-requires-5 c κs =
+    let entry = c .before in
+    let sixteen-here =
+    sixteen _ (entry .pre .size) (c .match .rest .0 .0 .0 .1) (c .match .rest .0 .0 .1) (c .match .rest .0 .1) (c .match .rest .1) in
+    pair-arm (entry .args .stride) sixteen-here (entry .pre)
 
 returns : tie.Need-returns
-returns c = c .in-tiles .ensures ∙ ap (λ (n : ℕ). tiledOffset n (c .before .before .args .stride / n) (c .before .before .args .x) (c .before .before .args .y)) (sym (c .before .match .keys1))
+returns c =
+    let at-match = c .before in
+    let args = at-match .before .args in
+    c .in-tiles .ensures ∙ ap (λ (n : ℕ). tiledOffset n (args .stride / n) (args .x) (args .y)) (sym (at-match .match .keys1))
 
 returns-2 : tie.Need-returns-2
-returns-2 c = c .in-tiles2 .ensures ∙ ap (λ (n : ℕ). tiledOffset n (c .before .before .args .stride / n) (c .before .before .args .x) (c .before .before .args .y)) (sym (c .before .match .keys2))
+returns-2 c =
+    let at-match = c .before in
+    let args = at-match .before .args in
+    c .in-tiles2 .ensures ∙ ap (λ (n : ℕ). tiledOffset n (args .stride / n) (args .x) (args .y)) (sym (at-match .match .keys2))
 
 returns-3 : tie.Need-returns-3
-returns-3 c = c .in-tiles3 .ensures ∙ ap (λ (n : ℕ). tiledOffset n (c .before .before .args .stride / n) (c .before .before .args .x) (c .before .before .args .y)) (sym (c .before .match .keys3))
+returns-3 c =
+    let at-match = c .before in
+    let args = at-match .before .args in
+    c .in-tiles3 .ensures ∙ ap (λ (n : ℕ). tiledOffset n (args .stride / n) (args .x) (args .y)) (sym (at-match .match .keys3))
 
 returns-4 : tie.Need-returns-4
-returns-4 c = c .in-tiles4 .ensures ∙ ap (λ (n : ℕ). tiledOffset n (c .before .before .args .stride / n) (c .before .before .args .x) (c .before .before .args .y)) (sym (c .before .match .keys4))
+returns-4 c =
+    let at-match = c .before in
+    let args = at-match .before .args in
+    c .in-tiles4 .ensures ∙ ap (λ (n : ℕ). tiledOffset n (args .stride / n) (args .x) (args .y)) (sym (at-match .match .keys4))
 
 returns-5 : tie.Need-returns-5
-returns-5 c = c .in-tiles5 .ensures ∙ ap (λ (n : ℕ). tiledOffset n (c .before .before .args .stride / n) (c .before .before .args .x) (c .before .before .args .y)) (sym (sixteen _ (c .before .before .pre .size) (c .before .match .rest .0 .0 .0 .1) (c .before .match .rest .0 .0 .1) (c .before .match .rest .0 .1) (c .before .match .rest .1)))
+returns-5 c =
+    let at-match = c .before in
+    let entry = at-match .before in
+    let args = entry .args in
+    let size-told = sym (sixteen _ (entry .pre .size) (at-match .match .rest .0 .0 .0 .1) (at-match .match .rest .0 .0 .1)
+    (at-match .match .rest .0 .1) (at-match .match .rest .1)) in
+    c .in-tiles5 .ensures ∙ ap (λ (n : ℕ). tiledOffset n (args .stride / n) (args .x) (args .y)) size-told
 
 pub tiled-offset-spec : {M : Type 1} → statement M
 tiled-offset-spec =

@@ -38,13 +38,22 @@ at-limit-requires : tie.Need-at-limit-requires
 at-limit-requires c κs = search needs
 
 returns : tie.Need-returns
-returns c = c .at-limit .ensures ∙ sym (and-yes _ (eq-eqb (c .before .before .before .before .before .before .before .before .before .before .before .args .op) 2 (c .before .before .before .before .before .before .if2 .taken)))
+returns c =
+    let at-at-limit-arg = c .before .before .before .before .before in
+    let at-if2 = at-at-limit-arg .before in
+    let entry = at-if2 .before .before .before .before .before in
+    c .at-limit .ensures ∙ sym (and-yes _ (eq-eqb (entry .args .op) 2 (at-if2 .if2 .taken)))
 
 returns-2 : tie.Need-returns-2
 returns-2 c = sym (and-no-left _ (ne-eqb (c .before .before .before .before .before .args .op) 2 (c .if2 .left)))
 
 returns-3 : tie.Need-returns-3
-returns-3 c = sym (and-no-right (eqb (c .before .before .before .before .args .op) 2) (upper-clear (getD (now (c .before .before .before .before .args .cells)) 2 0) (getD (now (c .before .before .before .before .args .cells)) 3 0) (getD (now (c .before .before .before .before .args .cells)) 4 0) (getD (now (c .before .before .before .before .args .cells)) 5 0) (getD (now (c .before .before .before .before .args .cells)) 6 0) (sym (c .before .upper-bits .ensures) ∙ c .if1 .left)))
+returns-3 c =
+    let at-upper-bits = c .before in
+    let args = at-upper-bits .before .before .before .args in
+    let cells = now (args .cells) in
+    sym (and-no-right (eqb (args .op) 2) (upper-clear (getD cells 2 0) (getD cells 3 0) (getD cells 4 0) (getD cells 5 0) (getD cells 6 0)
+    (sym (at-upper-bits .upper-bits .ensures) ∙ c .if1 .left)))
 
 pub over-limit-spec : {M : Type 1} → statement M
 over-limit-spec =

@@ -29,7 +29,11 @@ turn-requires : tie.Need-turn-requires
 turn-requires c κs = search needs
 
 returns : tie.Need-returns
-returns c = c .turn .ensures ∙ turned-yes (withActive (now (c .before .before .before .before .before .before .before .before .args .cells)) (c .before .before .before .before .before .before .before .before .args .active)) (c .before .before .before .before .before .before .before .if1 .taken)
+returns c =
+    let at-turn-arg2 = c .before .before .before .before .before in
+    let at-if1 = at-turn-arg2 .before .before in
+    let entry = at-if1 .before in
+    c .turn .ensures ∙ turned-yes (withActive (now (entry .args .cells)) (entry .args .active)) (at-if1 .if1 .taken)
 
 returns-2 : tie.Need-returns-2
 returns-2 c = c .before .pre .1 .active-word ∙ turned-no (withActive (now (c .before .args .cells)) (c .before .args .active)) (c .if1 .left)

@@ -22,7 +22,10 @@ store-all-requires : tie.Need-store-all-requires
 store-all-requires c κs = search needs
 
 returns : tie.Need-returns
-returns c = put-back _ _ _ _ _ (c .before .store-all .ensures) (ap (λ (n : ℕ). c .before .before .before .before .args .at + n) (c .before .before .before .before .pre .1))
+returns c =
+    let at-store-all = c .before in
+    let entry = at-store-all .before .before .before in
+    put-back _ _ _ _ _ (at-store-all .store-all .ensures) (ap (λ (n : ℕ). entry .args .at + n) (entry .pre .1))
 
 pub put-spec : {M : Type 1} → statement M
 put-spec =

@@ -33,14 +33,25 @@ loop-less c = omega arith
 
 loop-again : tie.Need-loop-again Inv-loop μ-loop
 loop-again c =
-    let a = c .before .before .before .args in
-    (omega arith, simp length-set (c .before .before .loop .inv .1), ap (λ (q : List ℕ). set q (c .before .before .loop .i) (getD (a .given .now) (c .before .before .loop .i) 0)) (c .before .before .loop .inv .2) ∙ copy-step (a .part .now) (a .given .now) (c .before .before .loop .i) (c .before .before .before .pre .0) (subst (λ (k : ℕ). c .before .before .loop .i < k) (c .before .before .before .pre .1) (c .before .loop-test .taken)))
+    let at-loop-test = c .before in
+    let at-loop = at-loop-test .before in
+    let entry = at-loop .before in
+    let args = entry .args in (
+      omega arith,
+      simp length-set (at-loop .loop .inv .1),
+      ap (λ (q : List ℕ). set q (at-loop .loop .i) (getD (args .given .now) (at-loop .loop .i) 0)) (at-loop .loop .inv .2)
+          ∙ copy-step (args .part .now) (args .given .now) (at-loop .loop .i) (entry .pre .0)
+          (subst (λ (k : ℕ). at-loop .loop .i < k) (entry .pre .1) (at-loop-test .loop-test .taken)),
+    )
 
 same-length : tie.Need-same-length Inv-loop μ-loop
 same-length c = c .before .loop .inv .1
 
 returns : tie.Need-returns Inv-loop μ-loop
-returns c = c .before .loop .inv .2 ∙ copy-done _ _ _ (c .before .before .pre .0) (subst (λ (k : ℕ). k ≤ c .before .loop .i) (c .before .before .pre .1) (c .loop-test .left))
+returns c =
+    let at-loop = c .before in
+    let entry = at-loop .before in
+    at-loop .loop .inv .2 ∙ copy-done _ _ _ (entry .pre .0) (subst (λ (k : ℕ). k ≤ at-loop .loop .i) (entry .pre .1) (c .loop-test .left))
 
 pub store-all-spec : {M : Type 1} → statement M
 store-all-spec =

@@ -23,7 +23,11 @@ returns : tie.Need-returns
 returns c = sym (find-refused _ _ _ _ _ _ (sym (c .before .before .before .translate .ensures) ∙ ap toldTranslated (c .before .why .given .1)))
 
 returns-2 : tie.Need-returns-2
-returns-2 c = find-started _ _ _ _ _ _ _ (sym (c .before .before .before .before .translate .ensures) ∙ ap toldTranslated (c .before .before .address .given .1)) (c .start .ensures)
+returns-2 c =
+    let at-address = c .before .before in
+    let at-translate = at-address .before .before in
+    find-started _ _ _ _ _ _ _ (sym (at-translate .translate .ensures) ∙ ap toldTranslated (at-address .address .given .1))
+    (c .start .ensures)
 
 pub find-spec : {M : Type 1} → statement M
 find-spec =

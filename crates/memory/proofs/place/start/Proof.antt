@@ -33,7 +33,11 @@ cast-t17 : tie.Need-cast-t17
 cast-t17 c = search needs
 
 returns-5 : tie.Need-returns-5
-returns-5 c = sym (starts _ _ _ _ (record { long = c .before .before .before .if1 .left; high = c .before .before .if2 .left; low = c .before .if3 .left; whole = c .if4 .left }))
+returns-5 c =
+    let at-if3 = c .before in
+    let at-if2 = at-if3 .before in
+    let at-if1 = at-if2 .before in
+    sym (starts _ _ _ _ (record { long = at-if1 .if1 .left; high = at-if2 .if2 .left; low = at-if3 .if3 .left; whole = c .if4 .left }))
 
 pub start-spec : {M : Type 1} → statement M
 start-spec =

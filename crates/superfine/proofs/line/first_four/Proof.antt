@@ -16,10 +16,18 @@ in-line-requires-3 : tie.Need-in-line-requires-3
 in-line-requires-3 c κs = search needs
 
 returns : tie.Need-returns
-returns c = c .in-line .ensures ∙ ap (λ (m : ℕ). inLine m (c .before .before .before .before .before .before .args .a .now) (c .before .before .before .before .before .before .args .b .now) (c .before .before .before .before .before .before .args .c .now) (c .before .before .before .before .before .before .args .d .now)) (sym (c .before .match .keys1))
+returns c =
+    let at-match = c .before in
+    let args = at-match .before .before .before .before .before .args in
+    c .in-line .ensures
+    ∙ ap (λ (m : ℕ). inLine m (args .a .now) (args .b .now) (args .c .now) (args .d .now)) (sym (at-match .match .keys1))
 
 returns-2 : tie.Need-returns-2
-returns-2 c = c .in-line2 .ensures ∙ ap (λ (m : ℕ). inLine m (c .before .before .before .before .before .before .args .a .now) (c .before .before .before .before .before .before .args .b .now) (c .before .before .before .before .before .before .args .c .now) (c .before .before .before .before .before .before .args .d .now)) (sym (c .before .match .keys2))
+returns-2 c =
+    let at-match = c .before in
+    let args = at-match .before .before .before .before .before .args in
+    c .in-line2 .ensures
+    ∙ ap (λ (m : ℕ). inLine m (args .a .now) (args .b .now) (args .c .now) (args .d .now)) (sym (at-match .match .keys2))
 
 returns-3 : tie.Need-returns-3
 returns-3 c = search needs

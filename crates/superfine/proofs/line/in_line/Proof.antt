@@ -28,7 +28,15 @@ put-requires-4 c κs = search needs
 
 returns : tie.Need-returns
 unfolding inLine
-returns c = c .put4 .ensures ∙ ap (λ (q : List ℕ). overwritten (c .before .before .before .before .before .before .before .before .args .n * 3) (c .before .before .before .before .before .before .before .before .args .d .now) q) (c .before .put3 .ensures ∙ ap (λ (q : List ℕ). overwritten (c .before .before .before .before .before .before .before .before .args .n * 2) (c .before .before .before .before .before .before .before .before .args .c .now) q) (c .before .before .put2 .ensures ∙ ap (λ (q : List ℕ). overwritten (c .before .before .before .before .before .before .before .before .args .n) (c .before .before .before .before .before .before .before .before .args .b .now) q) (c .before .before .before .put .ensures)))
+returns c =
+    let at-put3 = c .before in
+    let at-put2 = at-put3 .before in
+    let at-put = at-put2 .before in
+    let args = at-put .before .before .before .before .before .args in
+    c .put4 .ensures
+    ∙ ap (λ (q : List ℕ). overwritten (args .n * 3) (args .d .now) q) (at-put3 .put3 .ensures
+    ∙ ap (λ (q : List ℕ). overwritten (args .n * 2) (args .c .now) q)
+    (at-put2 .put2 .ensures ∙ ap (λ (q : List ℕ). overwritten (args .n) (args .b .now) q) (at-put .put .ensures)))
 
 pub in-line-spec : {M : Type 1} → statement M
 in-line-spec =

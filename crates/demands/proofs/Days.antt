@@ -1,0 +1,290 @@
+-- The days of a log: a part is what the words between its two midnights added, and a part that has ended never changes.
+-- Assumes nothing.
+use mathlib.Core.Path.{_≡_, refl, sym, ap, ap₂, _∙_, subst}
+use mathlib.Core.Bool.{true}
+use mathlib.Core.List.{List, [], _∷_, _++_, append-nil}
+use Prim.Native.Nat.{ℕ, zero, suc, _+_, _-_, _<_, _≤_}
+use native.Mathlib.Nat.{zero-add}
+use native.Mathlib.Numerals.{add-one}
+use native.Mathlib.Omega.{arith}
+use lib.Dec.{ltb}
+use lib.ListN.{getD}
+use borrow.Author.Tests.{le-leb, ltb-true, ltb-false}
+use Rattle.laws.specs.Choice.{_and_, pick}
+use Rattle.laws.specs.Masks.{_or_}
+use Rattle.laws.proofs.Choice.{Tested, tested, holds, fails, pick-yes, pick-no, by-pick, and-left}
+use Rattle.laws.proofs.Table.{each, _&_}
+use Rattle.state.specs.State.{Tally}
+use Rattle.session.specs.Feed.{feedOf}
+use Rattle.session.proofs.Tallies.{tallied}
+use Rattle.replay.specs.State.{Replay, newReplay}
+use Rattle.replay.specs.Step.{Reply, taken, refused, Stepped, taking, kindStep, afterWord, mayBegin, afterMidnight, midnightStep}
+use Rattle.replay.specs.Report.{noTally, markAt, beganWith, endedWith, less, partOf, partAt}
+use Rattle.replay.specs.Cells.{ReplayValid}
+use Rattle.replay.proofs.Marks.{mark-new, mark-old, ended-past, ended-now}
+use Rattle.log.specs.Bytes.{recordStep, openStep, byteStep}
+use Rattle.log.specs.Feed.{Fed, proceed, replayOf, joined, recordBytes}
+use Rattle.log.specs.Words.{wordsIn}
+use Rattle.log.specs.Asked.{Bytes8}
+use Rattle.log.proofs.Cut.{cut}
+use Rattle.log.proofs.Words.{one-session}
+use Rattle.log.proofs.Records.{Ready, record-read}
+use Rattle.log.proofs.Kept.{new-replay-valid, piece-valid}
+use Rattle.demands.specs.Days.{added, replayed, goneOn, AtMidnight, withDay, begun}
+
+-- a later replay: the midnights only grow, and the marks of those that came stand
+record Follows (r u : Replay) : Type 0 where
+  fewer : r .midnights ≤ u .midnights
+  marks-stand : (k : ℕ) → k < r .midnights → markAt (u .marks) k ≡ markAt (r .marks) k
+  same-marks : u .midnights ≡ r .midnights → u .marks ≡ r .marks
+
+same-follows : (r u : Replay) → u .midnights ≡ r .midnights → u .marks ≡ r .marks → Follows r u
+same-follows r u e f =
+    record { fewer = omega arith; marks-stand = λ k h. ap (λ (l : List ℕ). markAt l k) f; same-marks = λ z. f }
+
+follows-on : (r u v : Replay) → Follows r u → Follows u v → Follows r v
+follows-on r u v f g =
+    record {
+      fewer = omega (arith, f .fewer, g .fewer);
+      marks-stand = λ k h. g .marks-stand k (omega (arith, f .fewer)) ∙ f .marks-stand k h;
+      same-marks = λ e. g .same-marks (omega (arith, f .fewer, g .fewer)) ∙ f .same-marks (omega (arith, f .fewer, g .fewer));
+    }
+
+midnight-follows : (r : Replay) (day : ℕ) → Follows r (afterMidnight r day)
+unfolding afterMidnight
+midnight-follows r day =
+    record {
+      fewer = omega arith;
+      marks-stand = λ k h. mark-old (r .marks) (r .midnights) (r .session .party .tally) k (λ e. omega arith);
+      same-marks = λ e. absurd (omega arith);
+    }
+
+abbrev After : Replay → Stepped → Type 0
+After r t = Follows r (t .replay)
+
+byte-follows : (r : Replay) (b : ℕ) → After r (byteStep r b)
+unfolding byteStep kindStep openStep recordStep afterWord midnightStep
+byte-follows r b =
+    by-pick (After r) _ _ _
+    (λ e.
+    by-pick (After r) _ _ _
+    (λ f. by-pick (After r) _ _ _ (λ g. same-follows r _ refl refl) (λ g. same-follows r _ refl refl))
+    (λ f.
+    by-pick (After r) _ _ _ (λ g. same-follows r _ refl refl)
+    (λ g.
+    by-pick (After r) _ _ _ (λ h. same-follows r _ refl refl)
+    (λ h. by-pick (After r) _ _ _ (λ i. midnight-follows r _) (λ i. same-follows r _ refl refl)))))
+    (λ e. same-follows r r refl refl)
+
+bytes-follow : (r : Replay) (bs : List ℕ) → Follows r (goneOn r bs)
+unfolding replayOf proceed
+bytes-follow r [] = same-follows r r refl refl
+bytes-follow r (b ∷ bs) = go (byteStep r b .reply) (bytes-follow (byteStep r b .replay) bs)
+  where
+    go : (y : Reply) → Follows (byteStep r b .replay) (goneOn (byteStep r b .replay) bs) →
+        Follows r (proceed y (byteStep r b .replay) (replayOf (byteStep r b .replay) bs) .replay)
+    go taken rest = follows-on r (byteStep r b .replay) (goneOn (byteStep r b .replay) bs) (byte-follows r b) rest
+    go (refused n) rest = byte-follows r b
+
+-- a part by its two ends
+part-is : (marks : List ℕ) (m : ℕ) (now : Tally) (k : ℕ) → k ≤ m → partOf marks m now k ≡ less (endedWith marks m now k) (beganWith marks k)
+unfolding partOf
+part-is marks m now k h = pick-yes _ _ (le-leb k m h)
+
+-- a part that has ended: its two marks stand
+began-stood : (r u : Replay) (f : Follows r u) (j : ℕ) → j ≤ r .midnights → beganWith (u .marks) j ≡ beganWith (r .marks) j
+unfolding beganWith
+began-stood r u f zero l = refl
+began-stood r u f (suc j) l = f .marks-stand j l
+
+module _ (r u : Replay) (f : Follows r u) (k : ℕ) (h : k < r .midnights) where
+  stands : partAt u k ≡ partAt r k
+  stands =
+      part-is (u .marks) (u .midnights) _ k (omega (arith, f .fewer)) ∙
+      ap₂ less
+      (ended-past (u .marks) (u .midnights) _ k (omega (arith, f .fewer)) ∙ f .marks-stand k h ∙ sym (ended-past (r .marks) (r .midnights) _ k h))
+      (began-stood r u f k (omega arith)) ∙
+      sym (part-is (r .marks) (r .midnights) _ k (omega arith))
+
+-- two pieces
+pub gone-on : (a b : List ℕ) → replayed (a ++ b) ≡ goneOn (replayed a) b
+unfolding joined
+gone-on a b = ap (λ (f : Fed). f .replay) (cut newReplay a b)
+
+-- "What came before stands": the days that have ended never change, whatever bytes come
+pub days-stand : (before later : List ℕ) (k : ℕ) → k < replayed before .midnights → partAt (replayed (before ++ later)) k ≡ partAt (replayed before) k
+days-stand before later k h =
+    ap (λ (r : Replay). partAt r k) (gone-on before later) ∙
+    stands (replayed before) (goneOn (replayed before) later) (bytes-follow (replayed before) later) k h
+
+-- the last part grows by what the words add, where no midnight comes
+module _ (r : Replay) (v : ReplayValid r) (bs : List ℕ) (same : goneOn r bs .midnights ≡ r .midnights) where
+  abbrev m : ℕ
+  m = r .midnights
+
+  abbrev began : Tally
+  began = beganWith (r .marks) m
+
+  abbrev then : Tally
+  then = r .session .party .tally
+
+  abbrev later : Tally
+  later = feedOf (r .session) (wordsIn r bs) .session .party .tally
+
+  last-is : (now : Tally) → partOf (r .marks) m now m ≡ less now began
+  last-is now = part-is (r .marks) m now m (omega arith) ∙ ap (λ (t : Tally). less t began) (ended-now (r .marks) m now m (omega arith))
+
+  last-grows : (began .runs ≤ then .runs) × (began .claims ≤ then .claims)
+  last-grows =
+      let g = v .growing m (omega arith) in
+      let e = ended-now (r .marks) m then m (omega arith) in
+      (omega (arith, g .runs-grow, ap (λ (t : Tally). t .runs) e), omega (arith, g .claims-grow, ap (λ (t : Tally). t .claims) e))
+
+  shown : partAt (goneOn r bs) m ≡ less later began
+  shown =
+      (λ i. partOf (bytes-follow r bs .same-marks same i) (same i) (one-session r bs i .party .tally) m) ∙ last-is later
+
+  pub grows-by : partAt (goneOn r bs) m ≡
+      record { runs = partAt r m .runs + added (r .session) (wordsIn r bs) .runs; claims = partAt r m .claims + added (r .session) (wordsIn r bs) .claims }
+  unfolding added
+  grows-by =
+      shown ∙
+      ap₂ (λ (a b : ℕ). record { runs = a; claims = b })
+      (omega (arith, tallied (r .session) (wordsIn r bs) .runs, last-grows .0, ap (λ (t : Tally). t .runs) (last-is then)))
+      (omega (arith, tallied (r .session) (wordsIn r bs) .claims, last-grows .1, ap (λ (t : Tally). t .claims) (last-is then)))
+
+-- a midnight: the part that it begins has nothing yet, and no part before changes
+module _ (r : Replay) (v : ReplayValid r) (day : ℕ) (e : mayBegin (r .midnights) (r .lastDay) day ≡ true) where
+  few : r .midnights < 400
+  unfolding mayBegin
+  few = ltb-true (r .midnights) 400 (and-left _ _ e)
+
+  new-mark : markAt (afterMidnight r day .marks) (r .midnights) ≡ r .session .party .tally
+  unfolding afterMidnight
+  new-mark = mark-new (r .marks) (r .midnights) (r .session .party .tally) (omega (arith, v .marks-length, few))
+
+  began-new : beganWith (afterMidnight r day .marks) (suc (r .midnights)) ≡ r .session .party .tally
+  unfolding beganWith
+  began-new = new-mark
+
+  pub begins-empty : partAt (afterMidnight r day) (r .midnights + 1) ≡ noTally
+  unfolding afterMidnight
+  begins-empty =
+      part-is (afterMidnight r day .marks) (r .midnights + 1) (r .session .party .tally) (r .midnights + 1) (omega arith) ∙
+      ap₂ less (ended-now (afterMidnight r day .marks) (r .midnights + 1) (r .session .party .tally) (r .midnights + 1) (omega arith))
+      (ap (beganWith (afterMidnight r day .marks)) (add-one (r .midnights)) ∙ began-new) ∙
+      ap₂ {C = Tally} (λ (a b : ℕ). record { runs = a; claims = b }) (omega arith) (omega arith)
+
+  pub closes : (k : ℕ) → k ≤ r .midnights → partAt (afterMidnight r day) k ≡ partAt r k
+  closes k h = go (tested (ltb k (r .midnights)))
+    where
+      last : k ≡ r .midnights → partAt (afterMidnight r day) k ≡ partAt r k
+      last z =
+          part-is (afterMidnight r day .marks) (afterMidnight r day .midnights) _ k (omega (arith, midnight-follows r day .fewer)) ∙
+          ap₂ less
+          (ended-past (afterMidnight r day .marks) (afterMidnight r day .midnights) _ k (one-more z) ∙
+          ap (markAt (afterMidnight r day .marks)) z ∙ new-mark ∙
+          sym (ended-now (r .marks) (r .midnights) (r .session .party .tally) k (omega arith)))
+          (began-stood r (afterMidnight r day) (midnight-follows r day) k h) ∙
+          sym (part-is (r .marks) (r .midnights) _ k h)
+        where
+          one-more : k ≡ r .midnights → k < afterMidnight r day .midnights
+          one-more z = unfold afterMidnight in (omega arith)
+
+      go : Tested (ltb k (r .midnights)) → partAt (afterMidnight r day) k ≡ partAt r k
+      go (holds t) = stands r (afterMidnight r day) (midnight-follows r day) k (ltb-true k (r .midnights) t)
+      go (fails t) = last (omega (arith, ltb-false k (r .midnights) t))
+
+-- a midnight's record, read between two records
+ready : (r : Replay) (day : ℕ) → AtMidnight r day → Ready r
+ready r day a = record { going = a .going; unopened = a .unopened }
+
+midnight-read : (r : Replay) (day : ℕ) (rest : List ℕ) → AtMidnight r day → goneOn r (recordBytes 2 day ++ rest) ≡ goneOn (afterMidnight r day) rest
+unfolding recordStep midnightStep proceed
+midnight-read r day rest a =
+    ap (λ (f : Fed). f .replay) (record-read r (ready r day a) 2 day rest (unfold _or_ in refl) (a .number)) ∙
+    ap (λ (t : Stepped). proceed (t .reply) (t .replay) (replayOf (t .replay) rest) .replay)
+    (pick-no (taking (afterWord r day)) (midnightStep r day) refl ∙ pick-yes _ _ (a .may-begin))
+
+record-bytes : (day : ℕ) → Bytes8 (recordBytes 2 day)
+record-bytes day k h =
+    each (λ k. getD (recordBytes 2 day) k 0 < 256) 5 (tt & omega arith & omega arith & omega arith & omega arith & omega arith) k h
+
+midnight-valid : (r : Replay) (day : ℕ) → ReplayValid r → AtMidnight r day → ReplayValid (afterMidnight r day)
+unfolding replayOf
+midnight-valid r day v a =
+    subst ReplayValid (ap (goneOn r) (sym (append-nil (recordBytes 2 day))) ∙ midnight-read r day [] a) (piece-valid r v (recordBytes 2 day) (record-bytes day))
+
+module _ (before : List ℕ) (day : ℕ) (during : List ℕ) (b : Bytes8 before) (a : AtMidnight (replayed before) day) where
+  abbrev r₀ : Replay
+  r₀ = replayed before
+
+  v₀ : ReplayValid r₀
+  v₀ = piece-valid newReplay new-replay-valid before b
+
+  v₁ : ReplayValid (begun before day)
+  v₁ = midnight-valid r₀ day v₀ a
+
+  pub to-day : replayed (withDay before day during) ≡ goneOn (begun before day) during
+  to-day = gone-on before (recordBytes 2 day ++ during) ∙ midnight-read r₀ day during a
+
+  -- a part is what the words since its midnight added, while its day goes on
+  module _ (same : goneOn (begun before day) during .midnights ≡ begun before day .midnights) where
+    during-part : partAt (goneOn (begun before day) during) (r₀ .midnights + 1) ≡ added (r₀ .session) (wordsIn (begun before day) during)
+    unfolding afterMidnight
+    during-part =
+        grows-by (begun before day) v₁ during same ∙
+        ap (λ (t : Tally).
+        record {
+          runs = t .runs + added (r₀ .session) (wordsIn (begun before day) during) .runs;
+          claims = t .claims + added (r₀ .session) (wordsIn (begun before day) during) .claims;
+        })
+        (begins-empty r₀ v₀ day (a .may-begin)) ∙
+        ap₂ {C = Tally} (λ (i j : ℕ). record { runs = i; claims = j }) (zero-add _) (zero-add _)
+
+    pub day-so-far : partAt (replayed (withDay before day during)) (r₀ .midnights + 1) ≡ added (r₀ .session) (wordsIn (begun before day) during)
+    day-so-far = ap (λ (r : Replay). partAt r (r₀ .midnights + 1)) to-day ∙ during-part
+
+    -- and once the next midnight has come it is what the words between the two midnights added, whatever bytes come later
+    module _ (b' : Bytes8 during) (next : ℕ) (later : List ℕ) (a' : AtMidnight (goneOn (begun before day) during) next) where
+      abbrev r₂ : Replay
+      r₂ = goneOn (begun before day) during
+
+      at-next : replayed (withDay before day during ++ recordBytes 2 next) ≡ afterMidnight r₂ next
+      unfolding replayOf
+      at-next =
+          gone-on (withDay before day during) (recordBytes 2 next) ∙
+          ap (λ (r : Replay). goneOn r (recordBytes 2 next)) to-day ∙
+          ap (goneOn r₂) (sym (append-nil (recordBytes 2 next))) ∙ midnight-read r₂ next [] a'
+
+      two-more : r₀ .midnights + 1 < afterMidnight r₂ next .midnights
+      unfolding afterMidnight
+      two-more = omega (arith, same)
+
+      up-to : r₀ .midnights + 1 ≤ r₂ .midnights
+      unfolding afterMidnight
+      up-to = omega (arith, same)
+
+      pub day-ended :
+          partAt (replayed ((withDay before day during ++ recordBytes 2 next) ++ later)) (r₀ .midnights + 1) ≡
+          added (r₀ .session) (wordsIn (begun before day) during)
+      day-ended =
+          days-stand (withDay before day during ++ recordBytes 2 next) later (r₀ .midnights + 1)
+          (subst (λ (r : Replay). r₀ .midnights + 1 < r .midnights) (sym at-next) two-more) ∙
+          ap (λ (r : Replay). partAt r (r₀ .midnights + 1)) at-next ∙
+          closes r₂ (piece-valid (begun before day) v₁ during b') next (a' .may-begin) (r₀ .midnights + 1) up-to ∙ during-part
+
+-- what ends before the first midnight: the words before it
+none-yet : partAt newReplay 0 ≡ noTally
+none-yet = part-is (newReplay .marks) 0 (newReplay .session .party .tally) 0 (omega arith) ∙ unfold endedWith beganWith pick in refl
+
+pub before-first : (bytes : List ℕ) → replayed bytes .midnights ≡ 0 → partAt (replayed bytes) 0 ≡ added (newReplay .session) (wordsIn newReplay bytes)
+before-first bytes e =
+    grows-by newReplay new-replay-valid bytes e ∙
+    ap (λ (t : Tally).
+    record {
+      runs = t .runs + added (newReplay .session) (wordsIn newReplay bytes) .runs;
+      claims = t .claims + added (newReplay .session) (wordsIn newReplay bytes) .claims;
+    })
+    none-yet ∙
+    ap₂ {C = Tally} (λ (i j : ℕ). record { runs = i; claims = j }) (zero-add _) (zero-add _)

@@ -1,0 +1,321 @@
+-- A step that is made does to each processor, the return stack and the position what document 01 says, one that is refused has its
+-- cause, and a run is its steps; mask bits above the group change nothing; the cells given out are those taken. Assumes nothing.
+use mathlib.Core.Path.{_≡_, refl, sym, ap, ap₂, _∙_, subst}
+use mathlib.Core.Bool.{Bool, true, false, not}
+use mathlib.Core.List.{List, [], _∷_}
+use Prim.Native.Nat.{ℕ, zero, suc, _<_}
+use native.Mathlib.Omega.{arith}
+use lib.Dec.{eqb, leb}
+use borrow.Author.Tests.{leb-true, leb-false}
+use Rattle.laws.specs.Choice.{_and_, pick}
+use Rattle.laws.specs.Masks.{_or_, on}
+use Rattle.laws.proofs.Choice.{Tested, tested, holds, fails, pick-yes, pick-no, by-pick}
+use Rattle.laws.proofs.Below.{some-same, every-same}
+use Rattle.refusal.specs.Told.{gives, refuses}
+use Rattle.group.specs.Proc.{counterLimit, Proc, Active, Idle, Absent, isLive, isActive, turned, wants, decided, branched}
+use Rattle.group.specs.Group.{
+  Program,
+  Group,
+  Outcome,
+  Steps,
+  Fails,
+  Way,
+  Goes,
+  Stuck,
+  Run,
+  Makes,
+  Breaks,
+  onceMore,
+  goOn,
+  allowed,
+  aOp,
+  jumpFunc,
+  bElse,
+  jumpAny,
+  popCount,
+  branchOp,
+  booleanNumber,
+  jumpAddress,
+  turnedIf,
+  wishOf,
+  overLimit,
+  wayOf,
+  arrived,
+  settled,
+  slotStep,
+  ended,
+  groupStep,
+  groupSteps,
+  groupRun,
+  isGroupSize,
+  beginTold,
+}
+use Rattle.group.specs.Cells.{groupOf, runLeaves, beginLeaves}
+use Rattle.group.specs.Cells as cells
+use Rattle.group.proofs.State.{given-of, left-given, step-sound}
+use Rattle.flow.proofs.Beginning.{begin-given}
+use Rattle.flow.proofs.Running.{SoundRun, steps-sound}
+use Rattle.refusal.specs.Crossing.{statusOf}
+use Rattle.demands.specs.Flow.{
+  firstAt,
+  secondAt,
+  elsed,
+  wishes,
+  decision,
+  next,
+  Made,
+  Refused,
+  hasEnded,
+  tooMany,
+  badField,
+  counterAtLimit,
+  stackAtLimit,
+  pastEnd,
+  Walk,
+  listOut,
+  halfPair,
+  programOut,
+  oneMore,
+  stepFails,
+  Ran,
+  over,
+  walked,
+  Agree,
+  AllAgree,
+  Handed,
+  begun,
+  stepped,
+  ran,
+}
+use Rattle.demands.specs.Flow as flow
+
+-- what an outcome shows
+module _ (limit : ℕ) (p : Program) (alu predicate booleans : ℕ) (g : Group) where
+  abbrev Shown : Outcome → Type 0
+  Shown (Steps jump g') = Made limit p alu predicate booleans g jump g'
+  Shown (Fails why) = Refused limit p alu predicate booleans g why
+
+  abbrev jump : Bool
+  jump = decision limit p alu predicate booleans g
+
+  abbrev op : ℕ
+  op = branchOp jump (firstAt p g)
+
+  abbrev procs : ℕ → Proc
+  procs i = branched op (popCount (firstAt p g)) jump (wishes limit p alu predicate booleans g i) (elsed p g i)
+
+  module _ (running : g .position < p .slots) (fields : allowed (firstAt p g) (secondAt p g) ≡ true) (counters : overLimit limit op (elsed p g) ≡ false) where
+    shown-way : (w : Way) → next limit p alu predicate booleans g ≡ w → Shown (arrived (p .slots) jump procs w)
+    shown-way Stuck e = stackAtLimit running fields counters e
+    shown-way (Goes at returns) e =
+        by-pick Shown (leb at (p .slots)) _ _
+        (λ t.
+        record {
+          running = running;
+          fields = fields;
+          decides = refl;
+          counters = counters;
+          each-processor = λ i. refl;
+          stack = e;
+          place = leb-true at (p .slots) t;
+        })
+        (λ t. pastEnd running fields counters at returns e (leb-false at (p .slots) t))
+
+  pub shown : Shown (groupStep limit p alu predicate booleans g)
+  unfolding groupStep ended slotStep settled
+  shown =
+      by-pick Shown (leb (p .slots) (g .position)) _ _ (λ t. hasEnded (leb-true (p .slots) (g .position) t))
+      (λ t.
+      let running = leb-false (p .slots) (g .position) t in
+      by-pick Shown (leb (p .slots) 512) _ _
+      (λ u.
+      by-pick Shown (allowed (firstAt p g) (secondAt p g)) _ _
+      (λ f.
+      by-pick Shown (overLimit limit op (elsed p g)) _ _ (λ o. counterAtLimit running f o)
+      (λ o. shown-way running f o (next limit p alu predicate booleans g) refl))
+      (λ f. badField running f))
+      (λ u. tooMany running (leb-false (p .slots) 512 u)))
+
+  pub step-made : (j : Bool) (g' : Group) → groupStep limit p alu predicate booleans g ≡ Steps j g' → Made limit p alu predicate booleans g j g'
+  step-made j g' e = subst Shown e shown
+
+  pub step-refused : (n : ℕ) → groupStep limit p alu predicate booleans g ≡ Fails n → Refused limit p alu predicate booleans g n
+  step-refused n e = subst Shown e shown
+
+-- a run
+module _ (limit : ℕ) (p : Program) (booleans : ℕ) where
+  outcome : (alu predicate : ℕ) (masks : List ℕ) (g : Group) (o : Outcome) → ended p g ≡ false → groupStep limit p alu predicate booleans g ≡ o →
+      ((g' : Group) → Walk limit p booleans masks g' (groupSteps limit p booleans masks g')) →
+      Walk limit p booleans (alu ∷ (predicate ∷ masks)) g (goOn o (λ g'. groupSteps limit p booleans masks g'))
+  outcome alu predicate masks g (Steps jump g') t e rest =
+      oneMore alu predicate masks g g' jump (groupSteps limit p booleans masks g') t e (rest g')
+  outcome alu predicate masks g (Fails why) t e rest = stepFails alu predicate masks g why t e
+
+  walk : (masks : List ℕ) (g : Group) → Walk limit p booleans masks g (groupSteps limit p booleans masks g)
+  unfolding groupSteps
+  walk [] g = listOut g
+  walk (alu ∷ []) g = halfPair alu g
+  walk (alu ∷ (predicate ∷ masks)) g =
+      by-pick (Walk limit p booleans (alu ∷ (predicate ∷ masks)) g) (ended p g) _ _ (λ t. programOut alu predicate masks g t)
+      (λ t. outcome alu predicate masks g (groupStep limit p alu predicate booleans g) t refl (walk masks))
+
+  pub run-walks : (masks : List ℕ) (g : Group) → Ran limit p booleans masks g (groupRun limit p booleans masks g)
+  unfolding groupRun
+  run-walks masks g =
+      by-pick (Ran limit p booleans masks g) (ended p g) _ _ (λ t. over t) (λ t. walked (groupSteps limit p booleans masks g) t (walk masks g))
+
+-- the cells given out are those taken
+begin-size : (size : ℕ) → 0 ≡ statusOf (beginTold size) → isGroupSize size ≡ true
+unfolding beginTold
+begin-size size e = go (tested (isGroupSize size))
+  where
+    go : Tested (isGroupSize size) → isGroupSize size ≡ true
+    go (holds t) = t
+    go (fails t) = absurd (let z : 0 ≡ 13 = e ∙ ap statusOf (pick-no (gives []) (refuses 13) t) in omega arith)
+
+run-left : (l : List ℕ) (o : Run) → cells.GroupGiven l → SoundRun counterLimit o → cells.GroupGiven (runLeaves l o)
+run-left l (Makes n g) m s = given-of g s
+run-left l (Breaks why) m s = m
+
+pub handed-made : {l : List ℕ} → Handed l → cells.GroupGiven l
+unfolding beginLeaves isGroupSize groupRun
+handed-made (begun size c c' k) =
+    let t = begin-size size (k .status) in
+    subst cells.GroupGiven (sym (k .left ∙ pick-yes _ _ t)) (begin-given size (leb-true size 32 (Rattle.laws.proofs.Choice.and-right _ _ t)))
+handed-made (stepped {cells = l} h p alu predicate booleans r c' a a' k) =
+    subst cells.GroupGiven (sym (k .left))
+    (left-given l (groupStep counterLimit p alu predicate booleans (groupOf l)) (handed-made h)
+    (step-sound counterLimit p alu predicate booleans (groupOf l) (handed-made h .sound)))
+handed-made (ran {cells = l} h p booleans masks r c' a a' k) =
+    subst cells.GroupGiven (sym (k .left))
+    (run-left l (groupRun counterLimit p booleans masks (groupOf l)) (handed-made h)
+    (by-pick (SoundRun counterLimit) (ended p (groupOf l)) _ _ (λ e. tt) (λ e. steps-sound counterLimit p booleans masks (groupOf l) (handed-made h .sound))))
+
+-- a processor is in the group after a step where it was before
+turned-live : (else : Bool) (q : Proc) → isLive (pick else (turned q) q) ≡ isLive q
+unfolding pick
+turned-live true Active = refl
+turned-live true (Idle zero) = refl
+turned-live true (Idle (suc n)) = refl
+turned-live true Absent = refl
+turned-live false q = refl
+
+pick-live : (t : Bool) (a b : Proc) → isLive a ≡ true → isLive b ≡ true → isLive (pick t a b) ≡ true
+pick-live t a b ha hb = by-pick (λ (q : Proc). isLive q ≡ true) t a b (λ e. ha) (λ e. hb)
+
+worked-live : (op k : ℕ) (jump wish : Bool) (q : Proc) → isLive (branched op k jump wish q) ≡ isLive q
+unfolding branched
+worked-live op k jump wish Active = pick-live _ _ _ refl (pick-live _ _ _ (pick-live _ _ _ refl refl) refl)
+worked-live op k jump wish (Idle n) = pick-live _ _ _ (pick-live _ _ _ refl refl) (pick-live _ _ _ refl refl)
+worked-live op k jump wish Absent = gone (eqb op 1) (eqb op 2)
+  where
+    gone : (a b : Bool) → isLive (pick a Absent (pick b Absent Absent)) ≡ false
+    gone a b = by-pick (λ (q : Proc). isLive q ≡ false) a _ _ (λ e. refl) (λ e. by-pick (λ (q : Proc). isLive q ≡ false) b _ _ (λ f. refl) (λ f. refl))
+
+-- wishes that are the same for every processor in the group
+module _ (q : Proc) (w w' : Bool) (h : isLive q ≡ true → w ≡ w') where
+  active-and : (isActive q and w) ≡ (isActive q and w')
+  unfolding _and_
+  active-and = go q h
+    where
+      go : (q : Proc) → (isLive q ≡ true → w ≡ w') → (isActive q and w) ≡ (isActive q and w')
+      go Active k = k refl
+      go (Idle n) k = refl
+      go Absent k = refl
+
+  idle-or : (not (isActive q) or w) ≡ (not (isActive q) or w')
+  unfolding _or_
+  idle-or = go q h
+    where
+      go : (q : Proc) → (isLive q ≡ true → w ≡ w') → (not (isActive q) or w) ≡ (not (isActive q) or w')
+      go Active k = k refl
+      go (Idle n) k = refl
+      go Absent k = refl
+
+  worked-same : (op k : ℕ) (jump : Bool) → branched op k jump w q ≡ branched op k jump w' q
+  unfolding branched
+  worked-same op k jump = go q h
+    where
+      go : (q : Proc) → (isLive q ≡ true → w ≡ w') → branched op k jump w q ≡ branched op k jump w' q
+      go Active z = ap (λ (x : Bool). branched op k jump x Active) (z refl)
+      go (Idle n) z = ap (λ (x : Bool). branched op k jump x (Idle n)) (z refl)
+      go Absent z = refl
+
+-- "Mask bits above the group are ignored": masks that say the same of every processor in the group give the same step
+module _ (limit : ℕ) (p : Program) (booleans : ℕ) (g : Group) (alu predicate alu' predicate' : ℕ)
+    (a : Agree g alu alu') (b : Agree g predicate predicate')
+  where
+    abbrev w : ℕ → Bool
+    w = wishes limit p alu predicate booleans g
+
+    abbrev w' : ℕ → Bool
+    w' = wishes limit p alu' predicate' booleans g
+
+    same-wish : (i : ℕ) → isLive (elsed p g i) ≡ true → w i ≡ w' i
+    unfolding wishOf turnedIf
+    same-wish i h =
+        let l : isLive (g .procs i) ≡ true = sym (turned-live (bElse (firstAt p g)) (g .procs i)) ∙ h in
+        ap₂ (λ (x y : Bool). wants (jumpFunc (firstAt p g)) x y (on (booleanNumber (secondAt p g)) booleans)) (a .same-bits i l) (b .same-bits i l)
+
+    same-decision : decision limit p alu predicate booleans g ≡ decision limit p alu' predicate' booleans g
+    unfolding decided
+    same-decision =
+        ap₂ (λ (x y : Bool). pick (jumpAny (firstAt p g)) x y)
+        (some-same 32 _ _ (λ i h. active-and (elsed p g i) (w i) (w' i) (same-wish i)))
+        (every-same 32 _ _ (λ i h. idle-or (elsed p g i) (w i) (w' i) (same-wish i)))
+
+    same-settled : (j : Bool) →
+        settled limit (p .slots) (firstAt p g) (secondAt p g) j w (elsed p g) g ≡ settled limit (p .slots) (firstAt p g) (secondAt p g) j w' (elsed p g) g
+    unfolding settled
+    same-settled j =
+        ap (λ (f : ℕ → Proc).
+        pick (overLimit limit (branchOp j (firstAt p g)) (elsed p g)) (Fails 14)
+        (arrived (p .slots) j f (wayOf (aOp (firstAt p g)) j (g .position) (jumpAddress (secondAt p g)) (g .returns))))
+        (λ k i. worked-same (elsed p g i) (w i) (w' i) (same-wish i) (branchOp j (firstAt p g)) (popCount (firstAt p g)) j k)
+
+    pub same-step : groupStep limit p alu predicate booleans g ≡ groupStep limit p alu' predicate' booleans g
+    unfolding groupStep slotStep
+    same-step =
+        ap (λ (o : Outcome).
+        pick (ended p g) (Fails 16) (pick (leb (p .slots) 512) (pick (allowed (firstAt p g) (secondAt p g)) o (Fails 13)) (Fails 15)))
+        (ap (λ (j : Bool). settled limit (p .slots) (firstAt p g) (secondAt p g) j w (elsed p g) g) same-decision ∙
+        same-settled (decision limit p alu' predicate' booleans g))
+
+-- and the same run
+module _ (limit : ℕ) (p : Program) (booleans : ℕ) where
+  live-after : (alu predicate : ℕ) (g g' : Group) (jump : Bool) → groupStep limit p alu predicate booleans g ≡ Steps jump g' →
+      (i : ℕ) → isLive (g' .procs i) ≡ isLive (g .procs i)
+  unfolding turnedIf
+  live-after alu predicate g g' jump e i =
+      ap isLive (step-made limit p alu predicate booleans g jump g' e .each-processor i) ∙
+      worked-live _ _ _ _ (elsed p g i) ∙ turned-live (bElse (firstAt p g)) (g .procs i)
+
+  agree-after : (g g' : Group) → ((i : ℕ) → isLive (g' .procs i) ≡ isLive (g .procs i)) → (ms ms' : List ℕ) → AllAgree g ms ms' → AllAgree g' ms ms'
+  agree-after g g' l [] [] h = tt
+  agree-after g g' l [] (m' ∷ ms') h = h
+  agree-after g g' l (m ∷ ms) [] h = h
+  agree-after g g' l (m ∷ ms) (m' ∷ ms') h =
+      (record { same-bits = λ i k. h .0 .same-bits i (sym (l i) ∙ k) }, agree-after g g' l ms ms' (h .1))
+
+  same-steps : (ms ms' : List ℕ) (g : Group) → AllAgree g ms ms' → groupSteps limit p booleans ms g ≡ groupSteps limit p booleans ms' g
+  unfolding groupSteps
+  same-steps [] [] g h = refl
+  same-steps [] (m' ∷ ms') g h = absurd h
+  same-steps (m ∷ ms) [] g h = absurd h
+  same-steps (m ∷ []) (m' ∷ []) g h = refl
+  same-steps (m ∷ []) (m' ∷ (n' ∷ ms')) g h = absurd (h .1)
+  same-steps (m ∷ (n ∷ ms)) (m' ∷ []) g h = absurd (h .1)
+  same-steps (m ∷ (n ∷ ms)) (m' ∷ (n' ∷ ms')) g h =
+      ap (pick (ended p g) (Makes 0 g))
+      (go (groupStep limit p m n booleans g) refl (same-steps ms ms') ∙
+      ap (λ (o : Outcome). goOn o (λ g'. groupSteps limit p booleans ms' g')) (same-step limit p booleans g m n m' n' (h .0) (h .1 .0)))
+    where
+      go : (o : Outcome) → groupStep limit p m n booleans g ≡ o →
+          ((g' : Group) → AllAgree g' ms ms' → groupSteps limit p booleans ms g' ≡ groupSteps limit p booleans ms' g') →
+          goOn o (λ g'. groupSteps limit p booleans ms g') ≡ goOn o (λ g'. groupSteps limit p booleans ms' g')
+      go (Steps jump g') e ih = ap onceMore (ih g' (agree-after g g' (live-after m n g g' jump e) ms ms' (h .1 .1)))
+      go (Fails why) e ih = refl
+
+  pub same-run : (ms ms' : List ℕ) (g : Group) → AllAgree g ms ms' → groupRun limit p booleans ms g ≡ groupRun limit p booleans ms' g
+  unfolding groupRun
+  same-run ms ms' g h = ap (pick (ended p g) (Breaks 16)) (same-steps ms ms' g h)

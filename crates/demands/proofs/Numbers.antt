@@ -1,0 +1,199 @@
+-- No refusal of a call has the number 0, so a status of 0 is no refusal. Assumes nothing.
+use mathlib.Core.Path.{_≡_, refl, subst}
+use mathlib.Core.Bool.{Bool}
+use mathlib.Core.List.{List, [], _∷_}
+use Prim.Native.Nat.{ℕ, _≤_}
+use native.Mathlib.Omega.{arith}
+use lib.ListN.{length}
+use borrow.Author.Tests.{eqb-false}
+use Rattle.laws.specs.Choice.{pick}
+use Rattle.laws.proofs.Choice.{by-pick}
+use Rattle.refusal.specs.Told.{Told, gives, refuses, thenTold}
+use Rattle.layout.specs.Layout.{judgeOf}
+use Rattle.layout.specs.declared.Layout.{Layout}
+use Rattle.address.specs.Address.{ifAccepted, translateOf, backOf, locateOf}
+use Rattle.memory.specs.Elements.{inOrder, readOf, writeOf}
+use Rattle.superfine.specs.Superfine.{fourOf, fourAtOf, superfineReadOf}
+use Rattle.command.specs.Table.{lineWith}
+use Rattle.rules.specs.Writer.{judgeCommandOf}
+use Rattle.rules.specs.Writer as writer
+use Rattle.command.specs.declared.commands.Command.{Command}
+use Rattle.rules.proofs.Rule.{Ruled, fine, five, six, ruled}
+use Rattle.state.specs.State.{Party, Shared}
+use Rattle.group.specs.Group.{Program, Group, Outcome, Steps, Fails, Run, Makes, Breaks, onceMore, stepTold, runTold, beginTold, groupStep, groupRun}
+use Rattle.flow.specs.Store.{loadTold}
+use Rattle.replay.specs.State.{Replay}
+use Rattle.score.specs.Lease.{Lease}
+use Rattle.score.specs.Score.{Score, scoreOf}
+use Rattle.command.specs.Known.{onLine}
+use Rattle.command_rooms.specs.Rooms.{parametersOf, namedWriteOf, commandWith}
+use Rattle.score_rooms.specs.Rooms.{monthTold}
+use Rattle.setting_rooms.specs.Rooms.{formatAt, formatOf}
+use Rattle.demands.specs.Calls.{Numbers, judgedIn}
+use Rattle.demands.specs.Flow.{
+  Refused,
+  hasEnded,
+  tooMany,
+  badField,
+  counterAtLimit,
+  stackAtLimit,
+  pastEnd,
+  Walk,
+  listOut,
+  halfPair,
+  programOut,
+  oneMore,
+  stepFails,
+  Ran,
+  over,
+  walked,
+}
+use Rattle.demands.proofs.Flow.{step-refused, run-walks}
+
+abbrev pub Nonzero : Told → Type 0
+Nonzero t = (n : ℕ) → t ≡ refuses n → 1 ≤ n
+
+given : (v : List ℕ) → Nonzero (gives v)
+given v n e = absurd (let z : _≡_ {A = ℕ} 0 1 = cc in omega arith)
+
+numbered : (m : ℕ) → 1 ≤ m → Nonzero (refuses m)
+numbered m h n e = subst (λ (k : ℕ). 1 ≤ k) same h
+  where
+    same : m ≡ n
+    same = cc
+
+either : (t : Bool) (a b : Told) → Nonzero a → Nonzero b → Nonzero (pick t a b)
+either t a b x y = by-pick Nonzero t a b (λ e. x) (λ e. y)
+
+if-accepted : (l : Layout) (t : Told) → Nonzero t → Nonzero (ifAccepted l t)
+unfolding ifAccepted
+if-accepted l t z = either _ _ _ (either _ _ _ z (numbered 6 (omega arith))) (numbered 3 (omega arith))
+
+pub judged-number : (l : Numbers) → Nonzero (judgedIn l)
+unfolding judgeOf
+judged-number l = either _ _ _ (either _ _ _ (given _) (numbered 6 (omega arith))) (numbered 3 (omega arith))
+
+pub translated-number : (l : Layout) (x y : ℕ) → Nonzero (translateOf l x y)
+unfolding translateOf
+translated-number l x y = if-accepted l _ (either _ _ _ (given _) (numbered 10 (omega arith)))
+
+pub located-number : (l : Layout) (a : ℕ) → Nonzero (locateOf l a)
+unfolding locateOf backOf
+located-number l a = if-accepted l _ (either _ _ _ (either _ _ _ (given _) (numbered 12 (omega arith))) (numbered 12 (omega arith)))
+
+in-order : (i f : Bool) (t : Told) → Nonzero t → Nonzero (inOrder i f t)
+unfolding inOrder
+in-order i f t z = either _ _ _ (either _ _ _ z (numbered 11 (omega arith))) (numbered 10 (omega arith))
+
+pub read-number : (l : Layout) (x y first : ℕ) (m : List ℕ) → Nonzero (readOf l x y first m)
+unfolding readOf
+read-number l x y first m = if-accepted l _ (in-order _ _ _ (given _))
+
+pub written-number : (l : Layout) (x y first : ℕ) (bytes m : List ℕ) → Nonzero (writeOf l x y first bytes m)
+unfolding writeOf
+written-number l x y first bytes m = if-accepted l _ (in-order _ _ _ (given _))
+
+pub superfine-number : (base format height x y first : ℕ) (m : List ℕ) → Nonzero (superfineReadOf base format height x y first m)
+unfolding superfineReadOf fourAtOf fourOf
+superfine-number base format height x y first m =
+    either _ _ _ (if-accepted _ _ (either _ _ _ (either _ _ _ (given _) (numbered 11 (omega arith))) (numbered 10 (omega arith)))) (numbered 3 (omega arith))
+
+-- what follows from a line of the command table
+on-line : (t : Told) (found : ℕ → Told) (other : Told) → ((line : ℕ) → Nonzero (found line)) → Nonzero other → Nonzero (onLine t found other)
+on-line (gives []) found other f o = o
+on-line (gives (line ∷ rest)) found other f o = f line
+on-line (refuses n) found other f o = o
+
+pub parameters-number : (header : ℕ) → Nonzero (parametersOf header)
+parameters-number header = on-line (lineWith header) _ _ (λ line. given _) (numbered 2 (omega arith))
+
+then-told : (t u : Told) → Nonzero t → Nonzero u → Nonzero (thenTold t u)
+unfolding thenTold
+then-told (gives v) u z y = y
+then-told (refuses n) u z y = z
+
+rule-number : (t : Told) → Ruled t → Nonzero t
+rule-number t fine = given []
+rule-number t five = numbered 5 (omega arith)
+rule-number t six = numbered 6 (omega arith)
+
+writer-number : (c : Command) (room : ℕ) → Nonzero (writer.writeOf c room)
+unfolding writer.writeOf judgeCommandOf
+writer-number c room =
+    then-told _ _ (either _ _ _ (either _ _ _ (rule-number _ (ruled c)) (numbered 4 (omega arith))) (numbered 3 (omega arith)))
+    (either _ _ _ (given _) (numbered 11 (omega arith)))
+
+pub command-number : (header : ℕ) (fields room : List ℕ) → Nonzero (namedWriteOf header fields room)
+command-number header fields room =
+    on-line (lineWith header) _ _ (λ line. writer-number (commandWith fields line) (length room)) (numbered 2 (omega arith))
+
+pub format-number : (p : Party) (h : Shared) (header number : ℕ) → Nonzero (formatOf p h header number)
+unfolding formatAt
+format-number p h header number =
+    on-line (lineWith header) _ _
+    (λ line.
+    either _ _ _ (given _)
+    (either _ _ _ (either _ _ _ (given _) (numbered 4 (omega arith)))
+    (either _ _ _ (either _ _ _ (given _) (numbered 4 (omega arith)))
+    (either _ _ _ (given _)
+    (either _ _ _ (given _) (either _ _ _ (given _) (either _ _ _ (given _) (numbered 2 (omega arith)))))))))
+    (numbered 2 (omega arith))
+
+pub load-number : (words : List ℕ) → Nonzero (loadTold words)
+unfolding loadTold
+load-number words = either _ _ _ (given _) (numbered 15 (omega arith))
+
+pub begin-number : (size : ℕ) → Nonzero (beginTold size)
+unfolding beginTold
+begin-number size = either _ _ _ (given _) (numbered 13 (omega arith))
+
+module _ (limit : ℕ) (p : Program) where
+  refused-least : {alu predicate booleans : ℕ} {g : Group} {n : ℕ} → Refused limit p alu predicate booleans g n → 1 ≤ n
+  refused-least (hasEnded h) = omega arith
+  refused-least (tooMany h k) = omega arith
+  refused-least (badField h k) = omega arith
+  refused-least (counterAtLimit h k o) = omega arith
+  refused-least (stackAtLimit h k o s) = omega arith
+  refused-least (pastEnd h k o at returns s l) = omega arith
+
+  pub step-number : (alu predicate booleans : ℕ) (g : Group) → Nonzero (stepTold (groupStep limit p alu predicate booleans g))
+  step-number alu predicate booleans g = go (groupStep limit p alu predicate booleans g) refl
+    where
+      go : (o : Outcome) → groupStep limit p alu predicate booleans g ≡ o → Nonzero (stepTold o)
+      go (Steps jump g') e = given _
+      go (Fails n) e = numbered n (refused-least (step-refused limit p alu predicate booleans g n e))
+
+  abbrev Least : Run → Type 0
+  Least (Makes n g) = Unit {0}
+  Least (Breaks n) = 1 ≤ n
+
+  walk-least : {booleans : ℕ} {masks : List ℕ} {g : Group} {r : Run} → Walk limit p booleans masks g r → Least r
+  walk-least (listOut g) = tt
+  walk-least (halfPair alu g) = tt
+  walk-least (programOut alu predicate masks g t) = tt
+  walk-least (oneMore alu predicate masks g g' jump r t e w) = go r (walk-least w)
+    where
+      go : (r : Run) → Least r → Least (onceMore r)
+      go (Makes n g) l = tt
+      go (Breaks n) l = l
+  walk-least {booleans} (stepFails alu predicate masks g why t e) = refused-least (step-refused limit p alu predicate booleans g why e)
+
+  ran-least : {booleans : ℕ} {masks : List ℕ} {g : Group} {r : Run} → Ran limit p booleans masks g r → Least r
+  ran-least (over t) = omega arith
+  ran-least (walked r t w) = walk-least w
+
+  pub run-number : (booleans : ℕ) (masks : List ℕ) (g : Group) → Nonzero (runTold (groupRun limit p booleans masks g))
+  run-number booleans masks g = go (groupRun limit p booleans masks g) (ran-least (run-walks limit p booleans masks g))
+    where
+      go : (r : Run) → Least r → Nonzero (runTold r)
+      go (Makes n g) l = given _
+      go (Breaks n) l = numbered n l
+
+pub month-number : (l : Lease) (r : Replay) → Nonzero (monthTold (scoreOf l r))
+unfolding scoreOf
+month-number l r =
+    by-pick (λ (s : Score). Nonzero (monthTold s)) _ _ _
+    (λ e.
+    by-pick (λ (s : Score). Nonzero (monthTold s)) _ _ _ (λ f. given _)
+    (λ f. let ne : r .stoppedBy ≡ 0 → ⊥ = eqb-false _ _ f in numbered (r .stoppedBy) (omega arith)))
+    (λ e. numbered 21 (omega arith))

@@ -1,0 +1,97 @@
+-- The calls of the C boundary that may be refused and keep no session: each with what document 01's definition tells, its status, and
+-- every array that it is lent for writing, before and after. A constructor is a function of include/egretfold.h with its contract.
+-- Assumes nothing.
+use mathlib.Core.Path.{_≡_}
+use mathlib.Core.Bool.{Bool}
+use mathlib.Core.List.{List, [], _∷_}
+use Prim.Native.Nat.{ℕ, _≤_}
+use Rattle.refusal.specs.Told.{Told}
+use Rattle.layout.specs.Layout.{judgeOf}
+use Rattle.address.specs.Address.{layoutOf, translateOf, locateOf}
+use Rattle.memory.specs.Elements.{readOf, writeOf}
+use Rattle.superfine.specs.Superfine.{superfineReadOf}
+use Rattle.state.specs.State.{Party, Shared}
+use Rattle.group.specs.Group.{Program, Group, stepTold, runTold, beginTold, groupStep, groupRun}
+use Rattle.flow.specs.Store.{loadTold}
+use Rattle.replay.specs.State.{Replay}
+use Rattle.score.specs.Lease.{Lease}
+use Rattle.score.specs.Score.{scoreOf}
+use Rattle.refusal.specs.Crossing.{Crosses}
+use Rattle.command_rooms.specs.Rooms.{parametersOf, namedWriteOf, CommandCrosses}
+use Rattle.element_rooms.specs.Rooms.{inSixteen, SuperfineCrosses, WriteCrosses}
+use Rattle.group_rooms.specs.Rooms.{LoadCrosses, BeginCrosses, StepCrosses, RunCrosses}
+use Rattle.score_rooms.specs.Rooms.{monthTold, MonthCrosses}
+use Rattle.setting_rooms.specs.Rooms.{formatOf}
+
+-- a layout's numbers, as every call on addresses and elements takes them
+pub record Numbers : Type 0 where
+  pub base : ℕ
+  pub pitch : ℕ
+  pub height : ℕ
+  pub size : ℕ
+  pub tiled : Bool
+
+abbrev pub layoutIn : Numbers → Rattle.layout.specs.declared.Layout.Layout
+layoutIn n = layoutOf (n .base) (n .pitch) (n .height) (n .size) (n .tiled)
+
+abbrev pub judgedIn : Numbers → Told
+judgedIn n = judgeOf (n .base) (n .pitch) (n .height) (n .size) (n .tiled)
+
+-- a call by what it is told, its status, and the lent arrays before and after
+pub data Call : Told → ℕ → List (List ℕ) → List (List ℕ) → Type 0 where
+  -- egretfold_layout
+  layout : (n : Numbers) (r : ℕ) (room room' : List ℕ) →
+      Crosses (judgedIn n) r room room' → Call (judgedIn n) r (room ∷ []) (room' ∷ [])
+  -- egretfold_translate
+  translate : (n : Numbers) (x y r : ℕ) (room room' : List ℕ) →
+      Crosses (translateOf (layoutIn n) x y) r room room' → Call (translateOf (layoutIn n) x y) r (room ∷ []) (room' ∷ [])
+  -- egretfold_locate
+  locate : (n : Numbers) (address r : ℕ) (room room' : List ℕ) →
+      Crosses (locateOf (layoutIn n) address) r room room' → Call (locateOf (layoutIn n) address) r (room ∷ []) (room' ∷ [])
+  -- egretfold_element_read
+  read : (n : Numbers) (x y first : ℕ) (memory : List ℕ) (r : ℕ) (bytes bytes' : List ℕ) →
+      Crosses (inSixteen (readOf (layoutIn n) x y first memory)) r bytes bytes' →
+      Call (readOf (layoutIn n) x y first memory) r (bytes ∷ []) (bytes' ∷ [])
+  -- egretfold_element_write
+  write : (n : Numbers) (x y first : ℕ) (given : List ℕ) (r : ℕ) (memory memory' : List ℕ) →
+      WriteCrosses (layoutIn n) x y first given r memory memory' →
+      Call (writeOf (layoutIn n) x y first given memory) r (memory ∷ []) (memory' ∷ [])
+  -- egretfold_element_superfine
+  superfine : (base format height x y first : ℕ) (memory : List ℕ) (r : ℕ) (bytes bytes' count count' : List ℕ) →
+      SuperfineCrosses (superfineReadOf base format height x y first memory) r bytes bytes' count count' →
+      Call (superfineReadOf base format height x y first memory) r (bytes ∷ count ∷ []) (bytes' ∷ count' ∷ [])
+  -- egretfold_command_parameters
+  parameters : (header r : ℕ) (count count' : List ℕ) →
+      Crosses (parametersOf header) r count count' → Call (parametersOf header) r (count ∷ []) (count' ∷ [])
+  -- egretfold_command_write
+  command : (header : ℕ) (fields : List ℕ) (r : ℕ) (room room' written written' : List ℕ) →
+      CommandCrosses header fields r room room' written written' →
+      Call (namedWriteOf header fields room) r (room ∷ written ∷ []) (room' ∷ written' ∷ [])
+  -- egretfold_session_format
+  format : (p : Party) (h : Shared) (header number r : ℕ) (room room' : List ℕ) →
+      Crosses (formatOf p h header number) r room room' → Call (formatOf p h header number) r (room ∷ []) (room' ∷ [])
+  -- egretfold_program_load
+  load : (words : List ℕ) (r : ℕ) (firsts firsts' seconds seconds' slots slots' : List ℕ) →
+      LoadCrosses words r firsts firsts' seconds seconds' slots slots' →
+      Call (loadTold words) r (firsts ∷ seconds ∷ slots ∷ []) (firsts' ∷ seconds' ∷ slots' ∷ [])
+  -- egretfold_group_begin
+  begin : (size r : ℕ) (cells cells' : List ℕ) →
+      BeginCrosses size r cells cells' → Call (beginTold size) r (cells ∷ []) (cells' ∷ [])
+  -- egretfold_group_step
+  step : (limit : ℕ) (program : Program) (alu predicate booleans : ℕ) (g : Group) (r : ℕ) (cells cells' taken taken' : List ℕ) →
+      StepCrosses (groupStep limit program alu predicate booleans g) r cells cells' taken taken' →
+      Call (stepTold (groupStep limit program alu predicate booleans g)) r (cells ∷ taken ∷ []) (cells' ∷ taken' ∷ [])
+  -- egretfold_group_run
+  run : (limit : ℕ) (program : Program) (booleans : ℕ) (masks : List ℕ) (g : Group) (r : ℕ) (cells cells' report report' : List ℕ) →
+      RunCrosses (groupRun limit program booleans masks g) r cells cells' report report' →
+      Call (runTold (groupRun limit program booleans masks g)) r (cells ∷ report ∷ []) (cells' ∷ report' ∷ [])
+  -- egretfold_score_month
+  month : (l : Lease) (replay : Replay) (r : ℕ) (claimed served month claimed' served' month' : List ℕ) →
+      MonthCrosses (scoreOf l replay) r claimed served month claimed' served' month' →
+      Call (monthTold (scoreOf l replay)) r (claimed ∷ served ∷ month ∷ []) (claimed' ∷ served' ∷ month' ∷ [])
+
+-- "A refusal hands back its number and no other result. Lent memory .. stay the same." No refusal has the number 0
+pub record Untouched (n r : ℕ) (lent left : List (List ℕ)) : Type 0 where
+  pub number : r ≡ n
+  pub not-zero : 1 ≤ n
+  pub arrays : left ≡ lent
