@@ -2,6 +2,7 @@
 use flow::Loaded;
 use flow::Ran;
 use worked::tally::Tally;
+ghost use Rattle.group.specs.Cells.{GroupGiven};
 
 // The ops.
 const LOOP: u32 = 1;
@@ -80,38 +81,40 @@ fn steps_of_al() {
         .print(b"aL within 0 to 255");
 }
 
-// Opens loops one after the other on a fresh group: LOOP with aL 7, REP, LOOP with aL 9, REP, and what is told then; a fifth one
-// gets 14, and with a count of 0 it jumps.
+// Opens a loop: every slot has these two words, so that the position doesn't matter.
+fn opened(op: u32, second: u32, cells: &mut [u32; group::CELLS]) -> u32
+    requires { ⌜ GroupGiven (now cells) ⌝ }
+    ensures { λ r. ⌜ GroupGiven (now (cells .exit)) ⌝ }
+{
+    let firsts = [op; group::SLOTS];
+    let seconds = [second; group::SLOTS];
+    crate::steps::told(flow::step(
+        &firsts,
+        &seconds,
+        300,
+        cells,
+        0,
+        0,
+        0,
+        &[0x0702, 3, 0x0904, 5, 0],
+    ))
+}
+
+// Opens loops one after the other on a fresh group, each with an integer word of its own and a jump to slot 128: LOOP with aL 7,
+// REP, LOOP with aL 9, REP, and what is told then; a fifth one gets 14, and with a count of 0 it jumps.
 fn nested() {
-    let integers = [0x0702, 3, 0x0904, 5, 0];
-    let firsts = [LOOP; group::SLOTS];
-    let mut seconds = [0u32; group::SLOTS];
-    seconds[1] = 0x100;
-    seconds[2] = 0x200;
-    seconds[3] = 0x300;
-    let reps = [REP; group::SLOTS];
     let mut cells = [0u32; group::CELLS];
     crate::steps::fresh(4, &mut cells);
     let mut room = [0u32; flow::LOOPS_TOLD];
-    flow::step(&firsts, &seconds, 8, &mut cells, 0, 0, 0, &integers);
-    flow::step(&reps, &seconds, 8, &mut cells, 0, 0, 0, &integers);
+    opened(LOOP, 0x800000, &mut cells);
+    opened(REP, 0x800100, &mut cells);
     flow::tell_loops(&cells, &mut room);
     let outer = room[0];
-    flow::step(&firsts, &seconds, 8, &mut cells, 0, 0, 0, &integers);
-    flow::step(&reps, &seconds, 8, &mut cells, 0, 0, 0, &integers);
+    opened(LOOP, 0x800200, &mut cells);
+    opened(REP, 0x800300, &mut cells);
     flow::tell_loops(&cells, &mut room);
-    let full = crate::steps::told(flow::step(&firsts, &seconds, 8, &mut cells, 0, 0, 0, &integers));
-    seconds[4] = 0x400;
-    let skipped = crate::steps::told(flow::step(
-        &firsts,
-        &seconds,
-        8,
-        &mut cells,
-        0,
-        0,
-        0,
-        &integers,
-    ));
+    let full = opened(LOOP, 0x800000, &mut cells);
+    let skipped = opened(LOOP, 0x800400, &mut cells);
     Tally::new()
         .with(outer == 7)
         .with(room[0] == 9)
