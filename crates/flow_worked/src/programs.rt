@@ -128,7 +128,7 @@ fn calls() {
     Tally::new()
         .with(runs(&program, &masks, 4, 0, 4, 4))
         .print(b"call and return");
-    let bad = [flow::PLAIN_FIRST, flow::PLAIN_SECOND, 1, 0];
+    let bad = [flow::PLAIN_FIRST, flow::PLAIN_SECOND, 5, 0];
     Tally::new()
         .with(runs(&bad, &masks, 13, 0, 0, 0))
         .print(b"refused whole");

@@ -84,7 +84,7 @@ fn calls() {
     let third = steps(&mut cells, 0xFF80, 0, 0, JUMPED, 15);
     let fourth = steps(&mut cells, 0xFF80, 0, 0, JUMPED, 15);
     let full = steps(&mut cells, 0xFF80, 0x50000, 0, 14, 15);
-    let reserved = steps(&mut cells, 0xFF81, 0x50000, 0, 13, 15);
+    let reserved = steps(&mut cells, 0xFF85, 0x50000, 0, 13, 15);
     Tally::new()
         .with(first)
         .with(second)
