@@ -1,9 +1,10 @@
 /* Egretfold: CTM command streams, logs of them over midnight, their monthly score, tile addresses, elements in lent memory, and
  * flow words for one group.
  *
- * Every function returns 0, or the number of a refusal of document 01; a refusal touches no room and no state except where
- * its function says so. Nothing is allocated and nothing is kept between calls: all state lies in arrays that the caller
- * lends. Arguments may be any numbers. Arrays have just the lengths shown, except where a length is an argument of its own.
+ * Every function returns 0, or the number of a refusal of document 01 (egretfold_group_loops alone returns nothing); a refusal
+ * touches no room and no state except where its function says so. Nothing is allocated and nothing is kept between calls: all
+ * state lies in arrays that the caller lends. Arguments may be any numbers. Arrays have just the lengths shown, except where a
+ * length is an argument of its own.
  *
  *      1  the session is stopped
  *      2  a header word stands in no line of the command table
@@ -17,8 +18,8 @@
  *     10  a pair is outside its window
  *     11  room, element data or memory of a wrong length or place
  *     12  no pair of the window owns the address
- *     13  flow word field or group size not allowed
- *     14  branch counter or return stack at its limit
+ *     13  flow word field or group size not allowed; no such integer word, or one with reserved bits
+ *     14  branch counter, return stack, open loops or aL at their limit, or a close that fits no open loop
  *     15  a jump past the program's end, or a program of a wrong length
  *     16  the program has already ended
  *     17  the session has taken 1,000,000,000 words
@@ -54,7 +55,9 @@ enum { EGRETFOLD_LOG = 10, EGRETFOLD_MARKS = 800 };
  *   2 to 6   the branch counters of the inactive ones: bit i of cell 2 + k is bit k of processor i's counter
  *   7        the position
  *   8 to 11  the stored returns, the last one first, 0 where there is none
- *   12 to 19 zeros */
+ *   14 to 17 the open loops, the innermost first, 0 where there is none: a LOOP as its count in bits 7:0, its aL in 15:8, its
+ *            step in 23:16 and bit 24 set; a REP as its count
+ *   the rest zeros */
 enum { EGRETFOLD_SLOTS = 512, EGRETFOLD_CELLS = 20 };
 
 /* The most days of a lease line. */
@@ -199,17 +202,23 @@ uint32_t egretfold_program_load(const uint32_t *words, size_t length, uint32_t f
 /* A fresh group of 1 to 32 processors. 13. */
 uint32_t egretfold_group_begin(uint32_t size, uint32_t cells[EGRETFOLD_CELLS]);
 
-/* One step under a program of `slots` running slots. taken: 1 for a jump, 0 for a stay; and the next position. 13 to 16. */
+/* One step under a program of `slots` running slots, with `numbers` integer words, of which LOOP and REP take theirs by its
+ * number. taken: 1 for a jump, 0 for a stay; and the next position. 13 to 16. */
 uint32_t egretfold_group_step(const uint32_t firsts[EGRETFOLD_SLOTS], const uint32_t seconds[EGRETFOLD_SLOTS],
                               uint32_t slots, uint32_t cells[EGRETFOLD_CELLS], uint32_t alu, uint32_t predicate,
-                              uint32_t booleans, uint32_t taken[2]);
+                              uint32_t booleans, const uint32_t *integers, size_t numbers, uint32_t taken[2]);
 
 /* Steps up to the end of the list of masks (alu, then predicate, for each step) or of the program. report: the steps made,
  * the first active processor (32 if none), and how many are active. 13 to 16; a refused step leaves the group as it was
  * before the run. */
 uint32_t egretfold_group_run(const uint32_t firsts[EGRETFOLD_SLOTS], const uint32_t seconds[EGRETFOLD_SLOTS],
                              uint32_t slots, uint32_t cells[EGRETFOLD_CELLS], const uint32_t *masks, size_t length,
-                             uint32_t booleans, uint64_t report[3]);
+                             uint32_t booleans, const uint32_t *integers, size_t numbers, uint64_t report[3]);
+
+/* loops: the aL shown, which is the innermost open LOOP's, 0 if none is open; then three numbers for each of four loops, the
+ * innermost first: its kind (0 none, 1 LOOP, 3 REP), its count, which is that of the turns left with the present one among
+ * them, and its aL (0 for a REP). Returns nothing. */
+void egretfold_group_loops(const uint32_t cells[EGRETFOLD_CELLS], uint32_t loops[13]);
 
 #ifdef __cplusplus
 }

@@ -7,6 +7,7 @@ use rules::fits;
 use start::claims;
 use start::ready;
 use state::own;
+use state::own::WordPosition;
 use state::settings;
 ghost use mathlib.Core.Path.{_≡_};
 ghost use mathlib.Core.List.{List, [], _∷_};
@@ -258,18 +259,18 @@ fn take_line(
     ensures { λ r. ⌜ LineTried line p0 p1 p2 p3 everyWord (now (own .entry)) (now (tallies .entry)) (now (shared .entry)) r (now (own .exit)) (now (tallies .exit)) (now (shared .exit)) ⌝ }
 {
     match line {
-        0 => take_domain(own, 5, p0, p1, p2, p3),
-        1 => take_start(own, tallies, shared, 2, p0),
-        3 => take_instructions(own, 3, p0, p1),
-        4 => take_input(own, shared, 5, p0, p1, p2, p3),
-        5 => take_output(own, shared, 5, p0, p1, p2, p3),
-        6 => take_conditional(own, shared, 4, p0, p1, p2),
-        7 => take_constants(own, shared, 3, settings::FLOATS, p0, p1),
-        8 => take_constants(own, shared, 3, settings::INTEGERS, p0, p1),
-        9 => take_constants(own, shared, 3, settings::BOOLEANS, p0, p1),
-        18 => take_mask(own, shared, 2, p0),
-        19 => take_conditional_mask(own, shared, 2, p0),
-        20 => take_test(own, shared, 2, p0),
+        table::SET_DOMAIN => take_domain(own, 5, p0, p1, p2, p3),
+        table::START_PROGRAM => take_start(own, tallies, shared, 2, p0),
+        table::SET_INST_FMT => take_instructions(own, 3, p0, p1),
+        table::SET_INP_FMT => take_input(own, shared, 5, p0, p1, p2, p3),
+        table::SET_OUT_FMT => take_output(own, shared, 5, p0, p1, p2, p3),
+        table::SET_COND_OUT_FMT => take_conditional(own, shared, 4, p0, p1, p2),
+        table::SET_CONSTF_FMT => take_constants(own, shared, 3, settings::FLOATS, p0, p1),
+        table::SET_CONSTI_FMT => take_constants(own, shared, 3, settings::INTEGERS, p0, p1),
+        table::SET_CONSTB_FMT => take_constants(own, shared, 3, settings::BOOLEANS, p0, p1),
+        table::SET_OUT_MASK => take_mask(own, shared, 2, p0),
+        table::SET_COND_OUT_MASK => take_conditional_mask(own, shared, 2, p0),
+        table::SET_COND_TEST => take_test(own, shared, 2, p0),
         _ => take_effectless(own, 2, p0),
     }
 }
@@ -290,18 +291,18 @@ pub fn take_last(
     ensures { λ r. ⌜ LineTried line p0 p1 p2 p3 lastWord (now (own .entry)) (now (tallies .entry)) (now (shared .entry)) r (now (own .exit)) (now (tallies .exit)) (now (shared .exit)) ⌝ }
 {
     match line {
-        0 => take_domain(own, 1, p0, p1, p2, p3),
-        1 => take_start(own, tallies, shared, 1, p0),
-        3 => take_instructions(own, 1, p0, p1),
-        4 => take_input(own, shared, 1, p0, p1, p2, p3),
-        5 => take_output(own, shared, 1, p0, p1, p2, p3),
-        6 => take_conditional(own, shared, 1, p0, p1, p2),
-        7 => take_constants(own, shared, 1, settings::FLOATS, p0, p1),
-        8 => take_constants(own, shared, 1, settings::INTEGERS, p0, p1),
-        9 => take_constants(own, shared, 1, settings::BOOLEANS, p0, p1),
-        18 => take_mask(own, shared, 1, p0),
-        19 => take_conditional_mask(own, shared, 1, p0),
-        20 => take_test(own, shared, 1, p0),
+        table::SET_DOMAIN => take_domain(own, 1, p0, p1, p2, p3),
+        table::START_PROGRAM => take_start(own, tallies, shared, 1, p0),
+        table::SET_INST_FMT => take_instructions(own, 1, p0, p1),
+        table::SET_INP_FMT => take_input(own, shared, 1, p0, p1, p2, p3),
+        table::SET_OUT_FMT => take_output(own, shared, 1, p0, p1, p2, p3),
+        table::SET_COND_OUT_FMT => take_conditional(own, shared, 1, p0, p1, p2),
+        table::SET_CONSTF_FMT => take_constants(own, shared, 1, settings::FLOATS, p0, p1),
+        table::SET_CONSTI_FMT => take_constants(own, shared, 1, settings::INTEGERS, p0, p1),
+        table::SET_CONSTB_FMT => take_constants(own, shared, 1, settings::BOOLEANS, p0, p1),
+        table::SET_OUT_MASK => take_mask(own, shared, 1, p0),
+        table::SET_COND_OUT_MASK => take_conditional_mask(own, shared, 1, p0),
+        table::SET_COND_TEST => take_test(own, shared, 1, p0),
         _ => take_effectless(own, 1, p0),
     }
 }
@@ -313,11 +314,12 @@ pub fn take(
     tallies: &mut [u64; state::TALLIES],
     shared: &mut [u32; state::SHARED_CELLS],
     words: &[u32],
-    at: usize,
+    from: WordPosition,
 ) -> u32
-    requires { ⌜ Given (now own) (now tallies) (now shared) × (at < length (now words)) ⌝ }
-    ensures { λ r. ⌜ Begun (drop at (now (words .entry))) (now (own .entry)) (now (tallies .entry)) (now (shared .entry)) r (now (own .exit)) (now (tallies .exit)) (now (shared .exit)) ⌝ }
+    requires { ⌜ Given (now own) (now tallies) (now shared) × (from .0 < length (now words)) ⌝ }
+    ensures { λ r. ⌜ Begun (drop (from .0) (now (words .entry))) (now (own .entry)) (now (tallies .entry)) (now (shared .entry)) r (now (own .exit)) (now (tallies .exit)) (now (shared .exit)) ⌝ }
 {
+    let at = from.0 as usize;
     if words.len() - at < MOST_WORDS {
         return 0;
     }

@@ -1,4 +1,5 @@
 // The commands. Places are whole words, as they were read and as they are written back; nothing is asked of them here.
+use crate::table;
 ghost use mathlib.Core.Path.{_≡_};
 ghost use Prim.Native.Nat.{_<_};
 ghost use Rattle.command.specs.Commands.{noEffectLine, storedLine, lineOf, placesOf, commandOf};
@@ -54,26 +55,26 @@ pub fn build(line: u32, p0: u32, p1: u32, p2: u32, p3: u32) -> Command
     ensures { λ r. ⌜ r ≡ commandOf line p0 p1 p2 p3 ⌝ }
 {
     match line {
-        0 => Command::Domain(p0, p1, p2, p3),
-        1 => Command::Start,
-        2 => Command::Effectless(NoEffect::Wait),
-        3 => Command::Store(Stored::Instructions, p0, p1),
-        4 => Command::Input(p0, p1, p2, p3),
-        5 => Command::Output(p0, p1, p2, p3),
-        6 => Command::Conditional(p0, p1, p2),
-        7 => Command::Store(Stored::Floats, p0, p1),
-        8 => Command::Store(Stored::Integers, p0, p1),
-        9 => Command::Store(Stored::Booleans, p0, p1),
-        10 => Command::Effectless(NoEffect::InvalidateInstructions),
-        11 => Command::Effectless(NoEffect::InvalidateFloats),
-        12 => Command::Effectless(NoEffect::InvalidateIntegers),
-        13 => Command::Effectless(NoEffect::InvalidateBooleans),
-        14 => Command::Effectless(NoEffect::InvalidateConditional),
-        15 => Command::Effectless(NoEffect::InvalidateInputs),
-        16 => Command::Effectless(NoEffect::FlushOutputs),
-        17 => Command::Effectless(NoEffect::FlushConditional),
-        18 => Command::OutputMask(p0),
-        19 => Command::ConditionalMask(p0),
+        table::SET_DOMAIN => Command::Domain(p0, p1, p2, p3),
+        table::START_PROGRAM => Command::Start,
+        table::WAIT_FOR_IDLE => Command::Effectless(NoEffect::Wait),
+        table::SET_INST_FMT => Command::Store(Stored::Instructions, p0, p1),
+        table::SET_INP_FMT => Command::Input(p0, p1, p2, p3),
+        table::SET_OUT_FMT => Command::Output(p0, p1, p2, p3),
+        table::SET_COND_OUT_FMT => Command::Conditional(p0, p1, p2),
+        table::SET_CONSTF_FMT => Command::Store(Stored::Floats, p0, p1),
+        table::SET_CONSTI_FMT => Command::Store(Stored::Integers, p0, p1),
+        table::SET_CONSTB_FMT => Command::Store(Stored::Booleans, p0, p1),
+        table::INVALIDATE_INSTRUCTIONS => Command::Effectless(NoEffect::InvalidateInstructions),
+        table::INVALIDATE_FLOATS => Command::Effectless(NoEffect::InvalidateFloats),
+        table::INVALIDATE_INTEGERS => Command::Effectless(NoEffect::InvalidateIntegers),
+        table::INVALIDATE_BOOLEANS => Command::Effectless(NoEffect::InvalidateBooleans),
+        table::INVALIDATE_CONDITIONAL => Command::Effectless(NoEffect::InvalidateConditional),
+        table::INVALIDATE_INPUTS => Command::Effectless(NoEffect::InvalidateInputs),
+        table::FLUSH_OUTPUTS => Command::Effectless(NoEffect::FlushOutputs),
+        table::FLUSH_CONDITIONAL => Command::Effectless(NoEffect::FlushConditional),
+        table::SET_OUT_MASK => Command::OutputMask(p0),
+        table::SET_COND_OUT_MASK => Command::ConditionalMask(p0),
         _ => Command::Test(p0),
     }
 }
@@ -83,15 +84,15 @@ pub fn no_effect_line(what: NoEffect) -> u32
     ensures { λ r. ⌜ r ≡ noEffectLine what ⌝ }
 {
     match what {
-        NoEffect::Wait => 2,
-        NoEffect::InvalidateInstructions => 10,
-        NoEffect::InvalidateFloats => 11,
-        NoEffect::InvalidateIntegers => 12,
-        NoEffect::InvalidateBooleans => 13,
-        NoEffect::InvalidateConditional => 14,
-        NoEffect::InvalidateInputs => 15,
-        NoEffect::FlushOutputs => 16,
-        NoEffect::FlushConditional => 17,
+        NoEffect::Wait => table::WAIT_FOR_IDLE,
+        NoEffect::InvalidateInstructions => table::INVALIDATE_INSTRUCTIONS,
+        NoEffect::InvalidateFloats => table::INVALIDATE_FLOATS,
+        NoEffect::InvalidateIntegers => table::INVALIDATE_INTEGERS,
+        NoEffect::InvalidateBooleans => table::INVALIDATE_BOOLEANS,
+        NoEffect::InvalidateConditional => table::INVALIDATE_CONDITIONAL,
+        NoEffect::InvalidateInputs => table::INVALIDATE_INPUTS,
+        NoEffect::FlushOutputs => table::FLUSH_OUTPUTS,
+        NoEffect::FlushConditional => table::FLUSH_CONDITIONAL,
     }
 }
 
@@ -99,10 +100,10 @@ pub fn stored_line(what: Stored) -> u32
     ensures { λ r. ⌜ r ≡ storedLine what ⌝ }
 {
     match what {
-        Stored::Instructions => 3,
-        Stored::Floats => 7,
-        Stored::Integers => 8,
-        Stored::Booleans => 9,
+        Stored::Instructions => table::SET_INST_FMT,
+        Stored::Floats => table::SET_CONSTF_FMT,
+        Stored::Integers => table::SET_CONSTI_FMT,
+        Stored::Booleans => table::SET_CONSTB_FMT,
     }
 }
 
@@ -111,16 +112,16 @@ pub fn line(command: Command) -> u32
     ensures { λ r. ⌜ r ≡ lineOf command ⌝ }
 {
     match command {
-        Command::Domain(..) => 0,
-        Command::Start => 1,
+        Command::Domain(..) => table::SET_DOMAIN,
+        Command::Start => table::START_PROGRAM,
         Command::Effectless(what) => no_effect_line(what),
         Command::Store(what, ..) => stored_line(what),
-        Command::Input(..) => 4,
-        Command::Output(..) => 5,
-        Command::Conditional(..) => 6,
-        Command::OutputMask(_) => 18,
-        Command::ConditionalMask(_) => 19,
-        Command::Test(_) => 20,
+        Command::Input(..) => table::SET_INP_FMT,
+        Command::Output(..) => table::SET_OUT_FMT,
+        Command::Conditional(..) => table::SET_COND_OUT_FMT,
+        Command::OutputMask(_) => table::SET_OUT_MASK,
+        Command::ConditionalMask(_) => table::SET_COND_OUT_MASK,
+        Command::Test(_) => table::SET_COND_TEST,
     }
 }
 

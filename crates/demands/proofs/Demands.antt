@@ -1,11 +1,11 @@
--- The page of top theorems, in the order of the demands: 1, 2, 3, then elements, flow, and the requests 1, 2, 3 and 5. Each statement has
+-- The page of top theorems, in the order of the demands: 1, 2, 3, then elements, flow, and the requests 1 to 5. Each statement has
 -- its sentence above it and a proof that only cites the file that has it. What a statement asks for is what its sentence says or what an
 -- entry asks for: a session, a replay or a group's cells that came from the entries (`Reached`, `Handed`), and bytes that are bytes.
 -- Assumes nothing.
 use mathlib.Core.Path.{_≡_, refl, _∙_}
 use mathlib.Core.Bool.{Bool, true, false}
 use mathlib.Core.List.{List, [], _∷_, _++_}
-use Prim.Native.Nat.{ℕ, _+_, _<_, _≤_}
+use Prim.Native.Nat.{ℕ, suc, _+_, _-_, _*_, _<_, _≤_}
 use lib.Count.{ones, trailingZeros}
 use lib.ListN.{length, take}
 use Rattle.laws.specs.Bits.{xor}
@@ -87,6 +87,8 @@ use Rattle.group.specs.Group.{
   overLimit,
   wayOf,
   settled,
+  opOf,
+  jumpStep,
   slotStep,
   ended,
   groupRun,
@@ -94,6 +96,10 @@ use Rattle.group.specs.Group.{
 }
 use Rattle.group.specs.Cells as cells
 use Rattle.group.specs.Cells.{activeMask}
+use Rattle.group.proofs.State.{old-answers}
+use Rattle.loops.specs.Loops.{Opened, Looping, Repeating, turnOf, shownAL}
+use Rattle.flow.specs.Looping.{opAt, integerAt, LedBy, Turning, Inside as InLoop}
+use Rattle.flow.proofs.Looping.{step-led, rep-times, loop-times, al-shown-up, al-shown-down}
 use Rattle.flow.proofs.Counting.{mask-count, mask-first, mask-none}
 use Rattle.flow.specs.Cases.{oneWord, c9, c10, c11, c12}
 use Rattle.element_rooms.specs.Rooms.{WriteCrosses}
@@ -277,14 +283,15 @@ start-shared = gets-nine
 
 -- FLOW
 
--- A step that is made, in document 01's order: what B_ELSE leaves, the wishes, the decision, what each processor becomes, the return
--- stack, and the position.
+-- A step that is made, in the order of document 01 and request 4: what B_ELSE leaves, the wishes, the decision (theirs, or with ops 1
+-- to 4 the loops') and the loops then, what each processor becomes, the return stack, and the position.
 pub flow-step :
     (limit : ℕ) (p : Program) (alu predicate booleans : ℕ) (g : Group) (jump : Bool) (g' : Group) →
     flowStep limit p alu predicate booleans g ≡ Steps jump g' → Made limit p alu predicate booleans g jump g'
 flow-step = step-made
 
--- A step that is refused has the cause of its number. "Order: 16, 13, 14, 15."
+-- A step that is refused has the cause of its number. "Order: 16, 13, 14, 15.": 13 for the words and then for the integer word, 14 for
+-- the loops and then for the counters and the returns.
 pub flow-refused :
     (limit : ℕ) (p : Program) (alu predicate booleans : ℕ) (g : Group) (n : ℕ) →
     flowStep limit p alu predicate booleans g ≡ Fails n → Refused limit p alu predicate booleans g n
@@ -428,6 +435,50 @@ pub mask-zeros :
     (trailingZeros mostProcessors mask ≡ firstActive g) × (mask ≡ 0 → firstActive g ≡ 32)
 mask-zeros mask g shown = (mask-first mask g shown, mask-none mask g shown)
 
+-- REQUEST 4, "Loops in the stepper"
+
+-- "With op 0 every old answer stays": such a step is document 01's, whatever loops are open and whatever integer words are lent.
+pub loops-op-0 :
+    (limit slots : ℕ) (integers : List ℕ) (first second alu predicate booleans : ℕ) (g : Group) → opOf first ≡ 0 →
+    slotStep limit slots integers first second alu predicate booleans g ≡ jumpStep limit slots first second alu predicate booleans g
+loops-op-0 = old-answers
+
+-- "These decisions override the processors' wishes": a step of another op is refused, or its decision and the loops that it leaves are
+-- those of its turn, whatever the masks. (`flow-step` and `flow-refused` above have the whole step and its order.)
+pub loops-decide :
+    (limit : ℕ) (p : Program) (alu predicate booleans : ℕ) (g : Group) → (opAt p g ≡ 0 → ⊥) →
+    LedBy (turnOf (opAt p g) (integerAt p g) (g .loops)) (flowStep limit p alu predicate booleans g)
+loops-decide = step-led
+
+-- A loop of count n around a body that comes back to the loop's close with the loops as they were runs the body n times: where k closes
+-- have jumped and the next one stays, k + 1 is n, and the loop is gone.
+pub rep-runs :
+    (limit : ℕ) (p : Program) (booleans : ℕ) (Body : Group → Group → Type 0) → InLoop p false Body →
+    (n : ℕ) (loops : List Opened) (k : ℕ) (g s c g' : Group) (alu predicate : ℕ) → 1 ≤ n → g .loops ≡ Repeating n ∷ loops →
+    Turning limit p booleans Body k g s → Body s c → flowStep limit p alu predicate booleans c ≡ Steps false g' →
+    (suc k ≡ n) × (g' .loops ≡ loops)
+rep-runs = rep-times
+
+pub loop-runs :
+    (limit : ℕ) (p : Program) (booleans : ℕ) (Body : Group → Group → Type 0) → InLoop p true Body →
+    (n al step : ℕ) (loops : List Opened) (k : ℕ) (g s c g' : Group) (alu predicate : ℕ) → 1 ≤ n → g .loops ≡ Looping n al step ∷ loops →
+    Turning limit p booleans Body k g s → Body s c → flowStep limit p alu predicate booleans c ≡ Steps false g' →
+    (suc k ≡ n) × (g' .loops ≡ loops)
+loop-runs = loop-times
+
+-- After k turns the aL shown is its start and k steps, as long as that is within 0 to 255; a step of 128 or more is itself less 256.
+pub al-rises :
+    (limit : ℕ) (p : Program) (booleans : ℕ) (Body : Group → Group → Type 0) → InLoop p true Body →
+    (n al step : ℕ) (loops : List Opened) (k : ℕ) (g s : Group) → g .loops ≡ Looping n al step ∷ loops → Turning limit p booleans Body k g s →
+    step < 128 → k < n → al + k * step ≤ 255 → shownAL (s .loops) ≡ al + k * step
+al-rises = al-shown-up
+
+pub al-falls :
+    (limit : ℕ) (p : Program) (booleans : ℕ) (Body : Group → Group → Type 0) → InLoop p true Body →
+    (n al step : ℕ) (loops : List Opened) (k : ℕ) (g s : Group) → g .loops ≡ Looping n al step ∷ loops → Turning limit p booleans Body k g s →
+    128 ≤ step → step ≤ 255 → k < n → k * (256 - step) ≤ al → shownAL (s .loops) ≡ al - k * (256 - step)
+al-falls = al-shown-down
+
 -- REQUEST 5, "Monthly score"
 
 -- A lease line that is refused gives 21, whatever the log: it comes before 18 and 19, and reads no log.
@@ -498,6 +549,7 @@ pub worked-cases : Cases cases
 unfolding
     _and_ pick placeOf isSize widthOf heightOf wellFormed unitOf rowStep tileRows spanOf inBounds windowRule judgeOf xor blockWidth
     blockHeight codeOf insideOf tiledOffset linearOffset offsetOf ifAccepted inside addressOf translateOf _or_ differ digit on pack
-    some every wants decided branched allowed fresh turnedIf wishOf overLimit wayOf settled slotStep ended flowStep oneWord c9 c10 c11 c12
+    some every wants decided branched allowed fresh turnedIf wishOf overLimit wayOf settled jumpStep slotStep ended flowStep
+    oneWord c9 c10 c11 c12
 worked-cases =
     (refl, (refl, (refl, (refl, (refl, (refl, (refl, (refl, (refl, (refl, (refl, (refl, (refl, (refl, (refl, tt)))))))))))))))

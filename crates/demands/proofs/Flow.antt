@@ -12,6 +12,7 @@ use Rattle.laws.specs.Masks.{_or_, on}
 use Rattle.laws.proofs.Choice.{Tested, tested, holds, fails, pick-yes, pick-no, by-pick}
 use Rattle.laws.proofs.Below.{some-same, every-same}
 use Rattle.refusal.specs.Told.{gives, refuses}
+use Rattle.loops.specs.Loops.{Opened, Turn, Turns, NoRoom, NoWord, turnOf}
 use Rattle.group.specs.Proc.{counterLimit, Proc, Active, Idle, Absent, isLive, isActive, turned, wants, decided, branched}
 use Rattle.group.specs.Group.{
   Program,
@@ -28,6 +29,7 @@ use Rattle.group.specs.Group.{
   onceMore,
   goOn,
   allowed,
+  allowedLoop,
   aOp,
   jumpFunc,
   bElse,
@@ -42,6 +44,10 @@ use Rattle.group.specs.Group.{
   wayOf,
   arrived,
   settled,
+  jumpStep,
+  onTurn,
+  withLoops,
+  loopStep,
   slotStep,
   ended,
   groupStep,
@@ -55,12 +61,15 @@ use Rattle.group.specs.Cells as cells
 use Rattle.group.proofs.State.{given-of, left-given, step-sound}
 use Rattle.flow.proofs.Beginning.{begin-given}
 use Rattle.flow.proofs.Running.{SoundRun, steps-sound}
+use Rattle.flow.specs.Looping.{opAt, integerAt}
 use Rattle.refusal.specs.Crossing.{statusOf}
 use Rattle.demands.specs.Flow.{
   firstAt,
   secondAt,
+  fitting,
   elsed,
   wishes,
+  wanted,
   decision,
   next,
   Made,
@@ -68,6 +77,8 @@ use Rattle.demands.specs.Flow.{
   hasEnded,
   tooMany,
   badField,
+  badInteger,
+  loopsAtLimit,
   counterAtLimit,
   stackAtLimit,
   pastEnd,
@@ -89,51 +100,94 @@ use Rattle.demands.specs.Flow.{
 }
 use Rattle.demands.specs.Flow as flow
 
+-- a step on a slot's words as one rule: the words, what decides, and the rest
+slot-by-decision :
+    (limit : ℕ) (p : Program) (alu predicate booleans : ℕ) (g : Group) →
+    slotStep limit (p .slots) (p .integers) (firstAt p g) (secondAt p g) alu predicate booleans g ≡
+    pick (fitting p g)
+    (onTurn (decision limit p alu predicate booleans g)
+    (λ jump loops. settled limit (p .slots) (firstAt p g) (secondAt p g) jump (wishes limit p alu predicate booleans g) (elsed p g) (withLoops g loops)))
+    (Fails 13)
+unfolding slotStep jumpStep loopStep
+slot-by-decision limit p alu predicate booleans g = by (tested (eqb (opAt p g) 0))
+  where
+    rest : Bool → List Opened → Outcome
+    rest jump loops =
+        settled limit (p .slots) (firstAt p g) (secondAt p g) jump (wishes limit p alu predicate booleans g) (elsed p g) (withLoops g loops)
+
+    old : Turn
+    old = Turns (wanted limit p alu predicate booleans g) (g .loops)
+
+    loops : Turn
+    loops = turnOf (opAt p g) (integerAt p g) (g .loops)
+
+    by :
+        Tested (eqb (opAt p g) 0) →
+        slotStep limit (p .slots) (p .integers) (firstAt p g) (secondAt p g) alu predicate booleans g ≡
+        pick (fitting p g) (onTurn (decision limit p alu predicate booleans g) rest) (Fails 13)
+    by (holds e) =
+        pick-yes _ _ e ∙
+        sym
+        (ap₂ (λ (b : Bool) (t : Turn). pick b (onTurn t rest) (Fails 13))
+        (pick-yes (allowed (firstAt p g) (secondAt p g)) (allowedLoop (firstAt p g) (secondAt p g)) e) (pick-yes old loops e))
+    by (fails e) =
+        pick-no _ _ e ∙
+        sym
+        (ap₂ (λ (b : Bool) (t : Turn). pick b (onTurn t rest) (Fails 13))
+        (pick-no (allowed (firstAt p g) (secondAt p g)) (allowedLoop (firstAt p g) (secondAt p g)) e) (pick-no old loops e))
+
 -- what an outcome shows
 module _ (limit : ℕ) (p : Program) (alu predicate booleans : ℕ) (g : Group) where
   abbrev Shown : Outcome → Type 0
   Shown (Steps jump g') = Made limit p alu predicate booleans g jump g'
   Shown (Fails why) = Refused limit p alu predicate booleans g why
 
-  abbrev jump : Bool
-  jump = decision limit p alu predicate booleans g
+  abbrev procs : Bool → ℕ → Proc
+  procs jump i =
+      branched (branchOp jump (firstAt p g)) (popCount (firstAt p g)) jump (wishes limit p alu predicate booleans g i) (elsed p g i)
 
-  abbrev op : ℕ
-  op = branchOp jump (firstAt p g)
-
-  abbrev procs : ℕ → Proc
-  procs i = branched op (popCount (firstAt p g)) jump (wishes limit p alu predicate booleans g i) (elsed p g i)
-
-  module _ (running : g .position < p .slots) (fields : allowed (firstAt p g) (secondAt p g) ≡ true) (counters : overLimit limit op (elsed p g) ≡ false) where
-    shown-way : (w : Way) → next limit p alu predicate booleans g ≡ w → Shown (arrived (p .slots) jump procs w)
-    shown-way Stuck e = stackAtLimit running fields counters e
-    shown-way (Goes at returns) e =
+  module _ (running : g .position < p .slots) (fields : fitting p g ≡ true) where
+    shown-way :
+        (jump : Bool) (loops : List Opened) → decision limit p alu predicate booleans g ≡ Turns jump loops →
+        overLimit limit (branchOp jump (firstAt p g)) (elsed p g) ≡ false →
+        (w : Way) → next limit p alu predicate booleans g jump ≡ w → Shown (arrived (p .slots) jump (procs jump) loops w)
+    shown-way jump loops d counters Stuck e = stackAtLimit running fields jump loops d counters e
+    shown-way jump loops d counters (Goes at returns) e =
         by-pick Shown (leb at (p .slots)) _ _
         (λ t.
         record {
           running = running;
           fields = fields;
-          decides = refl;
+          decides = d;
           counters = counters;
           each-processor = λ i. refl;
           stack = e;
           place = leb-true at (p .slots) t;
         })
-        (λ t. pastEnd running fields counters at returns e (leb-false at (p .slots) t))
+        (λ t. pastEnd running fields jump loops d counters at returns e (leb-false at (p .slots) t))
+
+    shown-turn :
+        (t : Turn) → decision limit p alu predicate booleans g ≡ t →
+        Shown
+        (onTurn t
+        (λ jump loops. settled limit (p .slots) (firstAt p g) (secondAt p g) jump (wishes limit p alu predicate booleans g) (elsed p g) (withLoops g loops)))
+    unfolding settled
+    shown-turn (Turns jump loops) d =
+        by-pick Shown (overLimit limit (branchOp jump (firstAt p g)) (elsed p g)) _ _ (λ o. counterAtLimit running fields jump loops d o)
+        (λ o. shown-way jump loops d o (next limit p alu predicate booleans g jump) refl)
+    shown-turn NoRoom d = loopsAtLimit running fields d
+    shown-turn NoWord d = badInteger running fields d
 
   pub shown : Shown (groupStep limit p alu predicate booleans g)
-  unfolding groupStep ended slotStep settled
+  unfolding groupStep ended
   shown =
       by-pick Shown (leb (p .slots) (g .position)) _ _ (λ t. hasEnded (leb-true (p .slots) (g .position) t))
       (λ t.
       let running = leb-false (p .slots) (g .position) t in
       by-pick Shown (leb (p .slots) 512) _ _
       (λ u.
-      by-pick Shown (allowed (firstAt p g) (secondAt p g)) _ _
-      (λ f.
-      by-pick Shown (overLimit limit op (elsed p g)) _ _ (λ o. counterAtLimit running f o)
-      (λ o. shown-way running f o (next limit p alu predicate booleans g) refl))
-      (λ f. badField running f))
+      subst Shown (sym (slot-by-decision limit p alu predicate booleans g))
+      (by-pick Shown (fitting p g) _ _ (λ f. shown-turn running f (decision limit p alu predicate booleans g) refl) (λ f. badField running f)))
       (λ u. tooMany running (leb-false (p .slots) 512 u)))
 
   pub step-made : (j : Bool) (g' : Group) → groupStep limit p alu predicate booleans g ≡ Steps j g' → Made limit p alu predicate booleans g j g'
@@ -257,29 +311,48 @@ module _ (limit : ℕ) (p : Program) (booleans : ℕ) (g : Group) (alu predicate
         let l : isLive (g .procs i) ≡ true = sym (turned-live (bElse (firstAt p g)) (g .procs i)) ∙ h in
         ap₂ (λ (x y : Bool). wants (jumpFunc (firstAt p g)) x y (on (booleanNumber (secondAt p g)) booleans)) (a .same-bits i l) (b .same-bits i l)
 
-    same-decision : decision limit p alu predicate booleans g ≡ decision limit p alu' predicate' booleans g
+    same-wanted : wanted limit p alu predicate booleans g ≡ wanted limit p alu' predicate' booleans g
     unfolding decided
-    same-decision =
+    same-wanted =
         ap₂ (λ (x y : Bool). pick (jumpAny (firstAt p g)) x y)
         (some-same 32 _ _ (λ i h. active-and (elsed p g i) (w i) (w' i) (same-wish i)))
         (every-same 32 _ _ (λ i h. idle-or (elsed p g i) (w i) (w' i) (same-wish i)))
 
-    same-settled : (j : Bool) →
-        settled limit (p .slots) (firstAt p g) (secondAt p g) j w (elsed p g) g ≡ settled limit (p .slots) (firstAt p g) (secondAt p g) j w' (elsed p g) g
+    same-decision : decision limit p alu predicate booleans g ≡ decision limit p alu' predicate' booleans g
+    same-decision =
+        ap (λ (b : Bool). pick (eqb (opAt p g) 0) (Turns b (g .loops)) (turnOf (opAt p g) (integerAt p g) (g .loops))) same-wanted
+
+    same-settled :
+        (j : Bool) (loops : List Opened) →
+        settled limit (p .slots) (firstAt p g) (secondAt p g) j w (elsed p g) (withLoops g loops) ≡
+        settled limit (p .slots) (firstAt p g) (secondAt p g) j w' (elsed p g) (withLoops g loops)
     unfolding settled
-    same-settled j =
+    same-settled j loops =
         ap (λ (f : ℕ → Proc).
         pick (overLimit limit (branchOp j (firstAt p g)) (elsed p g)) (Fails 14)
-        (arrived (p .slots) j f (wayOf (aOp (firstAt p g)) j (g .position) (jumpAddress (secondAt p g)) (g .returns))))
+        (arrived (p .slots) j f loops (wayOf (aOp (firstAt p g)) j (g .position) (jumpAddress (secondAt p g)) (g .returns))))
         (λ k i. worked-same (elsed p g i) (w i) (w' i) (same-wish i) (branchOp j (firstAt p g)) (popCount (firstAt p g)) j k)
 
+    abbrev rest : (ℕ → Bool) → Bool → List Opened → Outcome
+    rest v jump loops = settled limit (p .slots) (firstAt p g) (secondAt p g) jump v (elsed p g) (withLoops g loops)
+
+    same-rest : (t : Turn) → onTurn t (rest w) ≡ onTurn t (rest w')
+    same-rest (Turns jump loops) = same-settled jump loops
+    same-rest NoRoom = refl
+    same-rest NoWord = refl
+
+    same-slot :
+        slotStep limit (p .slots) (p .integers) (firstAt p g) (secondAt p g) alu predicate booleans g ≡
+        slotStep limit (p .slots) (p .integers) (firstAt p g) (secondAt p g) alu' predicate' booleans g
+    same-slot =
+        slot-by-decision limit p alu predicate booleans g ∙
+        ap (λ (o : Outcome). pick (fitting p g) o (Fails 13))
+        (same-rest (decision limit p alu predicate booleans g) ∙ ap (λ (t : Turn). onTurn t (rest w')) same-decision) ∙
+        sym (slot-by-decision limit p alu' predicate' booleans g)
+
     pub same-step : groupStep limit p alu predicate booleans g ≡ groupStep limit p alu' predicate' booleans g
-    unfolding groupStep slotStep
-    same-step =
-        ap (λ (o : Outcome).
-        pick (ended p g) (Fails 16) (pick (leb (p .slots) 512) (pick (allowed (firstAt p g) (secondAt p g)) o (Fails 13)) (Fails 15)))
-        (ap (λ (j : Bool). settled limit (p .slots) (firstAt p g) (secondAt p g) j w (elsed p g) g) same-decision ∙
-        same-settled (decision limit p alu' predicate' booleans g))
+    unfolding groupStep
+    same-step = ap (λ (o : Outcome). pick (ended p g) (Fails 16) (pick (leb (p .slots) 512) o (Fails 15))) same-slot
 
 -- and the same run
 module _ (limit : ℕ) (p : Program) (booleans : ℕ) where

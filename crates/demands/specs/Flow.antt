@@ -1,10 +1,13 @@
--- A step, a run and a group's cells as a host has them, in document 01's order. Assumes nothing.
+-- A step, a run and a group's cells as a host has them, in the order of document 01 and request 4. Assumes nothing.
 use mathlib.Core.Path.{_≡_}
 use mathlib.Core.Bool.{Bool, true, false}
 use mathlib.Core.List.{List, [], _∷_}
 use Prim.Native.Nat.{ℕ, _<_, _≤_}
+use lib.Dec.{eqb}
 use lib.ListN.{getD}
+use Rattle.laws.specs.Choice.{pick}
 use Rattle.laws.specs.Masks.{on}
+use Rattle.loops.specs.Loops.{Opened, Turn, Turns, NoRoom, NoWord, turnOf}
 use Rattle.group.specs.Proc.{counterLimit, Proc, isLive, isActive, decided, branched}
 use Rattle.group.specs.Group.{
   Program,
@@ -20,6 +23,7 @@ use Rattle.group.specs.Group.{
   Breaks,
   onceMore,
   allowed,
+  allowedLoop,
   aOp,
   jumpFunc,
   popCount,
@@ -37,6 +41,7 @@ use Rattle.group.specs.Group.{
   groupRun,
 }
 use Rattle.group.specs.Cells.{groupOf}
+use Rattle.flow.specs.Looping.{opAt, integerAt}
 use Rattle.group_rooms.specs.Rooms.{BeginCrosses, StepCrosses, RunCrosses}
 
 -- the words of the slot that a group stands at
@@ -45,6 +50,10 @@ firstAt p g = getD (p .firsts) (g .position) 0
 
 abbrev pub secondAt : Program → Group → ℕ
 secondAt p g = getD (p .seconds) (g .position) 0
+
+-- the slot's words are allowed: those of op 0 as document 01 says, those of ops 1 to 4 as request 4 does
+abbrev pub fitting : Program → Group → Bool
+fitting p g = pick (eqb (opAt p g) 0) (allowed (firstAt p g) (secondAt p g)) (allowedLoop (firstAt p g) (secondAt p g))
 
 -- 1. the processors once B_ELSE has done its work
 abbrev pub elsed : Program → Group → ℕ → Proc
@@ -55,27 +64,32 @@ module _ (limit : ℕ) (p : Program) (alu predicate booleans : ℕ) (g : Group) 
   abbrev pub wishes : ℕ → Bool
   wishes = wishOf (jumpFunc (firstAt p g)) (on (booleanNumber (secondAt p g)) booleans) alu predicate
 
-  -- 3. the decision
-  abbrev pub decision : Bool
-  decision = decided (jumpAny (firstAt p g)) (λ i. isActive (elsed p g i)) wishes
+  -- 3. the decision that the wishes come to
+  abbrev pub wanted : Bool
+  wanted = decided (jumpAny (firstAt p g)) (λ i. isActive (elsed p g i)) wishes
+
+  -- what decides, and the open loops then: with op 0 the wishes, which leave the loops as they are, with ops 1 to 4 the loops, whose
+  -- "decisions override the processors' wishes"; or 13 for an integer word, or 14 for the loops
+  abbrev pub decision : Turn
+  decision = pick (eqb (opAt p g) 0) (Turns wanted (g .loops)) (turnOf (opAt p g) (integerAt p g) (g .loops))
 
   -- 5. where the step goes on, and the returns stored then
-  abbrev pub next : Way
-  next = wayOf (aOp (firstAt p g)) decision (g .position) (jumpAddress (secondAt p g)) (g .returns)
+  abbrev pub next : Bool → Way
+  next jump = wayOf (aOp (firstAt p g)) jump (g .position) (jumpAddress (secondAt p g)) (g .returns)
 
   -- a step that is made, in document 01's order
   pub record Made (jump : Bool) (g' : Group) : Type 0 where
     -- the program hasn't ended, and the slot's words are allowed
     pub running : g .position < p .slots
-    pub fields : allowed (firstAt p g) (secondAt p g) ≡ true
-    -- 2. and 3. the decision is that of the processors' wishes, once 1. is done
-    pub decides : jump ≡ decision
+    pub fields : fitting p g ≡ true
+    -- 2. and 3. the decision is that of the processors' wishes, once 1. is done, or the loops'; and the loops then
+    pub decides : decision ≡ Turns jump (g' .loops)
     -- 4. no counter is at its limit where it must gain 1, and each processor does what the operation says
-    pub counters : overLimit limit (branchOp decision (firstAt p g)) (elsed p g) ≡ false
+    pub counters : overLimit limit (branchOp jump (firstAt p g)) (elsed p g) ≡ false
     pub each-processor :
-        (i : ℕ) → g' .procs i ≡ branched (branchOp decision (firstAt p g)) (popCount (firstAt p g)) decision (wishes i) (elsed p g i)
+        (i : ℕ) → g' .procs i ≡ branched (branchOp jump (firstAt p g)) (popCount (firstAt p g)) jump (wishes i) (elsed p g i)
     -- 5. the return stack and the place that it leads to
-    pub stack : next ≡ Goes (g' .position) (g' .returns)
+    pub stack : next jump ≡ Goes (g' .position) (g' .returns)
     -- 6. "The next position may equal N, which ends the program"
     pub place : g' .position ≤ p .slots
 
@@ -84,14 +98,16 @@ module _ (limit : ℕ) (p : Program) (alu predicate booleans : ℕ) (g : Group) 
     hasEnded : p .slots ≤ g .position → Refused 16
     -- a store has 512 slots
     tooMany : g .position < p .slots → 512 < p .slots → Refused 15
-    badField : g .position < p .slots → allowed (firstAt p g) (secondAt p g) ≡ false → Refused 13
-    counterAtLimit : g .position < p .slots → allowed (firstAt p g) (secondAt p g) ≡ true →
-        overLimit limit (branchOp decision (firstAt p g)) (elsed p g) ≡ true → Refused 14
-    stackAtLimit : g .position < p .slots → allowed (firstAt p g) (secondAt p g) ≡ true →
-        overLimit limit (branchOp decision (firstAt p g)) (elsed p g) ≡ false → next ≡ Stuck → Refused 14
-    pastEnd : g .position < p .slots → allowed (firstAt p g) (secondAt p g) ≡ true →
-        overLimit limit (branchOp decision (firstAt p g)) (elsed p g) ≡ false →
-        (at : ℕ) (returns : List ℕ) → next ≡ Goes at returns → p .slots < at → Refused 15
+    badField : g .position < p .slots → fitting p g ≡ false → Refused 13
+    badInteger : g .position < p .slots → fitting p g ≡ true → decision ≡ NoWord → Refused 13
+    loopsAtLimit : g .position < p .slots → fitting p g ≡ true → decision ≡ NoRoom → Refused 14
+    counterAtLimit : g .position < p .slots → fitting p g ≡ true → (jump : Bool) (loops : List Opened) → decision ≡ Turns jump loops →
+        overLimit limit (branchOp jump (firstAt p g)) (elsed p g) ≡ true → Refused 14
+    stackAtLimit : g .position < p .slots → fitting p g ≡ true → (jump : Bool) (loops : List Opened) → decision ≡ Turns jump loops →
+        overLimit limit (branchOp jump (firstAt p g)) (elsed p g) ≡ false → next jump ≡ Stuck → Refused 14
+    pastEnd : g .position < p .slots → fitting p g ≡ true → (jump : Bool) (loops : List Opened) → decision ≡ Turns jump loops →
+        overLimit limit (branchOp jump (firstAt p g)) (elsed p g) ≡ false →
+        (at : ℕ) (returns : List ℕ) → next jump ≡ Goes at returns → p .slots < at → Refused 15
 
 -- a run is its steps: "alu then predicate for each step"
 module _ (limit : ℕ) (p : Program) (booleans : ℕ) where

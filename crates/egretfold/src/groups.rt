@@ -1,6 +1,8 @@
-// Flow words for one group: programs, groups, steps and runs.
+// Flow words for one group: programs, groups, steps, runs and open loops.
+ghost use mathlib.Core.Path.{_≡_};
+ghost use Rattle.loops.specs.Loops.{loopsTold};
 ghost use Rattle.stepper.specs.Answers.{stepIn, runIn};
-ghost use Rattle.group.specs.Cells.{GroupGiven};
+ghost use Rattle.group.specs.Cells.{groupOf, GroupGiven};
 ghost use Rattle.group_rooms.specs.Rooms.{BeginCrosses, LoadCrosses, RunCrosses, StepCrosses};
 
 // Loads a program, two words a slot, and says how many slots run; 15.
@@ -24,7 +26,7 @@ pub extern "C" fn egretfold_group_begin(size: u32, cells: &mut [u32; group::CELL
     group_rooms::begin(size, cells)
 }
 
-// One step: 1 for a jump or 0 for a stay, and the next position; 13 to 16.
+// One step, with the integer words of LOOP and REP: 1 for a jump or 0 for a stay, and the next position; 13 to 16.
 #[no_mangle]
 pub extern "C" fn egretfold_group_step(
     firsts: &[u32; group::SLOTS],
@@ -34,10 +36,11 @@ pub extern "C" fn egretfold_group_step(
     alu: u32,
     predicate: u32,
     booleans: u32,
+    integers: &[u32],
     taken: &mut [u32; group_rooms::STEP_NUMBERS],
 ) -> u32
     requires { ⌜ GroupGiven (now cells) ⌝ }
-    ensures { λ r. ⌜ StepCrosses (stepIn (now (firsts .entry)) (now (seconds .entry)) slots (now (cells .entry)) alu predicate booleans) r (now (cells .entry)) (now (cells .exit)) (now (taken .entry)) (now (taken .exit)) ⌝ }
+    ensures { λ r. ⌜ StepCrosses (stepIn (now (firsts .entry)) (now (seconds .entry)) slots (now (cells .entry)) alu predicate booleans (now (integers .entry))) r (now (cells .entry)) (now (cells .exit)) (now (taken .entry)) (now (taken .exit)) ⌝ }
 {
     group_rooms::step(
         firsts,
@@ -47,6 +50,7 @@ pub extern "C" fn egretfold_group_step(
         alu,
         predicate,
         booleans,
+        integers,
         taken,
     )
 }
@@ -60,10 +64,33 @@ pub extern "C" fn egretfold_group_run(
     cells: &mut [u32; group::CELLS],
     masks: &[u32],
     booleans: u32,
+    integers: &[u32],
     report: &mut [u64; group_rooms::REPORT_NUMBERS],
 ) -> u32
     requires { ⌜ GroupGiven (now cells) ⌝ }
-    ensures { λ r. ⌜ RunCrosses (runIn (now (firsts .entry)) (now (seconds .entry)) slots (now (cells .entry)) (now (masks .entry)) booleans) r (now (cells .entry)) (now (cells .exit)) (now (report .entry)) (now (report .exit)) ⌝ }
+    ensures { λ r. ⌜ RunCrosses (runIn (now (firsts .entry)) (now (seconds .entry)) slots (now (cells .entry)) (now (masks .entry)) booleans (now (integers .entry))) r (now (cells .entry)) (now (cells .exit)) (now (report .entry)) (now (report .exit)) ⌝ }
 {
-    group_rooms::run(firsts, seconds, slots, cells, masks, booleans, report)
+    group_rooms::run(
+        firsts,
+        seconds,
+        slots,
+        cells,
+        masks,
+        booleans,
+        integers,
+        report,
+    )
+}
+
+// The open loops: the aL shown, then for each of four loops, the innermost first, its kind (0 none, 1 LOOP, 3 REP), the turns left
+// in it and its aL.
+#[no_mangle]
+pub extern "C" fn egretfold_group_loops(
+    cells: &[u32; group::CELLS],
+    room: &mut [u32; flow::LOOPS_TOLD],
+)
+    requires { ⌜ GroupGiven (now cells) ⌝ }
+    ensures { λ r. ⌜ now (room .exit) ≡ loopsTold (groupOf (now (cells .entry)) .loops) ⌝ }
+{
+    group_rooms::loops(cells, room)
 }

@@ -1,26 +1,30 @@
--- What a step's number stands for: 1 for a jump, 0 for a stay, 13 to 16 for a refusal. Assumes nothing.
+-- What a step's number stands for: 1 for a jump, 0 for a stay, 13 to 16 for a refusal; and what tells the open loops. Assumes nothing.
 use mathlib.Core.Path.{_≡_, refl, sym, ap, ap₂, _∙_, subst}
 use mathlib.Core.Bool.{Bool, true}
 use mathlib.Core.List.{List, [], _∷_}
-use Prim.Native.Nat.{ℕ, _+_, _-_, _<_, _≤_}
+use Prim.Native.Nat.{ℕ, _+_, _-_, _/_, _%_, _<_, _≤_}
 use native.Mathlib.Omega.{arith}
 use lib.Dec.{eqb}
-use borrow.Author.Tests.{eqb-true}
+use borrow.Author.Tests.{eqb-true, lt-ltb, le-ltb}
 use Rattle.laws.specs.Choice.{_and_, pick}
 use Rattle.laws.specs.Below.{every}
 use Rattle.laws.specs.Masks.{digit}
+use Rattle.laws.proofs.Choice.{pick-yes, pick-no}
 use Rattle.laws.proofs.Below.{every-at}
 use Rattle.laws.proofs.Masks.{digit-lt}
 use Rattle.refusal.specs.Number.{numberOf}
 use Rattle.refusal.specs.Told.{gives, refuses}
 use Rattle.refusal.specs.declared.Refusal.{Refusal}
+use Rattle.loops.specs.Loops.{Opened, shownAL, kindAt, loopsTold, Held}
+use Rattle.loops.proofs.Stack.{told-of}
 use Rattle.group.specs.Proc.{counterLimit}
 use Rattle.group.specs.Group.{Outcome, Steps, Fails, stepTold}
-use Rattle.group.specs.Cells.{positionIn, groupOf, GroupGiven, stepLeaves}
-use Rattle.group.proofs.State.{SoundAfter, step-sound}
+use Rattle.group.specs.Cells.{positionIn}
+use Rattle.group.proofs.State.{SoundAfter}
+use Rattle.stepper.specs.declared.Stepped.{Stepped}
 use Rattle.stepper.specs.declared.Stepped.the-variants as stepped
-use Rattle.stepper.specs.Answers.{stepNumber, NumberDone, StepDone, programOf, stepIn}
-use Rattle.flow.specs.Answers.{refusalOf}
+use Rattle.stepper.specs.Answers.{NumberDone, toldStepped, StepDone}
+use Rattle.flow.specs.Answers.{refusalOf, numberTold}
 
 -- 13 to 16 are the numbers of the refusals that they stand for
 pub refusal-number : (n : ℕ) → 12 < n → n < 17 → numberOf (refusalOf n) ≡ n
@@ -32,42 +36,60 @@ refusal-number n low high =
     again : n - 13 + 13 ≡ n
     again = omega arith
 
--- the step of a group that was given out, by the number that it answers
-module _ {leaves : List ℕ} (l firsts seconds : List ℕ) (slots alu predicate booleans : ℕ) (m : GroupGiven l) {n : ℕ}
-    (d : NumberDone l leaves n (stepIn firsts seconds slots l alu predicate booleans)) where
-  abbrev here : Outcome
-  here = stepIn firsts seconds slots l alu predicate booleans
+module _ {l leaves : List ℕ} where
+  -- by the number, with the position that the cells then show
+  pub step-told :
+      {n : ℕ} {r : Stepped} (o : Outcome) → SoundAfter counterLimit o → NumberDone l leaves n o →
+      toldStepped r ≡ numberTold n (positionIn leaves) → StepDone l leaves r o
+  unfolding numberTold
+  step-told {n} (Steps jump g) s d e =
+      let z : n ≡ digit jump = d .number in
+      let q : digit jump < 2 = digit-lt jump in
+      record {
+        told = e ∙ pick-no _ _ (le-ltb 1 n (omega arith)) ∙ ap₂ (λ (m at : ℕ). gives (m ∷ at ∷ [])) z (ap positionIn (d .left));
+        left = d .left;
+      }
+  step-told {n} (Fails k) s d e =
+      let z : n ≡ k = d .number in
+      let q : 12 < k = s .0 in
+      record {
+        told = e ∙ pick-yes _ _ (lt-ltb 1 n (omega arith)) ∙ ap refuses (ap (λ (j : ℕ). numberOf (refusalOf j)) z ∙ refusal-number k (s .0) (s .1));
+        left = d .left;
+      }
 
-  pub sound-here : SoundAfter counterLimit here
-  sound-here = step-sound counterLimit (programOf firsts seconds slots) alu predicate booleans (groupOf l) (m .sound)
+  -- a refusal before the slot is looked at
+  pub step-refused : {why : Refusal} (o : Outcome) → NumberDone l leaves (numberOf why) o → 1 < numberOf why → StepDone l leaves (stepped.Refused why) o
+  step-refused {why} (Steps jump g) d h =
+      let z : numberOf why ≡ digit jump = d .number in
+      let q : digit jump < 2 = digit-lt jump in
+      absurd (omega arith)
+  step-refused (Fails k) d h = record { told = ap refuses (d .number); left = d .left }
 
-  -- a number above 1 is a refusal's
-  pub step-refused : {why : Refusal} → 1 < n → why ≡ refusalOf n → StepDone l leaves (stepped.Refused why) here
-  step-refused {why} h e = record { told = by here sound-here (d .number); left = d .left }
-    where
-      by : (o : Outcome) → SoundAfter counterLimit o → n ≡ stepNumber o → refuses (numberOf why) ≡ stepTold o
-      by (Steps jump g) s z =
-          let q : digit jump < 2 = digit-lt jump in
-          absurd (omega arith)
-      by (Fails k) s z = ap refuses (ap numberOf (e ∙ ap refusalOf z) ∙ refusal-number k (s .0) (s .1))
+-- the number of a step as its answer tells it
+module _ (n position : ℕ) where
+  pub told-refused : {why : Refusal} → 1 < n → why ≡ refusalOf n → toldStepped (stepped.Refused why) ≡ numberTold n position
+  unfolding numberTold
+  told-refused h e = ap (λ (r : Refusal). refuses (numberOf r)) e ∙ sym (pick-yes _ _ (lt-ltb 1 n h))
 
-  -- 0 and 1 are told with the position that the cells then show
-  made : n ≤ 1 → gives (n ∷ positionIn leaves ∷ []) ≡ stepTold here
-  made h = by here sound-here (d .number) (d .left)
-    where
-      by :
-          (o : Outcome) → SoundAfter counterLimit o → n ≡ stepNumber o → leaves ≡ stepLeaves l o →
-          gives (n ∷ positionIn leaves ∷ []) ≡ stepTold o
-      by (Steps jump g) s z left = ap₂ (λ (j at : ℕ). gives (j ∷ at ∷ [])) z (ap positionIn left)
-      by (Fails k) s z left = let q : 12 < k = s .0 in absurd (omega arith)
+  pub told-jumped : n ≤ 1 → n ≡ 1 → toldStepped (stepped.Jumped (record { 0 = position })) ≡ numberTold n position
+  unfolding numberTold
+  told-jumped h e = ap (λ (m : ℕ). gives (m ∷ position ∷ [])) (sym e) ∙ sym (pick-no _ _ (le-ltb 1 n h))
 
-  pub step-jumped : n ≤ 1 → n ≡ 1 → StepDone l leaves (stepped.Jumped (record { 0 = positionIn leaves })) here
-  step-jumped h e =
-      record { told = ap (λ (j : ℕ). gives (j ∷ positionIn leaves ∷ [])) (sym e) ∙ made h; left = d .left }
-
-  pub step-stayed : n ≤ 1 → (n ≡ 1 → ⊥) → StepDone l leaves (stepped.Stayed (record { 0 = positionIn leaves })) here
-  step-stayed h e =
-      record { told = ap (λ (j : ℕ). gives (j ∷ positionIn leaves ∷ [])) none ∙ made h; left = d .left }
+  pub told-stayed : n ≤ 1 → (n ≡ 1 → ⊥) → toldStepped (stepped.Stayed (record { 0 = position })) ≡ numberTold n position
+  unfolding numberTold
+  told-stayed h e = ap (λ (m : ℕ). gives (m ∷ position ∷ [])) none ∙ sym (pick-no _ _ (le-ltb 1 n h))
     where
       none : 0 ≡ n
       none = omega arith
+
+-- the open loops, from their cells
+pub loops-told :
+    {l0 l1 l2 l3 al k0 k1 k2 k3 : ℕ} (ls : List Opened) → Held ls l0 l1 l2 l3 → al ≡ shownAL ls →
+    k0 ≡ kindAt l0 → k1 ≡ kindAt l1 → k2 ≡ kindAt l2 → k3 ≡ kindAt l3 →
+    al ∷ k0 ∷ l0 % 256 ∷ l0 / 256 % 256 ∷ k1 ∷ l1 % 256 ∷ l1 / 256 % 256 ∷ k2 ∷ l2 % 256 ∷ l2 / 256 % 256 ∷ k3 ∷ l3 % 256 ∷ l3 / 256 % 256 ∷ [] ≡
+    loopsTold ls
+loops-told {l0} {l1} {l2} {l3} {al} ls h e e0 e1 e2 e3 =
+    (λ j.
+    al ∷ e0 j ∷ l0 % 256 ∷ l0 / 256 % 256 ∷ e1 j ∷ l1 % 256 ∷ l1 / 256 % 256 ∷ e2 j ∷ l2 % 256 ∷ l2 / 256 % 256 ∷
+    e3 j ∷ l3 % 256 ∷ l3 / 256 % 256 ∷ []) ∙
+    told-of ls h e

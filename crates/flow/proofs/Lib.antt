@@ -3,4 +3,5 @@ pub mod Beginning
 pub mod Counting
 pub mod Given
 pub mod Loading
+pub mod Looping
 pub mod Running

@@ -8,7 +8,7 @@ use native.Mathlib.Nat.{zero-add, add-zero}
 use native.Mathlib.Omega.{arith}
 use lib.ListN.{length, getD, drop, length-drop}
 use lib.Seq.{drop-cons}
-use borrow.Author.Tests.{le-leb, lt-leb}
+use borrow.Author.Tests.{le-leb, lt-leb, lt-ltb, le-ltb}
 use Rattle.laws.specs.Choice.{pick}
 use Rattle.laws.specs.Below.{count, least}
 use Rattle.laws.specs.Masks.{digit, on}
@@ -28,8 +28,8 @@ use Rattle.group.specs.Group.{Group, Outcome, Steps, Fails, Program, Run, Makes
 use Rattle.group.specs.Group.{groupRun, runTold, firstActive, numberActive}
 use Rattle.group.specs.Cells.{activeIn, positionIn, groupOf, Sound, GroupGiven, runLeaves}
 use Rattle.stepper.specs.Answers.{NumberDone, programOf, stepIn, runIn}
-use Rattle.flow.specs.Answers.{refusalOf, RunDone, stepsTold, StepsDone}
-use Rattle.flow.proofs.Answers.{refusal-number, sound-here}
+use Rattle.flow.specs.Answers.{refusalOf, madeBy, RunDone, stepsTold, StepsDone}
+use Rattle.flow.proofs.Answers.{refusal-number}
 use Rattle.group.proofs.State.{SoundAfter, given-of, group-back, given-masks, step-sound}
 
 -- a run of one step
@@ -37,41 +37,48 @@ abbrev single : Outcome → Run
 single o = goOn o (λ g. Makes 0 g)
 
 -- by the number that the step answered
-module _ {leaves : List ℕ} (l firsts seconds : List ℕ) (slots alu predicate booleans : ℕ) (m : GroupGiven l) {n : ℕ}
-    (d : NumberDone l leaves n (stepIn firsts seconds slots l alu predicate booleans)) where
+module _ {leaves : List ℕ} (l firsts seconds : List ℕ) (slots alu predicate booleans : ℕ) (integers : List ℕ) (m : GroupGiven l)
+    {n : ℕ} (d : NumberDone l leaves n (stepIn firsts seconds slots l alu predicate booleans integers)) where
   abbrev here : Outcome
-  here = stepIn firsts seconds slots l alu predicate booleans
+  here = stepIn firsts seconds slots l alu predicate booleans integers
 
-  sound : SoundAfter counterLimit here
-  sound = sound-here l firsts seconds slots alu predicate booleans m d
+  pub sound-here : SoundAfter counterLimit here
+  sound-here = step-sound counterLimit (programOf firsts seconds slots integers) alu predicate booleans (groupOf l) (m .sound)
 
-  pub one-went : n ≤ 1 → StepsDone leaves (stepsMade.Number 1) (single here)
-  one-went h = by here sound d
+  pub one-made : {r : StepsMade} → r ≡ madeBy n → StepsDone leaves r (single here)
+  unfolding madeBy
+  one-made {r} e = subst (λ (x : StepsMade). StepsDone leaves x (single here)) (sym e) (by here sound-here d)
     where
-      by : (o : Outcome) → SoundAfter counterLimit o → NumberDone l leaves n o → StepsDone leaves (stepsMade.Number 1) (single o)
-      by (Steps jump g) s k =
-          record {
-            told = ap (Makes 1) (ap groupOf (k .left) ∙ group-back g s);
-            given = subst GroupGiven (sym (k .left)) (given-of g s);
-          }
-      by (Fails why) s k =
-          let z : n ≡ why = k .number in
-          let q : 12 < why = s .0 in
-          absurd (omega arith)
-
-  pub one-stopped : {why : Refusal} → 1 < n → why ≡ refusalOf n → StepsDone leaves (stepsMade.Refused why) (single here)
-  one-stopped {why} h e = by here sound d
-    where
-      by : (o : Outcome) → SoundAfter counterLimit o → NumberDone l leaves n o → StepsDone leaves (stepsMade.Refused why) (single o)
+      by : (o : Outcome) → SoundAfter counterLimit o → NumberDone l leaves n o → StepsDone leaves (madeBy n) (single o)
       by (Steps jump g) s k =
           let z : n ≡ digit jump = k .number in
           let q : digit jump < 2 = digit-lt jump in
-          absurd (omega arith)
-      by (Fails j) s k =
-          record {
-            told = ap Breaks (ap numberOf (e ∙ ap refusalOf (k .number)) ∙ refusal-number j (s .0) (s .1));
+          subst (λ (x : StepsMade). StepsDone leaves x (Makes 1 g)) (sym (pick-no _ _ (le-ltb 1 n (omega arith))))
+          (record {
+            told = ap (Makes 1) (ap groupOf (k .left) ∙ group-back g s);
+            given = subst GroupGiven (sym (k .left)) (given-of g s);
+          })
+      by (Fails why) s k =
+          let z : n ≡ why = k .number in
+          let q : 12 < why = s .0 in
+          subst (λ (x : StepsMade). StepsDone leaves x (Breaks why)) (sym (pick-yes _ _ (lt-ltb 1 n (omega arith))))
+          (record {
+            told = ap Breaks (ap (λ (j : ℕ). numberOf (refusalOf j)) z ∙ refusal-number why (s .0) (s .1));
             given = subst GroupGiven (sym (k .left)) m;
-          }
+          })
+
+-- a step refused before its slot is looked at
+pub one-refused :
+    {l : List ℕ} {why : Refusal} {o : Outcome} → GroupGiven l → NumberDone l l (numberOf why) o → 1 < numberOf why →
+    StepsDone l (stepsMade.Refused why) (single o)
+one-refused {l} {why} {o} m d h = by o d
+  where
+    by : (o : Outcome) → NumberDone l l (numberOf why) o → StepsDone l (stepsMade.Refused why) (single o)
+    by (Steps jump g) k =
+        let z : numberOf why ≡ digit jump = k .number in
+        let q : digit jump < 2 = digit-lt jump in
+        absurd (omega arith)
+    by (Fails j) k = record { told = ap Breaks (k .number); given = m }
 
 -- a run after so many steps
 abbrev pub plus : ℕ → Run → Run
@@ -123,13 +130,13 @@ breaks-off (Steps jump g) n rest e = let z : _≡_ {A = ℕ} 0 1 = cc in absurd 
 breaks-off (Fails why) n rest e = sym e
 
 -- the loop: `made` steps are made, and the cells are `l` now
-module _ (firsts seconds : List ℕ) (slots booleans : ℕ) (masks : List ℕ) (g₀ : Group) (made : ℕ) (l : List ℕ)
+module _ (firsts seconds : List ℕ) (slots booleans : ℕ) (masks integers : List ℕ) (g₀ : Group) (made : ℕ) (l : List ℕ)
     (inv :
-    groupSteps counterLimit (programOf firsts seconds slots) booleans masks g₀ ≡
-    plus made (groupSteps counterLimit (programOf firsts seconds slots) booleans (drop (made * 2) masks) (groupOf l)))
+    groupSteps counterLimit (programOf firsts seconds slots integers) booleans masks g₀ ≡
+    plus made (groupSteps counterLimit (programOf firsts seconds slots integers) booleans (drop (made * 2) masks) (groupOf l)))
   where
     abbrev program : Program
-    program = programOf firsts seconds slots
+    program = programOf firsts seconds slots integers
 
     abbrev whole : Run
     whole = groupSteps counterLimit program booleans masks g₀
@@ -213,9 +220,9 @@ module _ (l : List ℕ) (m : GroupGiven l) where
   number-is = count-same 32 _ _ active-at
 
 -- a whole run
-module _ (l firsts seconds : List ℕ) (slots booleans : ℕ) (masks : List ℕ) where
+module _ (l firsts seconds : List ℕ) (slots booleans : ℕ) (masks integers : List ℕ) where
   abbrev wholeRun : Run
-  wholeRun = runIn firsts seconds slots l masks booleans
+  wholeRun = runIn firsts seconds slots l masks booleans integers
 
   pub run-ended : slots ≤ positionIn l → RunDone l l (ran.Refused Ended) wholeRun
   unfolding groupRun ended
@@ -224,7 +231,7 @@ module _ (l firsts seconds : List ℕ) (slots booleans : ℕ) (masks : List ℕ)
       record { told = sym (ap runTold e); left = sym (ap (runLeaves l) e) }
 
   module _ (goes : positionIn l < slots) {l' : List ℕ} {r : StepsMade}
-      (d : StepsDone l' r (groupSteps counterLimit (programOf firsts seconds slots) booleans masks (groupOf l))) where
+      (d : StepsDone l' r (groupSteps counterLimit (programOf firsts seconds slots integers) booleans masks (groupOf l))) where
     is-run : stepsTold r l' ≡ wholeRun
     unfolding groupRun ended
     is-run = d .told ∙ sym (pick-no _ _ (lt-leb slots (positionIn l) goes))

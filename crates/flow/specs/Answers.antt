@@ -3,7 +3,7 @@
 use mathlib.Core.Path.{_≡_}
 use mathlib.Core.List.{List, [], _∷_}
 use Prim.Native.Nat.{ℕ}
-use lib.Dec.{eqb}
+use lib.Dec.{eqb, ltb}
 use Rattle.laws.specs.Choice.{pick}
 use Rattle.refusal.specs.declared.Refusal.{Refusal}
 use Rattle.refusal.specs.declared.Refusal.the-variants.{AtLimit, PastEnd, FlowField, Ended}
@@ -24,6 +24,13 @@ use Rattle.flow.specs.Store.{loadTold, firstsLeft, secondsLeft}
 -- a step's refusal by its number, 13 to 16
 unfoldable pub refusalOf : ℕ → Refusal
 refusalOf n = pick (eqb n 13) FlowField (pick (eqb n 14) AtLimit (pick (eqb n 15) PastEnd Ended))
+
+-- what a step's number tells, with the position then: 1 for a jump, 0 for a stay, or its refusal; and what a run of it comes to
+unfoldable pub numberTold : ℕ → ℕ → Told
+numberTold n position = pick (ltb 1 n) (refuses (numberOf (refusalOf n))) (gives (n ∷ position ∷ []))
+
+unfoldable pub madeBy : ℕ → StepsMade
+madeBy n = pick (ltb 1 n) (stepsMade.Refused (refusalOf n)) (stepsMade.Number 1)
 
 -- a fresh group tells nothing, a program its number of slots
 abbrev pub toldBegun : Begun → Told

@@ -10,7 +10,7 @@ use Rattle.group.specs.Group.{Outcome, Steps, Fails, Program, fresh, storeSlots
 
 -- "N is 4, second words and other masks 0": the word stands in every slot, so that the position doesn't matter
 unfoldable pub oneWord : ℕ → Program
-oneWord first = record { firsts = replicate storeSlots first; seconds = replicate storeSlots 0; slots = 4 }
+oneWord first = record { firsts = replicate storeSlots first; seconds = replicate storeSlots 0; slots = 4; integers = [] }
 
 unfoldable pub c9 : Outcome
 c9 = groupStep counterLimit (oneWord 0x02000F00) 3 0 0 (fresh 4)

@@ -4,16 +4,18 @@ use group::planes;
 use refusal::Refusal;
 use stepper::SlotNumber;
 use stepper::Stepped;
+use stepper::slot;
 ghost use mathlib.Core.Path.{_≡_};
 ghost use Prim.Native.Nat.{_/_};
 ghost use lib.ListN.{length};
 ghost use Rattle.laws.specs.Below.{count, least};
 ghost use Rattle.laws.specs.Masks.{on};
+ghost use Rattle.loops.specs.Loops.{loopsTold};
 ghost use Rattle.group.specs.Proc.{mostProcessors, counterLimit};
 ghost use Rattle.group.specs.Group.{Makes, goOn, groupSteps};
 ghost use Rattle.group.specs.Cells.{groupOf, GroupGiven};
-ghost use Rattle.stepper.specs.Answers.{StepDone, programOf, stepIn, runIn};
-ghost use Rattle.flow.specs.Answers.{refusalOf, BeginDone, LoadDone, RunDone, StepsDone};
+ghost use Rattle.stepper.specs.Answers.{StepDone, toldStepped, programOf, stepIn, runIn};
+ghost use Rattle.flow.specs.Answers.{refusalOf, numberTold, madeBy, BeginDone, LoadDone, RunDone, StepsDone};
 
 // A fresh group stands in the cells, or its size isn't allowed.
 pub enum Begun {
@@ -48,6 +50,12 @@ pub const PLAIN_FIRST: u32 = 0x20;
 
 pub const PLAIN_SECOND: u32 = 0;
 
+// How many slots a program may have: as many as its store.
+const STORE_SLOTS: u32 = 512;
+
+// How many numbers tell the open loops: the aL shown, and three for each of four loops.
+pub const LOOPS_TOLD: usize = 13;
+
 // The refusal of a step by its number, 13 to 16.
 fn refusal_of(number: u32) -> Refusal
     ensures { λ r. ⌜ r ≡ refusalOf number ⌝ }
@@ -60,9 +68,24 @@ fn refusal_of(number: u32) -> Refusal
     }
 }
 
-// A step of the group under a program: the first and second words of its slots, and how many slots run. 16 where the program
-// has ended, 13 for a word that isn't allowed, 14 for a branch counter or the return stack at its limit, 15 for a jump past
-// the program's end (and where more than 512 slots are to run).
+// A step's answer by its number, 1 for a jump, 0 for a stay or a refusal's, and the position then.
+fn stepped_of(number: u32, position: u32) -> Stepped
+    ensures { λ r. ⌜ toldStepped r ≡ numberTold number position ⌝ }
+{
+    if 1 < number {
+        return Stepped::Refused(refusal_of(number));
+    }
+    let next = SlotNumber(position);
+    if number == 1 {
+        return Stepped::Jumped(next);
+    }
+    Stepped::Stayed(next)
+}
+
+// A step of the group under a program: the first and second words of its slots, how many slots run, and the integer words that
+// LOOP and REP take. 16 where the program has ended, 13 for a word that isn't allowed (an integer word too), 14 for the open loops,
+// a branch counter or the return stack at its limit, 15 for a jump past the program's end (and where more than 512 slots are to
+// run). A slot of op 0, of which most programs are made, doesn't come near the loops.
 pub fn step(
     firsts: &[u32; group::SLOTS],
     seconds: &[u32; group::SLOTS],
@@ -71,19 +94,55 @@ pub fn step(
     alu: u32,
     predicate: u32,
     booleans: u32,
+    integers: &[u32],
 ) -> Stepped
     requires { ⌜ GroupGiven (now cells) ⌝ }
-    ensures { λ r. ⌜ StepDone (now (cells .entry)) (now (cells .exit)) r (stepIn (now (firsts .entry)) (now (seconds .entry)) slots (now (cells .entry)) alu predicate booleans) ⌝ }
+    ensures { λ r. ⌜ StepDone (now (cells .entry)) (now (cells .exit)) r (stepIn (now (firsts .entry)) (now (seconds .entry)) slots (now (cells .entry)) alu predicate booleans (now (integers .entry))) ⌝ }
 {
-    let number = stepper::step_number(firsts, seconds, slots, cells, alu, predicate, booleans);
-    if 1 < number {
-        return Stepped::Refused(refusal_of(number));
+    let here = cells[group::POSITION];
+    if slots <= here {
+        return Stepped::Refused(Refusal::Ended);
     }
-    let next = SlotNumber(cells[group::POSITION]);
-    if number == 1 {
-        return Stepped::Jumped(next);
+    if STORE_SLOTS < slots {
+        return Stepped::Refused(Refusal::PastEnd);
     }
-    Stepped::Stayed(next)
+    let at = here as usize;
+    let first = firsts[at];
+    let second = seconds[at];
+    if first % slot::OPS == 0 {
+        let number = stepper::jump_slot(first, second, slots, cells, alu, predicate, booleans);
+        return stepped_of(number, cells[group::POSITION]);
+    }
+    let word = loops::word_at(second / slot::INTEGER % slot::INTEGERS, integers);
+    let number = stepper::loop_slot(first, second, slots, cells, word, alu, predicate, booleans);
+    stepped_of(number, cells[group::POSITION])
+}
+
+// Tells the open loops: the aL shown, then for each of four loops, the innermost first, its kind (0 none, 1 LOOP, 3 REP), the turns
+// left in it and its aL.
+pub fn tell_loops(cells: &[u32; group::CELLS], room: &mut [u32; LOOPS_TOLD])
+    requires { ⌜ GroupGiven (now cells) ⌝ }
+    ensures { λ r. ⌜ now (room .exit) ≡ loopsTold (groupOf (now (cells .entry)) .loops) ⌝ }
+{
+    let l0 = cells[group::LOOP_0];
+    let l1 = cells[group::LOOP_1];
+    let l2 = cells[group::LOOP_2];
+    let l3 = cells[group::LOOP_3];
+    *room = [
+        loops::shown(l0, l1, l2, l3),
+        loops::kind(l0),
+        l0 % loops::BYTES,
+        l0 / loops::AL % loops::BYTES,
+        loops::kind(l1),
+        l1 % loops::BYTES,
+        l1 / loops::AL % loops::BYTES,
+        loops::kind(l2),
+        l2 % loops::BYTES,
+        l2 / loops::AL % loops::BYTES,
+        loops::kind(l3),
+        l3 % loops::BYTES,
+        l3 / loops::AL % loops::BYTES,
+    ];
 }
 
 // A fresh group: all its processors active, position 0, no returns. 13 unless the size is from 1 to 32.
@@ -148,7 +207,17 @@ pub fn number_active(active: u32) -> u32
     u32::count_ones(active)
 }
 
-// One step, as a run of its own.
+// A run of one step, by the step's number.
+fn made_of(number: u32) -> StepsMade
+    ensures { λ r. ⌜ r ≡ madeBy number ⌝ }
+{
+    if 1 < number {
+        return StepsMade::Refused(refusal_of(number));
+    }
+    StepsMade::Number(1)
+}
+
+// One step, as a run of its own. It finds its slot by itself, as `step` does: both are then inlined into what calls them.
 fn one_step(
     firsts: &[u32; group::SLOTS],
     seconds: &[u32; group::SLOTS],
@@ -157,15 +226,26 @@ fn one_step(
     alu: u32,
     predicate: u32,
     booleans: u32,
+    integers: &[u32],
 ) -> StepsMade
     requires { ⌜ GroupGiven (now cells) ⌝ }
-    ensures { λ r. ⌜ StepsDone (now (cells .exit)) r (goOn (stepIn (now (firsts .entry)) (now (seconds .entry)) slots (now (cells .entry)) alu predicate booleans) (λ g. Makes 0 g)) ⌝ }
+    ensures { λ r. ⌜ StepsDone (now (cells .exit)) r (goOn (stepIn (now (firsts .entry)) (now (seconds .entry)) slots (now (cells .entry)) alu predicate booleans (now (integers .entry))) (λ g. Makes 0 g)) ⌝ }
 {
-    let number = stepper::step_number(firsts, seconds, slots, cells, alu, predicate, booleans);
-    if 1 < number {
-        return StepsMade::Refused(refusal_of(number));
+    let here = cells[group::POSITION];
+    if slots <= here {
+        return StepsMade::Refused(Refusal::Ended);
     }
-    StepsMade::Number(1)
+    if STORE_SLOTS < slots {
+        return StepsMade::Refused(Refusal::PastEnd);
+    }
+    let at = here as usize;
+    let first = firsts[at];
+    let second = seconds[at];
+    if first % slot::OPS == 0 {
+        return made_of(stepper::jump_slot(first, second, slots, cells, alu, predicate, booleans));
+    }
+    let word = loops::word_at(second / slot::INTEGER % slot::INTEGERS, integers);
+    made_of(stepper::loop_slot(first, second, slots, cells, word, alu, predicate, booleans))
 }
 
 // How many steps a list of masks is for, two masks each: a last alu without its predicate counts as the list's end.
@@ -183,9 +263,10 @@ fn make_steps(
     cells: &mut [u32; group::CELLS],
     masks: &[u32],
     booleans: u32,
+    integers: &[u32],
 ) -> StepsMade
     requires { ⌜ GroupGiven (now cells) ⌝ }
-    ensures { λ r. ⌜ StepsDone (now (cells .exit)) r (groupSteps counterLimit (programOf (now (firsts .entry)) (now (seconds .entry)) slots) booleans (now (masks .entry)) (groupOf (now (cells .entry)))) ⌝ }
+    ensures { λ r. ⌜ StepsDone (now (cells .exit)) r (groupSteps counterLimit (programOf (now (firsts .entry)) (now (seconds .entry)) slots (now (integers .entry))) booleans (now (masks .entry)) (groupOf (now (cells .entry)))) ⌝ }
 {
     let pairs = pairs_of(masks);
     let mut made = 0;
@@ -201,6 +282,7 @@ fn make_steps(
             masks[made * 2],
             masks[made * 2 + 1],
             booleans,
+            integers,
         );
         if let StepsMade::Refused(why) = next {
             return StepsMade::Refused(why);
@@ -210,7 +292,7 @@ fn make_steps(
     StepsMade::Number(made)
 }
 
-// A run over a list of masks, alu then predicate for each step, with one word of booleans. It ends with the list or with the
+// A run over a list of masks, alu then predicate for each step, with one word of booleans and one list of integer words. It ends with the list or with the
 // program. 16 where the program had ended before, whatever the list; where a step is refused, the run gets that number and
 // the state is as before the run.
 pub fn run(
@@ -220,16 +302,25 @@ pub fn run(
     cells: &mut [u32; group::CELLS],
     masks: &[u32],
     booleans: u32,
+    integers: &[u32],
 ) -> Ran
     requires { ⌜ GroupGiven (now cells) ⌝ }
-    ensures { λ r. ⌜ RunDone (now (cells .entry)) (now (cells .exit)) r (runIn (now (firsts .entry)) (now (seconds .entry)) slots (now (cells .entry)) (now (masks .entry)) booleans) ⌝ }
+    ensures { λ r. ⌜ RunDone (now (cells .entry)) (now (cells .exit)) r (runIn (now (firsts .entry)) (now (seconds .entry)) slots (now (cells .entry)) (now (masks .entry)) booleans (now (integers .entry))) ⌝ }
 {
     let position = cells[group::POSITION];
     if slots <= position {
         return Ran::Refused(Refusal::Ended);
     }
     let mut trial = *cells;
-    let made = make_steps(firsts, seconds, slots, &mut trial, masks, booleans);
+    let made = make_steps(
+        firsts,
+        seconds,
+        slots,
+        &mut trial,
+        masks,
+        booleans,
+        integers,
+    );
     match made {
         StepsMade::Number(steps) => {
             *cells = trial;

@@ -64,7 +64,7 @@ fn runs(
     };
     let mut cells = [0u32; group::CELLS];
     crate::steps::fresh(4, &mut cells);
-    let ran = flow::run(&firsts, &seconds, slots, &mut cells, masks, 0);
+    let ran = flow::run(&firsts, &seconds, slots, &mut cells, masks, 0, &[3]);
     if cells[group::POSITION] != position {
         return false;
     }
@@ -128,7 +128,7 @@ fn calls() {
     Tally::new()
         .with(runs(&program, &masks, 4, 0, 4, 4))
         .print(b"call and return");
-    let bad = [flow::PLAIN_FIRST, flow::PLAIN_SECOND, 1, 0];
+    let bad = [flow::PLAIN_FIRST, flow::PLAIN_SECOND, 5, 0];
     Tally::new()
         .with(runs(&bad, &masks, 13, 0, 0, 0))
         .print(b"refused whole");
@@ -143,8 +143,8 @@ fn again() -> u32 {
     let mut cells = [0u32; group::CELLS];
     crate::steps::fresh(4, &mut cells);
     let masks = [0, 0];
-    flow::run(&firsts, &seconds, 1, &mut cells, &masks, 0);
-    match flow::run(&firsts, &seconds, 1, &mut cells, &masks[..0], 0) {
+    flow::run(&firsts, &seconds, 1, &mut cells, &masks, 0, &[3]);
+    match flow::run(&firsts, &seconds, 1, &mut cells, &masks[..0], 0, &[3]) {
         Ran::Report {
             steps: _,
             first: _,

@@ -5,11 +5,11 @@ ghost use Prim.Native.Nat.{_≤_};
 ghost use Rattle.group.specs.Cells.{GroupGiven};
 
 // A step's answer as a number: a jump, a stay, else the refusal's number.
-const JUMPED: u32 = 101;
+pub const JUMPED: u32 = 101;
 
 const STAYED: u32 = 100;
 
-fn told(answer: Stepped) -> u32 {
+pub fn told(answer: Stepped) -> u32 {
     match answer {
         Stepped::Jumped(_) => JUMPED,
         Stepped::Stayed(_) => STAYED,
@@ -39,7 +39,7 @@ fn one(
 {
     let firsts = [first; group::SLOTS];
     let seconds = [second; group::SLOTS];
-    told(flow::step(&firsts, &seconds, 4, cells, alu, predicate, booleans))
+    told(flow::step(&firsts, &seconds, 4, cells, alu, predicate, booleans, &[3]))
 }
 
 // Whether a step gives this answer and leaves these processors active.
@@ -84,7 +84,7 @@ fn calls() {
     let third = steps(&mut cells, 0xFF80, 0, 0, JUMPED, 15);
     let fourth = steps(&mut cells, 0xFF80, 0, 0, JUMPED, 15);
     let full = steps(&mut cells, 0xFF80, 0x50000, 0, 14, 15);
-    let reserved = steps(&mut cells, 0xFF81, 0x50000, 0, 13, 15);
+    let reserved = steps(&mut cells, 0xFF85, 0x50000, 0, 13, 15);
     Tally::new()
         .with(first)
         .with(second)
@@ -256,8 +256,8 @@ pub fn run() {
     idled();
     above();
     functions();
-    // Bits 3:0, 23:21 and 31:28 of the first word, 15:5 and 31:25 of the second.
-    bits(0xF0E0000F, true).print(b"reserved bits of first words");
+    // Bits 3, 23:21 and 31:28 of the first word (bits 2 to 0 are ops of loops), 15:5 and 31:25 of the second.
+    bits(0xF0E00008, true).print(b"reserved bits of first words");
     bits(0xFE00FFE0, false).print(b"reserved bits of second words");
     codes();
 }

@@ -1,5 +1,5 @@
 -- A group and its cells: a sound group is read back from its cells, cells handed in show their processors and their returns,
--- and a step leads from a sound group to a sound one. Assumes nothing.
+-- a step leads from a sound group to a sound one, and with op 0 it is document 01's. Assumes nothing.
 use mathlib.Core.Path.{_≡_, refl, sym, ap, _∙_, subst, fun-ext}
 use mathlib.Core.Bool.{Bool, true, false}
 use mathlib.Core.List.{List, [], _∷_}
@@ -11,14 +11,15 @@ use borrow.Author.Tests.{leb-true, leb-false, ltb-true, ltb-false, le-leb, le-lt
 use Rattle.laws.specs.Choice.{_and_, pick}
 use Rattle.laws.specs.Below.{some, every}
 use Rattle.laws.specs.Masks.{differ, digit, on, pack}
-use Rattle.laws.proofs.Choice.{Tested, holds, fails, tested, pick-no, and-left, and-right, and-intro, and-yes, by-pick, pick-same}
+use Rattle.laws.proofs.Choice.{Tested, holds, fails, tested, pick-yes, pick-no, and-left, and-right, and-intro, and-yes, by-pick, pick-same}
 use Rattle.laws.proofs.Below.{none-at, every-at}
 use Rattle.laws.proofs.Masks.{on-pack, on-above}
+use Rattle.loops.specs.Loops.{field, Opened, Turn, Turns, NoRoom, NoWord, wordAt, turnOf, areOpened, Held}
+use Rattle.loops.proofs.Stack.{four-back, TurnSound, turn-of-sound}
 use Rattle.group.specs.Proc.{Proc, Active, Idle, Absent, isLive, isActive, counterBit, within, turned, lowered, raised, atLimit, branched, counterLimit}
-use Rattle.group.specs.Group.{Group, Outcome, Steps, Fails, Program, Way, Goes, Stuck, field, turnedIf, overLimit, popped, wayOf}
-use Rattle.group.specs.Group.{arrived, settled, slotStep, ended, groupStep, allowed, fresh}
-use Rattle.group.specs.Cells.{liveIn, activeIn, planeIn, liveMask, activeMask, plane, counterOf, procOf, procAt, returnsIn, groupOf}
-use Rattle.group.specs.Cells.{cellsOf, aReturn, areReturns, Sound, GroupGiven, stepLeaves}
+use Rattle.group.specs.Group.{Group, Outcome, Steps, Fails, Program, Way, Goes, Stuck, opOf, bElse, jumpFunc, booleanNumber, integerNumber, turnedIf, wishOf, overLimit, popped, wayOf, arrived, settled}
+use Rattle.group.specs.Group.{allowed, allowedLoop, jumpStep, onTurn, withLoops, loopStep, slotStep, ended, groupStep, fresh}
+use Rattle.group.specs.Cells.{liveIn, activeIn, planeIn, loopIn, liveMask, activeMask, plane, counterOf, procOf, procAt, returnsIn, groupOf, cellsOf, aReturn, areReturns, Sound, GroupGiven, stepLeaves}
 use Rattle.group.specs.Masks.{MasksOf}
 
 -- two equal numbers, as a computed test at each counter
@@ -132,6 +133,7 @@ group-back g s =
       procs = shows (masks-of g s) (s .outside) j;
       position = g .position;
       returns = returns-back (g .returns) (s .depth) (s .slots) j;
+      loops = four-back (g .loops) (s .nested) (s .opened) j;
     }
 
 -- so its cells are such as came from these entries
@@ -157,6 +159,18 @@ given-masks l m =
       word3 = ap (planeIn 3) (m .whole);
       word4 = ap (planeIn 4) (m .whole);
       counters = m .sound .counters;
+    }
+
+-- and of its open loops
+pub given-loops : (l : List ℕ) → GroupGiven l → Held (groupOf l .loops) (loopIn 0 l) (loopIn 1 l) (loopIn 2 l) (loopIn 3 l)
+given-loops l m =
+    record {
+      cell0 = ap (loopIn 0) (m .whole);
+      cell1 = ap (loopIn 1) (m .whole);
+      cell2 = ap (loopIn 2) (m .whole);
+      cell3 = ap (loopIn 3) (m .whole);
+      depth = m .sound .nested;
+      sound = m .sound .opened;
     }
 
 -- what each part of a step keeps, whatever the limit
@@ -241,15 +255,16 @@ SoundAfter limit (Steps jump g) = Sound limit g
 SoundAfter limit (Fails why) = (12 < why) × (why < 17)
 
 arrived-sound :
-    (limit slots : ℕ) (jump : Bool) (procs : ℕ → Proc) (way : Way) → slots ≤ 512 →
+    (limit slots : ℕ) (jump : Bool) (procs : ℕ → Proc) (loops : List Opened) (way : Way) → slots ≤ 512 →
+    length loops ≤ 4 → areOpened loops ≡ true →
     ((i : ℕ) → 32 ≤ i → procs i ≡ Absent) → ((i : ℕ) → within limit (procs i) ≡ true) → SoundWay way →
-    SoundAfter limit (arrived slots jump procs way)
-arrived-sound limit slots jump procs Stuck h out low w = (omega arith, omega arith)
-arrived-sound limit slots jump procs (Goes next rs) h out low w =
+    SoundAfter limit (arrived slots jump procs loops way)
+arrived-sound limit slots jump procs loops Stuck h k q out low w = (omega arith, omega arith)
+arrived-sound limit slots jump procs loops (Goes next rs) h k q out low w =
     by-pick (SoundAfter limit) (leb next slots) _ _
     (λ e.
     let n : next ≤ slots = leb-true next slots e in
-    record { outside = out; counters = low; place = omega arith; depth = w .0; slots = w .1 })
+    record { outside = out; counters = low; place = omega arith; depth = w .0; slots = w .1; nested = k; opened = q })
     (λ e. (omega arith, omega arith))
 
 -- nobody at the limit, where an increment is made
@@ -269,42 +284,89 @@ none-over limit op procs out e i two = at (tested (ltb i 32))
 settled-sound :
     (limit slots first second : ℕ) (jump : Bool) (wish : ℕ → Bool) (procs : ℕ → Proc) (g : Group) →
     slots ≤ 512 → g .position < 512 → length (g .returns) ≤ 4 → areReturns (g .returns) ≡ true →
+    length (g .loops) ≤ 4 → areOpened (g .loops) ≡ true →
     ((i : ℕ) → 32 ≤ i → procs i ≡ Absent) → ((i : ℕ) → within limit (procs i) ≡ true) →
     SoundAfter limit (settled limit slots first second jump wish procs g)
 unfolding settled
-settled-sound limit slots first second jump wish procs g hs hp hr he out low =
+settled-sound limit slots first second jump wish procs g hs hp hr he hn hl out low =
     let op = pick jump (field 27 26 first) (field 25 24 first) in
     by-pick (SoundAfter limit) (overLimit limit op procs) _ _ (λ e. (omega arith, omega arith))
     (λ e.
-    arrived-sound limit slots jump (λ i. branched op (field 20 16 first) jump (wish i) (procs i))
-    (wayOf (field 7 6 first) jump (g .position) (field 24 16 second) (g .returns)) hs
+    arrived-sound limit slots jump (λ i. branched op (field 20 16 first) jump (wish i) (procs i)) (g .loops)
+    (wayOf (field 7 6 first) jump (g .position) (field 24 16 second) (g .returns)) hs hn hl
     (λ i h. branched-absent op (field 20 16 first) jump (wish i) (out i h))
     (λ i. branched-within limit op (field 20 16 first) jump (wish i) (procs i) (low i) (none-over limit op procs out e i))
     (way-sound (field 7 6 first) jump (g .position) (field 24 16 second) (g .returns) hp hr he))
+
+-- the processors after B_ELSE
+module _ (limit : ℕ) (g : Group) (s : Sound limit g) (else : Bool) where
+  turned-out : (i : ℕ) → 32 ≤ i → turnedIf else (g .procs) i ≡ Absent
+  unfolding turnedIf
+  turned-out i h = turned-absent else (s .outside i h)
+
+  turned-low : (i : ℕ) → within limit (turnedIf else (g .procs) i) ≡ true
+  unfolding turnedIf
+  turned-low i =
+      by-pick (λ (p : Proc). within limit p ≡ true) else _ _
+      (λ u. turned-within limit (g .procs i) (s .counters i)) (λ u. s .counters i)
+
+-- a step on a slot's words
+module _ (limit slots first second alu predicate booleans : ℕ) (g : Group) (s : Sound limit g) (most : slots ≤ 512) (before : g .position < slots) where
+  jump-sound : SoundAfter limit (jumpStep limit slots first second alu predicate booleans g)
+  unfolding jumpStep
+  jump-sound =
+      by-pick (SoundAfter limit) (allowed first second) _ _
+      (λ a.
+      settled-sound limit slots first second _ _ _ g most (omega arith) (s .depth) (s .slots) (s .nested) (s .opened)
+      (turned-out limit g s (bElse first)) (turned-low limit g s (bElse first)))
+      (λ a. (omega arith, omega arith))
+
+  turn-sound :
+      (t : Turn) → TurnSound t → (wish : ℕ → Bool) →
+      SoundAfter limit
+      (onTurn t (λ jump loops. settled limit slots first second jump wish (turnedIf (bElse first) (g .procs)) (withLoops g loops)))
+  turn-sound (Turns jump loops) q wish =
+      settled-sound limit slots first second jump wish _ (withLoops g loops) most (omega arith) (s .depth) (s .slots) (q .0) (q .1)
+      (turned-out limit g s (bElse first)) (turned-low limit g s (bElse first))
+  turn-sound NoRoom q wish = (omega arith, omega arith)
+  turn-sound NoWord q wish = (omega arith, omega arith)
+
+  pub loop-sound : (word : ℕ) → SoundAfter limit (loopStep limit slots word first second alu predicate booleans g)
+  unfolding loopStep
+  loop-sound word =
+      by-pick (SoundAfter limit) (allowedLoop first second) _ _
+      (λ a.
+      turn-sound (turnOf (opOf first) word (g .loops))
+      (turn-of-sound (opOf first) word (g .loops) (s .nested) (s .opened))
+      (wishOf (jumpFunc first) (on (booleanNumber second) booleans) alu predicate))
+      (λ a. (omega arith, omega arith))
+
+  slot-sound : (integers : List ℕ) → SoundAfter limit (slotStep limit slots integers first second alu predicate booleans g)
+  unfolding slotStep
+  slot-sound integers =
+      by-pick (SoundAfter limit) (eqb (opOf first) 0) _ _ (λ e. jump-sound) (λ e. loop-sound (wordAt (integerNumber second) integers))
 
 -- a step leads from a sound group to a sound one
 pub step-sound :
     (limit : ℕ) (program : Program) (alu predicate booleans : ℕ) (g : Group) → Sound limit g →
     SoundAfter limit (groupStep limit program alu predicate booleans g)
-unfolding groupStep slotStep turnedIf ended
+unfolding groupStep ended
 step-sound limit program alu predicate booleans g s =
     by-pick (SoundAfter limit) (leb (program .slots) (g .position)) _ _ (λ e. (omega arith, omega arith))
     (λ e.
     let before : g .position < program .slots = leb-false (program .slots) (g .position) e in
     by-pick (SoundAfter limit) (leb (program .slots) 512) _ _
     (λ t.
-    let most : program .slots ≤ 512 = leb-true (program .slots) 512 t in
-    by-pick (SoundAfter limit)
-    (allowed (getD (program .firsts) (g .position) 0) (getD (program .seconds) (g .position) 0)) _ _
-    (λ a.
-    settled-sound limit (program .slots) (getD (program .firsts) (g .position) 0) (getD (program .seconds) (g .position) 0) _ _ _ g most
-    (omega arith) (s .depth) (s .slots)
-    (λ i h. turned-absent (on 4 (getD (program .firsts) (g .position) 0)) (s .outside i h))
-    (λ i.
-    by-pick (λ (p : Proc). within limit p ≡ true) (on 4 (getD (program .firsts) (g .position) 0)) _ _
-    (λ u. turned-within limit (g .procs i) (s .counters i)) (λ u. s .counters i)))
-    (λ a. (omega arith, omega arith)))
+    slot-sound limit (program .slots) (getD (program .firsts) (g .position) 0) (getD (program .seconds) (g .position) 0) alu predicate booleans g s
+    (leb-true (program .slots) 512 t) before (program .integers))
     (λ t. (omega arith, omega arith)))
+
+-- Request 4: with op 0 every old answer stays, whatever the open loops and the integer words: the step is document 01's
+pub old-answers :
+    (limit slots : ℕ) (integers : List ℕ) (first second alu predicate booleans : ℕ) (g : Group) → opOf first ≡ 0 →
+    slotStep limit slots integers first second alu predicate booleans g ≡ jumpStep limit slots first second alu predicate booleans g
+unfolding slotStep
+old-answers limit slots integers first second alu predicate booleans g e = pick-yes _ _ (eq-eqb (opOf first) 0 e)
 
 -- so do the cells that a step leaves
 pub left-given :
@@ -314,7 +376,7 @@ left-given l (Fails why) m s = m
 
 -- and a fresh group is sound
 pub fresh-sound : (limit size : ℕ) → size ≤ 32 → Sound limit (fresh size)
-unfolding fresh areReturns
+unfolding fresh areReturns areOpened
 fresh-sound limit size h =
     record {
       outside = λ i k. pick-no _ _ (le-ltb i size (omega arith));
@@ -322,4 +384,6 @@ fresh-sound limit size h =
       place = zero-le;
       depth = zero-le;
       slots = refl;
+      nested = zero-le;
+      opened = refl;
     }

@@ -5,18 +5,20 @@
 --     2 to 6   the branch counters as five planes: bit i of cell 2 + k is bit k of processor i's counter
 --     7        the position
 --     8 to 11  the stored returns, the last one first, 0 where there is none
---     12 to 19 room for the mode, the killed processors, the open loops and aL: 0 so far
+--     14 to 17 the open loops, the innermost first, 0 where there is none (crates/loops/specs/Loops.antt)
+--     12, 13, 18 and 19 room for the mode and the killed processors: 0 so far
 --
--- The encoding is canonical: a plane has no bit of a processor that is active or absent, and a return of 0 has none after it,
--- so a group has one list of cells, and the cells at a routine's end are stated whole. Assumes nothing.
+-- The encoding is canonical: a plane has no bit of a processor that is active or absent, and a return or a loop of 0 has none after
+-- it, so a group has one list of cells, and the cells at a routine's end are stated whole. Assumes nothing.
 use mathlib.Core.Path.{_≡_}
 use mathlib.Core.Bool.{Bool, true, false}
 use mathlib.Core.List.{List, [], _∷_}
 use Prim.Native.Nat.{ℕ, _+_, _*_, _≤_}
 use lib.Dec.{eqb, leb}
-use lib.ListN.{length, getD}
+use lib.ListN.{length, getD, drop}
 use Rattle.laws.specs.Choice.{_and_, pick}
 use Rattle.laws.specs.Masks.{digit, on, pack}
+use Rattle.loops.specs.Loops.{Opened, mostLoops, loopsOf, cellAt, areOpened}
 use Rattle.group.specs.Proc.{Proc, Active, Idle, Absent, isLive, isActive, counterBit, within, mostProcessors, counterLimit}
 use Rattle.group.specs.Group.{Group, Outcome, Steps, Fails, Run, Makes, Breaks, fresh, isGroupSize, mostReturns, storeSlots}
 
@@ -40,6 +42,10 @@ positionIn l = getD l 7 0
 -- the cell of a return, 0 the last one
 abbrev pub returnIn : ℕ → List ℕ → ℕ
 returnIn k l = getD l (8 + k) 0
+
+-- the cell of a loop, 0 the innermost
+abbrev pub loopIn : ℕ → List ℕ → ℕ
+loopIn k l = getD l (14 + k) 0
 
 -- a group of processors as masks
 abbrev pub liveMask : (ℕ → Proc) → ℕ
@@ -80,11 +86,19 @@ groupOf l =
       procs = withActive l (activeIn l);
       position = positionIn l;
       returns = returnsIn (returnIn 0 l ∷ returnIn 1 l ∷ returnIn 2 l ∷ returnIn 3 l ∷ []);
+      loops = loopsOf (loopIn 0 l) (loopIn 1 l) (loopIn 2 l) (loopIn 3 l);
     }
 
-abbrev pub cellsWith : ℕ → ℕ → ℕ → ℕ → ℕ → ℕ → ℕ → ℕ → ℕ → ℕ → ℕ → ℕ → List ℕ
-cellsWith live active p0 p1 p2 p3 p4 position r0 r1 r2 r3 =
-    live ∷ active ∷ p0 ∷ p1 ∷ p2 ∷ p3 ∷ p4 ∷ position ∷ r0 ∷ r1 ∷ r2 ∷ r3 ∷ 0 ∷ 0 ∷ 0 ∷ 0 ∷ 0 ∷ 0 ∷ 0 ∷ 0 ∷ []
+-- cells 12 to 19, which document 01's step neither reads nor writes
+abbrev pub loopCells : List Opened → List ℕ
+loopCells loops = 0 ∷ 0 ∷ cellAt loops 0 ∷ cellAt loops 1 ∷ cellAt loops 2 ∷ cellAt loops 3 ∷ 0 ∷ 0 ∷ []
+
+abbrev pub lastIn : List ℕ → List ℕ
+lastIn l = drop 12 l
+
+abbrev pub cellsWith : ℕ → ℕ → ℕ → ℕ → ℕ → ℕ → ℕ → ℕ → ℕ → ℕ → ℕ → ℕ → List ℕ → List ℕ
+cellsWith live active p0 p1 p2 p3 p4 position r0 r1 r2 r3 last =
+    live ∷ active ∷ p0 ∷ p1 ∷ p2 ∷ p3 ∷ p4 ∷ position ∷ r0 ∷ r1 ∷ r2 ∷ r3 ∷ last
 
 abbrev pub cellsOf : Group → List ℕ
 cellsOf g =
@@ -92,6 +106,7 @@ cellsOf g =
     (plane 0 (g .procs)) (plane 1 (g .procs)) (plane 2 (g .procs)) (plane 3 (g .procs)) (plane 4 (g .procs))
     (g .position)
     (getD (g .returns) 0 0) (getD (g .returns) 1 0) (getD (g .returns) 2 0) (getD (g .returns) 3 0)
+    (loopCells (g .loops))
 
 -- a stored return is a slot number from 1 to 512
 abbrev pub aReturn : ℕ → Bool
@@ -102,13 +117,15 @@ areReturns [] = true
 areReturns (r ∷ rs) = aReturn r and areReturns rs
 
 -- what holds of every state given out: nobody is beyond the 32 places, counters are within the limit, the position is at
--- most 512, and there are at most 4 returns, each from 1 to 512
+-- most 512, there are at most 4 returns, each from 1 to 512, and at most 4 open loops, each with a turn left and bytes for numbers
 pub record Sound (limit : ℕ) (g : Group) : Type 0 where
   pub outside : (i : ℕ) → mostProcessors ≤ i → g .procs i ≡ Absent
   pub counters : (i : ℕ) → within limit (g .procs i) ≡ true
   pub place : g .position ≤ storeSlots
   pub depth : length (g .returns) ≤ mostReturns
   pub slots : areReturns (g .returns) ≡ true
+  pub nested : length (g .loops) ≤ mostLoops
+  pub opened : areOpened (g .loops) ≡ true
 
 -- cells that came from these entries: they are just those of a sound group
 pub record GroupGiven (l : List ℕ) : Type 0 where
@@ -119,13 +136,13 @@ pub record GroupGiven (l : List ℕ) : Type 0 where
 -- the same processors at another place, with other returns
 abbrev pub placedAt : List ℕ → ℕ → ℕ → ℕ → ℕ → ℕ → List ℕ
 placedAt l at r0 r1 r2 r3 =
-    cellsWith (liveIn l) (activeIn l) (planeIn 0 l) (planeIn 1 l) (planeIn 2 l) (planeIn 3 l) (planeIn 4 l) at r0 r1 r2 r3
+    cellsWith (liveIn l) (activeIn l) (planeIn 0 l) (planeIn 1 l) (planeIn 2 l) (planeIn 3 l) (planeIn 4 l) at r0 r1 r2 r3 (lastIn l)
 
 abbrev pub withPlace : List ℕ → ℕ → List ℕ → List ℕ
 withPlace l at rs = placedAt l at (getD rs 0 0) (getD rs 1 0) (getD rs 2 0) (getD rs 3 0)
 
--- as many cells as a group has, those of the room 0
-pub record RoomClear (l : List ℕ) : Type 0 where
+-- as many cells as a group has, and so each under its name
+pub record CellsNamed (l : List ℕ) : Type 0 where
   pub size : length l ≡ cellCount
   pub cells : l ≡ placedAt l (positionIn l) (returnIn 0 l) (returnIn 1 l) (returnIn 2 l) (returnIn 3 l)
 

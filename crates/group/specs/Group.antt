@@ -1,18 +1,16 @@
--- Document 01, "Stepping a group": the words of a slot, the state of a group, a step and a run. Assumes nothing.
-use mathlib.Core.Bool.{Bool}
+-- Document 01, "Stepping a group", and request 4, "Loops in the stepper": the words of a slot, the state of a group, a step and a
+-- run. Assumes nothing.
+use mathlib.Core.Bool.{Bool, true}
 use mathlib.Core.List.{List, [], _∷_}
-use Prim.Native.Nat.{ℕ, suc, _+_, _-_, _/_, _%_, _^_}
+use Prim.Native.Nat.{ℕ, suc, _+_}
 use lib.Dec.{eqb, leb, ltb}
 use lib.ListN.{length, getD}
 use Rattle.laws.specs.Choice.{_and_, pick}
 use Rattle.laws.specs.Below.{some, count, least}
 use Rattle.laws.specs.Masks.{digit, on}
 use Rattle.refusal.specs.Told.{Told, gives, refuses}
+use Rattle.loops.specs.Loops.{field, Opened, Turn, Turns, NoRoom, NoWord, wordAt, turnOf}
 use Rattle.group.specs.Proc.{Proc, Active, Absent, isActive, turned, wants, decided, atLimit, increment, branched, mostProcessors}
-
--- bits `high` to `low` of a word, as document 01 writes them: 25:24
-abbrev pub field : ℕ → ℕ → ℕ → ℕ
-field high low w = w / 2 ^ low % 2 ^ (high - low + 1)
 
 -- "First word: op 3:0 (only 0, JUMP, here), B_ELSE 4, JUMP_ANY 5, A_OP 7:6 (0 none, 1 pop, 2 push), JUMP_FUNC 15:8, B_POP_CNT
 -- 20:16, B_OP0 25:24, B_OP1 27:26 (0 none, 1 decrement, 2 increment). Second: boolean number 4:0, jump address 24:16. Other
@@ -21,6 +19,32 @@ unfoldable pub allowed : ℕ → ℕ → Bool
 allowed first second =
     eqb (field 3 0 first) 0 and leb (field 7 6 first) 2 and eqb (field 23 21 first) 0 and leb (field 25 24 first) 2 and
     leb (field 27 26 first) 2 and eqb (field 31 28 first) 0 and eqb (field 15 5 second) 0 and eqb (field 31 25 second) 0
+
+-- Request 4's words: "ops 1 LOOP, 2 ENDLOOP, 3 REP, 4 ENDREP, with the integer number in second-word bits 12:8 of ops 1 and 3".
+-- Every other field is as of op 0; ops 2 and 4 have no integer number, so that these bits are other bits.
+unfoldable pub fitsFirst : ℕ → Bool
+fitsFirst first =
+    leb (field 7 6 first) 2 and eqb (field 23 21 first) 0 and leb (field 25 24 first) 2 and leb (field 27 26 first) 2 and
+    eqb (field 31 28 first) 0
+
+-- the second word of op 0, and of ops 1 to 4
+unfoldable pub plainSecond : ℕ → Bool
+plainSecond second = eqb (field 15 5 second) 0 and eqb (field 31 25 second) 0
+
+unfoldable pub fitsSecond : Bool → ℕ → Bool
+fitsSecond opens second =
+    eqb (field 7 5 second) 0 and eqb (field 15 13 second) 0 and eqb (field 31 25 second) 0 and
+    pick opens true (eqb (field 12 8 second) 0)
+
+-- ops 1 and 3 are the odd ones
+unfoldable pub allowedLoop : ℕ → ℕ → Bool
+allowedLoop first second = leb (field 3 0 first) 4 and fitsFirst first and fitsSecond (on 0 first) second
+
+abbrev pub opOf : ℕ → ℕ
+opOf first = field 3 0 first
+
+abbrev pub integerNumber : ℕ → ℕ
+integerNumber second = field 12 8 second
 
 -- the fields by name: B_ELSE, JUMP_ANY, A_OP, JUMP_FUNC, B_POP_CNT, B_OP1 on a jump and B_OP0 on a stay, boolean number, jump
 -- address
@@ -48,15 +72,17 @@ booleanNumber second = field 4 0 second
 abbrev pub jumpAddress : ℕ → ℕ
 jumpAddress second = field 24 16 second
 
--- the state of a group: processor `i`, absent from 32 on; the position; the stored returns, the last one first
+-- the state of a group: processor `i`, absent from 32 on; the position; the stored returns, the last one first; and by request 4
+-- the open loops, the innermost first ("The flow state gains the loop stack and aL": aL is the loops' `shownAL`)
 pub record Group : Type 0 where
   pub procs : ℕ → Proc
   pub position : ℕ
   pub returns : List ℕ
+  pub loops : List Opened
 
 -- "A group has 1 to 32 processors (else 13), all active at the start, position 0, empty stack"
 unfoldable pub fresh : ℕ → Group
-fresh size = record { procs = λ i. pick (ltb i size) Active Absent; position = 0; returns = [] }
+fresh size = record { procs = λ i. pick (ltb i size) Active Absent; position = 0; returns = []; loops = [] }
 
 -- the size is one that a group may have
 unfoldable pub isGroupSize : ℕ → Bool
@@ -114,49 +140,77 @@ wayOf aop jump position address returns =
     (Goes (position + 1) returns)
 
 -- 6. "The next position may equal N, which ends the program; above N is 15."
-abbrev pub arrived : ℕ → Bool → (ℕ → Proc) → Way → Outcome
-arrived slots jump procs Stuck = Fails 14
-arrived slots jump procs (Goes next returns) =
-    pick (leb next slots) (Steps jump (record { procs = procs; position = next; returns = returns })) (Fails 15)
+abbrev pub arrived : ℕ → Bool → (ℕ → Proc) → List Opened → Way → Outcome
+arrived slots jump procs loops Stuck = Fails 14
+arrived slots jump procs loops (Goes next returns) =
+    pick (leb next slots) (Steps jump (record { procs = procs; position = next; returns = returns; loops = loops })) (Fails 15)
 
 -- 4. to 6., once the decision is made; `procs` are those after B_ELSE
 unfoldable pub settled : ℕ → ℕ → ℕ → ℕ → Bool → (ℕ → Bool) → (ℕ → Proc) → Group → Outcome
 settled limit slots first second jump wish procs g =
     let op = branchOp jump first in
     pick (overLimit limit op procs) (Fails 14)
-    (arrived slots jump (λ i. branched op (popCount first) jump (wish i) (procs i))
+    (arrived slots jump (λ i. branched op (popCount first) jump (wish i) (procs i)) (g .loops)
     (wayOf (aOp first) jump (g .position) (jumpAddress second) (g .returns)))
 
--- 1. to 3., on the slot's two words
-unfoldable pub slotStep : ℕ → ℕ → ℕ → ℕ → ℕ → ℕ → ℕ → Group → Outcome
-slotStep limit slots first second alu predicate booleans g =
+-- 1. to 3., on the slot's two words: document 01's step, which allows op 0 alone
+unfoldable pub jumpStep : ℕ → ℕ → ℕ → ℕ → ℕ → ℕ → ℕ → Group → Outcome
+jumpStep limit slots first second alu predicate booleans g =
     let procs = turnedIf (bElse first) (g .procs) in
     let wish = wishOf (jumpFunc first) (on (booleanNumber second) booleans) alu predicate in
     pick (allowed first second)
     (settled limit slots first second (decided (jumpAny first) (λ i. isActive (procs i)) wish) wish procs g)
     (Fails 13)
 
+-- the refusals of a turn, 14 and 13, or what its decision and its loops lead to
+abbrev pub onTurn : Turn → (Bool → List Opened → Outcome) → Outcome
+onTurn (Turns jump loops) next = next jump loops
+onTurn NoRoom next = Fails 14
+onTurn NoWord next = Fails 13
+
+abbrev pub withLoops : Group → List Opened → Group
+withLoops g loops = record { procs = g .procs; position = g .position; returns = g .returns; loops = loops }
+
+-- "These decisions override the processors' wishes; branch and return work stays as in 01.": the loop decides, before the rest
+-- of the step, which an increment measures the wishes against
+unfoldable pub loopStep : ℕ → ℕ → ℕ → ℕ → ℕ → ℕ → ℕ → ℕ → Group → Outcome
+loopStep limit slots word first second alu predicate booleans g =
+    let procs = turnedIf (bElse first) (g .procs) in
+    let wish = wishOf (jumpFunc first) (on (booleanNumber second) booleans) alu predicate in
+    pick (allowedLoop first second)
+    (onTurn (turnOf (opOf first) word (g .loops)) (λ jump loops. settled limit slots first second jump wish procs (withLoops g loops)))
+    (Fails 13)
+
+-- a step on a slot's two words: "With op 0 every old answer stays", and the other ops take an integer word "from a lent list"
+unfoldable pub slotStep : ℕ → ℕ → List ℕ → ℕ → ℕ → ℕ → ℕ → ℕ → Group → Outcome
+slotStep limit slots integers first second alu predicate booleans g =
+    pick (eqb (opOf first) 0) (jumpStep limit slots first second alu predicate booleans g)
+    (loopStep limit slots (wordAt (integerNumber second) integers) first second alu predicate booleans g)
+
 -- "A program is a store of 512 slots"
 abbrev pub storeSlots : ℕ
 storeSlots = 512
 
--- a program: the first and the second words of its slots, and how many slots run (document 01's N)
+-- a program: the first and the second words of its slots, how many slots run (document 01's N), and the integer words lent with it
 pub record Program : Type 0 where
   pub firsts : List ℕ
   pub seconds : List ℕ
   pub slots : ℕ
+  pub integers : List ℕ
 
 -- "A program has ended when the position is N or above"
 unfoldable pub ended : Program → Group → Bool
 ended program g = leb (program .slots) (g .position)
 
--- "Order: 16, 13, 14, 15." A store has 512 slots: where more are to run, that is no program and gets 15 (house; `load`
+-- "Order: 16, 13, 14, 15.": of a loop's word 13 for the words and the integer word, 14 for the loops, then for the counters and the
+-- returns, and 15. A store has 512 slots: where more are to run, that is no program and gets 15 (house; `load`
 -- gives no such number).
 unfoldable pub groupStep : ℕ → Program → ℕ → ℕ → ℕ → Group → Outcome
 groupStep limit program alu predicate booleans g =
     pick (ended program g) (Fails 16)
     (pick (leb (program .slots) storeSlots)
-    (slotStep limit (program .slots) (getD (program .firsts) (g .position) 0) (getD (program .seconds) (g .position) 0) alu predicate booleans g)
+    (slotStep limit (program .slots) (program .integers) (getD (program .firsts) (g .position) 0) (getD (program .seconds) (g .position) 0)
+    alu predicate booleans g)
     (Fails 15))
 
 -- what a run comes to: the steps made and the state after them, or the refusal

@@ -9,7 +9,7 @@ use Rattle.laws.specs.Below.{some}
 use Rattle.laws.specs.Masks.{on}
 use Rattle.group.specs.declared.planes.Branched.{Branched}
 use Rattle.group.specs.Proc.{Proc, within, mostProcessors, counterLimit}
-use Rattle.group.specs.Cells.{counterOf, procAt, liveMask, activeMask, plane, liveIn, planeIn, positionIn, returnIn, cellsWith}
+use Rattle.group.specs.Cells.{counterOf, procAt, liveMask, activeMask, plane, liveIn, planeIn, positionIn, returnIn, lastIn, cellsWith}
 
 -- the seven words are the masks of these processors, whose counters five planes hold
 pub record MasksOf (procs : ℕ → Proc) (live active p0 p1 p2 p3 p4 : ℕ) : Type 0 where
@@ -55,4 +55,4 @@ shownAs procs =
 abbrev pub withMasks : List ℕ → Branched → List ℕ
 withMasks l w =
     cellsWith (liveIn l) (w .active) (w .p0) (w .p1) (w .p2) (w .p3) (w .p4)
-    (positionIn l) (returnIn 0 l) (returnIn 1 l) (returnIn 2 l) (returnIn 3 l)
+    (positionIn l) (returnIn 0 l) (returnIn 1 l) (returnIn 2 l) (returnIn 3 l) (lastIn l)

@@ -4,8 +4,10 @@ use flow::Begun;
 use flow::Loaded;
 use flow::Ran;
 use stepper::Stepped;
+ghost use mathlib.Core.Path.{_≡_};
+ghost use Rattle.loops.specs.Loops.{loopsTold};
 ghost use Rattle.stepper.specs.Answers.{stepIn, runIn};
-ghost use Rattle.group.specs.Cells.{GroupGiven};
+ghost use Rattle.group.specs.Cells.{groupOf, GroupGiven};
 ghost use Rattle.group_rooms.specs.Rooms.{BeginCrosses, LoadCrosses, RunCrosses, StepCrosses};
 
 // Lengths of rooms: a step's way, 1 for a jump or 0 for a stay, and the next position; a run's steps, first active processor and
@@ -42,7 +44,7 @@ pub fn begin(size: u32, cells: &mut [u32; group::CELLS]) -> u32
     }
 }
 
-// One step: 1 for a jump or 0 for a stay, and the next position; 13 to 16.
+// One step, with the integer words of LOOP and REP: 1 for a jump or 0 for a stay, and the next position; 13 to 16.
 pub fn step(
     firsts: &[u32; group::SLOTS],
     seconds: &[u32; group::SLOTS],
@@ -51,12 +53,22 @@ pub fn step(
     alu: u32,
     predicate: u32,
     booleans: u32,
+    integers: &[u32],
     taken: &mut [u32; STEP_NUMBERS],
 ) -> u32
     requires { ⌜ GroupGiven (now cells) ⌝ }
-    ensures { λ r. ⌜ StepCrosses (stepIn (now (firsts .entry)) (now (seconds .entry)) slots (now (cells .entry)) alu predicate booleans) r (now (cells .entry)) (now (cells .exit)) (now (taken .entry)) (now (taken .exit)) ⌝ }
+    ensures { λ r. ⌜ StepCrosses (stepIn (now (firsts .entry)) (now (seconds .entry)) slots (now (cells .entry)) alu predicate booleans (now (integers .entry))) r (now (cells .entry)) (now (cells .exit)) (now (taken .entry)) (now (taken .exit)) ⌝ }
 {
-    match flow::step(firsts, seconds, slots, cells, alu, predicate, booleans) {
+    match flow::step(
+        firsts,
+        seconds,
+        slots,
+        cells,
+        alu,
+        predicate,
+        booleans,
+        integers,
+    ) {
         Stepped::Refused(why) => refusal::number(why),
         Stepped::Jumped(at) => {
             *taken = [1, at.0];
@@ -77,12 +89,13 @@ pub fn run(
     cells: &mut [u32; group::CELLS],
     masks: &[u32],
     booleans: u32,
+    integers: &[u32],
     report: &mut [u64; REPORT_NUMBERS],
 ) -> u32
     requires { ⌜ GroupGiven (now cells) ⌝ }
-    ensures { λ r. ⌜ RunCrosses (runIn (now (firsts .entry)) (now (seconds .entry)) slots (now (cells .entry)) (now (masks .entry)) booleans) r (now (cells .entry)) (now (cells .exit)) (now (report .entry)) (now (report .exit)) ⌝ }
+    ensures { λ r. ⌜ RunCrosses (runIn (now (firsts .entry)) (now (seconds .entry)) slots (now (cells .entry)) (now (masks .entry)) booleans (now (integers .entry))) r (now (cells .entry)) (now (cells .exit)) (now (report .entry)) (now (report .exit)) ⌝ }
 {
-    match flow::run(firsts, seconds, slots, cells, masks, booleans) {
+    match flow::run(firsts, seconds, slots, cells, masks, booleans, integers) {
         Ran::Refused(why) => refusal::number(why),
         Ran::Report {
             steps,
@@ -93,4 +106,13 @@ pub fn run(
             0
         }
     }
+}
+
+// The open loops: the aL shown, then for each of four loops, the innermost first, its kind (0 none, 1 LOOP, 3 REP), the turns left
+// in it and its aL.
+pub fn loops(cells: &[u32; group::CELLS], room: &mut [u32; flow::LOOPS_TOLD])
+    requires { ⌜ GroupGiven (now cells) ⌝ }
+    ensures { λ r. ⌜ now (room .exit) ≡ loopsTold (groupOf (now (cells .entry)) .loops) ⌝ }
+{
+    flow::tell_loops(cells, room)
 }

@@ -43,8 +43,8 @@ fn refusal_of(
     ensures { λ r. ⌜ numberOf r ≡ refusalAt line (readinessIn (now (own .entry)) (now (shared .entry))) ⌝ }
 {
     match line {
-        0 => Refusal::DomainCrossed,
-        1 => refusal::with_number(ready::readiness(own, shared)),
+        table::SET_DOMAIN => Refusal::DomainCrossed,
+        table::START_PROGRAM => refusal::with_number(ready::readiness(own, shared)),
         _ => Refusal::WindowRule,
     }
 }
@@ -198,7 +198,7 @@ pub fn feed(
     let mut i: usize = 0;
     let mut commands: u64 = 0;
     while i < words.len() {
-        let whole = accept::take(own, tallies, shared, words, i);
+        let whole = accept::take(own, tallies, shared, words, WordPosition(i as u64));
         if 0 < whole {
             commands = commands + 1;
             i = i + whole as usize;

@@ -6,13 +6,13 @@ use mathlib.Core.List.{List}
 use Prim.Native.Nat.{ℕ, _<_, _≤_}
 use native.Mathlib.Omega.{arith}
 use lib.Dec.{leb}
-use lib.ListN.{set}
+use lib.ListN.{length, set, length-drop}
 use borrow.Author.Tests.{le-leb, lt-leb}
 use Rattle.laws.specs.Masks.{digit}
 use Rattle.laws.proofs.Choice.{Tested, holds, fails, tested, pick-yes, pick-no}
 use Rattle.group.specs.declared.planes.Branched.{Branched}
 use Rattle.group.specs.Group.{Way, Goes, Stuck}
-use Rattle.group.specs.Cells.{planeIn, positionIn, returnIn, groupOf, placedAt, withPlace, GroupGiven, RoomClear}
+use Rattle.group.specs.Cells.{planeIn, positionIn, returnIn, groupOf, placedAt, withPlace, GroupGiven, CellsNamed}
 use Rattle.group.specs.Masks.{OwnMasksIn, withMasks}
 use Rattle.stepper.specs.Answers.{Stack, GoDone, goneNumber, goneCells}
 use Rattle.stepper.proofs.Words.{Went}
@@ -31,9 +31,9 @@ given-stack l m =
       slots = m .sound .slots;
     }
 
--- given cells are 0 from the twelfth on
-pub given-clear : (l : List ℕ) → GroupGiven l → RoomClear l
-given-clear l m =
+-- given cells are a group's
+pub given-named : (l : List ℕ) → GroupGiven l → CellsNamed l
+given-named l m =
     record {
       size = m .size;
       cells =
@@ -42,7 +42,7 @@ given-clear l m =
     }
 
 -- what is written, cell by cell
-module _ (l : List ℕ) (s : RoomClear l) where
+module _ (l : List ℕ) (s : CellsNamed l) where
   pub masks-cells :
       (w : Branched) →
       set (set (set (set (set (set l 1 (w .active)) 2 (w .p0)) 3 (w .p1)) 4 (w .p2)) 5 (w .p3)) 6 (w .p4) ≡ withMasks l w
@@ -122,8 +122,8 @@ went-on {l} {l'} {n} {slots} {jump} (Goes at rs) d h = by (tested (leb at slots)
 went-on {n = n} Stuck d h = let z : n ≡ 14 = d .number in absurd (omega arith)
 
 module _ {l l' : List ℕ} {n slots : ℕ} {jump : Bool} (w : Way) (d : GoDone l l' n slots jump w) (h : n ≤ 1) where
-  pub gone-clear : RoomClear l'
-  gone-clear = subst RoomClear (sym (went-on w d h .left)) (record { size = refl; cells = refl })
+  pub gone-named : length l ≡ 20 → CellsNamed l'
+  gone-named e = subst CellsNamed (sym (went-on w d h .left)) (record { size = omega (arith, length-drop 12 l); cells = refl })
 
   pub gone-masks : (active : ℕ) → OwnMasksIn l active → OwnMasksIn l' active
   gone-masks active k = subst (λ (x : List ℕ). OwnMasksIn x active) (sym (went-on w d h .left)) k

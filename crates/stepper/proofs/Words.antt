@@ -9,68 +9,56 @@ use lib.ListN.{length, getD}
 use borrow.Author.Tests.{leb-true, lt-ltb, le-ltb, le-leb, lt-leb, eq-eqb, ne-eqb}
 use Rattle.laws.specs.Choice.{_and_}
 use Rattle.laws.proofs.Choice.{pick-yes, pick-no, and-left, and-right, and-yes, and-no-left}
-use Rattle.group.specs.Group.{Way, Goes, Stuck, field, allowed, popped, pushed, wayOf}
+use Rattle.loops.specs.Loops.{field}
+use Rattle.group.specs.Group.{Way, Goes, Stuck, opOf, allowed, fitsFirst, plainSecond, allowedLoop, popped, pushed, wayOf}
 use Rattle.group.specs.Cells.{aReturn, areReturns}
 use Rattle.stepper.specs.Answers.{Stack}
 
+-- a judgement by tests one after the other: one that fails ends it, one that holds leaves it to the rest
+pub and-stop : {a : Bool} (b : Bool) → a ≡ false → false ≡ (a and b)
+and-stop b e = sym (and-no-left b e)
+
+pub and-on : {a b c : Bool} → a ≡ true → c ≡ b → c ≡ (a and b)
+and-on e f = f ∙ sym (and-yes _ e)
+
+pub and-last : (a : Bool) {b : Bool} → b ≡ true → (a and b) ≡ a
+unfolding _and_
+and-last true e = e
+and-last false e = refl
+
 -- the lowest field needs no division
-low-field : (n : ℕ) → field 3 0 n ≡ n % 16
-low-field n = omega arith
+pub low-field : (first : ℕ) → first % 16 ≡ opOf first
+low-field first = omega arith
 
--- the judgement of the words, as far as the tests on the way decide it
-module _ (first second : ℕ) where
-  pub bad-op : (first % 16 ≡ 0 → ⊥) → false ≡ allowed first second
-  unfolding allowed
-  bad-op n = sym (and-no-left _ (ne-eqb _ 0 (λ z. n (sym (low-field first) ∙ z))))
+-- the op of a loop's word
+pub op-low : (first : ℕ) → first % 16 ≤ 4 → leb (opOf first) 4 ≡ true
+op-low first h = le-leb (opOf first) 4 (omega arith)
 
-  module _ (op : first % 16 ≡ 0) where
-    a1 : eqb (field 3 0 first) 0 ≡ true
-    a1 = eq-eqb _ 0 (low-field first ∙ op)
+pub op-high : (first : ℕ) → 4 < first % 16 → leb (opOf first) 4 ≡ false
+op-high first h = lt-leb (opOf first) 4 (omega arith)
 
-    pub bad-return-op : 2 < first / 64 % 4 → false ≡ allowed first second
-    unfolding allowed
-    bad-return-op n = sym (and-yes _ a1 ∙ and-no-left _ (lt-leb _ 2 n))
+-- the words of op 0: the first word's other fields, and the second word
+and-nested : (a b c : Bool) → ((a and b) and c) ≡ (a and b and c)
+unfolding _and_
+and-nested true b c = refl
+and-nested false b c = refl
 
-    module _ (h2 : first / 64 % 4 ≤ 2) where
-      pub bad-low-gap : (first / 2097152 % 8 ≡ 0 → ⊥) → false ≡ allowed first second
-      unfolding allowed
-      bad-low-gap n = sym (and-yes _ a1 ∙ and-yes _ (le-leb _ 2 h2) ∙ and-no-left _ (ne-eqb _ 0 n))
+pub allowed-parts : (first second : ℕ) → opOf first ≡ 0 → allowed first second ≡ (fitsFirst first and plainSecond second)
+unfolding allowed fitsFirst plainSecond
+allowed-parts first second e =
+    and-yes _ (eq-eqb (opOf first) 0 e) ∙
+    sym
+    (and-nested (leb (field 7 6 first) 2) _ _ ∙
+    ap (λ (b : Bool). leb (field 7 6 first) 2 and b)
+    (and-nested (eqb (field 23 21 first) 0) _ _ ∙
+    ap (λ (b : Bool). eqb (field 23 21 first) 0 and b)
+    (and-nested (leb (field 25 24 first) 2) _ _ ∙
+    ap (λ (b : Bool). leb (field 25 24 first) 2 and b) (and-nested (leb (field 27 26 first) 2) _ _))))
 
-      module _ (h3 : first / 2097152 % 8 ≡ 0) where
-        pub bad-stay-op : 2 < first / 16777216 % 4 → false ≡ allowed first second
-        unfolding allowed
-        bad-stay-op n =
-            sym (and-yes _ a1 ∙ and-yes _ (le-leb _ 2 h2) ∙ and-yes _ (eq-eqb _ 0 h3) ∙ and-no-left _ (lt-leb _ 2 n))
-
-        module _ (h4 : first / 16777216 % 4 ≤ 2) where
-          pub bad-jump-op : 2 < first / 67108864 % 4 → false ≡ allowed first second
-          unfolding allowed
-          bad-jump-op n =
-              sym
-              (and-yes _ a1 ∙ and-yes _ (le-leb _ 2 h2) ∙ and-yes _ (eq-eqb _ 0 h3) ∙ and-yes _ (le-leb _ 2 h4) ∙
-              and-no-left _ (lt-leb _ 2 n))
-
-          module _ (h5 : first / 67108864 % 4 ≤ 2) where
-            so-far : (b : Bool) →
-                (eqb (field 3 0 first) 0 and leb (field 7 6 first) 2 and eqb (field 23 21 first) 0 and
-                leb (field 25 24 first) 2 and leb (field 27 26 first) 2 and b) ≡ b
-            so-far b =
-                and-yes _ a1 ∙ and-yes _ (le-leb _ 2 h2) ∙ and-yes _ (eq-eqb _ 0 h3) ∙ and-yes _ (le-leb _ 2 h4) ∙
-                and-yes _ (le-leb _ 2 h5)
-
-            pub bad-high-gap : (first / 268435456 % 16 ≡ 0 → ⊥) → false ≡ allowed first second
-            unfolding allowed
-            bad-high-gap n = sym (so-far _ ∙ and-no-left _ (ne-eqb _ 0 n))
-
-            module _ (h6 : first / 268435456 % 16 ≡ 0) where
-              pub bad-second : (second / 32 % 2048 ≡ 0 → ⊥) → false ≡ allowed first second
-              unfolding allowed
-              bad-second n = sym (so-far _ ∙ and-yes _ (eq-eqb _ 0 h6) ∙ and-no-left _ (ne-eqb _ 0 n))
-
-              pub last-test :
-                  second / 32 % 2048 ≡ 0 → eqb (second / 33554432 % 128) 0 ≡ allowed first second
-              unfolding allowed
-              last-test h7 = sym (so-far _ ∙ and-yes _ (eq-eqb _ 0 h6) ∙ and-yes _ (eq-eqb _ 0 h7))
+-- where the words of a loop are allowed, so is the first one
+pub loop-fits : (first second : ℕ) → allowedLoop first second ≡ true → fitsFirst first ≡ true
+unfolding allowedLoop
+loop-fits first second e = and-left (fitsFirst first) _ (and-right (leb (opOf first) 4) _ e)
 
 -- a stored return isn't 0
 return-positive : (r : ℕ) (rs : List ℕ) → areReturns (r ∷ rs) ≡ true → 1 ≤ r

@@ -3,14 +3,15 @@ use mathlib.Core.Path.{_≡_}
 use mathlib.Core.Bool.{Bool, true}
 use mathlib.Core.List.{List, [], _∷_}
 use Prim.Native.Nat.{ℕ, _≤_}
-use lib.Dec.{leb}
-use lib.ListN.{length, getD}
+use lib.Dec.{eqb, leb}
+use lib.ListN.{length, getD, set}
 use Rattle.laws.specs.Choice.{pick}
-use Rattle.laws.specs.Masks.{digit}
+use Rattle.laws.specs.Masks.{digit, on}
 use Rattle.refusal.specs.Number.{numberOf}
 use Rattle.refusal.specs.Told.{Told, gives, refuses}
-use Rattle.group.specs.Proc.{counterLimit}
-use Rattle.group.specs.Group.{Outcome, Steps, Fails, Program, Way, Goes, Stuck, Run, mostReturns, groupStep, groupRun, stepTold}
+use Rattle.group.specs.Proc.{isActive, decided, counterLimit}
+use Rattle.group.specs.Group.{Group, Outcome, Steps, Fails, Program, Way, Goes, Stuck, Run, mostReturns, groupStep, groupRun, stepTold}
+use Rattle.group.specs.Group.{bElse, jumpAny, jumpFunc, booleanNumber, fitsFirst, turnedIf, wishOf, settled}
 use Rattle.group.specs.Cells.{groupOf, areReturns, withPlace, stepLeaves}
 use Rattle.stepper.specs.declared.Stepped.{Stepped}
 use Rattle.stepper.specs.declared.Stepped.the-variants as stepped
@@ -57,15 +58,35 @@ pub record GoDone (entry leaves : List ℕ) (r slots : ℕ) (jump : Bool) (w : W
   pub number : r ≡ goneNumber slots jump w
   pub left : leaves ≡ goneCells slots entry w
 
--- a program in its two lent arrays
-abbrev pub programOf : List ℕ → List ℕ → ℕ → Program
-programOf firsts seconds slots = record { firsts = firsts; seconds = seconds; slots = slots }
+-- a decision in a number: a loop's, 0 to stay and 1 to jump; with 2 the processors' wishes decide
+abbrev pub byWishes : ℕ
+byWishes = 2
+
+unfoldable pub decisionBy : ℕ → Bool → Bool
+decisionBy decision wanted = pick (eqb decision byWishes) wanted (eqb decision 1)
+
+-- a step on a slot's words but their op and their second word's gaps, with its decision
+unfoldable pub decidedStep : ℕ → ℕ → ℕ → ℕ → ℕ → ℕ → ℕ → ℕ → Group → Outcome
+decidedStep limit slots first second decision alu predicate booleans g =
+    let procs = turnedIf (bElse first) (g .procs) in
+    let wish = wishOf (jumpFunc first) (on (booleanNumber second) booleans) alu predicate in
+    pick (fitsFirst first)
+    (settled limit slots first second (decisionBy decision (decided (jumpAny first) (λ i. isActive (procs i)) wish)) wish procs g)
+    (Fails 13)
+
+-- the cells with other loops
+abbrev pub setLoops : List ℕ → ℕ → ℕ → ℕ → ℕ → List ℕ
+setLoops l l0 l1 l2 l3 = set (set (set (set l 14 l0) 15 l1) 16 l2) 17 l3
+
+-- a program in its two lent arrays, with the integer words lent beside it
+abbrev pub programOf : List ℕ → List ℕ → ℕ → List ℕ → Program
+programOf firsts seconds slots integers = record { firsts = firsts; seconds = seconds; slots = slots; integers = integers }
 
 -- the step, and the run, of the group in these cells under the program in these arrays, with the limit of its counters
-abbrev pub stepIn : List ℕ → List ℕ → ℕ → List ℕ → ℕ → ℕ → ℕ → Outcome
-stepIn firsts seconds slots cells alu predicate booleans =
-    groupStep counterLimit (programOf firsts seconds slots) alu predicate booleans (groupOf cells)
+abbrev pub stepIn : List ℕ → List ℕ → ℕ → List ℕ → ℕ → ℕ → ℕ → List ℕ → Outcome
+stepIn firsts seconds slots cells alu predicate booleans integers =
+    groupStep counterLimit (programOf firsts seconds slots integers) alu predicate booleans (groupOf cells)
 
-abbrev pub runIn : List ℕ → List ℕ → ℕ → List ℕ → List ℕ → ℕ → Run
-runIn firsts seconds slots cells masks booleans =
-    groupRun counterLimit (programOf firsts seconds slots) booleans masks (groupOf cells)
+abbrev pub runIn : List ℕ → List ℕ → ℕ → List ℕ → List ℕ → ℕ → List ℕ → Run
+runIn firsts seconds slots cells masks booleans integers =
+    groupRun counterLimit (programOf firsts seconds slots integers) booleans masks (groupOf cells)

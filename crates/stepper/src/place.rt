@@ -7,12 +7,12 @@ ghost use mathlib.Core.Path.{_≡_};
 ghost use mathlib.Core.Bool.{true};
 ghost use Prim.Native.Nat.{_<_, _≤_};
 ghost use Rattle.group.specs.Group.{Goes, popped, pushed, wayOf, storeSlots};
-ghost use Rattle.group.specs.Cells.{positionIn, groupOf, placedAt, GroupGiven, RoomClear};
+ghost use Rattle.group.specs.Cells.{positionIn, groupOf, placedAt, GroupGiven, CellsNamed};
 ghost use Rattle.stepper.specs.Answers.{GoDone};
 
 // Stores a place: the position and the returns.
 fn put_place(cells: &mut [u32; group::CELLS], at: SlotNumber, r0: u32, r1: u32, r2: u32, r3: u32)
-    requires { ⌜ RoomClear (now cells) ⌝ }
+    requires { ⌜ CellsNamed (now cells) ⌝ }
     ensures { λ r. ⌜ now (cells .exit) ≡ placedAt (now (cells .entry)) (at .0) r0 r1 r2 r3 ⌝ }
 {
     cells[group::POSITION] = at.0;

@@ -1,10 +1,10 @@
 // The two words of a slot, and their fields by name.
 ghost use mathlib.Core.Path.{_≡_};
-ghost use Rattle.group.specs.Group.{allowed as allowedWords, branchOp};
+ghost use Rattle.group.specs.Group.{fitsFirst, plainSecond, fitsSecond, allowedLoop, branchOp};
 
 // A field is its word divided by the field's lowest bit, and of that what is left of the number of the field's values. First
 // word: op, B_ELSE, JUMP_ANY, A_OP, JUMP_FUNC, B_POP_CNT, bits that must be 0, B_OP0, B_OP1, bits that must be 0.
-const OPS: u32 = 16;
+pub const OPS: u32 = 16;
 
 pub const B_ELSE: u32 = 0x10;
 
@@ -39,12 +39,26 @@ pub const CODES: u32 = 4;
 
 const LAST_CODE: u32 = 2;
 
-// Second word: boolean number, bits that must be 0, jump address, bits that must be 0.
+// The last op, ENDREP. Of ops 1 to 4 the odd ones open a loop.
+const LAST_OP: u32 = 4;
+
+// Second word: boolean number, bits that must be 0, jump address, bits that must be 0. Ops that open a loop have an integer number
+// amid the first of these bits.
 pub const BOOLEANS: u32 = 32;
 
 const SECOND_GAP: u32 = 0x20;
 
 const SECOND_GAPS: u32 = 2048;
+
+const BELOW_INTEGER: u32 = 0x20;
+
+pub const INTEGER: u32 = 0x100;
+
+pub const INTEGERS: u32 = 32;
+
+const ABOVE_INTEGER: u32 = 0x2000;
+
+const INTEGER_GAPS: u32 = 8;
 
 pub const ADDRESS: u32 = 0x10000;
 
@@ -54,13 +68,10 @@ const TOP_GAP: u32 = 0x2000000;
 
 const TOP_GAPS: u32 = 128;
 
-// Whether every field of the two words has an allowed value and every other bit is 0, used or not.
-pub fn allowed(first: u32, second: u32) -> bool
-    ensures { λ r. ⌜ r ≡ allowedWords first second ⌝ }
+// Whether every field of the first word but its op has an allowed value and every other bit is 0, used or not.
+pub fn fits_first(first: u32) -> bool
+    ensures { λ r. ⌜ r ≡ fitsFirst first ⌝ }
 {
-    if first % OPS != 0 {
-        return false;
-    }
     if LAST_CODE < first / A_OP % CODES {
         return false;
     }
@@ -73,13 +84,49 @@ pub fn allowed(first: u32, second: u32) -> bool
     if LAST_CODE < first / B_OP1 % CODES {
         return false;
     }
-    if first / HIGH_GAP % HIGH_GAPS != 0 {
-        return false;
-    }
+    first / HIGH_GAP % HIGH_GAPS == 0
+}
+
+// Whether the second word is one of op 0: without an integer number.
+pub fn plain_second(second: u32) -> bool
+    ensures { λ r. ⌜ r ≡ plainSecond second ⌝ }
+{
     if second / SECOND_GAP % SECOND_GAPS != 0 {
         return false;
     }
     second / TOP_GAP % TOP_GAPS == 0
+}
+
+// Whether the second word is one of ops 1 to 4, of which those that open a loop have an integer number.
+fn fits_second(opens: bool, second: u32) -> bool
+    ensures { λ r. ⌜ r ≡ fitsSecond opens second ⌝ }
+{
+    if second / BELOW_INTEGER % INTEGER_GAPS != 0 {
+        return false;
+    }
+    if second / ABOVE_INTEGER % INTEGER_GAPS != 0 {
+        return false;
+    }
+    if second / TOP_GAP % TOP_GAPS != 0 {
+        return false;
+    }
+    if opens {
+        return true;
+    }
+    second / INTEGER % INTEGERS == 0
+}
+
+// Whether the words of ops 1 to 4 are allowed.
+pub fn allowed_loop(first: u32, second: u32) -> bool
+    ensures { λ r. ⌜ r ≡ allowedLoop first second ⌝ }
+{
+    if LAST_OP < first % OPS {
+        return false;
+    }
+    if fits_first(first) {
+        return fits_second(first % 2 == 1, second);
+    }
+    false
 }
 
 // The branch operation that the decision picks: B_OP1 on a jump, B_OP0 on a stay.

@@ -9,30 +9,61 @@ const SLOTS: u32 = 500;
 /// How many lists of masks lead through a program. Fewer, and the processor would learn every jump by heart.
 const LISTS: usize = 16;
 
-/// A program without loops, and lists of masks from a fresh group to its end: alu, then predicate, for each step.
+/// A LOOP of 64 turns around a branch: those whose alu bit is set leave it, and all go on together to the close.
+const LOOPING: [u32; 10] = [
+    0x0000_0001,
+    0x0005_0000,
+    0x0200_F000,
+    0x0003_0000,
+    0x0000_0020,
+    0,
+    0x0101_0020,
+    0,
+    0x0000_0002,
+    0x0001_0000,
+];
+/// Its integer word: 64 turns, aL from 0 on by 1.
+const TURNS: u32 = 0x0001_0040;
+
+/// A program, and lists of masks from a fresh group to its end: alu, then predicate, for each step.
 pub struct Way {
     pub words: Vec<u32>,
     pub lists: Vec<Vec<u32>>,
     pub booleans: u32,
+    pub integers: Vec<u32>,
 }
 
 impl Way {
-    /// A way for groups of this size, on which no step is refused.
+    /// A way without loops for groups of this size, on which no step is refused.
     pub fn new(size: u32, seed: u64) -> Way {
         let mut random = Random::new(seed);
         let mut way = Way {
             words: [0x20, 0].repeat(SLOTS as usize),
             lists: Vec::new(),
             booleans: random.word(),
+            integers: Vec::new(),
         };
         for position in 0..SLOTS {
             way.choose_slot(&mut random, position);
         }
-        for _ in 0..LISTS {
-            let list = way.new_list(size, &mut random);
-            way.lists.push(list);
-        }
-        way
+        way.with_lists(size, &mut random)
+    }
+
+    /// A way through a loop of 64 turns.
+    pub fn looping(size: u32, seed: u64) -> Way {
+        let mut random = Random::new(seed);
+        let way = Way {
+            words: LOOPING.to_vec(),
+            lists: Vec::new(),
+            booleans: random.word(),
+            integers: vec![TURNS],
+        };
+        way.with_lists(size, &mut random)
+    }
+
+    fn with_lists(mut self, size: u32, random: &mut Random) -> Way {
+        self.lists = (0..LISTS).map(|_| self.new_list(size, random)).collect();
+        self
     }
 
     /// A slot that may jump up to three slots on: ifs, elses and ends of ifs, mostly with a plain jump function.
@@ -58,9 +89,11 @@ impl Way {
         let program = Program::load(&self.words).expect("a program");
         let mut group = Group::begin(size).expect("a group");
         let mut list = Vec::new();
-        while group.position() < SLOTS {
+        let end = self.words.len() as u32 / 2;
+        while group.position() < end {
             let (alu, predicate) = (random.word(), random.word());
-            if group.step(&program, alu, predicate, self.booleans).is_ok() {
+            let stepped = group.step(&program, alu, predicate, self.booleans, &self.integers);
+            if stepped.is_ok() {
                 list.extend([alu, predicate]);
             }
         }

@@ -69,6 +69,23 @@ pub struct Report {
     pub active: u32,
 }
 
+/// An open loop. Its count is that of the turns left, the present one among them; a
+/// LOOP's aL gains the step with each further turn.
+#[derive(Clone, Copy, Debug, PartialEq, Eq)]
+pub enum Loop {
+    Loop { count: u32, al: u32, step: i32 },
+    Rep { count: u32 },
+}
+
+/// A group's open loops and the aL shown.
+#[derive(Clone, Debug, PartialEq, Eq)]
+pub struct Loops {
+    /// Outermost first.
+    pub open: Vec<Loop>,
+    /// The innermost open LOOP's, 0 if none is open.
+    pub al: u32,
+}
+
 /// A group's state. Its cells are private, so that it is always one that the
 /// library gave out. It may be copied and both copies used, also under another
 /// program than the one it came from.
@@ -86,7 +103,8 @@ impl Group {
         Ok(Group { cells })
     }
 
-    /// One step. 13 to 16; a refusal changes nothing.
+    /// One step, with the integer words that LOOP and REP take by their number. 13
+    /// to 16; a refusal changes nothing.
     #[inline]
     pub fn step(
         &mut self,
@@ -94,10 +112,11 @@ impl Group {
         alu: u32,
         predicate: u32,
         booleans: u32,
+        integers: &[u32],
     ) -> Answer<Stepped> {
         let mut taken = [0; 2];
         let masks = (alu, predicate, booleans);
-        answer(lent::group_step(self, program, masks, &mut taken))?;
+        answer(lent::group_step(self, program, masks, integers, &mut taken))?;
         Ok(Stepped {
             jumped: taken[0] != 0,
             position: taken[1],
@@ -105,12 +124,19 @@ impl Group {
     }
 
     /// Steps up to the end of the list of masks (alu, then predicate, for each
-    /// step) or of the program. 13 to 16; a refused step leaves the group as it
-    /// was before the run.
+    /// step) or of the program, with one list of integer words for all. 13 to 16; a
+    /// refused step leaves the group as it was before the run.
     #[inline]
-    pub fn run(&mut self, program: &Program, masks: &[u32], booleans: u32) -> Answer<Report> {
+    pub fn run(
+        &mut self,
+        program: &Program,
+        masks: &[u32],
+        booleans: u32,
+        integers: &[u32],
+    ) -> Answer<Report> {
         let mut report = [0; 3];
-        answer(lent::group_run(self, program, masks, booleans, &mut report))?;
+        let number = lent::group_run(self, program, masks, booleans, integers, &mut report);
+        answer(number)?;
         Ok(Report {
             steps: report[0],
             // Both are 32 at most.
@@ -161,6 +187,32 @@ impl Group {
         // return is a position plus 1, so it is never 0.
         let stored = self.cells[8..12].iter().rev();
         stored.copied().filter(|place| *place != 0).collect()
+    }
+
+    /// The open loops and the aL shown.
+    pub fn loops(&self) -> Loops {
+        let mut told = [0; 13];
+        lent::group_loops(self, &mut told);
+        let [al, loops @ ..] = &told;
+        // The cells have a LOOP's step in bits 23:16, as -128 to 127.
+        let step = |cell: u32| i32::from((cell >> 16) as u8 as i8);
+        let one = |(numbers, cell): (&[u32], &u32)| match *numbers {
+            [1, count, al] => Some(Loop::Loop {
+                count,
+                al,
+                step: step(*cell),
+            }),
+            [3, count, _] => Some(Loop::Rep { count }),
+            _ => None,
+        };
+        // Both have the innermost first.
+        let mut open: Vec<Loop> = loops
+            .chunks(3)
+            .zip(&self.cells[14..18])
+            .filter_map(one)
+            .collect();
+        open.reverse();
+        Loops { open, al: *al }
     }
 
     /// The cells as the header describes them.

@@ -357,19 +357,22 @@ pub fn group_begin(size: u32, cells: &mut [u32; CELLS]) -> u32 {
     unsafe { raw::egretfold_group_begin(size, cells) }
 }
 
-/// One step under the masks (alu, predicate, booleans). taken: 1 for a jump, 0
-/// for a stay; and the next position. 13 to 16.
+/// One step under the masks (alu, predicate, booleans) and the integer words.
+/// taken: 1 for a jump, 0 for a stay; and the next position. 13 to 16.
 #[inline]
 pub fn group_step(
     group: &mut Group,
     program: &Program,
     masks: (u32, u32, u32),
+    integers: &[u32],
     taken: &mut [u32; 2],
 ) -> u32 {
     let (alu, predicate, booleans) = masks;
     let store = program.store();
+    let (words, numbers) = (integers.as_ptr(), integers.len());
     // SAFETY: the cells are a group's and the store a program's that the library
-    // gave out; the cells and the room are apart.
+    // gave out; the cells and the room are apart; words and numbers are one
+    // slice's.
     unsafe {
         raw::egretfold_group_step(
             &store.firsts,
@@ -379,6 +382,8 @@ pub fn group_step(
             alu,
             predicate,
             booleans,
+            words,
+            numbers,
             taken,
         )
     }
@@ -392,11 +397,13 @@ pub fn group_run(
     program: &Program,
     masks: &[u32],
     booleans: u32,
+    integers: &[u32],
     report: &mut [u64; 3],
 ) -> u32 {
     let store = program.store();
     let (start, length) = (masks.as_ptr(), masks.len());
-    // SAFETY: as for a step; start and length are one slice's.
+    let (words, numbers) = (integers.as_ptr(), integers.len());
+    // SAFETY: as for a step; start and length are one slice's too.
     unsafe {
         raw::egretfold_group_run(
             &store.firsts,
@@ -406,7 +413,18 @@ pub fn group_run(
             start,
             length,
             booleans,
+            words,
+            numbers,
             report,
         )
     }
+}
+
+/// loops: the aL shown, then kind, count and aL of each of four loops, the
+/// innermost first. Refuses nothing.
+#[inline]
+pub fn group_loops(group: &Group, loops: &mut [u32; 13]) {
+    // SAFETY: the cells are a group's that the library gave out, and apart from
+    // the room.
+    unsafe { raw::egretfold_group_loops(&group.cells, loops) }
 }

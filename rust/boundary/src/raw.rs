@@ -196,6 +196,8 @@ extern "C" {
         alu: u32,
         predicate: u32,
         booleans: u32,
+        integers: *const u32,
+        numbers: usize,
         taken: &mut [u32; 2],
     ) -> u32;
 
@@ -207,6 +209,10 @@ extern "C" {
         masks: *const u32,
         length: usize,
         booleans: u32,
+        integers: *const u32,
+        numbers: usize,
         report: &mut [u64; 3],
     ) -> u32;
+
+    pub fn egretfold_group_loops(cells: &[u32; CELLS], loops: &mut [u32; 13]);
 }

@@ -136,14 +136,14 @@ fn c9_to_c12_steps() {
     assert_eq!(program.slot(511), [0x20, 0]);
     let fresh = Group::begin(4).unwrap();
     let mut group = fresh;
-    let c9 = group.step(&program, 0b0011, 0, 0).unwrap();
+    let c9 = group.step(&program, 0b0011, 0, 0, &[]).unwrap();
     assert_eq!((c9.jumped, group.active()), (false, 0b0011));
-    let c11 = group.step(&program, 0, 0, 0).unwrap();
+    let c11 = group.step(&program, 0, 0, 0, &[]).unwrap();
     assert_eq!((c11.jumped, group.active()), (false, 0b1100));
-    group.step(&program, 0, 0, 0).unwrap();
+    group.step(&program, 0, 0, 0, &[]).unwrap();
     assert_eq!((group.active(), group.position()), (0b1111, 3));
     let mut c10 = fresh;
-    assert!(c10.step(&program, 0, 0, 0).unwrap().jumped);
+    assert!(c10.step(&program, 0, 0, 0, &[]).unwrap().jumped);
     assert_eq!((c10.active(), c10.size(), c10.mask()), (15, 4, 15));
     assert_eq!(Group::begin(33), Err(13));
     assert_eq!(Program::load(&[0]), Err(15));
@@ -155,10 +155,10 @@ fn a_run_reports_and_returns_come_oldest_first() {
     let program = Program::load(&[0xFF80, 2 << 16, 0x20, 0, 0xFF80, 4 << 16, 0x20, 0, 0x20, 0]);
     let program = program.unwrap();
     let mut group = Group::begin(3).unwrap();
-    let report = group.run(&program, &[0, 0, 0, 0, 5], 0).unwrap();
+    let report = group.run(&program, &[0, 0, 0, 0, 5], 0, &[]).unwrap();
     assert_eq!((report.steps, report.first, report.active), (2, 0, 3));
     assert_eq!(group.returns(), [1, 3]);
     assert_eq!((group.position(), group.counter(2)), (4, 0));
-    assert_eq!(group.run(&program, &[0; 9], 0).unwrap().steps, 1);
-    assert_eq!(group.run(&program, &[], 0), Err(16));
+    assert_eq!(group.run(&program, &[0; 9], 0, &[]).unwrap().steps, 1);
+    assert_eq!(group.run(&program, &[], 0, &[]), Err(16));
 }

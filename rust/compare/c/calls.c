@@ -405,6 +405,9 @@ static void check_superfine(void)
 
 static uint32_t firsts[EGRETFOLD_SLOTS], seconds[EGRETFOLD_SLOTS], slots[1];
 
+/* An empty list of integer words: a pointer that isn't null, and 0. */
+static const uint32_t none[1] = {0};
+
 /* The words of document 01's C9, C11 and C12, and the plain slot. */
 static const uint32_t program[8] = {0x02000F00, 0, 0x00000010, 0, 0x01010020, 0, 0x00000020, 0};
 
@@ -438,14 +441,14 @@ static void check_steps(void)
     check_group(cells);
     for (uint32_t i = 0; i < 4; i++) {
         uint32_t alu = i == 0 ? 3 : 0;
-        agree("group_step", egretfold_group_step(firsts, seconds, slots[0], cells, alu, 0, 0, taken), 0);
+        agree("group_step", egretfold_group_step(firsts, seconds, slots[0], cells, alu, 0, 0, none, 0, taken), 0);
         agree("group_step, a stay", taken[0], 0);
         agree("group_step, next position", taken[1], i + 1);
         agree("group_step, position", cells[7], i + 1);
         agree("group_step, active", cells[1], active[i]);
     }
     taken[0] = 9;
-    agree("group_step, ended", egretfold_group_step(firsts, seconds, slots[0], cells, 0, 0, 0, taken), 16);
+    agree("group_step, ended", egretfold_group_step(firsts, seconds, slots[0], cells, 0, 0, 0, none, 0, taken), 16);
     agree("group_step, room after a refusal", taken[0], 9);
     agree("group_step, position after a refusal", cells[7], 4);
 }
@@ -457,17 +460,65 @@ static void check_run(void)
     uint32_t cells[EGRETFOLD_CELLS];
     uint64_t report[3] = {9, 9, 9};
     check_group(cells);
-    agree("group_run, one step", egretfold_group_run(firsts, seconds, slots[0], cells, masks, 3, 0, report), 0);
+    agree("group_run, one step",
+          egretfold_group_run(firsts, seconds, slots[0], cells, masks, 3, 0, none, 0, report), 0);
     agree("group_run, one step made", report[0], 1);
     agree("group_run, first active", report[1], 0);
     agree("group_run, two active", report[2], 2);
-    agree("group_run, the rest", egretfold_group_run(firsts, seconds, slots[0], cells, masks + 2, 9, 0, report), 0);
+    agree("group_run, the rest",
+          egretfold_group_run(firsts, seconds, slots[0], cells, masks + 2, 9, 0, none, 0, report), 0);
     agree("group_run, three steps made", report[0], 3);
     agree("group_run, four active", report[2], 4);
     agree("group_run, position", cells[7], 4);
     report[0] = 9;
-    agree("group_run, ended", egretfold_group_run(firsts, seconds, slots[0], cells, masks, 0, 0, report), 16);
+    agree("group_run, ended",
+          egretfold_group_run(firsts, seconds, slots[0], cells, masks, 0, 0, none, 0, report), 16);
     agree("group_run, room after a refusal", report[0], 9);
+}
+
+/* LOOP by integer word 1 around REP by word 0: three turns of one and two of the other, aL from 10 on by -4. A close of the outer
+ * loop jumps to slot 1, one of the inner to 2; the openings jump to the end. */
+static const uint32_t looping[8] = {1, 0x00040100, 3, 0x00040000, 4, 0x00020000, 2, 0x00010000};
+static const uint32_t integers[2] = {2, 0x00FC0A03};
+
+static void check_loops(void)
+{
+    const uint32_t nested[13] = {10, 3, 2, 0, 1, 3, 10}, turned[13] = {6, 1, 2, 6}, closed[13] = {0};
+    const uint32_t two_loops[4] = {2, 0x01FC0A03, 0, 0}, masks[32] = {0};
+    uint32_t cells[EGRETFOLD_CELLS], before[EGRETFOLD_CELLS], taken[2] = {9, 9}, told[13];
+    uint64_t report[3] = {9, 9, 9};
+    agree("program_load, loops", egretfold_program_load(looping, 8, firsts, seconds, slots), 0);
+    check_group(cells);
+    memcpy(before, cells, sizeof cells);
+    agree("group_step, no such integer word",
+          egretfold_group_step(firsts, seconds, slots[0], cells, 0, 0, 0, integers, 1, taken), 13);
+    agree("group_step, room after a refused loop", taken[0], 9);
+    agree_words("group_step, group after a refused loop", cells, before, EGRETFOLD_CELLS);
+    memset(told, 9, sizeof told);
+    egretfold_group_loops(cells, told);
+    agree_words("group_loops, none open", told, closed, 13);
+    for (uint32_t i = 0; i < 2; i++) {
+        agree("group_step, opening",
+              egretfold_group_step(firsts, seconds, slots[0], cells, 0, 0, 0, integers, 2, taken), 0);
+        agree("group_step, an opening stays", taken[0], 0);
+        agree("group_step, next position in a loop", taken[1], i + 1);
+    }
+    agree_words("group_step, cells of two loops", cells + 14, two_loops, 4);
+    egretfold_group_loops(cells, told);
+    agree_words("group_loops, two open", told, nested, 13);
+    /* Both closes of the REP, then the LOOP's first. */
+    agree("group_run, to the second turn",
+          egretfold_group_run(firsts, seconds, slots[0], cells, masks, 6, 0, integers, 2, report), 0);
+    agree("group_run, steps in loops", report[0], 3);
+    agree("group_run, back at the inner loop", cells[7], 1);
+    egretfold_group_loops(cells, told);
+    agree_words("group_loops, the second turn", told, turned, 13);
+    agree("group_run, to the end",
+          egretfold_group_run(firsts, seconds, slots[0], cells, masks, 32, 0, integers, 2, report), 0);
+    agree("group_run, the other turns", report[0], 8);
+    agree("group_run, ended after the loops", cells[7], 4);
+    egretfold_group_loops(cells, told);
+    agree_words("group_loops, all closed", told, closed, 13);
 }
 
 int main(void)
@@ -490,6 +541,7 @@ int main(void)
     check_program();
     check_steps();
     check_run();
+    check_loops();
     if (differed != 0) {
         printf("calls: %u agreed, %u differed\n", agreed, differed);
         return 1;

@@ -1,11 +1,13 @@
 //! Cases of the fifth kind: a program is loaded and a group begun; the group is
-//! stepped and its state compared after every step; then a fresh group is run
-//! through the same masks in random portions.
+//! stepped and its state compared after every step, its loops and aL with it; then
+//! a fresh group is run through the same masks in random portions.
 
 use crate::case::{Agreed, Agreement, Case};
 use crate::groups::{seen, seen_in_second, Both};
+use crate::loops;
 use crate::programs;
 use crate::random::Random;
+use crate::turns::Turn;
 use boundary::lengths::{CELLS, SLOTS};
 use boundary::lent;
 use second::flow::{Group, Processor, Program, Report, Stepped};
@@ -21,10 +23,12 @@ struct Loaded {
     words: Vec<u32>,
 }
 
-/// Two masks for each step, alu then predicate, and one boolean word for all.
+/// Two masks for each step, alu then predicate; one boolean word and one list of
+/// integer words for all.
 struct Masks {
     list: Vec<u32>,
     booleans: u32,
+    integers: Vec<u32>,
 }
 
 pub fn run(case: &mut Case) -> Agreement {
@@ -128,19 +132,22 @@ fn begun(case: &mut Case) -> Agreed<Option<Both>> {
 }
 
 fn any_masks(random: &mut Random) -> Masks {
-    let most = random.one_of(&[8, 24, 48, 160]);
+    let most = random.one_of(&[8, 48, 96, 160]);
     // An odd list ends with an alu without its predicate.
     let count = random.between(0, most);
     Masks {
         list: (0..count).map(|_| random.mask()).collect(),
         booleans: random.mask(),
+        integers: loops::integers(random),
     }
 }
 
 fn about(program: &Loaded, masks: &Masks) -> String {
-    let Masks { list, booleans } = masks;
-    let words = &program.words;
-    format!("program {words:X?}, masks {list:X?}, booleans {booleans:X}")
+    let (words, Masks { list, booleans, .. }) = (&program.words, masks);
+    let integers = &masks.integers;
+    format!(
+        "program {words:X?}, masks {list:X?}, booleans {booleans:X}, integer words {integers:X?}"
+    )
 }
 
 /// Steps through the masks. Answers the groups at the end, where they came there
@@ -155,6 +162,7 @@ fn step_by_step(
     let other = other_program(case, program)?;
     let mut both = fresh.clone();
     let mut straight = other.is_none();
+    let mut looped = false;
     let mut refusals = 0;
     for (number, pair) in masks.list.chunks_exact(2).enumerate() {
         let program = match &other {
@@ -162,18 +170,21 @@ fn step_by_step(
             _ => program,
         };
         let asked = || format!("step {number} of {}", about(program, masks));
-        let refusal = step(
-            case,
-            asked,
+        let given = Given {
             program,
-            &mut both,
-            (pair[0], pair[1], masks.booleans),
-        )?;
+            masks: (pair[0], pair[1], masks.booleans),
+            integers: &masks.integers,
+        };
+        let (refusal, of_a_loop) = step(case, asked, &given, &mut both)?;
+        looped |= of_a_loop;
         straight &= matches!(refusal, None | Some(16));
         refusals += u32::from(refusal.is_some());
         if refusals == MOST_REFUSALS {
             break;
         }
+    }
+    if looped {
+        case.tally.mark("programs stepped through a loop's slot");
     }
     Ok(if straight { Some(both) } else { None })
 }
@@ -194,41 +205,73 @@ fn other_program(case: &mut Case, program: &Loaded) -> Agreed<Option<Loaded>> {
     loaded(case, words)
 }
 
-/// One step of both groups; answers its refusal, if it was refused.
+/// What a step is given besides the group.
+struct Given<'a> {
+    program: &'a Loaded,
+    masks: (u32, u32, u32),
+    integers: &'a [u32],
+}
+
+/// One step of both groups; answers its refusal, if it was refused, and whether it
+/// was one of a loop's slot.
 fn step(
     case: &mut Case,
     asked: impl Fn() -> String,
-    program: &Loaded,
+    given: &Given,
     both: &mut Both,
-    masks: (u32, u32, u32),
-) -> Agreed<Option<u32>> {
+) -> Agreed<(Option<u32>, bool)> {
+    let Given {
+        program,
+        masks,
+        integers,
+    } = *given;
     let (alu, predicate, booleans) = masks;
-    let before = both.product;
+    let before = both.clone();
     let product = both
         .product
-        .step(&program.product, alu, predicate, booleans);
+        .step(&program.product, alu, predicate, booleans, integers);
     let product = product.map(|stepped| Stepped {
         jumped: stepped.jumped,
         position: stepped.position,
     });
-    let expected = both.second.step(&program.second, alu, predicate, booleans);
+    let expected = both
+        .second
+        .step_with(&program.second, alu, predicate, booleans, integers);
     case.agree_answer(&asked, &product, &expected)?;
     both.agree(case, &asked)?;
-    count_step(case, &product, &both.second);
+    case.tally.mark("steps compared");
+    let turn = Turn {
+        program: &program.second,
+        masks,
+        integers,
+        before: &before.second,
+        after: &both.second,
+        answer: &expected,
+    };
+    if !turn.count(case) {
+        count_step(case, &product, &both.second);
+    }
+    if turn.is_of_op_0() {
+        let mut alone = before.second.clone();
+        let answer = alone.step(&program.second, alu, predicate, booleans);
+        let asked = || format!("by document 01 alone, {}", asked());
+        case.agree(asked, &(&product, &both.second), &(&answer, &alone))?;
+    }
     if product.is_err() {
+        let before = before.product;
         let filled = [case.random.word(); 2];
         let mut room = filled;
         let mut again = before;
-        lent::group_step(&mut again, &program.product, masks, &mut room);
+        lent::group_step(&mut again, &program.product, masks, integers, &mut room);
         case.untouched(&asked, &room, &filled)?;
         case.untouched(&asked, &(both.product, again), &(before, before))?;
     }
-    Ok(expected.err())
+    Ok((expected.err(), turn.is_of_a_loop()))
 }
 
-/// Counts what a step was, for the tests that ask whether the mixture is telling.
+/// Counts what a step was apart from loops, for the tests that ask whether the
+/// mixture is telling.
 fn count_step(case: &mut Case, stepped: &Answer<Stepped>, group: &Group) {
-    case.tally.mark("steps compared");
     let count =
         |which: fn(&Processor) -> bool| group.processors.iter().filter(|p| which(p)).count();
     let idle = count(|processor| *processor != Processor::Active);
@@ -268,7 +311,7 @@ fn in_portions(case: &mut Case, program: &Loaded, fresh: &Both, masks: &Masks) -
         let odd = case.random.below(2) as usize;
         let portion = &left[..(count + odd).min(left.len())];
         let asked = || format!("run {portion:X?} of {}", about(program, masks));
-        let refusal = run_portion(case, asked, program, &mut both, portion, masks.booleans)?;
+        let refusal = run_portion(case, asked, program, &mut both, (portion, masks))?;
         refusals += u32::from(refusal.is_some());
         left = &left[count..];
         if left.len() < 2 || refusals == MOST_REFUSALS {
@@ -283,17 +326,21 @@ fn run_portion(
     asked: impl Fn() -> String,
     program: &Loaded,
     both: &mut Both,
-    portion: &[u32],
-    booleans: u32,
+    (portion, masks): (&[u32], &Masks),
 ) -> Agreed<Option<u32>> {
+    let (booleans, integers) = (masks.booleans, &masks.integers);
     let before = both.product;
-    let product = both.product.run(&program.product, portion, booleans);
+    let product = both
+        .product
+        .run(&program.product, portion, booleans, integers);
     let product = product.map(|report| Report {
         steps: report.steps,
         first: report.first,
         active: report.active,
     });
-    let expected = both.second.run(&program.second, portion, booleans);
+    let expected = both
+        .second
+        .run_with(&program.second, portion, booleans, integers);
     case.agree_answer(&asked, &product, &expected)?;
     both.agree(case, &asked)?;
     case.tally.mark("runs compared");
@@ -301,7 +348,14 @@ fn run_portion(
         let filled = [case.random.long(); 3];
         let mut room = filled;
         let mut again = before;
-        lent::group_run(&mut again, &program.product, portion, booleans, &mut room);
+        lent::group_run(
+            &mut again,
+            &program.product,
+            portion,
+            booleans,
+            integers,
+            &mut room,
+        );
         case.untouched(&asked, &room, &filled)?;
         case.untouched(&asked, &(both.product, again), &(before, before))?;
     }

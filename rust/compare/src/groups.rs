@@ -1,11 +1,16 @@
 //! A group's whole state, as either program has it.
 
 use crate::case::{Agreement, Case};
+use crate::loops::{LOOP, REP};
 use boundary::lengths::CELLS;
-use second::flow::{Group, Processor};
+use boundary::lent;
+use second::flow::{Group, Loop, Processor};
 
 /// The first of the product's cells past its returns.
 const REST: usize = 12;
+
+/// The cell of the innermost loop, counted from there.
+const LOOPS: usize = 2;
 
 /// One group of each program, which take the same steps.
 #[derive(Clone)]
@@ -24,7 +29,10 @@ pub struct Seen {
     position: u32,
     /// Oldest first.
     returns: Vec<u32>,
-    /// The product's cells past its returns, which are zeros.
+    /// What is told of the loops: the aL shown, then kind, count and aL of each of
+    /// four, innermost first.
+    loops: [u32; 13],
+    /// The product's cells past its returns: the open loops, and zeros.
     rest: [u32; CELLS - REST],
 }
 
@@ -43,12 +51,16 @@ pub fn seen(group: &boundary::Group) -> Seen {
     }
     let mut rest = [0; CELLS - REST];
     rest.copy_from_slice(&group.cells()[REST..]);
+    // Filled, so that each number is seen to be written.
+    let mut loops = [u32::MAX; 13];
+    lent::group_loops(group, &mut loops);
     Seen {
         members: group.mask(),
         active: group.active(),
         counters,
         position: group.position(),
         returns: group.returns(),
+        loops,
         rest,
     }
 }
@@ -60,8 +72,15 @@ pub fn seen_in_second(group: &Group) -> Seen {
         counters: [0; 32],
         position: group.position,
         returns: group.returns.clone(),
+        loops: [0; 13],
         rest: [0; CELLS - REST],
     };
+    seen.loops[0] = group.al();
+    for (place, open) in group.loops.iter().rev().enumerate() {
+        let (told, cell) = loop_seen(open);
+        seen.loops[3 * place + 1..][..3].copy_from_slice(&told);
+        seen.rest[LOOPS + place] = cell;
+    }
     for (number, processor) in group.processors.iter().enumerate() {
         seen.members |= 1 << number;
         match processor {
@@ -70,4 +89,15 @@ pub fn seen_in_second(group: &Group) -> Seen {
         }
     }
     seen
+}
+
+/// What the product tells of a loop, and the cell that holds it.
+fn loop_seen(open: &Loop) -> ([u32; 3], u32) {
+    match *open {
+        Loop::Rep { count } => ([REP, count, 0], count),
+        Loop::Loop { count, al, step } => {
+            let step = step as u32 & 0xFF;
+            ([LOOP, count, al], count | al << 8 | step << 16 | 1 << 24)
+        }
+    }
 }

@@ -8,7 +8,7 @@
 //! * [`memory`]: elements read and written in lent memory, superfine reads;
 //! * [`streams`]: streams of command words, by words, in pieces and uncut;
 //! * [`writer`]: commands written to words;
-//! * [`flow`]: programs loaded, groups stepped and run;
+//! * [`flow`]: programs loaded, with and without loops, groups stepped and run;
 //! * [`logs`]: logs of a station over midnight, cut anywhere;
 //! * [`scores`]: months of such logs scored against lease lines.
 //!
@@ -25,6 +25,7 @@ pub mod flow;
 pub mod groups;
 pub mod layouts;
 pub mod logs;
+pub mod loops;
 pub mod memory;
 pub mod options;
 pub mod programs;
@@ -35,6 +36,7 @@ pub mod settings;
 pub mod starts;
 pub mod streams;
 pub mod tally;
+pub mod turns;
 pub mod words;
 pub mod writer;
 

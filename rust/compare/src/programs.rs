@@ -1,7 +1,8 @@
 //! Programs of flow words for the cases: with branches and subroutines in the
 //! shapes that a compiler would write, with random fields, or of noise; and some
-//! of a length that can't be loaded.
+//! of a length that can't be loaded. More than half have loops.
 
+use crate::loops;
 use crate::random::Random;
 use boundary::lengths::SLOTS;
 
@@ -12,6 +13,7 @@ const MOST_WORDS: u32 = 2 * MOST_SLOTS;
 /// The fields of a slot, named as in document 01.
 #[derive(Clone, Copy, Default)]
 pub struct Slot {
+    pub op: u32,
     pub b_else: u32,
     pub jump_any: u32,
     pub a_op: u32,
@@ -20,23 +22,36 @@ pub struct Slot {
     pub b_op0: u32,
     pub b_op1: u32,
     pub boolean: u32,
+    /// The number of an opening's integer word.
+    pub integer: u32,
     pub address: u32,
 }
 
-const DECREMENT: u32 = 1;
-const INCREMENT: u32 = 2;
-const POP: u32 = 1;
-const PUSH: u32 = 2;
+pub const DECREMENT: u32 = 1;
+pub const INCREMENT: u32 = 2;
+pub const POP: u32 = 1;
+pub const PUSH: u32 = 2;
 
 impl Slot {
     pub fn words(&self) -> [u32; 2] {
-        let first = self.b_else << 4 | self.jump_any << 5 | self.a_op << 6 | self.jump_func << 8;
+        let flags = self.op | self.b_else << 4 | self.jump_any << 5 | self.a_op << 6;
         let branch = self.b_pop_cnt << 16 | self.b_op0 << 24 | self.b_op1 << 26;
-        [first | branch, self.boolean | self.address << 16]
+        [
+            flags | self.jump_func << 8 | branch,
+            self.boolean | self.integer << 8 | self.address << 16,
+        ]
+    }
+
+    /// Does nothing: nobody wishes to jump, and so the group stays.
+    pub fn plain() -> Slot {
+        Slot {
+            jump_any: 1,
+            ..Slot::default()
+        }
     }
 
     /// Leaves a branch: those that wait with counter 0 come back.
-    fn endif() -> Slot {
+    pub fn endif() -> Slot {
         Slot {
             jump_any: 1,
             b_pop_cnt: 1,
@@ -46,7 +61,7 @@ impl Slot {
     }
 
     /// Enters a branch: on a stay, those that wish to jump wait.
-    fn branch(random: &mut Random, address: u32) -> Slot {
+    pub fn branch(random: &mut Random, address: u32) -> Slot {
         Slot {
             jump_func: jump_func(random),
             b_op0: INCREMENT,
@@ -93,7 +108,20 @@ fn jump_func(random: &mut Random) -> u32 {
 /// The words of a program, of any kind.
 pub fn any(random: &mut Random) -> Vec<u32> {
     let mut words: Vec<u32> = match random.below(16) {
-        0 => return wrong_length(random),
+        0..=8 => loops::any(random).concat(),
+        _ => without_loops(random),
+    };
+    // Among those of a wrong length is one of no words.
+    if !words.is_empty() && random.once_in(4) {
+        let place = random.below(words.len() as u32) as usize;
+        words[place] ^= random.bit();
+    }
+    words
+}
+
+fn without_loops(random: &mut Random) -> Vec<u32> {
+    match random.below(16) {
+        0 => wrong_length(random),
         1 => (0..2 * random.between(1, 8))
             .map(|_| random.word())
             .collect(),
@@ -101,12 +129,7 @@ pub fn any(random: &mut Random) -> Vec<u32> {
         7 => deep(random).concat(),
         8 | 9 => subroutines(random).concat(),
         _ => branches(random).concat(),
-    };
-    if random.once_in(4) {
-        let place = random.below(words.len() as u32) as usize;
-        words[place] ^= random.bit();
     }
-    words
 }
 
 /// Words that make no program: none, an odd number, or more than there are slots.
@@ -139,8 +162,10 @@ fn random_slots(random: &mut Random) -> Vec<[u32; 2]> {
         .collect()
 }
 
-fn random_slot(random: &mut Random, count: u32) -> Slot {
+pub fn random_slot(random: &mut Random, count: u32) -> Slot {
     Slot {
+        op: 0,
+        integer: 0,
         b_else: u32::from(random.once_in(4)),
         jump_any: random.below(2),
         a_op: random.one_of(&[0, 0, 0, POP, PUSH, PUSH]),
@@ -223,9 +248,6 @@ fn body(random: &mut Random, slots: &mut Vec<Slot>, depth: u32) {
     if depth > 1 && !random.once_in(3) {
         branch(random, slots, depth - 1);
     } else if random.coin() {
-        slots.push(Slot {
-            jump_any: 1,
-            ..Slot::default()
-        });
+        slots.push(Slot::plain());
     }
 }

@@ -160,20 +160,62 @@ fn flow(numbers: Range<u64>) {
     marks(&tally, &[("steps refused for the return stack", 5_000)]);
     marks(&tally, &[("steps refused for their jump", 5_000)]);
     marks(&tally, &[("steps refused for their words", 5_000)]);
+    loops(&tally);
     refusals(
         &tally,
         &[(13, 20_000), (14, 20_000), (15, 8_000), (16, 50_000)],
     );
 }
 
+/// Demands that loops were opened, turned, closed and refused in every way.
+fn loops(tally: &Tally) {
+    let looped = "programs stepped through a loop's slot";
+    marks(tally, &[(looped, 150_000)]);
+    marks(
+        tally,
+        &[("LOOPs opened", 100_000), ("REPs opened", 100_000)],
+    );
+    marks(tally, &[("turns of a LOOP", 50_000)]);
+    marks(tally, &[("turns of a REP", 50_000)]);
+    marks(tally, &[("LOOPs closed", 30_000), ("REPs closed", 30_000)]);
+    marks(tally, &[("jumps with a loop open", 50_000)]);
+    marks(tally, &[("steps that left four loops open", 20_000)]);
+    let through = "steps that show a LOOP's aL inside a REP";
+    marks(tally, &[(through, 50_000)]);
+    marks(tally, &[("loops' decisions against the wishes", 100_000)]);
+    marks(tally, &[("loops' steps with nobody active", 20_000)]);
+    marks(tally, &[("loops' steps that set some waiting", 20_000)]);
+    marks(tally, &[("loops' steps with a push or a pop", 5_000)]);
+    let at_four = "openings of count 0 with four loops open";
+    marks(tally, &[("openings of count 0", 20_000), (at_four, 500)]);
+    // 13: the op, the number where none is named, the word.
+    let unnamed = "steps refused for an integer number that isn't named";
+    marks(tally, &[("steps refused for an op over 4", 5_000)]);
+    marks(tally, &[(unnamed, 2_000)]);
+    let before_14 = "openings without an integer word with four loops open";
+    marks(tally, &[("openings without an integer word", 20_000)]);
+    marks(tally, &[(before_14, 50)]);
+    let word = "openings refused for their integer word";
+    marks(tally, &[(word, 10_000)]);
+    // 14: a fifth loop, closes, aL; and what isn't the loop's.
+    marks(tally, &[("openings of a fifth loop", 10_000)]);
+    marks(tally, &[("closes with no loop open", 10_000)]);
+    marks(tally, &[("closes of the other kind", 10_000)]);
+    marks(tally, &[("closes with aL below 0", 2_000)]);
+    marks(tally, &[("closes with aL above 255", 2_000)]);
+    let beside = "loops' steps refused for branch or return work";
+    marks(tally, &[(beside, 2_000)]);
+    marks(tally, &[("loops' jumps past the end", 500)]);
+}
+
 #[test]
 fn flow_first_half() {
-    flow(0..150_000);
+    flow(0..320_000);
 }
 
 #[test]
 fn flow_second_half() {
-    flow(150_000..300_000);
+    flow(320_000..640_000);
 }
 
 fn logs(numbers: Range<u64>) {

@@ -28,7 +28,7 @@ fn agree_on(mask: u32) {
     let words = [[first, 0], PLAIN, PLAIN].concat();
     let program = Program::load(&words).unwrap();
     let mut group = Group::begin(32).unwrap();
-    let report = group.run(&program, &[alu, 0], 0).unwrap();
+    let report = group.run(&program, &[alu, 0], 0, &[]).unwrap();
     let told = (report.steps, report.first, report.active);
     assert_eq!(group.active(), mask);
     assert_eq!(

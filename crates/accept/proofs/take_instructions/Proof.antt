@@ -16,11 +16,9 @@ set-instructions-requires c κs = counted-length _ _ _ (c .before .count-words .
 
 returns : tie.Need-returns
 returns c =
-    let at-count-words = c .before .before in
-    let at-test = at-count-words .before .before in
-    let at-window = at-test .before in
-    instructions-tried _ _ _ (at-count-words .count-words .ensures) _ _
-    (fine _ (stored-judged _ _ (at-window .window .ensures) Instructions) (at-test .if1 .taken)) _ (c .set-instructions .ensures)
+    let at-test = c .before .before .before .before in
+    instructions-tried _ _ _ (c .before .before .count-words .ensures) _ _
+    (fine _ (stored-judged _ _ (at-test .before .window .ensures) Instructions) (at-test .if1 .taken)) _ (c .set-instructions .ensures)
 
 returns-2 : tie.Need-returns-2
 returns-2 c t h rest z = denied (stored-judged _ _ (c .before .window .ensures) Instructions) (c .if1 .left)

@@ -51,8 +51,8 @@ returns : tie.Need-returns
 unfolding commandOf wordsOf fieldsOf
 returns c rest =
     let at-match = c .before .before in
-    let entry = at-match .before in
-    at-line everyWord _ _ _ _ _ _ _ _ _ _ _ _ _ _ (at-match .match .keys1) (c .take-domain .ensures _ _ _ (entry .pre .1 .1 .sized))
+    let at-start = at-match .before in
+    at-line everyWord _ _ _ _ _ _ _ _ _ _ _ _ _ _ (at-match .match .keys1) (c .take-domain .ensures _ _ _ (at-start .pre .1 .1 .sized))
 
 returns-2 : tie.Need-returns-2
 unfolding commandOf wordsOf fieldsOf
@@ -62,84 +62,80 @@ returns-3 : tie.Need-returns-3
 unfolding commandOf wordsOf fieldsOf
 returns-3 c rest =
     let at-match = c .before .before in
-    let entry = at-match .before in
-    at-line everyWord _ _ _ _ _ _ _ _ _ _ _ _ _ _ (at-match .match .keys3) (c .take-instructions .ensures _ _ _ (entry .pre .1 .1 .sized))
+    let at-start = at-match .before in
+    at-line everyWord _ _ _ _ _ _ _ _ _ _ _ _ _ _ (at-match .match .keys3) (c .take-instructions .ensures _ _ _ (at-start .pre .1 .1 .sized))
 
 returns-4 : tie.Need-returns-4
 unfolding commandOf wordsOf fieldsOf
 returns-4 c rest =
     let at-match = c .before .before .before in
-    let entry = at-match .before in
-    at-line everyWord _ _ _ _ _ _ _ _ _ _ _ _ _ _ (at-match .match .keys4) (c .take-input .ensures _ _ (entry .pre .1 .1 .sized))
+    let at-start = at-match .before in
+    at-line everyWord _ _ _ _ _ _ _ _ _ _ _ _ _ _ (at-match .match .keys4) (c .take-input .ensures _ _ (at-start .pre .1 .1 .sized))
 
 returns-5 : tie.Need-returns-5
 unfolding commandOf wordsOf fieldsOf
 returns-5 c rest =
     let at-match = c .before .before .before in
-    let entry = at-match .before in
-    at-line everyWord _ _ _ _ _ _ _ _ _ _ _ _ _ _ (at-match .match .keys5) (c .take-output .ensures _ _ (entry .pre .1 .1 .sized))
+    let at-start = at-match .before in
+    at-line everyWord _ _ _ _ _ _ _ _ _ _ _ _ _ _ (at-match .match .keys5) (c .take-output .ensures _ _ (at-start .pre .1 .1 .sized))
 
 returns-6 : tie.Need-returns-6
 unfolding commandOf wordsOf fieldsOf
 returns-6 c rest =
     let at-match = c .before .before .before in
-    let entry = at-match .before in
-    at-line everyWord _ _ _ _ _ _ _ _ _ _ _ _ _ _ (at-match .match .keys6) (c .take-conditional .ensures _ _ (entry .pre .1 .1 .sized))
+    let at-start = at-match .before in
+    at-line everyWord _ _ _ _ _ _ _ _ _ _ _ _ _ _ (at-match .match .keys6) (c .take-conditional .ensures _ _ (at-start .pre .1 .1 .sized))
 
 returns-7 : tie.Need-returns-7
 unfolding commandOf wordsOf fieldsOf storedLine
 returns-7 c rest =
     let at-match = c .before .before .before in
-    let entry = at-match .before in
-    at-line everyWord _ _ _ _ _ _ _ _ _ _ _ _ _ _ (at-match .match .keys7)
-    (c .take-constants .ensures Floats refl _ _ (entry .pre .1 .1 .sized))
+    let at-start = at-match .before in
+    at-line everyWord _ _ _ _ _ _ _ _ _ _ _ _ _ _ (at-match .match .keys7) (c .take-constants .ensures Floats refl _ _ (at-start .pre .1 .1 .sized))
 
 returns-8 : tie.Need-returns-8
 unfolding commandOf wordsOf fieldsOf storedLine
 returns-8 c rest =
     let at-match = c .before .before .before in
-    let entry = at-match .before in
+    let at-start = at-match .before in
     at-line everyWord _ _ _ _ _ _ _ _ _ _ _ _ _ _ (at-match .match .keys8)
-    (c .take-constants2 .ensures Integers refl _ _ (entry .pre .1 .1 .sized))
+    (c .take-constants2 .ensures Integers refl _ _ (at-start .pre .1 .1 .sized))
 
 returns-9 : tie.Need-returns-9
 unfolding commandOf wordsOf fieldsOf storedLine
 returns-9 c rest =
     let at-match = c .before .before .before in
-    let entry = at-match .before in
+    let at-start = at-match .before in
     at-line everyWord _ _ _ _ _ _ _ _ _ _ _ _ _ _ (at-match .match .keys9)
-    (c .take-constants3 .ensures Booleans refl _ _ (entry .pre .1 .1 .sized))
+    (c .take-constants3 .ensures Booleans refl _ _ (at-start .pre .1 .1 .sized))
 
 returns-10 : tie.Need-returns-10
 unfolding commandOf wordsOf fieldsOf
 returns-10 c rest =
     let at-match = c .before .before .before in
-    let entry = at-match .before in
-    at-line everyWord _ _ _ _ _ _ _ _ _ _ _ _ _ _ (at-match .match .keys10) (c .take-mask .ensures _ _ (entry .pre .1 .1 .sized))
+    let at-start = at-match .before in
+    at-line everyWord _ _ _ _ _ _ _ _ _ _ _ _ _ _ (at-match .match .keys10) (c .take-mask .ensures _ _ (at-start .pre .1 .1 .sized))
 
 returns-11 : tie.Need-returns-11
 unfolding commandOf wordsOf fieldsOf
 returns-11 c rest =
     let at-match = c .before .before .before in
-    let entry = at-match .before in
-    at-line everyWord _ _ _ _ _ _ _ _ _ _ _ _ _ _ (at-match .match .keys11)
-    (c .take-conditional-mask .ensures _ _ (entry .pre .1 .1 .sized))
+    let at-start = at-match .before in
+    at-line everyWord _ _ _ _ _ _ _ _ _ _ _ _ _ _ (at-match .match .keys11) (c .take-conditional-mask .ensures _ _ (at-start .pre .1 .1 .sized))
 
 returns-12 : tie.Need-returns-12
 unfolding commandOf wordsOf fieldsOf
 returns-12 c rest =
     let at-match = c .before .before .before in
-    let entry = at-match .before in
-    at-line everyWord _ _ _ _ _ _ _ _ _ _ _ _ _ _ (at-match .match .keys12) (c .take-test .ensures _ _ (entry .pre .1 .1 .sized))
+    let at-start = at-match .before in
+    at-line everyWord _ _ _ _ _ _ _ _ _ _ _ _ _ _ (at-match .match .keys12) (c .take-test .ensures _ _ (at-start .pre .1 .1 .sized))
 
 returns-13 : tie.Need-returns-13
 unfolding wordsOf fieldsOf
 returns-13 c rest =
-    let at-match = c .before .before in
-    let entry = at-match .before in
-    let what = effectlessAt (entry .args .line) in
-    effectless-at everyWord _ _ _ _ _ _ _ _ _ _ _ _ _ what (effectless-line _ (entry .pre .0) (at-match .match .rest))
-    (c .take-effectless .ensures what _ _ _ (entry .pre .1 .1 .sized))
+    let what = effectlessAt (c .before .before .before .args .line) in
+    effectless-at everyWord _ _ _ _ _ _ _ _ _ _ _ _ _ what (effectless-line _ (c .before .before .before .pre .0) (c .before .before .match .rest))
+    (c .take-effectless .ensures what _ _ _ (c .before .before .before .pre .1 .1 .sized))
 
 pub take-line-spec : {M : Type 1} → statement M
 take-line-spec =

@@ -14,25 +14,26 @@ use Rattle.flow.proofs.make_steps.Statement.{statement}
 use Rattle.flow.proofs.make_steps.Tie as tie
 
 abbrev Inv-loop : tie.InvT-loop
-Inv-loop firsts seconds slots cells₀ masks booleans pairs made₀ cells made =
+Inv-loop firsts seconds slots cells₀ masks booleans integers pairs made₀ cells made =
     (GroupGiven cells) × (made ≤ pairs) × (pairs ≡ length masks / 2) ×
-    (groupSteps counterLimit (programOf firsts seconds slots) booleans masks (groupOf cells₀) ≡
-    plus made (groupSteps counterLimit (programOf firsts seconds slots) booleans (drop (made * 2) masks) (groupOf cells)))
+    (groupSteps counterLimit (programOf firsts seconds slots integers) booleans masks (groupOf cells₀) ≡
+    plus made (groupSteps counterLimit (programOf firsts seconds slots integers) booleans (drop (made * 2) masks) (groupOf cells)))
 
 abbrev μ-loop : tie.MeasureT-loop
-μ-loop firsts seconds slots cells₀ masks booleans pairs made₀ cells made = pairs - made
+μ-loop firsts seconds slots cells₀ masks booleans integers pairs made₀ cells made = pairs - made
 
 pairs-of-requires : tie.Need-pairs-of-requires Inv-loop μ-loop
 pairs-of-requires c κs = search needs
 
 loop-holds : tie.Need-loop-holds Inv-loop μ-loop
 loop-holds c =
-    let entry = c .before .before in (
+    let entry = c .before .before .before in (
       (entry .pre),
       omega arith,
       c .pairs-of .ensures,
       plus-zero
-          (groupSteps counterLimit (programOf (now (entry .args .firsts)) (now (entry .args .seconds)) (entry .args .slots)) (entry .args .booleans)
+          (groupSteps counterLimit (programOf (now (entry .args .firsts)) (now (entry .args .seconds)) (entry .args .slots) (now (entry .args .integers)))
+          (entry .args .booleans)
           (now (entry .args .masks)) (groupOf (now (entry .args .cells)))),
     )
 
@@ -44,8 +45,8 @@ element-copy-out-if1 c =
 returns : tie.Need-returns Inv-loop μ-loop
 returns c =
     let at-loop = c .before .before .before in
-    let entry = at-loop .before .before .before in
-    turns-ended (now (entry .args .firsts)) (now (entry .args .seconds)) (entry .args .slots) (entry .args .booleans) (now (entry .args .masks))
+    let entry = at-loop .before .before .before .before in
+    turns-ended (now (entry .args .firsts)) (now (entry .args .seconds)) (entry .args .slots) (entry .args .booleans) (now (entry .args .masks)) (now (entry .args .integers))
     (groupOf (now (entry .args .cells))) (at-loop .loop .made) (at-loop .loop .cells) (at-loop .loop .inv .3)
     (c .if1 .taken) (at-loop .loop .inv .0)
 
@@ -85,8 +86,8 @@ returns-2 c =
     let at-one-step = at-next .before .before in
     let at-if1 = at-one-step .before .before .before .before in
     let at-loop = at-if1 .before .before .before in
-    let entry = at-loop .before .before .before in
-    turns-refused (now (entry .args .firsts)) (now (entry .args .seconds)) (entry .args .slots) (entry .args .booleans) (now (entry .args .masks))
+    let entry = at-loop .before .before .before .before in
+    turns-refused (now (entry .args .firsts)) (now (entry .args .seconds)) (entry .args .slots) (entry .args .booleans) (now (entry .args .masks)) (now (entry .args .integers))
     (groupOf (now (entry .args .cells))) (at-loop .loop .made) (at-loop .loop .cells) (at-loop .loop .inv .3)
     (omega arith) (at-if1 .if1 .left) (at-one-step .one-step .ensures) (at-next .next .given .1)
 
@@ -104,11 +105,11 @@ loop-again c =
     let at-one-step = c .before .before in
     let at-if1 = at-one-step .before .before .before .before in
     let at-loop = at-if1 .before .before .before in
-    let entry = at-loop .before .before .before in (
+    let entry = at-loop .before .before .before .before in (
       at-one-step .one-step .ensures .given,
       omega arith,
       at-loop .loop .inv .2,
-      turns-again (now (entry .args .firsts)) (now (entry .args .seconds)) (entry .args .slots) (entry .args .booleans) (now (entry .args .masks))
+      turns-again (now (entry .args .firsts)) (now (entry .args .seconds)) (entry .args .slots) (entry .args .booleans) (now (entry .args .masks)) (now (entry .args .integers))
           (groupOf (now (entry .args .cells))) (at-loop .loop .made) (at-loop .loop .cells) (at-loop .loop .inv .3)
           (omega arith) (at-if1 .if1 .left) (at-one-step .one-step .ensures) (c .enum-told .given .1),
     )
@@ -116,8 +117,8 @@ loop-again c =
 returns-3 : tie.Need-returns-3 Inv-loop μ-loop
 returns-3 c =
     let at-loop = c .before in
-    let entry = at-loop .before .before .before in
-    turns-out (now (entry .args .firsts)) (now (entry .args .seconds)) (entry .args .slots) (entry .args .booleans) (now (entry .args .masks))
+    let entry = at-loop .before .before .before .before in
+    turns-out (now (entry .args .firsts)) (now (entry .args .seconds)) (entry .args .slots) (entry .args .booleans) (now (entry .args .masks)) (now (entry .args .integers))
     (groupOf (now (entry .args .cells))) (at-loop .loop .made) (at-loop .loop .cells) (at-loop .loop .inv .3)
     (omega arith) (at-loop .loop .inv .0)
 

@@ -18,11 +18,11 @@ number-requires c κs = search needs
 enum-known-steps : tie.Need-enum-known-steps
 enum-known-steps c = search needs
 
-cast-t16 : tie.Need-cast-t16
-cast-t16 c = search needs
-
 cast-t17 : tie.Need-cast-t17
 cast-t17 c = search needs
+
+cast-t18 : tie.Need-cast-t18
+cast-t18 c = search needs
 
 returns : tie.Need-returns
 returns c =
@@ -48,7 +48,7 @@ run-spec =
     enum-known-why
     number-requires
     enum-known-steps
-    cast-t16
     cast-t17
+    cast-t18
     returns
     returns-2)

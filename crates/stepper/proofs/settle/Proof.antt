@@ -3,7 +3,7 @@ use denote.Ref.{now}
 use native.Mathlib.Omega.{arith}
 use Rattle.group.specs.Group.{aOp, jumpAddress, wayOf}
 use Rattle.group.specs.Cells.{positionIn, groupOf}
-use Rattle.stepper.proofs.Going.{gone-clear, gone-masks}
+use Rattle.stepper.proofs.Going.{gone-named, gone-masks}
 use Rattle.stepper.proofs.Stepping.{settle-over, settle-refused, settle-made}
 use borrow.Author.Needs.{needs}
 use Rattle.stepper.proofs.settle.Statement.{statement}
@@ -51,7 +51,7 @@ branch-requires c κs =
     let cells = now (entry .args .cells) in
     let way = (wayOf (aOp (entry .args .first)) (entry .args .jump) (positionIn cells) (jumpAddress (entry .args .second))
     (groupOf cells .returns)) in (
-      gone-clear way (at-go .go .ensures) (at-if2 .if2 .left),
+      gone-named way (at-go .go .ensures) (at-if2 .if2 .left) (entry .pre .0 .size),
       omega arith,
       gone-masks way (at-go .go .ensures) (at-if2 .if2 .left) (entry .args .active) (entry .pre .3),
     )

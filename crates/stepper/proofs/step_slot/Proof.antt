@@ -6,8 +6,8 @@ use borrow.Author.Needs.{needs}
 use Rattle.stepper.proofs.step_slot.Statement.{statement}
 use Rattle.stepper.proofs.step_slot.Tie as tie
 
-allowed-requires : tie.Need-allowed-requires
-allowed-requires c κs = search needs
+fits-first-requires : tie.Need-fits-first-requires
+fits-first-requires c κs = search needs
 
 element-copy-out-was : tie.Need-element-copy-out-was
 element-copy-out-was c = search needs
@@ -26,52 +26,60 @@ wishes-requires c κs = search needs
 decides-requires : tie.Need-decides-requires
 decides-requires c κs = search needs
 
+overrule-requires : tie.Need-overrule-requires
+overrule-requires c κs = search needs
+
 settle-requires : tie.Need-settle-requires
 settle-requires c κs =
-    let at-turn-if = c .before .before .before in
-    let at-allowed = at-turn-if .before .before .before .before in
-    let entry = at-allowed .before in (
+    let at-turn-if = c .before .before .before .before in
+    let at-fits-first = at-turn-if .before .before .before .before in
+    let entry = at-fits-first .before in (
       entry .pre .0,
       entry .pre .1,
       entry .pre .2,
-      slot-masks (now (entry .args .cells)) (entry .args .first) (entry .args .second) (entry .args .slots) (entry .args .alu)
-          (entry .args .predicate) (entry .args .booleans) (entry .pre .0) (at-allowed .allowed .ensures) (at-turn-if .turn-if .ensures),
+      slot-masks (now (entry .args .cells)) (entry .args .first) (entry .args .second) (entry .args .alu)
+          (entry .args .predicate) (entry .args .booleans) (entry .pre .0) (at-turn-if .turn-if .ensures),
     )
 
+-- the first word is allowed
 returns : tie.Need-returns
 returns c =
-    let at-decides = c .before .before in
+    let at-overrule = c .before .before in
+    let at-decides = at-overrule .before in
     let at-wishes = at-decides .before in
     let at-turn-if = at-wishes .before in
     let at-if1 = at-turn-if .before .before .before in
-    let at-allowed = at-if1 .before in
-    let entry = at-allowed .before in
-    slot-done (now (entry .args .cells)) (entry .args .first) (entry .args .second) (entry .args .slots) (entry .args .alu)
-    (entry .args .predicate) (entry .args .booleans) (entry .pre .0) (at-allowed .allowed .ensures)
-    (at-turn-if .turn-if .ensures) (at-if1 .if1 .taken) (at-wishes .wishes .ensures) (at-decides .decides .ensures) (c .settle .ensures)
+    let at-fits-first = at-if1 .before in
+    let entry = at-fits-first .before in
+    slot-done (now (entry .args .cells)) (entry .args .first) (entry .args .second) (entry .args .slots) (entry .args .decision) (entry .args .alu)
+    (entry .args .predicate) (entry .args .booleans) (entry .pre .0) (at-fits-first .fits-first .ensures)
+    (at-turn-if .turn-if .ensures) (at-if1 .if1 .taken) (at-wishes .wishes .ensures) (at-decides .decides .ensures)
+    (at-overrule .overrule .ensures) (c .settle .ensures)
 
 number-requires : tie.Need-number-requires
 number-requires c κs = search needs
 
+-- it isn't
 returns-2 : tie.Need-returns-2
 returns-2 c =
     let at-if1 = c .before in
-    let at-allowed = at-if1 .before in
-    let entry = at-allowed .before in
-    slot-refused (now (entry .args .cells)) (entry .args .first) (entry .args .second) (entry .args .slots) (entry .args .alu)
-    (entry .args .predicate) (entry .args .booleans) (entry .pre .0) (at-allowed .allowed .ensures)
+    let at-fits-first = at-if1 .before in
+    let entry = at-fits-first .before in
+    slot-refused (now (entry .args .cells)) (entry .args .first) (entry .args .second) (entry .args .slots) (entry .args .decision) (entry .args .alu)
+    (entry .args .predicate) (entry .args .booleans) (entry .pre .0) (at-fits-first .fits-first .ensures)
     (c .number .ensures) (at-if1 .if1 .left)
 
 pub step-slot-spec : {M : Type 1} → statement M
 step-slot-spec =
     tie.close
     (tie.spec
-    allowed-requires
+    fits-first-requires
     element-copy-out-was
     turn-if-requires
     shr-boolean
     wishes-requires
     decides-requires
+    overrule-requires
     settle-requires
     returns
     number-requires

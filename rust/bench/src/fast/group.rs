@@ -1,6 +1,7 @@
 //! A group of processors: what a step and a run do, whatever way the branch counters are kept.
 
-use super::program::{Place, Program, Report, Stepped, DECREMENT, INCREMENT};
+use super::loops::Loops;
+use super::program::{Place, Program, Report, Slot, Stepped, DECREMENT, INCREMENT};
 use super::refusal::{Answer, ENDED, FLOW_WORD};
 
 /// The branch counters of up to 32 processors. Those of active processors are 0.
@@ -26,7 +27,11 @@ pub struct Group<C> {
     active: u32,
     counters: C,
     place: Place,
+    loops: Loops,
 }
+
+/// A step's masks: alu, predicate and booleans.
+type Masks = (u32, u32, u32);
 
 impl<C: Counters> Group<C> {
     /// A fresh group of 1 to 32 processors. 13.
@@ -41,6 +46,7 @@ impl<C: Counters> Group<C> {
             active: members,
             counters: C::ZEROS,
             place: Place::default(),
+            loops: Loops::default(),
         })
     }
 
@@ -52,8 +58,9 @@ impl<C: Counters> Group<C> {
         alu: u32,
         predicate: u32,
         booleans: u32,
+        integers: &[u32],
     ) -> Answer<Stepped> {
-        let jumped = self.advance(program, alu, predicate, booleans)?;
+        let jumped = self.advance(program, (alu, predicate, booleans), integers)?;
         Ok(Stepped {
             jumped,
             position: self.place.position,
@@ -62,7 +69,13 @@ impl<C: Counters> Group<C> {
 
     /// Steps up to the end of the list of masks or of the program. 13 to 16; a refusal leaves the group as it was.
     #[inline(never)]
-    pub fn run(&mut self, program: &Program, masks: &[u32], booleans: u32) -> Answer<Report> {
+    pub fn run(
+        &mut self,
+        program: &Program,
+        masks: &[u32],
+        booleans: u32,
+        integers: &[u32],
+    ) -> Answer<Report> {
         if program.has_ended(self.place.position) {
             return Err(ENDED);
         }
@@ -72,7 +85,7 @@ impl<C: Counters> Group<C> {
             if program.has_ended(group.place.position) {
                 break;
             }
-            group.advance(program, pair[0], pair[1], booleans)?;
+            group.advance(program, (pair[0], pair[1], booleans), integers)?;
             steps += 1;
         }
         *self = group;
@@ -80,24 +93,39 @@ impl<C: Counters> Group<C> {
     }
 
     #[inline(always)]
-    fn advance(
-        &mut self,
-        program: &Program,
-        alu: u32,
-        predicate: u32,
-        booleans: u32,
-    ) -> Answer<bool> {
+    fn advance(&mut self, program: &Program, masks: Masks, integers: &[u32]) -> Answer<bool> {
         if program.has_ended(self.place.position) {
             return Err(ENDED);
         }
-        let slot = program.slot(self.place.position)?;
+        let slot = program.slot(self.place.position);
+        if slot.op() == 0 {
+            slot.judge()?;
+            return self.settle(program, slot, masks, None);
+        }
+        slot.judge_loop()?;
+        let mut loops = self.loops;
+        let jumps = loops.turn(slot, integers)?;
+        self.settle(program, slot, masks, Some(jumps))?;
+        self.loops = loops;
+        Ok(jumps)
+    }
+
+    /// A step once its slot is judged: a loop has decided, or the processors do.
+    #[inline(always)]
+    fn settle(
+        &mut self,
+        program: &Program,
+        slot: Slot,
+        (alu, predicate, booleans): Masks,
+        decision: Option<bool>,
+    ) -> Answer<bool> {
         let mut active = self.active;
         let mut counters = self.counters;
         if slot.inverts() {
             active = self.members & !active & counters.at_zero();
         }
         let wishes = slot.wishes(alu, predicate, booleans);
-        let jumps = slot.jumps(active, wishes);
+        let jumps = decision.unwrap_or_else(|| slot.jumps(active, wishes));
         let inactive = self.members & !active;
         match slot.counter_code(jumps) {
             DECREMENT => active |= counters.lower(inactive, slot.pop_count()),
@@ -128,5 +156,10 @@ impl<C: Counters> Group<C> {
     /// The stored returns, oldest first.
     pub fn returns(&self) -> &[u32] {
         self.place.returns()
+    }
+
+    /// The aL shown, and the turns left in each open loop, the outermost first.
+    pub fn loops(&self) -> (u32, Vec<u32>) {
+        (self.loops.al(), self.loops.counts())
     }
 }

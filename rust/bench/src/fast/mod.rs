@@ -1,5 +1,5 @@
 //! Document 01 as a Rust programmer would write it for speed: sessions, logs over midnight, the writer, addresses, elements and
-//! flow words.
+//! flow words, with document 02's loops.
 //!
 //! Every entry that stands for one call of the product is marked `#[inline(never)]`. A host reaches the product through a
 //! call that nothing inlines; without the mark the compiler could melt these entries into the timing loop and move the work
@@ -11,6 +11,7 @@ pub mod element;
 pub mod group;
 pub mod layout;
 pub mod log;
+mod loops;
 pub mod planes;
 pub mod processors;
 pub mod program;

@@ -9,9 +9,12 @@ const PLAIN: Slot = Slot {
     first: 0x20,
     second: 0,
 };
-/// Named bits of the two words; the op must be 0.
+/// Named bits of the two words besides the op, and those of an opening's integer number.
 const FIRST_BITS: u32 = 0x0F1F_FFF0;
 const SECOND_BITS: u32 = 0x01FF_001F;
+const INTEGER_BITS: u32 = 0x0000_1F00;
+/// The last op.
+const LAST_OP: u32 = 4;
 /// The lower bits of A_OP, B_OP0 and B_OP1: code 3 has both.
 const CODE_BITS: u32 = 0x0500_0040;
 
@@ -84,20 +87,58 @@ impl Program {
         position >= self.running
     }
 
-    /// The slot at a position before the end, judged. 13.
+    /// The slot at a position before the end.
     #[inline(always)]
-    pub(super) fn slot(&self, position: u32) -> Answer<Slot> {
+    pub(super) fn slot(&self, position: u32) -> Slot {
         // a program runs at most 512 slots, so the cut changes no position before its end
-        let slot = self.slots[position as usize % SLOTS];
-        let double = slot.first & slot.first >> 1 & CODE_BITS;
-        if slot.first & !FIRST_BITS | slot.second & !SECOND_BITS | double != 0 {
-            return Err(FLOW_WORD);
-        }
-        Ok(slot)
+        self.slots[position as usize % SLOTS]
     }
 }
 
 impl Slot {
+    #[inline(always)]
+    pub fn op(&self) -> u32 {
+        self.first & 15
+    }
+
+    /// Of ops 1 to 4 the odd ones, LOOP and REP.
+    #[inline(always)]
+    pub fn opens(&self) -> bool {
+        self.first & 1 == 1
+    }
+
+    /// The number of an opening's integer word.
+    #[inline(always)]
+    pub fn integer(&self) -> usize {
+        (self.second >> 8 & 31) as usize
+    }
+
+    /// Judges a slot of op 0. 13.
+    #[inline(always)]
+    pub fn judge(&self) -> Answer<()> {
+        self.judge_bits(FIRST_BITS, SECOND_BITS)
+    }
+
+    /// Judges a slot of another op. 13.
+    #[inline(always)]
+    pub fn judge_loop(&self) -> Answer<()> {
+        if self.op() > LAST_OP {
+            return Err(FLOW_WORD);
+        }
+        let integer = if self.opens() { INTEGER_BITS } else { 0 };
+        self.judge_bits(FIRST_BITS | 15, SECOND_BITS | integer)
+    }
+
+    /// Judges the codes, and the bits besides the named ones.
+    #[inline(always)]
+    fn judge_bits(&self, first: u32, second: u32) -> Answer<()> {
+        let double = self.first & self.first >> 1 & CODE_BITS;
+        if self.first & !first | self.second & !second | double != 0 {
+            return Err(FLOW_WORD);
+        }
+        Ok(())
+    }
+
     #[inline(always)]
     pub fn inverts(&self) -> bool {
         self.first & 0x10 != 0

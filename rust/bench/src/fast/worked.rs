@@ -314,7 +314,7 @@ macro_rules! worked_steps {
         fn $test() {
             let step = |group: &mut $group, first: u32, alu: u32| {
                 let program = Program::load(&[first, 0].repeat(4)).unwrap();
-                let stepped = group.step(&program, alu, 0, 0).unwrap();
+                let stepped = group.step(&program, alu, 0, 0, &[]).unwrap();
                 (stepped.jumped, group.active())
             };
             let fresh = <$group>::begin(4).unwrap();
@@ -335,7 +335,7 @@ worked_steps!(worked_steps_by_processors, processors::Group);
 fn steps_are_refused_in_order() {
     let mut group = planes::Group::begin(2).unwrap();
     let step = |group: &mut planes::Group, words: &[u32]| {
-        group.step(&Program::load(words).unwrap(), 0, 0, 0)
+        group.step(&Program::load(words).unwrap(), 0, 0, 0, &[])
     };
     let before = group;
     assert_eq!(step(&mut group, &[0x0000_00C0, 0]), Err(13));
@@ -349,6 +349,47 @@ fn steps_are_refused_in_order() {
     assert_eq!(step(&mut group, &[0x0000_FF00, 0x0001_0000]), Ok(end));
     assert_eq!(step(&mut group, &[0x0000_FF00, 0]), Err(16));
     assert!(Program::load(&[0; 3]).is_err());
+}
+
+/// A LOOP of three turns around a REP of two: the turns left and aL after every step.
+#[test]
+fn loops_turn_and_are_refused() {
+    let program = Program::load(&[
+        1,
+        0x0004_0000,
+        3,
+        0x0004_0100,
+        4,
+        0x0002_0000,
+        2,
+        0x0001_0000,
+    ]);
+    let program = program.unwrap();
+    let integers = [0x00FC_0A03, 2];
+    let mut group = planes::Group::begin(4).unwrap();
+    let mut seen = Vec::new();
+    while group.position() < 4 {
+        group.step(&program, 0, 0, 0, &integers).unwrap();
+        seen.push(group.loops());
+    }
+    assert_eq!(seen.len(), 13);
+    assert_eq!(seen[1], (10, vec![3, 2]));
+    assert_eq!(seen[4], (6, vec![2]));
+    assert_eq!(seen[12], (0, vec![]));
+    let fresh = processors::Group::begin(4).unwrap();
+    let step = |first: u32, second: u32, integers: &[u32]| {
+        let mut group = fresh;
+        let stepped = group.step(&Program::load(&[first, second]).unwrap(), 0, 0, 0, integers);
+        (stepped.map(|stepped| stepped.jumped), group == fresh)
+    };
+    assert_eq!(step(1, 0x0001_0000, &[0]).0, Ok(true));
+    assert_eq!(step(3, 0x0000_0100, &[2]), (Err(13), true));
+    assert_eq!(step(3, 0, &[0x0100_0002]), (Err(13), true));
+    assert_eq!(step(2, 0x0000_0100, &[2, 2]), (Err(13), true));
+    assert_eq!(step(5, 0, &[2]), (Err(13), true));
+    assert_eq!(step(4, 0, &[2]), (Err(14), true));
+    assert_eq!(step(2, 0, &[]), (Err(14), true));
+    assert_eq!(step(1, 0x0002_0000, &[0]), (Err(15), true));
 }
 
 /// A record's bytes: its kind, then its number, low byte first.

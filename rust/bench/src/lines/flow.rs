@@ -17,8 +17,7 @@ struct Loaded {
 }
 
 impl Loaded {
-    fn new(size: u32, seed: u64) -> Loaded {
-        let way = Way::new(size, seed);
+    fn new(size: u32, way: Way) -> Loaded {
         Loaded {
             lent: boundary::Program::load(&way.words).expect("a program"),
             program: Program::load(&way.words).expect("a program"),
@@ -35,12 +34,23 @@ trait Group: Sized {
     fn step(&mut self, loaded: &Loaded, alu: u32, predicate: u32) -> Result<(bool, u32), u32>;
     /// The steps made, the first active processor and how many are active.
     fn run(&mut self, loaded: &Loaded, masks: &[u32]) -> Result<(u64, u32, u32), u32>;
-    /// Position, active processors, branch counters and returns.
-    fn state(&self, loaded: &Loaded) -> (u32, u32, Vec<u32>, Vec<u32>);
+    fn state(&self, loaded: &Loaded) -> State;
+}
+
+/// Position, active processors, branch counters, returns, and loops as the aL shown and the turns left in each.
+type State = (u32, u32, Vec<u32>, Vec<u32>, (u32, Vec<u32>));
+
+/// The loops of the product's group, as the Rust groups tell theirs.
+fn loops(group: &boundary::Group) -> (u32, Vec<u32>) {
+    let loops = group.loops();
+    let count = |open: &boundary::Loop| match open {
+        boundary::Loop::Loop { count, .. } | boundary::Loop::Rep { count } => *count,
+    };
+    (loops.al, loops.open.iter().map(count).collect())
 }
 
 macro_rules! group {
-    ($group:ty, $program:ident) => {
+    ($group:ty, $program:ident, $loops:expr) => {
         impl Group for $group {
             #[inline(always)]
             fn fresh(loaded: &Loaded) -> Self {
@@ -54,39 +64,57 @@ macro_rules! group {
                 alu: u32,
                 predicate: u32,
             ) -> Result<(bool, u32), u32> {
-                let stepped =
-                    <$group>::step(self, &loaded.$program, alu, predicate, loaded.way.booleans)?;
+                let (booleans, integers) = (loaded.way.booleans, &loaded.way.integers);
+                let program = &loaded.$program;
+                let stepped = <$group>::step(self, program, alu, predicate, booleans, integers)?;
                 Ok((stepped.jumped, stepped.position))
             }
 
             #[inline(always)]
             fn run(&mut self, loaded: &Loaded, masks: &[u32]) -> Result<(u64, u32, u32), u32> {
-                let report = <$group>::run(self, &loaded.$program, masks, loaded.way.booleans)?;
+                let (booleans, integers) = (loaded.way.booleans, &loaded.way.integers);
+                let report = <$group>::run(self, &loaded.$program, masks, booleans, integers)?;
                 Ok((report.steps, report.first, report.active))
             }
 
-            fn state(&self, loaded: &Loaded) -> (u32, u32, Vec<u32>, Vec<u32>) {
+            fn state(&self, loaded: &Loaded) -> State {
                 let counters = (0..loaded.size).map(|processor| self.counter(processor));
                 let returns = self.returns().to_vec();
-                (self.position(), self.active(), counters.collect(), returns)
+                let (counters, loops) = (counters.collect(), $loops(self));
+                (self.position(), self.active(), counters, returns, loops)
             }
         }
     };
 }
 
-group!(boundary::Group, lent);
-group!(planes::Group, program);
-group!(processors::Group, program);
+group!(boundary::Group, lent, loops);
+group!(planes::Group, program, planes::Group::loops);
+group!(processors::Group, program, processors::Group::loops);
 
 pub fn add(table: &mut Table) {
     for size in [4, 32] {
-        let ways: Vec<Loaded> = (11..15).map(|seed| Loaded::new(size, seed)).collect();
+        let way = |seed| Loaded::new(size, Way::new(size, seed));
+        let ways: Vec<Loaded> = (11..15).map(way).collect();
         step_line::<processors::Group>(table, "processors", &ways);
         step_line::<planes::Group>(table, "planes", &ways);
         if size == 32 {
             run_line::<processors::Group>(table, "processors", &ways);
             run_line::<planes::Group>(table, "planes", &ways);
         }
+    }
+    let way = |seed| Loaded::new(32, Way::looping(32, seed));
+    let ways: Vec<Loaded> = (15..19).map(way).collect();
+    loop_line::<processors::Group>(table, "processors", &ways);
+    loop_line::<planes::Group>(table, "planes", &ways);
+}
+
+fn loop_line<Rust: Group>(table: &mut Table, by: &str, ways: &[Loaded]) {
+    let size = ways[0].size;
+    let name = format!("loop of 64 turns, {size} processors, Rust by {by}, a step");
+    if table.wants(&name) {
+        check::<Rust>(ways);
+        let (product, rust) = (|| runs::<boundary::Group>(ways), || runs::<Rust>(ways));
+        table.line(&name, count(ways), product, rust);
     }
 }
 

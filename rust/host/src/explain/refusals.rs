@@ -183,23 +183,30 @@ pub const ALL: [Refusal; 20] = [
     entry(
         13,
         "flow word field or group size not allowed",
-        "a fresh group; a step or a run, at the slot that it comes to",
+        "a fresh group; a step or a run, for the slot that it comes to or the integer word that the slot names",
         &[
             "A group has 1 to 32 processors (else 13)",
             "Other bits and codes: 13.",
             "Flow words are judged when stepped.",
         ],
-    ),
+    )
+    .changed_by(&[
+        "Add ops 1 LOOP, 2 ENDLOOP, 3 REP, 4 ENDREP, with the integer number in second-word bits 12:8 of ops 1 and 3, from a lent list of integer words (no such word: 13): count in bits 7:0, start of aL in 15:8, step in 23:16 as -128 to 127, the rest 0, else 13.",
+    ]),
     entry(
         14,
         "branch counter or return stack at its limit",
-        "a step or a run",
+        "a step or a run, for branch counters, stored returns, open loops or aL",
         &[
             "Increment: each inactive counter gains 1 (from 31: 14)",
             "On a jump: push stores position + 1 (full: 14); pop goes to the stored place (empty: 14).",
             "empty stack of at most 4 returns",
         ],
-    ),
+    )
+    .changed_by(&[
+        "At most 4 open loops; a fifth push, or a close with none open or of the other kind, gets 14.",
+        "LOOP's close also adds the step to its aL on a jump; aL outside 0 to 255 gets 14.",
+    ]),
     entry(
         15,
         "a jump past the program's end, or a program of 0 or over 512 slots or of an odd number of words",

@@ -1,5 +1,6 @@
 //! `egretfold flow`: a program listed, or stepped with given masks, a row a step.
 
+mod loops;
 mod slots;
 mod steps;
 
@@ -24,7 +25,8 @@ pub const EXAMPLES: &str = "\
 Examples, from the repository's root:
   egretfold flow --hex samples/branch.hex
   egretfold flow --hex samples/branch.hex --processors 8 --masks samples/branch.masks
-  egretfold flow --hex samples/branch.hex --processors 8 0,0 --repeat 20";
+  egretfold flow --hex samples/branch.hex --processors 8 0,0 --repeat 20
+  egretfold flow --hex samples/loops.hex --integers samples/loops.integers --processors 4 --masks samples/loops.masks";
 
 #[derive(Args)]
 pub struct Options {
@@ -45,6 +47,9 @@ pub struct Options {
     /// The 32 booleans, hex
     #[arg(long, value_name = "WORD", default_value = "0", value_parser = numbers::word)]
     booleans: u32,
+    /// The integer words that LOOP and REP take, hex text, from number 0 on
+    #[arg(long, value_name = "FILE")]
+    integers: Option<PathBuf>,
     /// The program is hex text
     #[arg(long)]
     hex: bool,
@@ -67,10 +72,21 @@ fn masks(text: &str) -> Result<(u32, u32), String> {
 }
 
 pub fn run(options: &Options, out: &mut dyn Write) -> Outcome {
+    let inputs = [&options.list, &options.integers];
+    let named = inputs.iter().filter_map(|file| file.as_deref());
+    let more = named.filter(|file| source::is_standard(Some(file))).count();
+    if more + usize::from(source::is_standard(options.file.as_deref())) > 1 {
+        return Err(Failure::wrong(
+            "only one of program, masks and integer words can be on standard input",
+        ));
+    }
     let (name, program) = load(options)?;
-    let masks = all_masks(options)?;
-    if masks.is_empty() {
-        return steps::list(&program, options.json, out);
+    let lists = Lists {
+        masks: all_masks(options)?,
+        integers: all_integers(options)?,
+    };
+    if lists.masks.is_empty() {
+        return steps::list(&program, &lists.integers, options.json, out);
     }
     let size = options.processors;
     let group = Group::begin(size).map_err(|number| {
@@ -82,12 +98,18 @@ pub fn run(options: &Options, out: &mut dyn Write) -> Outcome {
         let group_words = text::count(u64::from(size), "processor");
         let booleans = Word(options.booleans);
         writeln!(out, "{name}: {slots}, {group_words}, booleans {booleans}")?;
-        for line in steps::head(&group) {
+        for line in steps::head(&group, steps::has_loops(&program)) {
             writeln!(out, "{line}")?;
         }
     }
-    let stepped = step_all(options, &program, group, &masks, out)?;
-    report(options, &name, &program, group, &masks, stepped, out)
+    let stepped = step_all(options, &program, group, &lists, out)?;
+    report(options, &name, &program, group, &lists, stepped, out)
+}
+
+/// What a group is stepped with: two masks a step, and integer words for all.
+struct Lists {
+    masks: Vec<(u32, u32)>,
+    integers: Vec<u32>,
 }
 
 fn load(options: &Options) -> Outcome<(String, Program)> {
@@ -110,11 +132,6 @@ fn load(options: &Options) -> Outcome<(String, Program)> {
 fn all_masks(options: &Options) -> Outcome<Vec<(u32, u32)>> {
     let mut once = options.masks.clone();
     if let Some(file) = &options.list {
-        if source::is_standard(Some(file)) && source::is_standard(options.file.as_deref()) {
-            return Err(Failure::wrong(
-                "program and masks can't both be on standard input",
-            ));
-        }
         let mut lines = Lines::new(Source::open(Some(file))?);
         while let Some(line) = lines.next()? {
             if !line.is_empty() {
@@ -130,6 +147,17 @@ fn all_masks(options: &Options) -> Outcome<Vec<(u32, u32)>> {
     Ok(once.repeat(options.repeat as usize))
 }
 
+/// The integer words, as many as slots can name.
+fn all_integers(options: &Options) -> Outcome<Vec<u32>> {
+    match &options.integers {
+        None => Ok(Vec::new()),
+        Some(file) => {
+            let source = Source::open(Some(file))?;
+            Words::new(source, true).first(loops::INTEGERS).all()
+        }
+    }
+}
+
 /// A step that was refused.
 struct RefusedStep {
     step: usize,
@@ -143,18 +171,20 @@ fn step_all(
     options: &Options,
     program: &Program,
     mut group: Group,
-    masks: &[(u32, u32)],
+    Lists { masks, integers }: &Lists,
     out: &mut dyn Write,
 ) -> Outcome<Result<Group, RefusedStep>> {
+    let looping = steps::has_loops(program);
     for (step, (alu, predicate)) in masks.iter().copied().enumerate() {
         if group.position() >= program.slots() {
             break;
         }
         let number = SlotNumber(group.position());
-        let stepped = match group.step(program, alu, predicate, options.booleans) {
+        let stepped = match group.step(program, alu, predicate, options.booleans, integers) {
             Ok(stepped) => stepped,
             Err(refusal) => {
-                let refused = cause::refused(refusal, slots::cause(refusal, program, &group));
+                let cause = slots::cause(refusal, program, &group, integers);
+                let refused = cause::refused(refusal, cause);
                 return Ok(Err(RefusedStep {
                     step,
                     number,
@@ -165,11 +195,12 @@ fn step_all(
         let row = Row {
             step,
             number,
-            slot: Slot::of(program, number),
+            slot: Slot::of(program, number, integers),
             alu,
             predicate,
             stepped,
             group: &group,
+            looping,
         };
         match options.json {
             true => writeln!(out, "{}", row.json())?,
@@ -186,12 +217,13 @@ fn report(
     name: &str,
     program: &Program,
     mut group: Group,
-    masks: &[(u32, u32)],
+    Lists { masks, integers }: &Lists,
     stepped: Result<Group, RefusedStep>,
     out: &mut dyn Write,
 ) -> Outcome {
     let list: Vec<u32> = masks.iter().flat_map(|(a, p)| [*a, *p]).collect();
-    match (group.run(program, &list, options.booleans), stepped) {
+    let ran = group.run(program, &list, options.booleans, integers);
+    match (ran, stepped) {
         (Ok(report), Ok(by_steps)) if by_steps == group => {
             show_report(options, program, &group, report, out)
         }

@@ -2,10 +2,13 @@
 //! refused.
 
 use crate::common::kinds::{SlotNumber, Word};
+use crate::flow::loops::{self, Integer, ENDREP, LOOP, REP};
 use boundary::{Group, Program};
 
-/// The bits of the two words that document 01 names.
+/// The bits of the two words that document 01 names, and in the second those that
+/// request 4 names for openings.
 const NAMED: [u32; 2] = [0x0F1F_FFFF, 0x01FF_001F];
+const INTEGER: u32 = 0x1F00;
 
 /// The longest stack of returns, and the highest branch counter.
 const RETURNS: usize = 4;
@@ -15,6 +18,8 @@ const COUNTER: u32 = 31;
 pub struct Slot {
     pub first: u32,
     pub second: u32,
+    /// The integer word that an opening names, where the list has it.
+    pub word: Option<Integer>,
 }
 
 const INCREMENT: u32 = 2;
@@ -23,9 +28,18 @@ const PUSH: u32 = 2;
 
 /// The fields of a slot, each with its name in the paper and its value.
 impl Slot {
-    pub fn of(program: &Program, number: SlotNumber) -> Slot {
+    pub fn of(program: &Program, number: SlotNumber, integers: &[u32]) -> Slot {
         let [first, second] = program.slot(number.0 as usize);
-        Slot { first, second }
+        let slot = Slot {
+            first,
+            second,
+            word: None,
+        };
+        let word = integers.get(slot.integer() as usize).copied();
+        Slot {
+            word: word.filter(|_| slot.opens()).map(Integer),
+            ..slot
+        }
     }
 
     fn bits(word: u32, low: u32, count: u32) -> u32 {
@@ -70,28 +84,40 @@ impl Slot {
         Slot::bits(self.second, 0, 5)
     }
 
+    pub fn integer(self) -> u32 {
+        Slot::bits(self.second, 8, 5)
+    }
+
     pub fn address(self) -> u32 {
         Slot::bits(self.second, 16, 9)
     }
 
+    /// Whether it opens a loop, and so names an integer word.
+    pub fn opens(self) -> bool {
+        self.op() == LOOP || self.op() == REP
+    }
+
     /// The bits of both words that have no name.
     fn reserved(self) -> [u32; 2] {
-        [self.first & !NAMED[0], self.second & !NAMED[1]]
+        let integer = if self.opens() { INTEGER } else { 0 };
+        [self.first & !NAMED[0], self.second & !(NAMED[1] | integer)]
     }
 
     /// The fields in words; those that are 0 and say nothing then are left out.
     pub fn words(self) -> String {
-        let mut parts = vec![
+        let mut parts: Vec<String> = loops::op(self).into_iter().collect();
+        parts.extend([
             format!("JUMP_FUNC {:02X}", self.jump_func()),
             format!("JUMP_ANY {}", self.jump_any()),
             format!("address {}", self.address()),
-        ];
+        ]);
         let mut put = |name: &str, value: u32, text: String| {
             if value != 0 {
                 parts.push(format!("{name}{text}"));
             }
         };
-        put("op ", self.op(), self.op().to_string());
+        let unknown = if self.op() > ENDREP { self.op() } else { 0 };
+        put("op ", unknown, unknown.to_string());
         put("B_ELSE", self.b_else(), String::new());
         put(
             "A_OP ",
@@ -125,7 +151,7 @@ fn code(code: u32, names: [&str; 3]) -> String {
 }
 
 /// Why the group's next step was refused.
-pub fn cause(number: u32, program: &Program, group: &Group) -> Option<String> {
+pub fn cause(number: u32, program: &Program, group: &Group, integers: &[u32]) -> Option<String> {
     let (position, slots) = (group.position(), program.slots());
     if number == 16 {
         return Some(format!(
@@ -135,10 +161,10 @@ pub fn cause(number: u32, program: &Program, group: &Group) -> Option<String> {
     if position >= slots {
         return None;
     }
-    let slot = Slot::of(program, SlotNumber(position));
+    let slot = Slot::of(program, SlotNumber(position), integers);
     match number {
-        13 => not_allowed(slot),
-        14 => at_limit(slot, group),
+        13 => not_allowed(slot).or_else(|| loops::not_allowed(slot, integers.len())),
+        14 => loops::at_limit(slot, group).or_else(|| at_limit(slot, group)),
         15 => {
             let to = match slot.a_op() {
                 POP => group.returns().last().copied()?,
@@ -160,8 +186,8 @@ fn not_allowed(slot: Slot) -> Option<String> {
         ("B_OP1", slot.b_op1()),
     ];
     let large = codes.iter().find(|(_, code)| *code > 2);
-    if slot.op() != 0 {
-        Some(format!("op {} is not 0", slot.op()))
+    if slot.op() > ENDREP {
+        Some(format!("op {} is over {ENDREP}", slot.op()))
     } else if let Some((name, code)) = large {
         Some(format!("{name} has code {code}, over 2"))
     } else if first != 0 {

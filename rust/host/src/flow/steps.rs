@@ -2,18 +2,19 @@
 
 use crate::common::failure::Outcome;
 use crate::common::kinds::{SlotNumber, Word};
+use crate::flow::loops;
 use crate::flow::slots::Slot;
 use boundary::{Group, Program, Stepped};
 use serde_json::{json, Value};
 use std::io::Write;
 
 /// The program's slots, a row each.
-pub fn list(program: &Program, as_json: bool, out: &mut dyn Write) -> Outcome {
+pub fn list(program: &Program, integers: &[u32], as_json: bool, out: &mut dyn Write) -> Outcome {
     if !as_json {
         writeln!(out, "slot  first     second    fields")?;
     }
     for number in (0..program.slots()).map(SlotNumber) {
-        let slot = Slot::of(program, number);
+        let slot = Slot::of(program, number, integers);
         let (first, second) = (Word(slot.first), Word(slot.second));
         match as_json {
             true => writeln!(out, "{}", slot_json(number, slot))?,
@@ -28,18 +29,34 @@ fn width(group: &Group) -> usize {
     (group.size() as usize).max("counters".len())
 }
 
+/// Whether a program has loops; the rows of one that has none don't tell of them.
+pub fn has_loops(program: &Program) -> bool {
+    let mut slots = (0..program.slots()).map(SlotNumber);
+    slots.any(|number| loops::name(Slot::of(program, number, &[]).op()).is_some())
+}
+
 /// What stands above the steps' rows.
-pub fn head(group: &Group) -> [String; 2] {
+pub fn head(group: &Group, looping: bool) -> Vec<String> {
     let counters = format!("{:<w$}", "counters", w = width(group));
-    [
+    let mut lines = vec![
         "counters: a character a processor, from 0 on: . active, else its branch counter, \
          0 to 9, then a to v"
             .to_string(),
-        format!(
-            "step  slot  alu       predicate  decision  next  active    {counters}  returns  fields"
-        ),
-    ]
+    ];
+    if looping {
+        let told = "loops: those open, outermost first: L a LOOP, R a REP, and its turns left; \
+                    aL is the innermost LOOP's";
+        lines.push(told.to_string());
+    }
+    let of_loops = if looping { LOOPS_HEAD } else { "" };
+    lines.push(format!(
+        "step  slot  alu       predicate  decision  next  active    {counters}  returns  {of_loops}fields"
+    ));
+    lines
 }
+
+/// The columns of loops and aL, 11 and 3 characters wide.
+const LOOPS_HEAD: &str = "loops         aL  ";
 
 /// A step that was made.
 pub struct Row<'a> {
@@ -51,6 +68,8 @@ pub struct Row<'a> {
     pub stepped: Stepped,
     /// As the step left it.
     pub group: &'a Group,
+    /// Whether the row tells of loops.
+    pub looping: bool,
 }
 
 impl Row<'_> {
@@ -63,7 +82,20 @@ impl Row<'_> {
         let counters = format!("{:<w$}", self.counters(), w = width(self.group));
         let state = format!("{active}  {counters}  {:<7}", self.returns());
         let (step, number, fields) = (self.step, self.number, self.slot.words());
-        format!("{step:>4}  {number:>4}  {masks}  {decision}  {state}  {fields}")
+        let of_loops = self.loops();
+        format!("{step:>4}  {number:>4}  {masks}  {decision}  {state}  {of_loops}{fields}")
+    }
+
+    /// The open loops and aL, where the row tells of them.
+    fn loops(&self) -> String {
+        match self.looping {
+            true => format!(
+                "{:<11}  {:>3}  ",
+                loops::short(self.group),
+                self.group.loops().al
+            ),
+            false => String::new(),
+        }
     }
 
     fn decision(&self) -> &'static str {
@@ -103,13 +135,15 @@ impl Row<'_> {
         value["active"] = json!(Word(self.group.active()).to_string());
         value["counters"] = json!(counters);
         value["returns"] = json!(self.group.returns());
+        value["loops"] = loops::json(self.group);
+        value["al"] = json!(self.group.loops().al);
         value["at"] = slot_json(self.number, self.slot);
         value
     }
 }
 
 fn slot_json(number: SlotNumber, slot: Slot) -> Value {
-    json!({
+    let mut value = json!({
         "slot": number.0,
         "first": Word(slot.first).to_string(),
         "second": Word(slot.second).to_string(),
@@ -122,6 +156,11 @@ fn slot_json(number: SlotNumber, slot: Slot) -> Value {
         "b_op0": slot.b_op0(),
         "b_op1": slot.b_op1(),
         "boolean": slot.boolean(),
+        "integer": slot.integer(),
         "address": slot.address(),
-    })
+    });
+    if let Some(word) = slot.word {
+        value["integer_word"] = word.json();
+    }
+    value
 }

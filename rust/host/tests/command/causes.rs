@@ -1,9 +1,9 @@
 //! Refusals told with their place, their number and both quantities.
 
-use crate::common::{complained, egretfold};
+use crate::common::{complained, egretfold, Folder};
 use boundary::{Group, Program, Session};
 use compare::random::Random;
-use compare::{programs, words};
+use compare::{loops, programs, words};
 
 /// A stream in hex text, and what is told of its refused word.
 const TOLD: &[(&str, &str)] = &[
@@ -162,15 +162,20 @@ fn masks(random: &mut Random) -> (String, Vec<u32>) {
 #[test]
 fn refused_runs_get_more_than_the_bare_cause() {
     let mut seen = [0; 18];
+    let folder = Folder::new("integer-words");
     for case in 0..2_000 {
         let mut random = Random::of_case(92, 4, case);
         let words = programs::any(&mut random);
+        let integers = loops::integers(&mut random);
         let (arguments, list) = masks(&mut random);
         let repeated = list.repeat(8);
-        let run = |program| Group::begin(8)?.run(&program, &repeated, 0xF0F0);
+        let run = |program| Group::begin(8)?.run(&program, &repeated, 0xF0F0, &integers);
         let answer = Program::load(&words).and_then(run);
         let stream: Vec<u8> = words.iter().flat_map(|word| word.to_le_bytes()).collect();
-        let line = format!("flow --processors 8 --booleans F0F0 --repeat 8 -{arguments}");
+        let text: String = integers.iter().map(|word| format!("{word:X}\n")).collect();
+        let file = folder.write("integers", text.as_bytes());
+        let options = format!("--booleans F0F0 --integers {file} --repeat 8");
+        let line = format!("flow --processors 8 {options} -{arguments}");
         let output = egretfold(&line, &stream);
         let told = complained(&output);
         match answer {

@@ -26,43 +26,39 @@ well-formed-requires c κs = search needs
 
 returns : tie.Need-returns
 returns c =
-    let at-well-formed = c .before in
-    let at-tiled = at-well-formed .before in
+    let at-tiled = c .before .before in
     let at-size = at-tiled .before in
     let at-code = at-size .before in
     let at-pitch = at-code .before in
     seen-malformed _ _ _ _ _ _ _ (at-pitch .pitch .ensures) (at-code .code .ensures) (at-size .size .ensures) (at-tiled .tiled .ensures)
-    (sym (at-well-formed .well-formed .ensures) ∙ not-true _ (c .if1 .taken))
+    (sym (c .before .well-formed .ensures) ∙ not-true _ (c .if1 .taken))
 
 stream-stride-requires : tie.Need-stream-stride-requires
 stream-stride-requires c κs = sym (c .before .well-formed .ensures) ∙ not-false _ (c .if1 .left)
 
 returns-2 : tie.Need-returns-2
 returns-2 c =
-    let at-stream-stride = c .before in
-    let at-if1 = at-stream-stride .before in
+    let at-if1 = c .before .before in
     let at-well-formed = at-if1 .before in
     let at-tiled = at-well-formed .before in
     let at-size = at-tiled .before in
     let at-code = at-size .before in
     let at-pitch = at-code .before in
-    let well-formed-told = sym (at-well-formed .well-formed .ensures) ∙ not-false _ (at-if1 .if1 .left) in
-    let unruled-here = unruled _ _ _ _ _ well-formed-told _ (at-stream-stride .stream-stride .ensures) (c .if2 .taken) in
+    let formed = sym (at-well-formed .well-formed .ensures) ∙ not-false _ (at-if1 .if1 .left) in
     seen-broken _ _ _ _ _ _ _ (at-pitch .pitch .ensures) (at-code .code .ensures) (at-size .size .ensures) (at-tiled .tiled .ensures)
-    well-formed-told unruled-here
+    formed
+    (unruled _ _ _ _ _ formed _ (c .before .stream-stride .ensures) (c .if2 .taken))
 
 row-step-requires : tie.Need-row-step-requires
 row-step-requires c κs = form-size _ _ _ (sym (c .before .before .before .well-formed .ensures) ∙ not-false _ (c .before .before .if1 .left))
 
 rows-taken-requires : tie.Need-rows-taken-requires
 rows-taken-requires c κs =
-    let at-if2 = c .before in
-    let at-stream-stride = at-if2 .before in
+    let at-stream-stride = c .before .before in
     let at-if1 = at-stream-stride .before in
     let at-well-formed = at-if1 .before in
-    let well-formed-told = sym (at-well-formed .well-formed .ensures) ∙ not-false _ (at-if1 .if1 .left) in
-    let rule = (ruled _ _ _ _ _ well-formed-told _ (at-stream-stride .stream-stride .ensures) (at-if2 .if2 .left)) .rule in
-    (form-size _ _ _ well-formed-told, rule-bounds _ _ _ _ _ rule .height-most)
+    let formed = sym (at-well-formed .well-formed .ensures) ∙ not-false _ (at-if1 .if1 .left) in
+    (form-size _ _ _ formed, rule-bounds _ _ _ _ _ ((ruled _ _ _ _ _ formed _ (at-stream-stride .stream-stride .ensures) (c .before .if2 .left)) .rule) .height-most)
 
 mul-t12 : tie.Need-mul-t12
 mul-t12 c =
@@ -70,14 +66,14 @@ mul-t12 c =
     let at-stream-stride = at-if2 .before in
     let at-if1 = at-stream-stride .before in
     let at-well-formed = at-if1 .before in
-    let well-formed-told = sym (at-well-formed .well-formed .ensures) ∙ not-false _ (at-if1 .if1 .left) in
-    let ruled-here = ruled _ _ _ _ _ well-formed-told _ (at-stream-stride .stream-stride .ensures) (at-if2 .if2 .left) in
-    omega (arith, (window-span _ _ _ _ _ well-formed-told _ _ ruled-here (c .rows-taken .ensures)) .1)
+    let formed = sym (at-well-formed .well-formed .ensures) ∙ not-false _ (at-if1 .if1 .left) in
+    let kept = ruled _ _ _ _ _ formed _ (at-stream-stride .stream-stride .ensures) (at-if2 .if2 .left) in
+    omega
+    (arith, (window-span _ _ _ _ _ formed _ _ kept (c .rows-taken .ensures)) .1)
 
 returns-3 : tie.Need-returns-3
 returns-3 c =
-    let at-row-step = c .before in
-    let at-if2 = at-row-step .before in
+    let at-if2 = c .before .before in
     let at-stream-stride = at-if2 .before in
     let at-if1 = at-stream-stride .before in
     let at-well-formed = at-if1 .before in
@@ -85,12 +81,12 @@ returns-3 c =
     let at-size = at-tiled .before in
     let at-code = at-size .before in
     let at-pitch = at-code .before in
-    let well-formed-told-2 = sym (at-well-formed .well-formed .ensures) ∙ not-false _ (at-if1 .if1 .left) in
-    let ruled-here = ruled _ _ _ _ _ well-formed-told-2 _ (at-stream-stride .stream-stride .ensures) (at-if2 .if2 .left) in
-    let well-formed-told = (window-span _ _ _ _ _ well-formed-told-2 _ _ ruled-here (c .rows-taken .ensures)) .0 in
-    let rule = ruled-here .rule in
+    let formed = sym (at-well-formed .well-formed .ensures) ∙ not-false _ (at-if1 .if1 .left) in
+    let kept = ruled _ _ _ _ _ formed _ (at-stream-stride .stream-stride .ensures) (at-if2 .if2 .left) in
     seen-accepted _ _ _ _ _ _ _ (at-pitch .pitch .ensures) (at-code .code .ensures) (at-size .size .ensures) (at-tiled .tiled .ensures)
-    well-formed-told-2 _ _ (at-row-step .row-step .ensures) well-formed-told rule
+    formed _ _ (c .before .row-step .ensures)
+    ((window-span _ _ _ _ _ formed _ _ kept (c .rows-taken .ensures)) .0)
+    (kept .rule)
 
 pub window-of-spec : {M : Type 1} → statement M
 window-of-spec =

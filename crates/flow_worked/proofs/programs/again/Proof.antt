@@ -16,19 +16,26 @@ fresh-requires c κs = search needs
 slice-aggregate-run : tie.Need-slice-aggregate-run
 slice-aggregate-run c = search needs
 
+slice-aggregate-run-2 : tie.Need-slice-aggregate-run-2
+slice-aggregate-run-2 c = search needs
+
 run-requires : tie.Need-run-requires
 run-requires c κs = search needs
 
 array-share-prefix-masks : tie.Need-array-share-prefix-masks
 array-share-prefix-masks c = search needs
 
-slice-aggregate-run-2 : tie.Need-slice-aggregate-run-2
-slice-aggregate-run-2 c = search needs
+slice-aggregate-run-3 : tie.Need-slice-aggregate-run-3
+slice-aggregate-run-3 c = search needs
+
+slice-aggregate-run-4 : tie.Need-slice-aggregate-run-4
+slice-aggregate-run-4 c = search needs
 
 run-requires-2 : tie.Need-run-requires-2
 run-requires-2 c κs =
-    run-gives _ _ _ (c .before .before .before .before .before .before .before .before .before .fresh .ensures)
-    (c .before .before .before .before .run .ensures)
+    let at-run = c .before .before .before .before .before in
+    let at-lists = at-run .before .before .before .before .before in
+    run-gives _ _ _ (at-lists .before .fresh .ensures) (at-run .run .ensures)
 
 enum-told : tie.Need-enum-told
 enum-told c = search needs
@@ -53,9 +60,11 @@ again-spec =
     load-requires
     fresh-requires
     slice-aggregate-run
+    slice-aggregate-run-2
     run-requires
     array-share-prefix-masks
-    slice-aggregate-run-2
+    slice-aggregate-run-3
+    slice-aggregate-run-4
     run-requires-2
     enum-told
     enum-known-why

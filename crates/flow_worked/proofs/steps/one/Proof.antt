@@ -4,6 +4,9 @@ use borrow.Author.Needs.{needs}
 use Rattle.flow_worked.proofs.steps.one.Statement.{statement}
 use Rattle.flow_worked.proofs.steps.one.Tie as tie
 
+slice-aggregate-step : tie.Need-slice-aggregate-step
+slice-aggregate-step c = search needs
+
 step-requires : tie.Need-step-requires
 step-requires c κs = search needs
 
@@ -11,7 +14,9 @@ told-requires : tie.Need-told-requires
 told-requires c κs = search needs
 
 returns : tie.Need-returns
-returns c = step-gives _ _ _ _ (c .before .before .before .before .before .pre) (c .before .step .ensures)
+returns c =
+    let at-words = c .before .before .before .before .before in
+    step-gives _ _ _ _ (at-words .before .pre) (c .before .step .ensures)
 
 pub one-spec : {M : Type 1} → statement M
-one-spec = tie.close (tie.spec step-requires told-requires returns)
+one-spec = tie.close (tie.spec slice-aggregate-step step-requires told-requires returns)

@@ -22,57 +22,53 @@ element-copy-out-p3 c = search needs
 
 take-last-requires : tie.Need-take-last-requires
 take-last-requires c κs =
-    let at-p1 = c .before .before .before .before .before in
-    let entry = at-p1 .before .before .before in
-    let args = entry .args in
-    last-asked (args .own .now) (args .tallies .now) (args .shared .now) (entry .pre)
+    let earlier = c .before .before .before .before .before in
+    let at-start = earlier .before .before .before in
+    last-asked (at-start .args .own .now) (at-start .args .tallies .now) (at-start .args .shared .now) (at-start .pre)
 
 close-requires : tie.Need-close-requires
 close-requires c κs =
     let at-take-last = c .before .before in
-    let at-p2 = at-take-last .before .before .before .before .before in
-    let entry = at-p2 .before .before .before .before in
-    let args = entry .args in
-    last-length (args .own .now) (args .tallies .now) (args .shared .now) (entry .pre) _ _ _ _ (at-take-last .take-last .ensures)
+    let earlier = at-take-last .before .before .before .before .before in
+    let at-start = earlier .before .before .before .before in
+    last-length (at-start .args .own .now) (at-start .args .tallies .now) (at-start .args .shared .now) (at-start .pre) _ _ _ _
+    (at-take-last .take-last .ensures)
 
 build-requires : tie.Need-build-requires
 unfolding partyOf
 build-requires c κs =
-    let at-take-last = c .before .before .before in
-    let at-p2 = at-take-last .before .before .before .before .before in
-    let entry = at-p2 .before .before .before .before in
-    entry .pre .line
+    let earlier = c .before .before .before .before .before in
+    let earlier-2 = earlier .before .before .before .before .before in
+    let at-start = earlier-2 .before .before in
+    at-start .pre .line
 
 -- it is taken, and closed
 returns : tie.Need-returns
 unfolding partyOf
 returns c =
-    let at-close = c .before in
-    let at-if1 = at-close .before .before in
+    let at-if1 = c .before .before .before in
     let at-take-last = at-if1 .before in
-    let at-p2 = at-take-last .before .before .before .before .before in
-    let entry = at-p2 .before .before .before .before in
-    let args = entry .args in
-    last-done (args .own .now) (args .tallies .now) (args .shared .now) (entry .pre) _ _ _ _ (at-take-last .take-last .ensures)
-    (at-if1 .if1 .taken) _ (c .build .ensures) _ (at-close .close .ensures)
+    let earlier = at-take-last .before .before .before .before .before in
+    let at-start = earlier .before .before .before .before in
+    last-done (at-start .args .own .now) (at-start .args .tallies .now) (at-start .args .shared .now) (at-start .pre) _ _ _ _
+    (at-take-last .take-last .ensures) (at-if1 .if1 .taken) _ (c .build .ensures) _ (c .before .close .ensures)
 
 refusal-of-requires : tie.Need-refusal-of-requires
 refusal-of-requires c κs =
     let at-if1 = c .before .before in
     let at-take-last = at-if1 .before in
-    let at-p2 = at-take-last .before .before .before .before .before in
-    let entry = at-p2 .before .before .before .before in
-    let args = entry .args in
-    refusal-asked (args .own .now) (args .tallies .now) (args .shared .now) (entry .pre) _ _ _ _ (at-take-last .take-last .ensures)
-    (at-if1 .if1 .left)
+    let earlier = at-take-last .before .before .before .before .before in
+    let at-start = earlier .before .before .before .before in
+    refusal-asked (at-start .args .own .now) (at-start .args .tallies .now) (at-start .args .shared .now) (at-start .pre) _ _ _ _
+    (at-take-last .take-last .ensures) (at-if1 .if1 .left)
 
 stop-requires : tie.Need-stop-requires
 stop-requires c κs =
     let at-take-last = c .before .before .before .before .before in
-    let at-p2 = at-take-last .before .before .before .before .before in
-    let entry = at-p2 .before .before .before .before in
-    let args = entry .args in
-    last-length (args .own .now) (args .tallies .now) (args .shared .now) (entry .pre) _ _ _ _ (at-take-last .take-last .ensures)
+    let earlier = at-take-last .before .before .before .before .before in
+    let at-start = earlier .before .before .before .before in
+    last-length (at-start .args .own .now) (at-start .args .tallies .now) (at-start .args .shared .now) (at-start .pre) _ _ _ _
+    (at-take-last .take-last .ensures)
 
 -- it is refused, and the session stopped
 returns-2 : tie.Need-returns-2
@@ -80,11 +76,10 @@ returns-2 c =
     let at-refusal-of = c .before .before in
     let at-if1 = at-refusal-of .before .before .before in
     let at-take-last = at-if1 .before in
-    let at-p2 = at-take-last .before .before .before .before .before in
-    let entry = at-p2 .before .before .before .before in
-    let args = entry .args in
-    last-refused (args .own .now) (args .tallies .now) (args .shared .now) (entry .pre) _ _ _ _ (at-take-last .take-last .ensures)
-    (at-if1 .if1 .left) _ (at-refusal-of .refusal-of .ensures) _ (c .stop .ensures)
+    let earlier = at-take-last .before .before .before .before .before in
+    let at-start = earlier .before .before .before .before in
+    last-refused (at-start .args .own .now) (at-start .args .tallies .now) (at-start .args .shared .now) (at-start .pre) _ _ _ _
+    (at-take-last .take-last .ensures) (at-if1 .if1 .left) _ (at-refusal-of .refusal-of .ensures) _ (c .stop .ensures)
 
 pub complete-spec : {M : Type 1} → statement M
 complete-spec =

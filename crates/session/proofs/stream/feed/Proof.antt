@@ -18,9 +18,8 @@ abbrev μ-loop : tie.MeasureT-loop
 
 loop-holds : tie.Need-loop-holds Inv-loop μ-loop
 loop-holds c =
-    let entry = c .before in
-    let args = entry .args in
-    fold-begins (args .words .now) (args .own .now) (args .tallies .now) (args .shared .now) (entry .pre)
+    fold-begins (c .before .args .words .now) (c .before .args .own .now) (c .before .args .tallies .now) (c .before .args .shared .now)
+    (c .before .pre)
 
 take-requires : tie.Need-take-requires Inv-loop μ-loop
 take-requires c κs = (c .before .before .before .before .loop .inv .given, c .before .before .before .loop-test .taken)
@@ -36,23 +35,19 @@ cast-i c = search needs
 
 add-i : tie.Need-add-i Inv-loop μ-loop
 add-i c =
-    let at-take = c .before in
-    let at-loop-test = at-take .before .before .before .before in
+    let at-loop-test = c .before .before .before .before .before in
     let at-loop = at-loop-test .before in
-    omega (
-      arith,
-      (fold-whole _ _ _ _ _ _ _ (at-loop .loop .inv) _ _ _ _ (at-loop-test .loop-test .taken) (c .if1 .taken) (at-take .take .ensures)) .within,
-    )
+    omega
+    (arith, (fold-whole _ _ _ _ _ _ _ (at-loop .loop .inv) _ _ _ _ (at-loop-test .loop-test .taken) (c .if1 .taken) (c .before .take .ensures)) .within)
 
 loop-less : tie.Need-loop-less Inv-loop μ-loop
 loop-less c = omega (arith, c .if1 .taken, c .before .before .before .before .before .loop-test .taken)
 
 loop-again : tie.Need-loop-again Inv-loop μ-loop
 loop-again c =
-    let at-take = c .before in
-    let at-loop-test = at-take .before .before .before .before in
+    let at-loop-test = c .before .before .before .before .before in
     let at-loop = at-loop-test .before in
-    (fold-whole _ _ _ _ _ _ _ (at-loop .loop .inv) _ _ _ _ (at-loop-test .loop-test .taken) (c .if1 .taken) (at-take .take .ensures))
+    (fold-whole _ _ _ _ _ _ _ (at-loop .loop .inv) _ _ _ _ (at-loop-test .loop-test .taken) (c .if1 .taken) (c .before .take .ensures))
 
 add-next : tie.Need-add-next Inv-loop μ-loop
 add-next c = search needs
@@ -76,20 +71,30 @@ enum-known-answer c = search needs
 -- a word is refused
 returns : tie.Need-returns Inv-loop μ-loop
 returns c =
-    let at-answer = c .before in
-    let at-word = at-answer .before .before in
+    let at-word = c .before .before .before in
     let at-if1 = at-word .before .before .before .before .before in
     let at-take = at-if1 .before in
     let at-loop-test = at-take .before .before .before .before in
     let at-loop = at-loop-test .before in
     fold-refused _ _ _ _ _ _ _ (fold-same _ _ _ _ _ _ _ (at-loop .loop .inv) _ _ _ _ (at-if1 .if1 .left) (at-take .take .ensures))
-    (at-loop-test .loop-test .taken) _ _ _ _ _ (at-answer .answer .given .1) (at-word .word .ensures)
+    (at-loop-test .loop-test .taken) _ _ _ _ _ (c .before .answer .given .1) (at-word .word .ensures)
 
 completed-by-requires : tie.Need-completed-by-requires Inv-loop μ-loop
 completed-by-requires c κs = search needs
 
 add-commands-2 : tie.Need-add-commands-2 Inv-loop μ-loop
-add-commands-2 c = omega (arith, c .before .before .before .before .before .before .before .before .before .before .before .before .before .loop .inv .fewer, c .before .before .before .before .before .before .before .before .before .before .before .before .loop-test .taken, completed-most (replyOf (c .before .before .word .result)), c .completed-by .ensures)
+add-commands-2 c =
+    omega (
+      arith,
+      (let earlier = c .before .before .before .before .before in
+          let at-take-arg2 = earlier .before .before .before .before .before in
+          at-take-arg2 .before .before .before .loop .inv .fewer),
+      (let earlier = c .before .before .before .before .before in
+          let at-take-arg2 = earlier .before .before .before .before .before in
+          at-take-arg2 .before .before .loop-test .taken),
+      completed-most (replyOf (c .before .before .word .result)),
+      c .completed-by .ensures,
+    )
 
 loop-less-2 : tie.Need-loop-less-2 Inv-loop μ-loop
 loop-less-2 c = search needs
@@ -97,15 +102,13 @@ loop-less-2 c = search needs
 -- a word is taken
 loop-again-2 : tie.Need-loop-again-2 Inv-loop μ-loop
 loop-again-2 c =
-    let at-match = c .before in
-    let at-word = at-match .before in
+    let at-word = c .before .before in
     let at-if1 = at-word .before .before .before .before .before in
     let at-take = at-if1 .before in
     let at-loop-test = at-take .before .before .before .before in
     let at-loop = at-loop-test .before in
     fold-goes _ _ _ _ _ _ _ (fold-same _ _ _ _ _ _ _ (at-loop .loop .inv) _ _ _ _ (at-if1 .if1 .left) (at-take .take .ensures))
-    (at-loop-test .loop-test .taken) _ _ _ (at-word .word .result) (at-match .match .keys2) (at-word .word .ensures) _
-    (c .completed-by .ensures)
+    (at-loop-test .loop-test .taken) _ _ _ (at-word .word .result) (c .before .match .keys2) (at-word .word .ensures) _ (c .completed-by .ensures)
 
 returns-2 : tie.Need-returns-2 Inv-loop μ-loop
 returns-2 c = fold-ends _ _ _ _ _ _ _ (c .before .loop .inv) (c .loop-test .left)

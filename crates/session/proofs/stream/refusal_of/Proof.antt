@@ -10,9 +10,8 @@ readiness-requires c κs = (c .before .pre .own-length, c .before .pre .shared-l
 
 with-number-requires : tie.Need-with-number-requires
 with-number-requires c κs =
-    let at-match = c .before in
-    let entry = at-match .before in
-    start-number (entry .args .own .now) (entry .args .shared .now) _ (entry .pre) (at-match .match .keys2) _ (c .readiness .ensures)
+    let at-start = c .before .before in
+    start-number (at-start .args .own .now) (at-start .args .shared .now) _ (at-start .pre) (c .before .match .keys2) _ (c .readiness .ensures)
 
 -- a domain
 returns : tie.Need-returns

@@ -9,7 +9,7 @@ use Rattle.group.specs.Group.{Way, wayOf}
 use Rattle.group.specs.Cells.{positionIn, groupOf}
 use Rattle.stepper.specs.Answers.{GoDone}
 use Rattle.stepper.proofs.Words.{same-returns, way-pop, way-push, way-address, way-on}
-use Rattle.stepper.proofs.Going.{given-stack, given-clear, position-cell, gone-there, gone-by}
+use Rattle.stepper.proofs.Going.{given-stack, given-named, position-cell, gone-there, gone-by}
 use borrow.Author.Needs.{needs}
 use Rattle.stepper.proofs.place.go.Statement.{statement}
 use Rattle.stepper.proofs.place.go.Tie as tie
@@ -73,7 +73,7 @@ returns-4 c =
     (at-if1 .if1 .left))
     (gone-there cells (entry .args .slots) false
     (same-returns (positionIn cells + 1) (groupOf cells .returns) (given-stack cells (entry .pre .0)))
-    (position-cell cells (given-clear cells (entry .pre .0)) (positionIn cells + 1))
+    (position-cell cells (given-named cells (entry .pre .0)) (positionIn cells + 1))
     (omega (arith, entry .pre .1)) refl)
 
 pub go-spec : {M : Type 1} → statement M

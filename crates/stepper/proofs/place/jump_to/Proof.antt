@@ -5,7 +5,7 @@ use mathlib.Core.Bool.{true}
 use Rattle.laws.specs.Masks.{digit}
 use Rattle.group.specs.Cells.{groupOf}
 use Rattle.stepper.proofs.Words.{same-returns}
-use Rattle.stepper.proofs.Going.{given-stack, given-clear, position-cell, gone-past, gone-there}
+use Rattle.stepper.proofs.Going.{given-stack, given-named, position-cell, gone-past, gone-there}
 use borrow.Author.Needs.{needs}
 use Rattle.stepper.proofs.place.jump_to.Statement.{statement}
 use Rattle.stepper.proofs.place.jump_to.Tie as tie
@@ -30,7 +30,7 @@ returns-2 c =
     let entry = c .before .before in
     let cells = now (entry .args .cells) in
     gone-there cells (entry .args .slots) true (same-returns (entry .args .address .0) (groupOf cells .returns) (given-stack cells (entry .pre)))
-    (position-cell cells (given-clear cells (entry .pre)) (entry .args .address .0)) (c .if1 .left) refl
+    (position-cell cells (given-named cells (entry .pre)) (entry .args .address .0)) (c .if1 .left) refl
 
 pub jump-to-spec : {M : Type 1} → statement M
 jump-to-spec = tie.close (tie.spec number-requires returns element-write-cells returns-2)

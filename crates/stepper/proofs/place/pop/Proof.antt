@@ -5,7 +5,7 @@ use mathlib.Core.Bool.{true}
 use Rattle.laws.specs.Masks.{digit}
 use Rattle.group.specs.Cells.{groupOf}
 use Rattle.stepper.proofs.Words.{pop-empty, pop-last}
-use Rattle.stepper.proofs.Going.{given-stack, given-clear, gone-stuck, gone-past, gone-there}
+use Rattle.stepper.proofs.Going.{given-stack, given-named, gone-stuck, gone-past, gone-there}
 use borrow.Author.Needs.{needs}
 use Rattle.stepper.proofs.place.pop.Statement.{statement}
 use Rattle.stepper.proofs.place.pop.Tie as tie
@@ -49,7 +49,7 @@ put-place-requires : tie.Need-put-place-requires
 put-place-requires c κs =
     let at-if1 = c .before .before .before .before .before in
     let entry = at-if1 .before .before in
-    given-clear (now (entry .args .cells)) (entry .pre)
+    given-named (now (entry .args .cells)) (entry .pre)
 
 returns-3 : tie.Need-returns-3
 unfolding digit

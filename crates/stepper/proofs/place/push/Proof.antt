@@ -5,7 +5,7 @@ use mathlib.Core.Bool.{true}
 use Rattle.laws.specs.Masks.{digit}
 use Rattle.group.specs.Cells.{positionIn, groupOf}
 use Rattle.stepper.proofs.Words.{push-full, push-last}
-use Rattle.stepper.proofs.Going.{given-stack, given-clear, gone-stuck, gone-past, gone-there}
+use Rattle.stepper.proofs.Going.{given-stack, given-named, gone-stuck, gone-past, gone-there}
 use borrow.Author.Needs.{needs}
 use Rattle.stepper.proofs.place.push.Statement.{statement}
 use Rattle.stepper.proofs.place.push.Tie as tie
@@ -57,7 +57,7 @@ put-place-requires : tie.Need-put-place-requires
 put-place-requires c κs =
     let at-if2 = c .before .before .before .before .before in
     let entry = at-if2 .before .before .before in
-    given-clear (now (entry .args .cells)) (entry .pre .0)
+    given-named (now (entry .args .cells)) (entry .pre .0)
 
 returns-3 : tie.Need-returns-3
 unfolding digit

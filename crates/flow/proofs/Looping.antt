@@ -1,0 +1,329 @@
+-- Request 4: a step of ops 1 to 4 is led by its turn, so a loop of count n around a body that stays inside it runs the body n times,
+-- and aL after k turns is its start and k steps. Assumes nothing.
+use mathlib.Core.Path.{_≡_, refl, sym, ap, _∙_, subst}
+use mathlib.Core.Bool.{Bool, true, false}
+use mathlib.Core.List.{List, [], _∷_}
+use Prim.Native.Nat.{ℕ, zero, suc, _+_, _-_, _*_, _<_, _≤_}
+use native.Mathlib.Nat.{suc-mul}
+use native.Mathlib.Omega.{arith}
+use lib.Dec.{eqb, leb, ltb}
+use lib.ListN.{getD}
+use borrow.Author.Tests.{leb-true, leb-false, ltb-true, ltb-false, lt-ltb, le-ltb, le-leb, eqb-true}
+use Rattle.laws.specs.Choice.{pick}
+use Rattle.laws.proofs.Choice.{Tested, holds, fails, tested, pick-yes, pick-no, by-pick}
+use Rattle.loops.specs.Loops.{Opened, Looping, Repeating, Turn, Turns, NoRoom, NoWord, wordAt, stays, movedTo, closing, turnOf, shownAL}
+use Rattle.group.specs.Proc.{Proc}
+use Rattle.group.specs.Group.{Group, Outcome, Steps, Fails, Program, Way, Goes, Stuck, opOf, bElse, aOp, branchOp, jumpFunc, booleanNumber, integerNumber, jumpAddress}
+use Rattle.group.specs.Group.{allowedLoop, turnedIf, overLimit, wayOf, arrived, settled, onTurn, withLoops, loopStep, slotStep, ended, groupStep}
+use Rattle.flow.specs.Looping.{opAt, integerAt, closeOp, LedBy, onJump, closings, Turning, Begun, Again, Inside}
+
+-- a refused step is led by any turn
+fails-led : (t : Turn) (why : ℕ) → LedBy t (Fails why)
+fails-led (Turns jump loops) why = tt
+fails-led NoRoom why = tt
+fails-led NoWord why = tt
+
+arrived-led :
+    (slots : ℕ) (jump : Bool) (procs : ℕ → Proc) (loops : List Opened) (w : Way) →
+    LedBy (Turns jump loops) (arrived slots jump procs loops w)
+arrived-led slots jump procs loops Stuck = tt
+arrived-led slots jump procs loops (Goes next rs) = by-pick (LedBy (Turns jump loops)) (leb next slots) _ _ (λ e. (refl, refl)) (λ e. tt)
+
+settled-led :
+    (limit slots first second : ℕ) (jump : Bool) (wish : ℕ → Bool) (procs : ℕ → Proc) (g : Group) →
+    LedBy (Turns jump (g .loops)) (settled limit slots first second jump wish procs g)
+unfolding settled
+settled-led limit slots first second jump wish procs g =
+    by-pick (LedBy (Turns jump (g .loops))) (overLimit limit (branchOp jump first) procs) _ _ (λ e. tt)
+    (λ e. arrived-led slots jump _ (g .loops) (wayOf (aOp first) jump (g .position) (jumpAddress second) (g .returns)))
+
+turn-led :
+    (limit slots first second : ℕ) (wish : ℕ → Bool) (procs : ℕ → Proc) (g : Group) (t : Turn) →
+    LedBy t (onTurn t (λ jump loops. settled limit slots first second jump wish procs (withLoops g loops)))
+turn-led limit slots first second wish procs g (Turns jump loops) =
+    settled-led limit slots first second jump wish procs (withLoops g loops)
+turn-led limit slots first second wish procs g NoRoom = tt
+turn-led limit slots first second wish procs g NoWord = tt
+
+loop-led :
+    (limit slots word first second alu predicate booleans : ℕ) (g : Group) →
+    LedBy (turnOf (opOf first) word (g .loops)) (loopStep limit slots word first second alu predicate booleans g)
+unfolding loopStep
+loop-led limit slots word first second alu predicate booleans g =
+    by-pick (LedBy (turnOf (opOf first) word (g .loops))) (allowedLoop first second) _ _
+    (λ a. turn-led limit slots first second _ _ g (turnOf (opOf first) word (g .loops)))
+    (λ a. fails-led (turnOf (opOf first) word (g .loops)) 13)
+
+-- "These decisions override the processors' wishes": whatever the masks, a step of another op than 0 is refused, or its decision and
+-- its loops are those of its turn
+pub step-led :
+    (limit : ℕ) (program : Program) (alu predicate booleans : ℕ) (g : Group) → (opAt program g ≡ 0 → ⊥) →
+    LedBy (turnOf (opAt program g) (integerAt program g) (g .loops)) (groupStep limit program alu predicate booleans g)
+unfolding groupStep slotStep ended
+step-led limit program alu predicate booleans g n =
+    by-pick (LedBy (turnOf (opAt program g) (integerAt program g) (g .loops))) (leb (program .slots) (g .position)) _ _
+    (λ e. fails-led (turnOf (opAt program g) (integerAt program g) (g .loops)) 16)
+    (λ e.
+    by-pick (LedBy (turnOf (opAt program g) (integerAt program g) (g .loops))) (leb (program .slots) 512) _ _
+    (λ h.
+    by-pick (LedBy (turnOf (opAt program g) (integerAt program g) (g .loops))) (eqb (opAt program g) 0) _ _
+    (λ z. absurd (n (eqb-true (opAt program g) 0 z)))
+    (λ z.
+    loop-led limit (program .slots) (integerAt program g) (getD (program .firsts) (g .position) 0)
+    (getD (program .seconds) (g .position) 0) alu predicate booleans g))
+    (λ h. fails-led (turnOf (opAt program g) (integerAt program g) (g .loops)) 15))
+
+-- so where the step is made, its turn is known
+led-steps : (t : Turn) (jump : Bool) (g : Group) → LedBy t (Steps jump g) → t ≡ Turns jump (g .loops)
+led-steps (Turns j loops) jump g q = λ i. Turns (sym (q .0) i) (sym (q .1) i)
+led-steps NoRoom jump g q = absurd q
+led-steps NoWord jump g q = absurd q
+
+-- a close is its kind's
+turn-close : (loop : Bool) (word : ℕ) (loops : List Opened) → closing loop loops ≡ turnOf (closeOp loop) word loops
+unfolding turnOf pick
+turn-close true word loops = refl
+turn-close false word loops = refl
+
+no-op : (loop : Bool) → closeOp loop ≡ 0 → ⊥
+no-op true e = omega arith
+no-op false e = omega arith
+
+one-less : (k n : ℕ) → suc k < n → n - k - 1 ≡ n - suc k
+one-less k n h = omega arith
+
+none-less : (n : ℕ) → n ≡ n - 0
+none-less n = omega arith
+
+-- a close that jumps, again and again
+closings-rep : (k n : ℕ) (ls : List Opened) → k < n → closings false k (Repeating n ∷ ls) ≡ Turns true (Repeating (n - k) ∷ ls)
+closings-rep zero n ls h = ap (λ (m : ℕ). Turns true (Repeating m ∷ ls)) (none-less n)
+closings-rep (suc k) n ls h =
+    ap (λ (t : Turn). onJump t (closing false)) (closings-rep k n ls (omega arith)) ∙
+    pick-yes _ _ (lt-ltb 1 (n - k) (omega arith)) ∙ ap (λ (m : ℕ). Turns true (Repeating m ∷ ls)) (one-less k n h)
+
+closings-rep-done : (k n : ℕ) (ls : List Opened) → 1 ≤ n → n ≤ k → closings false k (Repeating n ∷ ls) ≡ Turns false ls
+closings-rep-done zero n ls s h = absurd (nothing n s h)
+  where
+    nothing : (n : ℕ) → 1 ≤ n → n ≤ 0 → ⊥
+    nothing n s h = omega arith
+closings-rep-done (suc k) n ls s h = by (tested (leb n k)) (closings-rep-done k n ls s)
+  where
+    by : Tested (leb n k) → (n ≤ k → closings false k (Repeating n ∷ ls) ≡ Turns false ls) → closings false (suc k) (Repeating n ∷ ls) ≡ Turns false ls
+    by (holds e) ih = ap (λ (t : Turn). onJump t (closing false)) (ih (leb-true n k e))
+    by (fails e) ih =
+        let q : k < n = leb-false n k e in
+        ap (λ (t : Turn). onJump t (closing false)) (closings-rep k n ls q) ∙ pick-no _ _ (le-ltb 1 (n - k) (omega arith))
+
+-- a close of a LOOP that jumps, by the sign of its step
+close-up :
+    (m al step : ℕ) (ls : List Opened) → 1 < m → step < 128 → al + step < 256 →
+    closing true (Looping m al step ∷ ls) ≡ Turns true (Looping (m - 1) (al + step) step ∷ ls)
+unfolding stays movedTo
+close-up m al step ls h p q =
+    pick-yes (pick (stays al step) (Turns true (Looping (m - 1) (movedTo al step) step ∷ ls)) NoRoom) (Turns false ls) (lt-ltb 1 m h) ∙
+    pick-yes (Turns true (Looping (m - 1) (movedTo al step) step ∷ ls)) NoRoom
+    (pick-yes (ltb (al + step) 256) (leb 256 (al + step)) (lt-ltb step 128 p) ∙ lt-ltb (al + step) 256 q) ∙
+    ap (λ (x : ℕ). Turns true (Looping (m - 1) x step ∷ ls)) (pick-yes (al + step) (al + step - 256) (lt-ltb step 128 p))
+
+close-down :
+    (m al step : ℕ) (ls : List Opened) → 1 < m → 128 ≤ step → 256 ≤ al + step →
+    closing true (Looping m al step ∷ ls) ≡ Turns true (Looping (m - 1) (al + step - 256) step ∷ ls)
+unfolding stays movedTo
+close-down m al step ls h p q =
+    pick-yes (pick (stays al step) (Turns true (Looping (m - 1) (movedTo al step) step ∷ ls)) NoRoom) (Turns false ls) (lt-ltb 1 m h) ∙
+    pick-yes (Turns true (Looping (m - 1) (movedTo al step) step ∷ ls)) NoRoom
+    (pick-no (ltb (al + step) 256) (leb 256 (al + step)) (le-ltb step 128 p) ∙ le-leb 256 (al + step) q) ∙
+    ap (λ (x : ℕ). Turns true (Looping (m - 1) x step ∷ ls)) (pick-no (al + step) (al + step - 256) (le-ltb step 128 p))
+
+-- aL after k closes that jump: its start and k steps, as long as it stays within 0 to 255
+pub al-up :
+    (k n al step : ℕ) (ls : List Opened) → step < 128 → k < n → al + k * step ≤ 255 →
+    closings true k (Looping n al step ∷ ls) ≡ Turns true (Looping (n - k) (al + k * step) step ∷ ls)
+al-up zero n al step ls p h q = λ i. Turns true (Looping (none-less n i) (same al step i) step ∷ ls)
+  where
+    same : (al step : ℕ) → al ≡ al + 0 * step
+    same al step = omega arith
+al-up (suc k) n al step ls p h q =
+    ap (λ (t : Turn). onJump t (closing true)) (al-up k n al step ls p (omega arith) (omega (arith, suc-mul k step))) ∙
+    close-up (n - k) (al + k * step) step ls (omega arith) p (omega (arith, suc-mul k step)) ∙
+    (λ i. Turns true (Looping (one-less k n h i) (more k i) step ∷ ls))
+  where
+    more : (k : ℕ) → al + k * step + step ≡ al + suc k * step
+    more k = omega (arith, suc-mul k step)
+
+pub al-down :
+    (k n al step : ℕ) (ls : List Opened) → 128 ≤ step → step ≤ 255 → k < n → k * (256 - step) ≤ al →
+    closings true k (Looping n al step ∷ ls) ≡ Turns true (Looping (n - k) (al - k * (256 - step)) step ∷ ls)
+al-down zero n al step ls p r h q = λ i. Turns true (Looping (none-less n i) (same al step i) step ∷ ls)
+  where
+    same : (al step : ℕ) → al ≡ al - 0 * (256 - step)
+    same al step = omega arith
+al-down (suc k) n al step ls p r h q =
+    ap (λ (t : Turn). onJump t (closing true)) (al-down k n al step ls p r (omega arith) (omega (arith, suc-mul k (256 - step)))) ∙
+    close-down (n - k) (al - k * (256 - step)) step ls (omega arith) p (omega (arith, suc-mul k (256 - step))) ∙
+    (λ i. Turns true (Looping (one-less k n h i) (less k q i) step ∷ ls))
+  where
+    less : (k : ℕ) → suc k * (256 - step) ≤ al → al - k * (256 - step) + step - 256 ≡ al - suc k * (256 - step)
+    less k q = omega (arith, suc-mul k (256 - step))
+
+-- the turns of a LOOP: k are made and some are left, or all are made, or aL left 0 to 255
+data Left (n step : ℕ) (ls : List Opened) (k : ℕ) : Turn → Type 0 where
+  Some : (al : ℕ) → k < n → Left n step ls k (Turns true (Looping (n - k) al step ∷ ls))
+  None : n ≤ k → Left n step ls k (Turns false ls)
+  Out : Left n step ls k NoRoom
+
+left-next : (n step : ℕ) (ls : List Opened) (k : ℕ) (t : Turn) → Left n step ls k t → Left n step ls (suc k) (onJump t (closing true))
+left-next n step ls k _ (Some al h) =
+    by-pick (Left n step ls (suc k)) (ltb 1 (n - k)) _ _
+    (λ e.
+    let q : 1 < n - k = ltb-true 1 (n - k) e in
+    by-pick (Left n step ls (suc k)) (stays al step) _ _
+    (λ f.
+    subst (λ (m : ℕ). Left n step ls (suc k) (Turns true (Looping m (movedTo al step) step ∷ ls))) (next k n q) (Some (movedTo al step) (fewer k n q)))
+    (λ f. Out))
+    (λ e. let q : n - k ≤ 1 = ltb-false 1 (n - k) e in None (over k n q))
+  where
+    next : (k n : ℕ) → 1 < n - k → n - suc k ≡ n - k - 1
+    next k n q = omega arith
+
+    fewer : (k n : ℕ) → 1 < n - k → suc k < n
+    fewer k n q = omega arith
+
+    over : (k n : ℕ) → n - k ≤ 1 → n ≤ suc k
+    over k n q = omega arith
+left-next n step ls k _ (None h) = None (later n k h)
+  where
+    later : (n k : ℕ) → n ≤ k → n ≤ suc k
+    later n k h = omega arith
+left-next n step ls k _ Out = Out
+
+loop-left : (k n al step : ℕ) (ls : List Opened) → 1 ≤ n → Left n step ls k (closings true k (Looping n al step ∷ ls))
+loop-left zero n al step ls s =
+    subst (λ (m : ℕ). Left n step ls zero (Turns true (Looping m al step ∷ ls))) (all n) (Some al s)
+  where
+    all : (n : ℕ) → n - 0 ≡ n
+    all n = omega arith
+loop-left (suc k) n al step ls s = left-next n step ls k _ (loop-left k n al step ls s)
+
+-- a group in a loop
+module _ (limit : ℕ) (program : Program) (booleans : ℕ) (loop : Bool) (Body : Group → Group → Type 0) (inside : Inside program loop Body) where
+  -- the close of a body makes its loop's turn
+  closed :
+      (s c s' : Group) (jump : Bool) (alu predicate : ℕ) → Body s c → groupStep limit program alu predicate booleans c ≡ Steps jump s' →
+      closing loop (s .loops) ≡ Turns jump (s' .loops)
+  closed s c s' jump alu predicate b e =
+      turn-close loop (integerAt program c) (s .loops) ∙
+      (λ i. turnOf (sym (inside .closes s c b) i) (integerAt program c) (sym (inside .keeps s c b) i)) ∙
+      led-steps (turnOf (opAt program c) (integerAt program c) (c .loops)) jump s'
+      (subst (LedBy (turnOf (opAt program c) (integerAt program c) (c .loops))) e
+      (step-led limit program alu predicate booleans c (λ z. no-op loop (sym (inside .closes s c b) ∙ z))))
+
+  -- after k turns the loops are those of k closes
+  pub turning-closes : {k : ℕ} {g s : Group} → Turning limit program booleans Body k g s → closings loop k (g .loops) ≡ Turns true (s .loops)
+  turning-closes (Begun g) = refl
+  turning-closes (Again k g s c s' alu predicate way b e) =
+      ap (λ (t : Turn). onJump t (closing loop)) (turning-closes way) ∙ closed s c s' true alu predicate b e
+
+-- a turn's parts
+turn-loops : (a b : List Opened) (i j : Bool) → Turns i a ≡ Turns j b → a ≡ b
+turn-loops a b i j e = cc
+
+turn-jumps : (a b : List Opened) → Turns true a ≡ Turns false b → ⊥
+turn-jumps a b e = let z : _≡_ {A = ℕ} 0 1 = cc in omega arith
+
+turn-room : (j : Bool) (b : List Opened) → NoRoom ≡ Turns j b → ⊥
+turn-room j b e = let z : _≡_ {A = ℕ} 0 1 = cc in omega arith
+
+-- by the turns that are left, a close that stays is the last of n
+rep-last :
+    (k n : ℕ) (ls x y : List Opened) → 1 ≤ n → closings false k (Repeating n ∷ ls) ≡ Turns true x → closing false x ≡ Turns false y →
+    (suc k ≡ n) × (y ≡ ls)
+rep-last k n ls x y s e f = by (tested (ltb k n))
+  where
+    last : (m : ℕ) → x ≡ Repeating m ∷ ls → Tested (ltb 1 m) → (m ≤ 1) × (y ≡ ls)
+    last m q (holds t) =
+        absurd (turn-jumps (Repeating (m - 1) ∷ ls) y (sym (ap (closing false) q ∙ pick-yes _ (Turns false ls) t) ∙ f))
+    last m q (fails t) =
+        (ltb-false 1 m t, sym (turn-loops ls y false false (sym (ap (closing false) q ∙ pick-no (Turns true (Repeating (m - 1) ∷ ls)) _ t) ∙ f)))
+
+    by : Tested (ltb k n) → (suc k ≡ n) × (y ≡ ls)
+    by (holds t) =
+        let h : k < n = ltb-true k n t in
+        let q = last (n - k) (turn-loops x (Repeating (n - k) ∷ ls) true true (sym e ∙ closings-rep k n ls h)) (tested (ltb 1 (n - k))) in
+        (all k n h (q .0), q .1)
+      where
+        all : (k n : ℕ) → k < n → n - k ≤ 1 → suc k ≡ n
+        all k n h q = omega arith
+    by (fails t) = absurd (turn-jumps x ls (sym e ∙ closings-rep-done k n ls s (ltb-false k n t)))
+
+loop-last :
+    (k n step : ℕ) (ls x y : List Opened) (t : Turn) → Left n step ls k t → t ≡ Turns true x → closing true x ≡ Turns false y →
+    (suc k ≡ n) × (y ≡ ls)
+loop-last k n step ls x y _ Out e f = absurd (turn-room true x e)
+loop-last k n step ls x y _ (None h) e f = absurd (turn-jumps x ls (sym e))
+loop-last k n step ls x y _ (Some al h) e f = by (tested (ltb 1 (n - k))) (tested (stays al step))
+  where
+    is : x ≡ Looping (n - k) al step ∷ ls
+    is = sym (turn-loops (Looping (n - k) al step ∷ ls) x true true e)
+
+    all : (k n : ℕ) → k < n → n - k ≤ 1 → suc k ≡ n
+    all k n h q = omega arith
+
+    inner : Turn
+    inner = pick (stays al step) (Turns true (Looping (n - k - 1) (movedTo al step) step ∷ ls)) NoRoom
+
+    by : Tested (ltb 1 (n - k)) → Tested (stays al step) → (suc k ≡ n) × (y ≡ ls)
+    by (holds a) (holds b) =
+        absurd
+        (turn-jumps (Looping (n - k - 1) (movedTo al step) step ∷ ls) y
+        (sym (ap (closing true) is ∙ pick-yes inner (Turns false ls) a ∙ pick-yes _ NoRoom b) ∙ f))
+    by (holds a) (fails b) =
+        absurd
+        (turn-room false y
+        (sym
+        (ap (closing true) is ∙ pick-yes inner (Turns false ls) a ∙
+        pick-no (Turns true (Looping (n - k - 1) (movedTo al step) step ∷ ls)) _ b) ∙
+        f))
+    by (fails a) b =
+        (all k n h (ltb-false 1 (n - k) a), sym (turn-loops ls y false false (sym (ap (closing true) is ∙ pick-no inner (Turns false ls) a) ∙ f)))
+
+-- a loop of count n around a body that stays inside it runs the body n times: k closes jump, one more stays, and then k + 1 is n and
+-- the loop is gone
+pub rep-times :
+    (limit : ℕ) (program : Program) (booleans : ℕ) (Body : Group → Group → Type 0) → Inside program false Body →
+    (n : ℕ) (ls : List Opened) (k : ℕ) (g s c g' : Group) (alu predicate : ℕ) → 1 ≤ n → g .loops ≡ Repeating n ∷ ls →
+    Turning limit program booleans Body k g s → Body s c → groupStep limit program alu predicate booleans c ≡ Steps false g' →
+    (suc k ≡ n) × (g' .loops ≡ ls)
+rep-times limit program booleans Body inside n ls k g s c g' alu predicate h e way b last =
+    rep-last k n ls (s .loops) (g' .loops) h (ap (closings false k) (sym e) ∙ turning-closes limit program booleans false Body inside way)
+    (closed limit program booleans false Body inside s c g' false alu predicate b last)
+
+pub loop-times :
+    (limit : ℕ) (program : Program) (booleans : ℕ) (Body : Group → Group → Type 0) → Inside program true Body →
+    (n al step : ℕ) (ls : List Opened) (k : ℕ) (g s c g' : Group) (alu predicate : ℕ) → 1 ≤ n → g .loops ≡ Looping n al step ∷ ls →
+    Turning limit program booleans Body k g s → Body s c → groupStep limit program alu predicate booleans c ≡ Steps false g' →
+    (suc k ≡ n) × (g' .loops ≡ ls)
+loop-times limit program booleans Body inside n al step ls k g s c g' alu predicate h e way b last =
+    loop-last k n step ls (s .loops) (g' .loops) _ (loop-left k n al step ls h)
+    (ap (closings true k) (sym e) ∙ turning-closes limit program booleans true Body inside way)
+    (closed limit program booleans true Body inside s c g' false alu predicate b last)
+
+-- and after k turns the aL shown is its start and k steps
+pub al-shown-up :
+    (limit : ℕ) (program : Program) (booleans : ℕ) (Body : Group → Group → Type 0) → Inside program true Body →
+    (n al step : ℕ) (ls : List Opened) (k : ℕ) (g s : Group) → g .loops ≡ Looping n al step ∷ ls → Turning limit program booleans Body k g s →
+    step < 128 → k < n → al + k * step ≤ 255 → shownAL (s .loops) ≡ al + k * step
+al-shown-up limit program booleans Body inside n al step ls k g s e way p h q =
+    ap shownAL
+    (turn-loops (s .loops) (Looping (n - k) (al + k * step) step ∷ ls) true true
+    (sym (ap (closings true k) (sym e) ∙ turning-closes limit program booleans true Body inside way) ∙ al-up k n al step ls p h q))
+
+pub al-shown-down :
+    (limit : ℕ) (program : Program) (booleans : ℕ) (Body : Group → Group → Type 0) → Inside program true Body →
+    (n al step : ℕ) (ls : List Opened) (k : ℕ) (g s : Group) → g .loops ≡ Looping n al step ∷ ls → Turning limit program booleans Body k g s →
+    128 ≤ step → step ≤ 255 → k < n → k * (256 - step) ≤ al → shownAL (s .loops) ≡ al - k * (256 - step)
+al-shown-down limit program booleans Body inside n al step ls k g s e way p r h q =
+    ap shownAL
+    (turn-loops (s .loops) (Looping (n - k) (al - k * (256 - step)) step ∷ ls) true true
+    (sym (ap (closings true k) (sym e) ∙ turning-closes limit program booleans true Body inside way) ∙ al-down k n al step ls p r h q))
