@@ -35,6 +35,8 @@ use Rattle.demands.specs.Flow.{
   hasEnded,
   tooMany,
   badField,
+  badInteger,
+  loopsAtLimit,
   counterAtLimit,
   stackAtLimit,
   pastEnd,
@@ -152,9 +154,11 @@ module _ (limit : ℕ) (p : Program) where
   refused-least (hasEnded h) = omega arith
   refused-least (tooMany h k) = omega arith
   refused-least (badField h k) = omega arith
-  refused-least (counterAtLimit h k o) = omega arith
-  refused-least (stackAtLimit h k o s) = omega arith
-  refused-least (pastEnd h k o at returns s l) = omega arith
+  refused-least (badInteger h k d) = omega arith
+  refused-least (loopsAtLimit h k d) = omega arith
+  refused-least (counterAtLimit h k jump loops d o) = omega arith
+  refused-least (stackAtLimit h k jump loops d o s) = omega arith
+  refused-least (pastEnd h k jump loops d o at returns s l) = omega arith
 
   pub step-number : (alu predicate booleans : ℕ) (g : Group) → Nonzero (stepTold (groupStep limit p alu predicate booleans g))
   step-number alu predicate booleans g = go (groupStep limit p alu predicate booleans g) refl

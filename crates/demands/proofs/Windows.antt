@@ -22,14 +22,13 @@ use Rattle.layout.proofs.Window.{form-size, rule-bounds}
 use Rattle.address.specs.Address.{stepOf}
 use Rattle.address.specs.Inverse.{Accepted, Inside}
 use Rattle.address.proofs.Inverse.{inverse}
-use Rattle.command.specs.Format.{pitchOf, tiledOf, codeOf, sizeOf, windowOf}
+use Rattle.command.specs.Format.{pitchOf, tiledOf, codeOf, sizeOf, valueOf, windowOf}
 use Rattle.rules.specs.Rules.{domainKept, windowKept, lastRuleOf}
 use Rattle.command.specs.declared.commands.Stored.the-variants as stored
 use Rattle.command.specs.declared.commands.Command.{Command}
 use Rattle.command.specs.declared.commands.Command.the-variants as command
 use Rattle.state.specs.State.{Buffer, Domain, Shared, Session, unset, newSession}
 use Rattle.state.specs.Start.{
-  valueOf,
   stepOfBuffer,
   spanOfBuffer,
   output,
@@ -103,7 +102,7 @@ windowed-after : (c : Command) (h : Shared) (u : List ℕ) → lastRuleOf c ≡ 
 unfolding sharedAfter windowKept
 windowed-after (command.Domain i0 j0 i1 j1) h u r l a = a
 windowed-after command.Start h u r l a = a
-windowed-after (command.Quiet what) h u r l a = a
+windowed-after (command.Effectless what) h u r l a = a
 windowed-after (command.Store stored.Instructions base format) h u r l a = a
 windowed-after (command.Store stored.Floats base format) h u r l a = a
 windowed-after (command.Store stored.Integers base format) h u r l a = a
