@@ -30,8 +30,10 @@ mod replay;
 mod score;
 
 use clap::{Parser, Subcommand};
-use common::failure::{Failure, Outcome};
-use std::io::{self, BufWriter, Write};
+use common::failure::Outcome;
+use common::output::{self, Output};
+use common::visible;
+use std::io::{self, Write};
 use std::process::ExitCode;
 
 const AFTER: &str = "\
@@ -45,6 +47,8 @@ Exit status: 0 fine, 1 something was refused, 2 a wrong command line or file, 3 
 struct Line {
     #[command(subcommand)]
     what: Option<What>,
+    #[command(flatten)]
+    output: output::Options,
 }
 
 #[derive(Subcommand)]
@@ -77,19 +81,42 @@ enum What {
 }
 
 fn main() -> ExitCode {
-    let line = Line::parse();
-    let mut out = BufWriter::new(io::stdout().lock());
-    let outcome = run(&line, &mut out);
-    let flushed = out.flush().map_err(Failure::from);
-    let ended = match (outcome, flushed) {
-        // A short month is told by its card, so that must have been written.
-        (Err(Failure::Short), Err(Failure::Wrong(text))) => Err(Failure::Wrong(text)),
-        (outcome, flushed) => outcome.and(flushed),
+    let line = match Line::try_parse() {
+        Ok(line) => line,
+        Err(told) => return ExitCode::from(tell(&told)),
     };
-    match ended {
+    match answer(&line) {
         Ok(()) => ExitCode::SUCCESS,
         Err(failure) => ExitCode::from(failure.tell()),
     }
+}
+
+/// A wrong line, or help that was asked for: its text, which may hold what the user
+/// wrote, and its exit status.
+fn tell(told: &clap::Error) -> u8 {
+    let text = visible::lines(&told.to_string());
+    // Where it can't be written, the status alone must do.
+    let _ = match told.use_stderr() {
+        true => write!(io::stderr(), "{text}"),
+        false => write!(io::stdout(), "{text}"),
+    };
+    u8::from(told.use_stderr()) * WRONG
+}
+
+/// The exit status of a wrong line.
+const WRONG: u8 = 2;
+
+fn answer(line: &Line) -> Outcome {
+    let mut output = Output::open(&line.output)?;
+    let outcome = match &line.what {
+        // Words in binary go through as they are.
+        Some(What::Encode(options)) if !options.is_text() => {
+            encode::ask_terminal(output.is_terminal())?;
+            encode::run(options, &mut output)
+        }
+        _ => run(line, &mut output.text()),
+    };
+    output.end(outcome)
 }
 
 fn run(line: &Line, out: &mut dyn Write) -> Outcome {

@@ -8,6 +8,7 @@ use crate::common::failure::{Failure, Outcome};
 use crate::common::kinds::Address;
 use crate::explain::cause;
 use crate::input::lines::Lines;
+use crate::input::numbers;
 use crate::input::source::{self, Source};
 use boundary::Layout;
 use clap::Args;
@@ -31,10 +32,10 @@ pub struct Options {
     addresses: Vec<String>,
     /// Asks the windows that this stream of command words sets, instead of one layout
     #[arg(long, value_name = "FILE",
-          conflicts_with_all = ["pitch", "height", "size", "tiled", "format", "work"])]
+          conflicts_with_all = ["base", "pitch", "height", "size", "tiled", "format", "work"])]
     stream: Option<PathBuf>,
     /// With --stream: only the stream's first N words count
-    #[arg(long, value_name = "N", requires = "stream")]
+    #[arg(long, value_name = "N", requires = "stream", value_parser = numbers::long_count)]
     words: Option<u64>,
     /// With --stream: the file is hex text
     #[arg(long, requires = "stream")]
@@ -58,6 +59,12 @@ pub fn run(options: &Options, out: &mut dyn Write) -> Outcome {
         return each(options, out, &mut |address, out| {
             owners::answer(&session, address, options.json, out)
         });
+    }
+    // Beside a layout's options clap doesn't ask for the stream that these require.
+    if options.hex || options.words.is_some() {
+        return Err(Failure::wrong(
+            "--hex and --words tell of a stream: they need --stream FILE",
+        ));
     }
     let layout = options.layout.layout()?;
     each(options, out, &mut |address, out| {

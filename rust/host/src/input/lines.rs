@@ -3,8 +3,12 @@
 use crate::common::failure::{Failure, Outcome};
 use crate::input::source::{Source, PIECE};
 
+/// The most bytes of a line, its end not counted.
+const LONGEST: usize = PIECE;
+
 pub struct Lines {
     source: Source,
+    /// Room for the longest line and its end.
     bytes: Vec<u8>,
     /// The part of `bytes` that is read and not handed out.
     start: usize,
@@ -17,7 +21,7 @@ impl Lines {
     pub fn new(source: Source) -> Lines {
         Lines {
             source,
-            bytes: vec![0; PIECE],
+            bytes: vec![0; LONGEST + 1],
             start: 0,
             end: 0,
             number: 0,
@@ -52,9 +56,9 @@ impl Lines {
         self.end += self.source.fill(&mut self.bytes[self.end..])?;
         match line_end(&self.bytes[..self.end]) {
             Some(length) => Ok(Some(length)),
-            None if self.end == PIECE => {
+            None if self.end > LONGEST => {
                 self.number += 1;
-                Err(self.wrong(&format!("longer than {PIECE} bytes")))
+                Err(self.wrong(&format!("longer than {LONGEST} bytes")))
             }
             None if self.end == 0 => Ok(None),
             None => Ok(Some(self.end)),

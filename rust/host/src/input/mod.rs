@@ -3,6 +3,7 @@
 
 pub mod lines;
 pub mod numbers;
-mod progress;
+mod packed;
+pub mod progress;
 pub mod source;
 pub mod words;

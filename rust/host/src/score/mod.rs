@@ -42,13 +42,13 @@ pub struct Options {
     #[arg(value_name = "LOG")]
     files: Vec<PathBuf>,
     /// The number of the lease's first day
-    #[arg(long, value_name = "D", value_parser = numbers::count)]
+    #[arg(long, value_name = "D", value_parser = numbers::count, allow_negative_numbers = true)]
     first_day: u32,
     /// How many days the lease has, 1 to 31
-    #[arg(long, value_name = "N", value_parser = numbers::count)]
+    #[arg(long, value_name = "N", value_parser = numbers::count, allow_negative_numbers = true)]
     days: u32,
     /// Elements owed a day, 0 to 100000000
-    #[arg(long, value_name = "K", value_parser = numbers::count)]
+    #[arg(long, value_name = "K", value_parser = numbers::count, allow_negative_numbers = true)]
     owed: u32,
     /// The first day's date, to show dates beside the days' numbers
     #[arg(long, value_name = "YYYY-MM-DD", value_parser = Date::parse)]
@@ -106,11 +106,8 @@ pub fn run(options: &Options, out: &mut dyn Write) -> Outcome {
         _ => card::text(&score, out),
     };
     drawn?;
-    match printed {
-        // A reader that has gone away changes nothing of the verdict.
-        Ok(()) | Err(Failure::Closed) => outcome(score.month.verdict),
-        failed => failed,
-    }
+    printed?;
+    outcome(score.month.verdict)
 }
 
 /// The card of a log that is at hand.
