@@ -13,7 +13,8 @@
 //! * `address`, with `locate` and `tile`: the `work`ing of an address by hand,
 //!   and document 01's `tiles`;
 //! * `flow`: a program's `slots`, and the `steps` of a group;
-//! * `explain`: the table of `refusals`, and the `cause` of one that came.
+//! * `explain`: the table of `refusals`, and the `cause` of one that came;
+//! * `completions` and `manual`: the command line itself, for shells and for man.
 //!
 //! `input` reads what a user gives, and `common` has what several share.
 
@@ -21,15 +22,17 @@
 
 mod address;
 mod common;
+mod completions;
 mod decode;
 mod encode;
 mod explain;
 mod flow;
 mod input;
+mod manual;
 mod replay;
 mod score;
 
-use clap::{Parser, Subcommand};
+use clap::{CommandFactory, Parser, Subcommand};
 use common::failure::Outcome;
 use common::output::{self, Output};
 use common::visible;
@@ -72,12 +75,19 @@ enum What {
     #[command(after_help = address::locate::EXAMPLES)]
     Locate(address::locate::Options),
     /// A tile drawn, with the place of each block
+    #[command(after_help = address::tile::EXAMPLES)]
     Tile(address::tile::Options),
     /// A flow program listed, or stepped with given masks
     #[command(after_help = flow::EXAMPLES)]
     Flow(flow::Options),
     /// What a refusal means, in the documents' words
     Explain(explain::Options),
+    /// What a shell completes, in the shell's language
+    #[command(after_help = completions::EXAMPLES)]
+    Completions(completions::Options),
+    /// The manual page, for man
+    #[command(after_help = manual::EXAMPLES)]
+    Manual(manual::Options),
 }
 
 fn main() -> ExitCode {
@@ -131,5 +141,7 @@ fn run(line: &Line, out: &mut dyn Write) -> Outcome {
         Some(What::Tile(options)) => address::tile::run(options, out),
         Some(What::Flow(options)) => flow::run(options, out),
         Some(What::Explain(options)) => explain::run(options, out),
+        Some(What::Completions(options)) => completions::run(options, Line::command(), out),
+        Some(What::Manual(_)) => manual::run(Line::command(), out),
     }
 }
