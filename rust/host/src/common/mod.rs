@@ -2,6 +2,7 @@
 //! session's settings, shapes of text, where an answer goes, and how a subcommand
 //! ends.
 
+pub mod digits;
 pub mod failure;
 pub mod file;
 pub mod interrupt;

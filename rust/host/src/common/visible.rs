@@ -60,7 +60,10 @@ mod tests {
 
     #[test]
     fn what_a_terminal_obeys_is_spelled_out() {
-        assert_eq!(line("\u{1b}[31mred\u{7f}\u{9b}2J"), "\\u001b[31mred\\u007f\\u009b2J");
+        assert_eq!(
+            line("\u{1b}[31mred\u{7f}\u{9b}2J"),
+            "\\u001b[31mred\\u007f\\u009b2J"
+        );
         assert_eq!(line("a\nb\tc\r"), "a\\u000ab\\u0009c\\u000d");
         assert_eq!(line("\u{202E}gol.é"), "\\u202egol.é");
         assert_eq!(lines("a\nb\r\n"), "a\nb\\u000d\n");

@@ -4,6 +4,7 @@ mod json;
 mod listing;
 pub mod walk;
 
+use crate::common::digits::Digits;
 use crate::common::failure::{Failure, Outcome};
 use crate::decode::json::Json;
 use crate::decode::listing::{Listing, Summary, Terse};
@@ -37,6 +38,9 @@ pub struct Options {
     /// One JSON object a word, a start and for the whole, a line each
     #[arg(long, conflicts_with = "terse")]
     json: bool,
+    /// With --summary: large numbers without commas between their digits
+    #[arg(long, requires = "summary", conflicts_with = "json")]
+    plain: bool,
 }
 
 pub fn run(options: &Options, out: &mut dyn Write) -> Outcome {
@@ -45,7 +49,8 @@ pub fn run(options: &Options, out: &mut dyn Write) -> Outcome {
     if options.json {
         show(words, &mut Json { out, summary })
     } else if summary {
-        show(words, &mut Summary { out })
+        let digits = Digits::plain(options.plain);
+        show(words, &mut Summary { out, digits })
     } else if options.terse {
         let open = Vec::new();
         show(words, &mut Terse { out, open })
@@ -60,9 +65,8 @@ pub fn show(words: Words, form: &mut dyn Form) -> Outcome {
     match totals.refused {
         Some((position, refused)) => {
             let name = totals.name;
-            Err(Failure::Refused(format!(
-                "{name}: word {position}: {refused}"
-            )))
+            let told = Failure::Refused(format!("{name}: word {position}: {refused}"));
+            Err(told.hinted(totals.hint))
         }
         None => Ok(()),
     }

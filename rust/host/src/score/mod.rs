@@ -8,6 +8,7 @@ mod rows;
 pub mod sample;
 mod station;
 
+use crate::common::digits::Digits;
 use crate::common::failure::{Failure, Outcome};
 use crate::explain::cause;
 use crate::input::numbers;
@@ -19,7 +20,7 @@ use crate::score::month::Score;
 use crate::score::picture::file::Replaced;
 use boundary::{Lease, Verdict};
 use clap::Args;
-use std::io::{self, Write};
+use std::io::Write;
 use std::path::PathBuf;
 
 /// Printed behind the help text.
@@ -59,6 +60,9 @@ pub struct Options {
     /// One row of comma-separated values a day
     #[arg(long)]
     csv: bool,
+    /// Large numbers without commas between their digits
+    #[arg(long, conflicts_with_all = ["json", "csv"])]
+    plain: bool,
     /// Draw the month as a calendar to be printed, into this file; an earlier picture there is replaced, nothing else
     #[arg(long, value_name = "FILE")]
     svg: Option<PathBuf>,
@@ -103,7 +107,7 @@ pub fn run(options: &Options, out: &mut dyn Write) -> Outcome {
     let printed = match (options.json, options.csv) {
         (true, _) => rows::json(&score, &line, out),
         (_, true) => csv(&score, out),
-        _ => card::text(&score, out),
+        _ => card::text(&score, Digits::plain(options.plain), out),
     };
     drawn?;
     printed?;
@@ -116,7 +120,7 @@ pub fn show(source: Source, line: LeaseLine, from: Date, out: &mut dyn Write) ->
     let mut log = Log::new();
     log.read(vec![source])?;
     let score = score(&log, lease, dates(Some(from), &lease)?)?;
-    card::text(&score, out)?;
+    card::text(&score, Digits::Grouped, out)?;
     Ok(score.month.verdict)
 }
 
@@ -147,7 +151,7 @@ fn dates(from: Option<Date>, lease: &Lease) -> Outcome<Vec<Option<Date>>> {
 fn score(log: &Log, lease: Lease, dates: Vec<Option<Date>>) -> Outcome<Score<'_>> {
     match (log.replay.score(&lease), &log.stop) {
         (Ok(month), _) => Ok(Score::new(lease, dates, month, log)),
-        (Err(_), Some(stop)) => Err(Failure::Refused(log.complaint(stop))),
+        (Err(_), Some(stop)) => Err(Failure::Refused(log.complaint(stop)).hinted(log.hint())),
         (Err(number), None) => Err(Failure::Refused(cause::refused(number, None).to_string())),
     }
 }
@@ -157,10 +161,7 @@ fn score(log: &Log, lease: Lease, dates: Vec<Option<Date>>) -> Outcome<Score<'_>
 fn csv(score: &Score, out: &mut dyn Write) -> Outcome {
     rows::csv(score, out)?;
     out.flush()?;
-    for note in days::notes(score.log) {
-        // Where standard error is closed, the rows must do.
-        let _ = writeln!(io::stderr(), "{note}");
-    }
+    days::tell_notes(score.log);
     Ok(())
 }
 

@@ -7,10 +7,11 @@ mod cell;
 pub mod file;
 mod svg;
 
+use crate::common::digits::grouped;
 use crate::replay::days;
 use crate::score::civil::WEEKDAYS;
 use crate::score::month::{Score, Served};
-use crate::score::picture::cell::{bar, grouped};
+use crate::score::picture::cell::bar;
 use crate::score::picture::file::BEGIN;
 use crate::score::picture::svg::{Drawing, Style, FULL, INK, PALE_INK, PAPER, PART};
 use boundary::Verdict;
