@@ -59,7 +59,8 @@ pub fn run(options: &Options, out: &mut dyn Write) -> Outcome {
     let mut lines = Lines::new(Source::open(options.file.as_deref())?);
     let mut position = 0;
     while let Some(line) = lines.next()? {
-        let words = words_of(&line, position).map_err(|fault| fault.at(&lines))?;
+        let words =
+            words_of(&line, position).map_err(|fault| fault.at(&lines).hinted(lines.hint()))?;
         for word in &words {
             match options.hex {
                 true => writeln!(out, "{word:08X}")?,

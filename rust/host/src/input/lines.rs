@@ -1,6 +1,7 @@
 //! Lines of text read from an input, for lists and for `encode`.
 
 use crate::common::failure::{Failure, Outcome};
+use crate::input::looks::{self, Looks};
 use crate::input::source::{Source, PIECE};
 
 /// The most bytes of a line, its end not counted.
@@ -63,6 +64,11 @@ impl Lines {
             None if self.end == 0 => Ok(None),
             None => Ok(Some(self.end)),
         }
+    }
+
+    /// What to try where these are no lines for `encode`.
+    pub fn hint(&self) -> Option<String> {
+        looks::hint(self.source.begin(), Looks::Listing)
     }
 
     /// The text behind the input's name and the number of the line being read.

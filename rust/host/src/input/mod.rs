@@ -2,6 +2,7 @@
 //! numbers as they are written.
 
 pub mod lines;
+pub mod looks;
 pub mod numbers;
 mod packed;
 pub mod progress;

@@ -17,7 +17,7 @@ use std::sync::{Mutex, PoisonError};
 pub const PIECE: usize = 1 << 16;
 
 /// So many bytes of an input's begin are kept, to tell what it looks like.
-const BEGIN: usize = 64;
+const BEGIN: usize = 512;
 
 pub struct Source {
     /// The file's name, for messages, with nothing that a terminal would obey.
@@ -73,7 +73,10 @@ impl Source {
     fn standard() -> Source {
         if atty::is(atty::Stream::Stdin) {
             // Where standard error is closed, nobody wonders.
-            let _ = writeln!(io::stderr(), "egretfold: reading standard input; Ctrl-D ends it");
+            let _ = writeln!(
+                io::stderr(),
+                "egretfold: reading standard input; Ctrl-D ends it"
+            );
         }
         Source::new("standard input".into(), Box::new(io::stdin()), None)
     }

@@ -3,6 +3,7 @@
 //! remark to the line's end.
 
 use crate::common::failure::{Failure, Outcome};
+use crate::input::looks::{self, Looks};
 use crate::input::numbers;
 use crate::input::source::{Source, PIECE};
 
@@ -52,6 +53,15 @@ impl Words {
 
     pub fn name(&self) -> &str {
         &self.source.name
+    }
+
+    /// What to try where these are no words at all.
+    pub fn hint(&self) -> Option<String> {
+        let wanted = match self.text {
+            Some(_) => Looks::Hex,
+            None => Looks::Words,
+        };
+        looks::hint(self.source.begin(), wanted)
     }
 
     /// The next words, none at the input's end. Where the input fails, the words

@@ -3,6 +3,7 @@
 
 use crate::common::failure::Outcome;
 use crate::explain::cause::{self, Refused};
+use crate::input::looks::{self, Looks};
 use crate::input::source::{Source, PIECE};
 use boundary::{LogStatus, Replay};
 use std::fmt;
@@ -47,6 +48,8 @@ pub struct Log {
     pub word: Option<RefusedAt>,
     /// The byte that stopped the replay.
     pub stop: Option<RefusedAt>,
+    /// The first bytes of the first input.
+    begin: Vec<u8>,
     /// The end of what was read before the piece at hand.
     tail: Vec<u8>,
 }
@@ -60,6 +63,7 @@ impl Log {
             taken: 0,
             word: None,
             stop: None,
+            begin: Vec::new(),
             tail: Vec::new(),
         }
     }
@@ -78,8 +82,16 @@ impl Log {
                     count => self.piece(&room[..count]),
                 }
             }
+            if place == 0 {
+                self.begin = source.begin().to_vec();
+            }
         }
         Ok(())
+    }
+
+    /// What to try where this is no log at all.
+    pub fn hint(&self) -> Option<String> {
+        looks::hint(&self.begin, Looks::Log)
     }
 
     fn piece(&mut self, piece: &[u8]) {
