@@ -5,7 +5,8 @@
 //! A folder a subcommand, whose first page is the subcommand itself:
 //!
 //! * `score`: a lease line and a log; its forms are the `card`, the `rows` for
-//!   programs and the `picture`; `sample` is for no arguments, which scores
+//!   programs and the `picture`; `checks` say what to look at before it is sent, and
+//!   `issue` by whom and when it is; `sample` is for no arguments, which scores
 //!   `station` 14's month;
 //! * `decode`: words given to a session by a `walk`; its forms are the `listing` and
 //!   `json`. `encode` is the way back, on one page;
@@ -46,7 +47,7 @@ Exit status: 0 fine, 1 something was refused, 2 a wrong command line or file, 3 
 
 /// Months scored, logs replayed, command streams decoded, tile addresses worked both ways, flow programs stepped
 #[derive(Parser)]
-#[command(name = "egretfold", version, after_help = AFTER)]
+#[command(name = "egretfold", version = env!("EGRETFOLD_VERSION"), after_help = AFTER)]
 struct Line {
     #[command(subcommand)]
     what: Option<What>,

@@ -40,7 +40,7 @@ impl Place {
     pub fn of(name: &Path) -> Outcome<Place> {
         let path = behind_links(name)?;
         let stands = match fs::metadata(&path) {
-            Ok(about) if about.is_dir() => return Err(failed(name, "is a folder")),
+            Ok(about) if about.is_dir() => return Err(failed(name, "is no file")),
             Ok(about) if about.is_file() => Stands::File,
             Ok(_) => Stands::Special,
             Err(error) if error.kind() == io::ErrorKind::NotFound => Stands::Nothing,

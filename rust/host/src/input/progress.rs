@@ -11,11 +11,11 @@ use std::time::{Duration, Instant};
 /// What is read faster needs no bar.
 const WAIT: Duration = Duration::from_secs(1);
 
-const SHAPE: &str = "{bar:40} {bytes} of {total_bytes}, {eta} left";
+const SHAPE: &str = "{bar:30} {bytes} of {total_bytes}, {eta} left";
 
 /// The shape's line is shorter than this many columns; where a terminal has fewer,
 /// the line would be broken and stay.
-const COLUMNS: u16 = 90;
+const COLUMNS: u16 = 72;
 
 /// The bar that is shown.
 static SHOWN: Mutex<Option<ProgressBar>> = Mutex::new(None);

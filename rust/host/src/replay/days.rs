@@ -60,7 +60,7 @@ pub fn csv(log: &Log, out: &mut dyn Write) -> Outcome {
 }
 
 /// The notes on standard error. Where that is closed, the rows must do.
-pub fn tell_notes(log: &Log) {
+fn tell_notes(log: &Log) {
     for note in notes(log) {
         let _ = writeln!(io::stderr(), "{note}");
     }
@@ -89,19 +89,26 @@ pub fn notes(log: &Log) -> Vec<String> {
             "  the replay is stopped, {after} after it not taken"
         ));
     }
-    if let Some((name, taken, due)) = open(log) {
-        lines.push(format!(
-            "ends inside {name}: {taken} of its {due} parameters taken"
-        ));
-    }
-    let unfinished = log.replay.status().unfinished;
-    if unfinished > 0 {
-        let record = log.records();
-        lines.push(format!(
-            "ends inside record {record}: {unfinished} of its {RECORD} bytes, counted nowhere"
-        ));
-    }
+    lines.extend(open_command(log));
+    lines.extend(unfinished_record(log));
     lines
+}
+
+/// How the log's end cuts a command.
+pub fn open_command(log: &Log) -> Option<String> {
+    let (name, taken, due) = open(log)?;
+    Some(format!(
+        "ends inside {name}: {taken} of its {due} parameters taken"
+    ))
+}
+
+/// How the log's end cuts a record.
+pub fn unfinished_record(log: &Log) -> Option<String> {
+    let unfinished = log.replay.status().unfinished;
+    let record = log.records();
+    (unfinished > 0).then(|| {
+        format!("ends inside record {record}: {unfinished} of its {RECORD} bytes, counted nowhere")
+    })
 }
 
 /// The open command at the end: its name, parameters taken, parameters due.

@@ -2,27 +2,33 @@
 
 use crate::common::digits::Digits;
 use crate::common::failure::Outcome;
-use crate::replay::days;
 use crate::score::month::{filled, Day, Score};
 use std::io::Write;
 
 /// Characters of a bar.
 const BAR: usize = 20;
 
-/// A heading, a row a day, the totals and the verdict; then what was refused and
-/// what the log's end cuts, since these explain a short month.
+/// A heading, a row a day and the totals, what to check before the card is sent, and
+/// the verdict.
 pub fn text(score: &Score, digits: Digits, out: &mut dyn Write) -> Outcome {
     writeln!(out, "score of {}", score.log_name())?;
+    if let Some(whose) = score.issue.whose() {
+        writeln!(out, "{whose}")?;
+    }
     writeln!(out, "{}", lease(score, digits))?;
     writeln!(out)?;
     for line in table(score, digits) {
         writeln!(out, "{line}")?;
     }
     writeln!(out)?;
-    writeln!(out, "{}", score.verdict())?;
-    for note in days::notes(score.log) {
-        writeln!(out, "{note}")?;
+    if !score.checks.is_empty() {
+        writeln!(out, "check before sending:")?;
+        for check in &score.checks {
+            writeln!(out, "  {}", check.text)?;
+        }
+        writeln!(out)?;
     }
+    writeln!(out, "{}", score.verdict())?;
     Ok(())
 }
 
@@ -105,7 +111,10 @@ fn total(score: &Score, digits: Digits) -> Row {
             digits.of(served),
             digits.of(owed),
         ],
-        behind: bar(served, owed),
+        behind: match score.percent() {
+            Some(percent) => format!("{}  {percent}", bar(served, owed)),
+            None => bar(served, owed),
+        },
     }
 }
 
