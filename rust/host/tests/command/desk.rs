@@ -563,7 +563,7 @@ fn a_bar_is_shown_where_it_can_be() {
     );
     let clear = "\u{1b}[2K";
     let shown = on_a_terminal(&format!("stty cols 100 rows 30; TERM=xterm {reading}"));
-    assert!(shown.contains("GiB of 16.00 GiB"), "{shown:?}");
+    assert!(shown.contains(" of 16.00 GiB"), "{shown:?}");
     let behind = shown.rsplit("left").next().unwrap_or_default();
     assert!(behind.contains(clear), "{behind:?}");
     for terminal in [

@@ -1,7 +1,7 @@
 //! The command `egretfold` run as a user runs it: its outputs held against stored
 //! ones, its command line, streams there and back, logs over midnight, months scored and
-//! their cards, the working by hand, what a desk meets beside the answers, and the examples of
-//! the documents.
+//! their cards, the working by hand, what a desk meets beside the answers, hostile lines and inputs,
+//! and the examples of the documents.
 
 mod card;
 mod causes;
@@ -9,6 +9,7 @@ mod common;
 mod desk;
 mod examples;
 mod golden;
+mod hostile;
 mod program;
 mod replay;
 mod round_trip;

@@ -391,7 +391,7 @@ fn a_picture_that_cannot_be_written_leaves_the_earlier_one() {
 
 /// Walks through the elements: names that open and close, attributes in quotes, and
 /// no `<` or bare `&` elsewhere. Gives how many elements there are.
-fn well_formed(text: &str) -> usize {
+pub fn well_formed(text: &str) -> usize {
     let mut open: Vec<&str> = Vec::new();
     let mut count = 0;
     for part in text.split('<').skip(1) {
