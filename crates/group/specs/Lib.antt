@@ -1,4 +1,5 @@
 pub mod Cells
 pub mod Group
 pub mod Masks
+pub mod Modes
 pub mod Proc
