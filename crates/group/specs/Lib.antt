@@ -1,3 +1,4 @@
+pub mod Causes
 pub mod Cells
 pub mod Group
 pub mod Masks
