@@ -57,14 +57,6 @@ module _ {l leaves : List ℕ} where
         left = d .left;
       }
 
-  -- a refusal before the slot is looked at
-  pub step-refused : {why : Refusal} (o : Outcome) → NumberDone l leaves (numberOf why) o → 1 < numberOf why → StepDone l leaves (stepped.Refused why) o
-  step-refused {why} (Steps jump g) d h =
-      let z : numberOf why ≡ digit jump = d .number in
-      let q : digit jump < 2 = digit-lt jump in
-      absurd (omega arith)
-  step-refused (Fails k) d h = record { told = ap refuses (d .number); left = d .left }
-
 -- the number of a step as its answer tells it
 module _ (n position : ℕ) where
   pub told-refused : {why : Refusal} → 1 < n → why ≡ refusalOf n → toldStepped (stepped.Refused why) ≡ numberTold n position

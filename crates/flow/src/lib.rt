@@ -14,7 +14,7 @@ ghost use Rattle.loops.specs.Loops.{loopsTold};
 ghost use Rattle.group.specs.Proc.{mostProcessors, counterLimit};
 ghost use Rattle.group.specs.Group.{Makes, goOn, groupSteps};
 ghost use Rattle.group.specs.Cells.{groupOf, GroupGiven};
-ghost use Rattle.stepper.specs.Answers.{StepDone, toldStepped, programOf, stepIn, runIn};
+ghost use Rattle.stepper.specs.Answers.{NumberDone, StepDone, toldStepped, programOf, stepIn, runIn};
 ghost use Rattle.flow.specs.Answers.{refusalOf, numberTold, madeBy, BeginDone, LoadDone, RunDone, StepsDone};
 
 // A fresh group stands in the cells, or its size isn't allowed.
@@ -82,10 +82,42 @@ fn stepped_of(number: u32, position: u32) -> Stepped
     Stepped::Stayed(next)
 }
 
+// A step in one number: 1 for a jump and 0 for a stay, whose next position is then in the cells, or the refusal's, 13 to 16. A slot of op
+// 0, of which most programs are made, doesn't come near the loops.
+fn step_number(
+    firsts: &[u32; group::SLOTS],
+    seconds: &[u32; group::SLOTS],
+    slots: u32,
+    cells: &mut [u32; group::CELLS],
+    alu: u32,
+    predicate: u32,
+    booleans: u32,
+    integers: &[u32],
+) -> u32
+    requires { ⌜ GroupGiven (now cells) ⌝ }
+    ensures { λ r. ⌜ NumberDone (now (cells .entry)) (now (cells .exit)) r (stepIn (now (firsts .entry)) (now (seconds .entry)) slots (now (cells .entry)) alu predicate booleans (now (integers .entry))) ⌝ }
+{
+    let here = cells[group::POSITION];
+    if slots <= here {
+        return refusal::number(Refusal::Ended);
+    }
+    if STORE_SLOTS < slots {
+        return refusal::number(Refusal::PastEnd);
+    }
+    let at = here as usize;
+    let first = firsts[at];
+    let second = seconds[at];
+    if first % slot::OPS == 0 {
+        return stepper::single::jump_slot(first, second, slots, cells, alu, predicate, booleans);
+    }
+    let word = loops::word_at(second / slot::INTEGER % slot::INTEGERS, integers);
+    stepper::looping::loop_slot(first, second, slots, cells, word, alu, predicate, booleans)
+}
+
 // A step of the group under a program: the first and second words of its slots, how many slots run, and the integer words that
 // LOOP and REP take. 16 where the program has ended, 13 for a word that isn't allowed (an integer word too), 14 for the open loops,
 // a branch counter or the return stack at its limit, 15 for a jump past the program's end (and where more than 512 slots are to
-// run). A slot of op 0, of which most programs are made, doesn't come near the loops.
+// run).
 pub fn step(
     firsts: &[u32; group::SLOTS],
     seconds: &[u32; group::SLOTS],
@@ -99,22 +131,16 @@ pub fn step(
     requires { ⌜ GroupGiven (now cells) ⌝ }
     ensures { λ r. ⌜ StepDone (now (cells .entry)) (now (cells .exit)) r (stepIn (now (firsts .entry)) (now (seconds .entry)) slots (now (cells .entry)) alu predicate booleans (now (integers .entry))) ⌝ }
 {
-    let here = cells[group::POSITION];
-    if slots <= here {
-        return Stepped::Refused(Refusal::Ended);
-    }
-    if STORE_SLOTS < slots {
-        return Stepped::Refused(Refusal::PastEnd);
-    }
-    let at = here as usize;
-    let first = firsts[at];
-    let second = seconds[at];
-    if first % slot::OPS == 0 {
-        let number = stepper::jump_slot(first, second, slots, cells, alu, predicate, booleans);
-        return stepped_of(number, cells[group::POSITION]);
-    }
-    let word = loops::word_at(second / slot::INTEGER % slot::INTEGERS, integers);
-    let number = stepper::loop_slot(first, second, slots, cells, word, alu, predicate, booleans);
+    let number = step_number(
+        firsts,
+        seconds,
+        slots,
+        cells,
+        alu,
+        predicate,
+        booleans,
+        integers,
+    );
     stepped_of(number, cells[group::POSITION])
 }
 
@@ -242,10 +268,27 @@ fn one_step(
     let first = firsts[at];
     let second = seconds[at];
     if first % slot::OPS == 0 {
-        return made_of(stepper::jump_slot(first, second, slots, cells, alu, predicate, booleans));
+        return made_of(stepper::running::jump_slot(
+            first,
+            second,
+            slots,
+            cells,
+            alu,
+            predicate,
+            booleans,
+        ));
     }
     let word = loops::word_at(second / slot::INTEGER % slot::INTEGERS, integers);
-    made_of(stepper::loop_slot(first, second, slots, cells, word, alu, predicate, booleans))
+    made_of(stepper::looping::loop_slot(
+        first,
+        second,
+        slots,
+        cells,
+        word,
+        alu,
+        predicate,
+        booleans,
+    ))
 }
 
 // How many steps a list of masks is for, two masks each: a last alu without its predicate counts as the list's end.

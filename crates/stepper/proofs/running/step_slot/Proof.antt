@@ -1,10 +1,10 @@
--- `stepper::step_slot` meets its contract: the first half of the step, and the second by its callee. Assumes nothing.
+-- `stepper::running::step_slot` meets its contract: the first half of the step, and the second by its callee. Assumes nothing.
 use denote.Ref.{now}
 use Rattle.group.proofs.State.{given-masks}
 use Rattle.stepper.proofs.Stepping.{slot-refused, slot-masks, slot-done}
 use borrow.Author.Needs.{needs}
-use Rattle.stepper.proofs.step_slot.Statement.{statement}
-use Rattle.stepper.proofs.step_slot.Tie as tie
+use Rattle.stepper.proofs.running.step_slot.Statement.{statement}
+use Rattle.stepper.proofs.running.step_slot.Tie as tie
 
 fits-first-requires : tie.Need-fits-first-requires
 fits-first-requires c κs = search needs

@@ -1,4 +1,4 @@
--- `stepper::settle` meets its contract: each return is the outcome as far as the tests on the way decide it. Assumes nothing.
+-- `stepper::single::settle` meets its contract: each return is the outcome as far as the tests on the way decide it. Assumes nothing.
 use denote.Ref.{now}
 use native.Mathlib.Omega.{arith}
 use Rattle.group.specs.Group.{aOp, jumpAddress, wayOf}
@@ -6,8 +6,8 @@ use Rattle.group.specs.Cells.{positionIn, groupOf}
 use Rattle.stepper.proofs.Going.{gone-named, gone-masks}
 use Rattle.stepper.proofs.Stepping.{settle-over, settle-refused, settle-made}
 use borrow.Author.Needs.{needs}
-use Rattle.stepper.proofs.settle.Statement.{statement}
-use Rattle.stepper.proofs.settle.Tie as tie
+use Rattle.stepper.proofs.single.settle.Statement.{statement}
+use Rattle.stepper.proofs.single.settle.Tie as tie
 
 branch-op-requires : tie.Need-branch-op-requires
 branch-op-requires c κs = search needs

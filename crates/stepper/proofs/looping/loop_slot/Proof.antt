@@ -1,12 +1,12 @@
--- `stepper::loop_slot` meets its contract: the words, the loop's turn, the rest of the step, and the loops last. Assumes nothing.
+-- `stepper::looping::loop_slot` meets its contract: the words, the loop's turn, the rest of the step, and the loops last. Assumes nothing.
 use denote.Ref.{now}
 use Rattle.group.specs.Proc.{counterLimit}
 use Rattle.group.specs.Cells.{groupOf}
 use Rattle.group.proofs.State.{given-loops, loop-sound}
 use Rattle.stepper.proofs.Stepping.{loop-bad, loop-stops, loop-refused, loop-stored, left-size}
 use borrow.Author.Needs.{needs}
-use Rattle.stepper.proofs.loop_slot.Statement.{statement}
-use Rattle.stepper.proofs.loop_slot.Tie as tie
+use Rattle.stepper.proofs.looping.loop_slot.Statement.{statement}
+use Rattle.stepper.proofs.looping.loop_slot.Tie as tie
 
 allowed-loop-requires : tie.Need-allowed-loop-requires
 allowed-loop-requires c κs = search needs

@@ -1,9 +1,9 @@
--- `stepper::jump_slot` meets its contract: the second word, and then the step that the wishes decide. Assumes nothing.
+-- `stepper::single::jump_slot` meets its contract: the second word, and then the step that the wishes decide. Assumes nothing.
 use denote.Ref.{now}
 use Rattle.stepper.proofs.Stepping.{jump-refused, jump-done}
 use borrow.Author.Needs.{needs}
-use Rattle.stepper.proofs.jump_slot.Statement.{statement}
-use Rattle.stepper.proofs.jump_slot.Tie as tie
+use Rattle.stepper.proofs.single.jump_slot.Statement.{statement}
+use Rattle.stepper.proofs.single.jump_slot.Tie as tie
 
 plain-second-requires : tie.Need-plain-second-requires
 plain-second-requires c κs = search needs
