@@ -2,6 +2,7 @@
 -- group has (`group-of`), and that a row step is a whole number of groups (`whole-groups`). Assumes nothing.
 use mathlib.Core.Path.{_≡_, refl, sym, ap, _∙_, subst}
 use mathlib.Core.Bool.{Bool, true, false, not}
+use mathlib.Core.List.{[], _∷_}
 use Prim.Native.Nat.{ℕ, zero, suc, _+_, _-_, _*_, _/_, _%_, _^_, _≤_, _<_}
 use native.Mathlib.Nat.{mod-lt, div-add-mod', div-div-eq-div-mul, add-mul, mul-le-mul-right, div-lt-iff-lt-mul, mul-assoc, mul-comm}
 use native.Mathlib.Nat.{mul-div-cancel, lt-of-mul-lt-mul-right}
@@ -15,15 +16,16 @@ use Rattle.laws.specs.Bits.{bit}
 use Rattle.laws.specs.Choice.{pick, placeOf}
 use Rattle.laws.proofs.Below.{least-at, least-before}
 use Rattle.laws.proofs.Choice.{pick-yes, pick-no, Tested, tested, holds, fails}
+use Rattle.refusal.specs.Told.{gives}
 use Rattle.layout.specs.Sizes.{isSize, widthOf, heightOf}
 use Rattle.layout.specs.declared.Layout.{Layout}
 use Rattle.layout.proofs.Sizes.{by-size, Tile}
 use Rattle.address.specs.Offset.{blockWidth, blockHeight, codeOf, insideOf, tiledOffset, linearOffset, offsetOf}
-use Rattle.address.specs.Address.{stepOf, addressOf, breaks, runOf}
+use Rattle.address.specs.Address.{stepOf, addressOf, breaks, runOf, locateOf}
 use Rattle.address.specs.Inverse.{Accepted, Inside}
 use Rattle.address.specs.Run.{Run, Longest, runUnit, runNumber}
 use Rattle.address.proofs.Offsets.{blocks}
-use Rattle.address.proofs.Inverse.{grid}
+use Rattle.address.proofs.Inverse.{grid, inverse}
 
 -- the elements of a row y: x = X·p + b, column b of the block X
 module _ (s : ℕ) (t : Tile s (blockWidth s) (blockHeight s)) (e y : ℕ) where
@@ -340,6 +342,18 @@ module _ (l : Layout) (accepted : Accepted l) (x y : ℕ) (i : Inside l x y) whe
   -- and it is the longest
   pub longest : Longest l x y (runOf l x y)
   longest = subst (Longest l x y) (sym run-number) longest-number
+
+  -- "the way back ... restated over the new one": each byte of each element of the run leads back to its pair and place
+  pub run-back :
+      (k place : ℕ) → k < runOf l x y → place < l .size →
+      locateOf l (addressOf l x y + k * l .size + place) ≡ gives ((x + k) ∷ y ∷ place ∷ [])
+  run-back k place h below =
+      inverse l accepted .back _ (x + k) y place
+      (record {
+        pair = record { column = omega (arith, longest .run .window); row = i .row };
+        below = below;
+        byte = ap (λ (a : ℕ). a + place) (sym (longest .at k h));
+      })
 
 -- one law a return of the code
 pub unit-rest : (s s' x : ℕ) → s ≡ s' → runUnit s' - x % runUnit s' ≡ runUnit s - x % runUnit s
