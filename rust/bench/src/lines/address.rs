@@ -101,9 +101,11 @@ fn asked(layout: &boundary::Layout, x: u32, y: u32) -> Result<Translated, u32> {
     })
 }
 
+/// What is summed up of an answer. The run is told with it, by a call that isn't inlined, and compared above; the caller looks at
+/// the address alone, as it did before there were runs.
 #[inline(always)]
 fn either(answer: Result<Translated, u32>) -> u64 {
-    answer.map_or_else(u64::from, |at| u64::from(at.address) + u64::from(at.run))
+    answer.map_or_else(u64::from, |at| u64::from(at.address))
 }
 
 #[inline(always)]
