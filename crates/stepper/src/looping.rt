@@ -9,11 +9,11 @@ ghost use mathlib.Core.Path.{_≡_};
 ghost use Prim.Native.Nat.{_<_, _≤_};
 ghost use lib.ListN.{length};
 ghost use Rattle.laws.specs.Masks.{on};
-ghost use Rattle.group.specs.Group.{settled, loopStep, storeSlots};
+ghost use Rattle.group.specs.Group.{loopStep, storeSlots};
 ghost use Rattle.group.specs.Proc.{branched, counterLimit};
 ghost use Rattle.group.specs.Cells.{cellCount, positionIn, withActive, groupOf, GroupGiven, CellsNamed};
 ghost use Rattle.group.specs.Masks.{OwnMasksIn, withMasks, shownAs};
-ghost use Rattle.stepper.specs.Answers.{NumberDone, decidedStep, setLoops};
+ghost use Rattle.stepper.specs.Answers.{NumberDone, settledIn, decidedStep, setLoops};
 
 // The branch operation on the cells. Without one the planes are neither read nor stored.
 fn branch(op: u32, count: u32, jump: bool, active: u32, wish: u32, cells: &mut [u32; group::CELLS])
@@ -64,7 +64,7 @@ fn settle(
     jump: bool,
 ) -> u32
     requires { ⌜ (GroupGiven (now cells)) × (positionIn (now cells) < slots) × (slots ≤ storeSlots) × (OwnMasksIn (now cells) active) ⌝ }
-    ensures { λ r. ⌜ NumberDone (now (cells .entry)) (now (cells .exit)) r (settled counterLimit slots first second jump (λ i. on i wish) (withActive (now (cells .entry)) active) (groupOf (now (cells .entry)))) ⌝ }
+    ensures { λ r. ⌜ NumberDone (now (cells .entry)) (now (cells .exit)) r (settledIn counterLimit slots first second jump wish active (now (cells .entry))) ⌝ }
 {
     let op = slot::branch_op(first, jump);
     if planes::over_limit(op, cells) {

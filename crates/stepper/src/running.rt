@@ -7,11 +7,11 @@ use refusal::Refusal;
 ghost use mathlib.Core.Path.{_≡_};
 ghost use Prim.Native.Nat.{_<_, _≤_};
 ghost use Rattle.laws.specs.Masks.{on};
-ghost use Rattle.group.specs.Group.{opOf, settled, jumpStep, storeSlots};
-ghost use Rattle.group.specs.Proc.{branched, counterLimit};
+ghost use Rattle.group.specs.Group.{opOf, jumpStep, storeSlots};
+ghost use Rattle.group.specs.Proc.{branched};
 ghost use Rattle.group.specs.Cells.{positionIn, withActive, groupOf, GroupGiven, CellsNamed};
 ghost use Rattle.group.specs.Masks.{OwnMasksIn, withMasks, shownAs};
-ghost use Rattle.stepper.specs.Answers.{NumberDone, decidedStep};
+ghost use Rattle.stepper.specs.Answers.{NumberDone, ownLimit, settledIn, decidedStep};
 
 // The branch operation on the cells. Without one the planes are neither read nor stored.
 fn branch(op: u32, count: u32, jump: bool, active: u32, wish: u32, cells: &mut [u32; group::CELLS])
@@ -62,10 +62,10 @@ fn settle(
     jump: bool,
 ) -> u32
     requires { ⌜ (GroupGiven (now cells)) × (positionIn (now cells) < slots) × (slots ≤ storeSlots) × (OwnMasksIn (now cells) active) ⌝ }
-    ensures { λ r. ⌜ NumberDone (now (cells .entry)) (now (cells .exit)) r (settled counterLimit slots first second jump (λ i. on i wish) (withActive (now (cells .entry)) active) (groupOf (now (cells .entry)))) ⌝ }
+    ensures { λ r. ⌜ NumberDone (now (cells .entry)) (now (cells .exit)) r (settledIn (ownLimit (now (cells .entry))) slots first second jump wish active (now (cells .entry))) ⌝ }
 {
     let op = slot::branch_op(first, jump);
-    if planes::over_limit(op, cells) {
+    if planes::over_own_limit(op, cells) {
         return refusal::number(Refusal::AtLimit);
     }
     let went = place::go(
@@ -103,7 +103,7 @@ fn step_slot(
     decision: u32,
 ) -> u32
     requires { ⌜ (GroupGiven (now cells)) × (positionIn (now cells) < slots) × (slots ≤ storeSlots) ⌝ }
-    ensures { λ r. ⌜ NumberDone (now (cells .entry)) (now (cells .exit)) r (decidedStep counterLimit slots first second decision alu predicate booleans (groupOf (now (cells .entry)))) ⌝ }
+    ensures { λ r. ⌜ NumberDone (now (cells .entry)) (now (cells .exit)) r (decidedStep (ownLimit (now (cells .entry))) slots first second decision alu predicate booleans (groupOf (now (cells .entry)))) ⌝ }
 {
     if slot::fits_first(first) {
         let was = cells[group::ACTIVE];
@@ -129,7 +129,7 @@ pub fn jump_slot(
     booleans: u32,
 ) -> u32
     requires { ⌜ (GroupGiven (now cells)) × (positionIn (now cells) < slots) × (slots ≤ storeSlots) × (opOf first ≡ 0) ⌝ }
-    ensures { λ r. ⌜ NumberDone (now (cells .entry)) (now (cells .exit)) r (jumpStep counterLimit slots first second alu predicate booleans (groupOf (now (cells .entry)))) ⌝ }
+    ensures { λ r. ⌜ NumberDone (now (cells .entry)) (now (cells .exit)) r (jumpStep (ownLimit (now (cells .entry))) slots first second alu predicate booleans (groupOf (now (cells .entry)))) ⌝ }
 {
     if slot::plain_second(second) {
         return step_slot(

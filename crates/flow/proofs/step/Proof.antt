@@ -1,6 +1,7 @@
 -- `flow::step` meets its contract: the step's number, told with the position that the cells then show. Assumes nothing.
 use denote.Ref.{now}
 use native.Mathlib.Omega.{arith}
+use Rattle.stepper.specs.Answers.{ownLimit}
 use Rattle.stepper.proofs.Stepping.{left-size}
 use Rattle.flow.proofs.Answers.{step-told}
 use Rattle.flow.proofs.Running.{sound-here}
@@ -24,7 +25,7 @@ returns c =
     let at-step-number = c .before .before in
     let entry = at-step-number .before .before .before in
     let done = at-step-number .step-number .ensures in
-    step-told _ (sound-here (now (entry .args .cells)) (now (entry .args .firsts)) (now (entry .args .seconds)) (entry .args .slots) (entry .args .alu)
+    step-told (ownLimit (now (entry .args .cells))) _ (sound-here (now (entry .args .cells)) (now (entry .args .firsts)) (now (entry .args .seconds)) (entry .args .slots) (entry .args .alu)
     (entry .args .predicate) (entry .args .booleans) (now (entry .args .integers)) (entry .pre) done) done (c .stepped-of .ensures)
 
 pub step-spec : {M : Type 1} → statement M
