@@ -150,7 +150,7 @@ module _ (limit : ℕ) (p : Program) (alu predicate booleans : ℕ) (g : Group) 
     shown-way :
         (jump : Bool) (loops : List Opened) → decision limit p alu predicate booleans g ≡ Turns jump loops →
         overLimit limit (branchOp jump (firstAt p g)) (elsed p g) ≡ false →
-        (w : Way) → next limit p alu predicate booleans g jump ≡ w → Shown (arrived (p .slots) jump (procs jump) loops w)
+        (w : Way) → next limit p alu predicate booleans g jump ≡ w → Shown (arrived (p .slots) jump (procs jump) (withLoops g loops) w)
     shown-way jump loops d counters Stuck e = stackAtLimit running fields jump loops d counters e
     shown-way jump loops d counters (Goes at returns) e =
         by-pick Shown (leb at (p .slots)) _ _
@@ -330,7 +330,7 @@ module _ (limit : ℕ) (p : Program) (booleans : ℕ) (g : Group) (alu predicate
     same-settled j loops =
         ap (λ (f : ℕ → Proc).
         pick (overLimit limit (branchOp j (firstAt p g)) (elsed p g)) (Fails 14)
-        (arrived (p .slots) j f loops (wayOf (aOp (firstAt p g)) j (g .position) (jumpAddress (secondAt p g)) (g .returns))))
+        (arrived (p .slots) j f (withLoops g loops) (wayOf (aOp (firstAt p g)) j (g .position) (jumpAddress (secondAt p g)) (g .returns))))
         (λ k i. worked-same (elsed p g i) (w i) (w' i) (same-wish i) (branchOp j (firstAt p g)) (popCount (firstAt p g)) j k)
 
     abbrev rest : (ℕ → Bool) → Bool → List Opened → Outcome

@@ -17,7 +17,7 @@ use Rattle.flow.specs.declared.Begun.{Begun}
 use Rattle.flow.specs.declared.Begun.the-variants as begun
 use Rattle.group.specs.Proc.{Proc, Active, Absent, isLive, isActive, counterBit, counterLimit}
 use Rattle.group.specs.Group.{fresh, isGroupSize, beginTold}
-use Rattle.group.specs.Cells.{plane, loopCells, cellsWith, cellsOf, beginLeaves, GroupGiven}
+use Rattle.group.specs.Cells.{plane, lastCells, cellsWith, cellsOf, beginLeaves, GroupGiven}
 use Rattle.flow.specs.Answers.{BeginDone}
 use Rattle.group.proofs.State.{given-of, fresh-sound}
 
@@ -46,12 +46,12 @@ module _ (size : ℕ) where
 
   fresh-cells :
       size ≤ 32 →
-      cellsWith (4294967295 / 2 ^ (32 - size)) (4294967295 / 2 ^ (32 - size)) 0 0 0 0 0 0 0 0 0 0 (loopCells []) ≡ cellsOf (fresh size)
+      cellsWith (4294967295 / 2 ^ (32 - size)) (4294967295 / 2 ^ (32 - size)) 0 0 0 0 0 0 0 0 0 0 (lastCells 0 []) ≡ cellsOf (fresh size)
   unfolding fresh
   fresh-cells h =
       λ j.
       cellsWith ((full-mask size h ∙ in-size isLive refl refl) j) ((full-mask size h ∙ in-size isActive refl refl) j)
-      (none-set 0 j) (none-set 1 j) (none-set 2 j) (none-set 3 j) (none-set 4 j) 0 0 0 0 0 (loopCells [])
+      (none-set 0 j) (none-set 1 j) (none-set 2 j) (none-set 3 j) (none-set 4 j) 0 0 0 0 0 (lastCells 0 [])
 
   module _ (l : List ℕ) where
     refused-size : isGroupSize size ≡ false → BeginDone l l (begun.Refused FlowField) size
@@ -68,7 +68,7 @@ module _ (size : ℕ) where
 
     pub begin-ready :
         1 ≤ size → size ≤ 32 →
-        BeginDone l (cellsWith (4294967295 / 2 ^ (32 - size)) (4294967295 / 2 ^ (32 - size)) 0 0 0 0 0 0 0 0 0 0 (loopCells [])) begun.Ready size
+        BeginDone l (cellsWith (4294967295 / 2 ^ (32 - size)) (4294967295 / 2 ^ (32 - size)) 0 0 0 0 0 0 0 0 0 0 (lastCells 0 [])) begun.Ready size
     unfolding beginTold beginLeaves isGroupSize
     begin-ready h k =
         let e : isGroupSize size ≡ true = and-intro (le-leb 1 size h) (le-leb size 32 k) in
