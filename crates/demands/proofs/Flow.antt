@@ -58,7 +58,7 @@ use Rattle.group.specs.Group.{
 }
 use Rattle.group.specs.Cells.{groupOf, runLeaves, beginLeaves}
 use Rattle.group.specs.Cells as cells
-use Rattle.group.proofs.State.{given-of, left-given, step-sound}
+use Rattle.group.proofs.State.{given-of, left-given, step-sound, turned-live, branched-live}
 use Rattle.flow.proofs.Beginning.{begin-given}
 use Rattle.flow.proofs.Running.{SoundRun, steps-sound}
 use Rattle.flow.specs.Looping.{opAt, integerAt}
@@ -245,27 +245,6 @@ handed-made (ran {cells = l} h p booleans masks r c' a a' k) =
     (run-left l (groupRun counterLimit p booleans masks (groupOf l)) (handed-made h)
     (by-pick (SoundRun counterLimit) (ended p (groupOf l)) _ _ (λ e. tt) (λ e. steps-sound counterLimit p booleans masks (groupOf l) (handed-made h .sound))))
 
--- a processor is in the group after a step where it was before
-turned-live : (else : Bool) (q : Proc) → isLive (pick else (turned q) q) ≡ isLive q
-unfolding pick
-turned-live true Active = refl
-turned-live true (Idle zero) = refl
-turned-live true (Idle (suc n)) = refl
-turned-live true Absent = refl
-turned-live false q = refl
-
-pick-live : (t : Bool) (a b : Proc) → isLive a ≡ true → isLive b ≡ true → isLive (pick t a b) ≡ true
-pick-live t a b ha hb = by-pick (λ (q : Proc). isLive q ≡ true) t a b (λ e. ha) (λ e. hb)
-
-worked-live : (op k : ℕ) (jump wish : Bool) (q : Proc) → isLive (branched op k jump wish q) ≡ isLive q
-unfolding branched
-worked-live op k jump wish Active = pick-live _ _ _ refl (pick-live _ _ _ (pick-live _ _ _ refl refl) refl)
-worked-live op k jump wish (Idle n) = pick-live _ _ _ (pick-live _ _ _ refl refl) (pick-live _ _ _ refl refl)
-worked-live op k jump wish Absent = gone (eqb op 1) (eqb op 2)
-  where
-    gone : (a b : Bool) → isLive (pick a Absent (pick b Absent Absent)) ≡ false
-    gone a b = by-pick (λ (q : Proc). isLive q ≡ false) a _ _ (λ e. refl) (λ e. by-pick (λ (q : Proc). isLive q ≡ false) b _ _ (λ f. refl) (λ f. refl))
-
 -- wishes that are the same for every processor in the group
 module _ (q : Proc) (w w' : Bool) (h : isLive q ≡ true → w ≡ w') where
   active-and : (isActive q and w) ≡ (isActive q and w')
@@ -361,7 +340,7 @@ module _ (limit : ℕ) (p : Program) (booleans : ℕ) where
   unfolding turnedIf
   live-after alu predicate g g' jump e i =
       ap isLive (step-made limit p alu predicate booleans g jump g' e .each-processor i) ∙
-      worked-live _ _ _ _ (elsed p g i) ∙ turned-live (bElse (firstAt p g)) (g .procs i)
+      branched-live _ _ _ _ (elsed p g i) ∙ turned-live (bElse (firstAt p g)) (g .procs i)
 
   agree-after : (g g' : Group) → ((i : ℕ) → isLive (g' .procs i) ≡ isLive (g .procs i)) → (ms ms' : List ℕ) → AllAgree g ms ms' → AllAgree g' ms ms'
   agree-after g g' l [] [] h = tt

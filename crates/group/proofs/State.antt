@@ -183,6 +183,27 @@ pub branched-absent : (op k : ℕ) (jump wish : Bool) {p : Proc} → p ≡ Absen
 unfolding branched
 branched-absent op k jump wish {p} e = rw e (ap (pick (eqb op 1) Absent) (pick-same (eqb op 2) Absent) ∙ pick-same (eqb op 1) Absent)
 
+-- a processor is in the group after a step where it was before
+pub turned-live : (else : Bool) (q : Proc) → isLive (pick else (turned q) q) ≡ isLive q
+unfolding pick
+turned-live true Active = refl
+turned-live true (Idle zero) = refl
+turned-live true (Idle (suc n)) = refl
+turned-live true Absent = refl
+turned-live false q = refl
+
+pick-live : (t : Bool) (a b : Proc) → isLive a ≡ true → isLive b ≡ true → isLive (pick t a b) ≡ true
+pick-live t a b ha hb = by-pick (λ (q : Proc). isLive q ≡ true) t a b (λ e. ha) (λ e. hb)
+
+pub branched-live : (op k : ℕ) (jump wish : Bool) (q : Proc) → isLive (branched op k jump wish q) ≡ isLive q
+unfolding branched
+branched-live op k jump wish Active = pick-live _ _ _ refl (pick-live _ _ _ (pick-live _ _ _ refl refl) refl)
+branched-live op k jump wish (Idle n) = pick-live _ _ _ (pick-live _ _ _ refl refl) (pick-live _ _ _ refl refl)
+branched-live op k jump wish Absent = gone (eqb op 1) (eqb op 2)
+  where
+    gone : (a b : Bool) → isLive (pick a Absent (pick b Absent Absent)) ≡ false
+    gone a b = by-pick (λ (q : Proc). isLive q ≡ false) a _ _ (λ e. refl) (λ e. by-pick (λ (q : Proc). isLive q ≡ false) b _ _ (λ f. refl) (λ f. refl))
+
 pub turned-within : (limit : ℕ) (p : Proc) → within limit p ≡ true → within limit (turned p) ≡ true
 turned-within limit Active w = le-leb 0 limit zero-le
 turned-within limit (Idle zero) w = refl
