@@ -2,7 +2,7 @@
 -- register, the maximum and the choice. A float is the logic's (lib.Ieee), `lt` and `le` are IEEE 754's < and ≤; the same by bit
 -- patterns is specs/Pattern.antt. Assumes nothing.
 use mathlib.Core.Bool.{Bool, true, false}
-use mathlib.Core.List.{List}
+use mathlib.Core.List.{List, [], _∷_}
 use Prim.Native.Nat.{ℕ, zero, suc, _+_, _*_}
 use lib.ListN.{getD}
 use lib.Ieee.{Float, binary32, nan, lt, le, ofBits}
@@ -71,6 +71,10 @@ registerAt l i =
       c2 = getD l (i * channelCount + 2) nan;
       c3 = getD l (i * channelCount + 3) nan;
     }
+
+-- a register's channels as a list
+abbrev pub channelsOf : Register → List Float
+channelsOf r = r .c0 ∷ r .c1 ∷ r .c2 ∷ r .c3 ∷ []
 
 -- those of the first n processors whose register kills, as a mask
 abbrev pub killMask : ℕ → List Float → ℕ → ℕ
