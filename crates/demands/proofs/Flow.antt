@@ -59,6 +59,7 @@ use Rattle.group.specs.Group.{
 use Rattle.group.specs.Cells.{groupOf, runLeaves, beginLeaves}
 use Rattle.group.specs.Cells as cells
 use Rattle.group.proofs.State.{given-of, left-given, step-sound, turned-live, branched-live}
+use Rattle.kill.proofs.Through.{kill-leaves-given}
 use Rattle.flow.proofs.Beginning.{begin-given}
 use Rattle.flow.proofs.Running.{SoundRun, steps-sound}
 use Rattle.flow.specs.Looping.{opAt, integerAt}
@@ -97,6 +98,7 @@ use Rattle.demands.specs.Flow.{
   begun,
   stepped,
   ran,
+  killed,
 }
 use Rattle.demands.specs.Flow as flow
 
@@ -244,6 +246,8 @@ handed-made (ran {cells = l} h p booleans masks r c' a a' k) =
     subst cells.GroupGiven (sym (k .left))
     (run-left l (groupRun counterLimit p booleans masks (groupOf l)) (handed-made h)
     (by-pick (SoundRun counterLimit) (ended p (groupOf l)) _ _ (λ e. tt) (λ e. steps-sound counterLimit p booleans masks (groupOf l) (handed-made h .sound))))
+handed-made (killed {cells = l} h slots registers mask r c' a a' k) =
+    subst cells.GroupGiven (sym (k .left)) (kill-leaves-given l slots registers mask (handed-made h))
 
 -- wishes that are the same for every processor in the group
 module _ (q : Proc) (w w' : Bool) (h : isLive q ≡ true → w ≡ w') where

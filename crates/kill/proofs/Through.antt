@@ -10,7 +10,7 @@ use native.Mathlib.Omega.{arith}
 use lib.Dec.{eqb, leb, ltb}
 use lib.ListN.{length, getD}
 use lib.Ieee.{Float}
-use borrow.Author.Tests.{ltb-true, ltb-false, leb-false, lt-ltb, le-ltb}
+use borrow.Author.Tests.{ltb-true, ltb-false, leb-true, leb-false, eqb-false, lt-ltb, le-ltb}
 use Rattle.laws.specs.Choice.{_and_, pick}
 use Rattle.laws.specs.Below.{sum, count}
 use Rattle.laws.specs.Masks.{_or_, digit, on, pack}
@@ -28,7 +28,7 @@ use Rattle.group.proofs.State.{turned-live, branched-live, given-of}
 use Rattle.kill.specs.declared.Killed.{Killed}
 use Rattle.kill.specs.Kill.{Outcome, Kills, Fails, isKilled, killedNow, afterKill, startSize, killOf, killLeaves}
 use Rattle.kill.specs.Answers.{KillDone}
-use Rattle.kill.specs.Through.{Made, Leads, stays, steps, runs, kills, withKilled, withKilledAfter}
+use Rattle.kill.specs.Through.{Made, Refused, hasEnded, badMask, badLength, Leads, stays, steps, runs, kills, withKilled, withKilledAfter}
 
 -- who isn't in the group is absent
 absent-of : (p : Proc) → isLive p ≡ false → p ≡ Absent
@@ -156,6 +156,25 @@ module _ (slots : ℕ) (registers : List Float) (mask : ℕ) (g : Group) where
           (λ t.
           by-pick MadeAfter (ltb 15 mask) _ _ (λ u. tt)
           (λ u. by-pick MadeAfter (eqb (length registers) (startSize g * 4)) _ _ (λ v. here) (λ v. tt)))
+
+  -- and one that is refused has the cause of its number
+  abbrev RefusedAfter : Outcome → Type 0
+  RefusedAfter (Kills now h) = Unit {0}
+  RefusedAfter (Fails why) = Refused slots registers mask g why
+
+  pub refused : (why : ℕ) → killOf slots registers mask g ≡ Fails why → Refused slots registers mask g why
+  unfolding killOf
+  refused why e = subst RefusedAfter e by
+    where
+      by : RefusedAfter (killOf slots registers mask g)
+      by =
+          by-pick RefusedAfter (leb slots (g .position)) _ _ (λ t. hasEnded (leb-true slots (g .position) t))
+          (λ t.
+          let running = leb-false slots (g .position) t in
+          by-pick RefusedAfter (ltb 15 mask) _ _ (λ u. badMask running (ltb-true 15 mask u))
+          (λ u.
+          by-pick RefusedAfter (eqb (length registers) (startSize g * 4)) _ _ (λ v. tt)
+          (λ v. badLength running (ltb-false 15 mask u) (eqb-false (length registers) (startSize g * 4) v))))
 
 or-left : {a : Bool} (b : Bool) → a ≡ true → (a or b) ≡ true
 unfolding _or_

@@ -1,16 +1,18 @@
 -- Request 11, "Killed processors are never active again: B_ELSE, decrement and all else skip them, and they count as not in the group.":
--- what a kill leaves, the ways on which a group goes on, and a group with another mask of the killed. Assumes nothing.
+-- what a kill leaves, why it is refused, the ways on which a group goes on, and a group with another mask of the killed. Assumes nothing.
 use mathlib.Core.Path.{_≡_}
 use mathlib.Core.Bool.{Bool}
 use mathlib.Core.List.{List}
-use Prim.Native.Nat.{ℕ, _<_}
+use Prim.Native.Nat.{ℕ, _*_, _<_, _≤_}
+use lib.ListN.{length}
 use lib.Ieee.{Float}
 use Rattle.laws.specs.Choice.{pick}
 use Rattle.laws.specs.Masks.{_or_, on}
 use Rattle.group.specs.Proc.{Absent, mostProcessors}
 use Rattle.group.specs.Group as group
 use Rattle.group.specs.Group.{Group, Program, Steps, Makes, groupStep, groupRun}
-use Rattle.kill.specs.Kill.{Kills, isKilled, killOf}
+use Rattle.registers.specs.Registers.{channelCount}
+use Rattle.kill.specs.Kill.{Kills, isKilled, startSize, allChannels, killOf}
 
 -- a kill that is made, processor by processor: who is killed now, who is left, and who was killed so far; all else stays
 pub record Made (registers : List Float) (mask : ℕ) (g : Group) (now : ℕ) (g' : Group) : Type 0 where
@@ -21,6 +23,14 @@ pub record Made (registers : List Float) (mask : ℕ) (g : Group) (now : ℕ) (g
   pub position : g' .position ≡ g .position
   pub returns : g' .returns ≡ g .returns
   pub loops : g' .loops ≡ g .loops
+
+-- a kill that is refused. "An ended program gets 16, a write mask over 15 gets 13, a register list not of the starting group's length
+-- 11, in that order."
+pub data Refused (slots : ℕ) (registers : List Float) (mask : ℕ) (g : Group) : ℕ → Type 0 where
+  hasEnded : slots ≤ g .position → Refused slots registers mask g 16
+  badMask : g .position < slots → allChannels < mask → Refused slots registers mask g 13
+  badLength :
+      g .position < slots → mask ≤ allChannels → (length registers ≡ startSize g * channelCount → ⊥) → Refused slots registers mask g 11
 
 -- from one state to another by any number of steps, runs and kills, under any programs
 pub data Leads (limit : ℕ) (g : Group) : Group → Type 0 where
