@@ -170,6 +170,13 @@ impl Group {
         self.mask().count_ones()
     }
 
+    /// The number of processors of the group as it began: those in it and the
+    /// killed.
+    #[inline]
+    pub fn started(&self) -> u32 {
+        (self.mask() | self.killed()).count_ones()
+    }
+
     /// The processors in the group, bit i for processor i.
     #[inline]
     pub fn mask(&self) -> u32 {
