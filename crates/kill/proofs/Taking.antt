@@ -18,7 +18,7 @@ use Rattle.laws.proofs.Masks.{pack-same, on-pack, on-above}
 use Rattle.registers.specs.Registers.{killedBy, registerAt, killMask}
 use Rattle.group.specs.Proc.{Proc, Active, Idle, Absent, isLive, isActive, counterBit}
 use Rattle.group.specs.Group.{Group}
-use Rattle.group.specs.Cells.{liveIn, activeIn, killedIn, liveMask, activeMask, plane, groupOf, cellsWith, lastCells, cellsOf, GroupGiven}
+use Rattle.group.specs.Cells.{liveIn, activeIn, modeIn, killedIn, liveMask, activeMask, plane, groupOf, cellsWith, lastCells, cellsOf, GroupGiven}
 use Rattle.group.proofs.State.{given-masks}
 use Rattle.kill.specs.Kill.{isKilled, afterKill, startSize}
 use Rattle.kill.specs.Answers.{TakenOut}
@@ -144,11 +144,11 @@ module _ (l : List ℕ) (m : GroupGiven l) where
           plane-then : (k : ℕ) → plane k (g .procs) ≡ plane k after
           plane-then k = pack-same 32 _ _ (λ i h. bit-left k _ (g .procs i))
 
-          written : set (set (set l 0 live) 1 active) 13 dead ≡ cellsOf (afterKill registers mask g)
+          written : set (set (set l 0 live) 1 active) 13 dead ≡ cellsOf (modeIn l) (afterKill registers mask g)
           written =
               ap (λ (x : List ℕ). set (set (set x 0 live) 1 active) 13 dead) (m .whole) ∙
               (λ j.
               cellsWith (live-then j) (active-then j)
               (plane-then 0 j) (plane-then 1 j) (plane-then 2 j) (plane-then 3 j) (plane-then 4 j)
               (g .position) (getD (g .returns) 0 0) (getD (g .returns) 1 0) (getD (g .returns) 2 0) (getD (g .returns) 3 0)
-              (lastCells (dead-then j) (g .loops)))
+              (lastCells (modeIn l) (dead-then j) (g .loops)))

@@ -18,13 +18,14 @@ use Rattle.laws.proofs.Choice.{Tested, holds, fails, tested, pick-yes, pick-no,
 use Rattle.laws.proofs.Below.{count-same, count-none}
 use Rattle.laws.proofs.Masks.{pack-lt, on-pack, on-above}
 use Rattle.loops.specs.Loops.{Opened, Turn, Turns, NoRoom, NoWord, wordAt, turnOf}
-use Rattle.group.specs.Proc.{Proc, Active, Idle, Absent, isLive, isActive, turned, within, branched, counterLimit}
+use Rattle.group.specs.Proc.{Proc, Active, Idle, Absent, isLive, isActive, turned, within, branched}
+use Rattle.group.specs.Modes.{Mode, limitOf}
 use Rattle.group.specs.Group as group
 use Rattle.group.specs.Group.{Group, Program, Steps, Run, Makes, Breaks, Way, Goes, Stuck, turnedIf, overLimit, wayOf, arrived, settled, fresh}
-use Rattle.group.specs.Group.{aOp, popCount, branchOp, booleanNumber, integerNumber, jumpAddress, jumpAny, jumpFunc, bElse, opOf, allowed, allowedLoop}
+use Rattle.group.specs.Group.{aOp, popCount, branchOp, booleanNumber, integerNumber, jumpAddress, jumpAny, jumpFunc, bElse, opOf, permits, allowed, allowedLoop}
 use Rattle.group.specs.Group.{wishOf, onTurn, withLoops, jumpStep, loopStep, slotStep, ended, groupStep, goOn, onceMore, groupSteps, groupRun}
-use Rattle.group.specs.Cells.{groupOf, Sound, GroupGiven}
-use Rattle.group.proofs.State.{turned-live, branched-live, given-of}
+use Rattle.group.specs.Cells.{modeIn, groupOf, Sound, GroupGiven}
+use Rattle.group.proofs.State.{turned-live, branched-live, given-of, mode-kept}
 use Rattle.kill.specs.declared.Killed.{Killed}
 use Rattle.kill.specs.Kill.{Outcome, Kills, Fails, isKilled, killedNow, afterKill, startSize, killOf, killLeaves}
 use Rattle.kill.specs.Answers.{KillDone}
@@ -82,19 +83,23 @@ module _ (limit slots first second alu predicate booleans : ℕ) (g : Group) whe
       by-pick (KeepsAfter g) (allowedLoop first second) _ _ (λ t. turn-keeps (turnOf (opOf first) word (g .loops)) _) (λ t. tt)
 
 step-keeps :
-    (limit : ℕ) (program : Program) (alu predicate booleans : ℕ) (g : Group) →
-    KeepsAfter g (groupStep limit program alu predicate booleans g)
+    (mode : Mode) (program : Program) (alu predicate booleans : ℕ) (g : Group) →
+    KeepsAfter g (groupStep mode program alu predicate booleans g)
 unfolding groupStep slotStep
-step-keeps limit program alu predicate booleans g =
+step-keeps mode program alu predicate booleans g =
     let first = getD (program .firsts) (g .position) 0 in
     let second = getD (program .seconds) (g .position) 0 in
+    let word = wordAt (integerNumber second) (program .integers) in
     by-pick (KeepsAfter g) (ended program g) _ _ (λ t. tt)
     (λ t.
     by-pick (KeepsAfter g) (leb (program .slots) 512) _ _
     (λ u.
+    by-pick (KeepsAfter g) (permits mode first) _ _
+    (λ p.
     by-pick (KeepsAfter g) (eqb (opOf first) 0) _ _
-    (λ v. jump-keeps limit (program .slots) first second alu predicate booleans g)
-    (λ v. loop-keeps limit (program .slots) first second alu predicate booleans g (wordAt (integerNumber second) (program .integers))))
+    (λ v. jump-keeps (limitOf mode) (program .slots) first second alu predicate booleans g)
+    (λ v. loop-keeps (limitOf mode) (program .slots) first second alu predicate booleans g word))
+    (λ p. tt))
     (λ u. tt))
 
 keeps-on : {g h k : Group} → Keeps g h → Keeps h k → Keeps g k
@@ -105,7 +110,7 @@ abbrev RunKeeps : Group → Run → Type 0
 RunKeeps g (Makes n g') = Keeps g g'
 RunKeeps g (Breaks why) = Unit {0}
 
-module _ (limit : ℕ) (program : Program) (booleans : ℕ) where
+module _ (mode : Mode) (program : Program) (booleans : ℕ) where
   after-step :
       (g : Group) (o : group.Outcome) → KeepsAfter g o → (rest : Group → Run) → ((h : Group) → RunKeeps h (rest h)) → RunKeeps g (goOn o rest)
   after-step g (group.Steps jump h) a rest b = go (rest h) (b h)
@@ -115,17 +120,17 @@ module _ (limit : ℕ) (program : Program) (booleans : ℕ) where
       go (Breaks why) c = tt
   after-step g (group.Fails why) a rest b = tt
 
-  run-steps : (masks : List ℕ) (g : Group) → RunKeeps g (groupSteps limit program booleans masks g)
+  run-steps : (masks : List ℕ) (g : Group) → RunKeeps g (groupSteps mode program booleans masks g)
   unfolding groupSteps
   run-steps [] g = record { live = λ i. refl; same = refl }
   run-steps (alu ∷ []) g = record { live = λ i. refl; same = refl }
   run-steps (alu ∷ (predicate ∷ masks)) g =
       by-pick (RunKeeps g) (ended program g) _ _ (λ t. record { live = λ i. refl; same = refl })
       (λ t.
-      after-step g (groupStep limit program alu predicate booleans g) (step-keeps limit program alu predicate booleans g)
-      (λ h. groupSteps limit program booleans masks h) (run-steps masks))
+      after-step g (groupStep mode program alu predicate booleans g) (step-keeps mode program alu predicate booleans g)
+      (λ h. groupSteps mode program booleans masks h) (run-steps masks))
 
-  run-keeps : (masks : List ℕ) (g : Group) → RunKeeps g (groupRun limit program booleans masks g)
+  run-keeps : (masks : List ℕ) (g : Group) → RunKeeps g (groupRun mode program booleans masks g)
   unfolding groupRun
   run-keeps masks g = by-pick (RunKeeps g) (ended program g) _ _ (λ t. tt) (λ t. run-steps masks g)
 
@@ -190,33 +195,33 @@ picked-absent : (t : Bool) {p : Proc} → p ≡ Absent → pick t Absent p ≡ A
 picked-absent t {p} e = by-pick (λ (q : Proc). q ≡ Absent) t _ _ (λ u. refl) (λ u. e)
 
 -- who isn't in the group never is again
-pub absent-stays : {limit : ℕ} {g h : Group} → Leads limit g h → (i : ℕ) → g .procs i ≡ Absent → h .procs i ≡ Absent
+pub absent-stays : {mode : Mode} {g h : Group} → Leads mode g h → (i : ℕ) → g .procs i ≡ Absent → h .procs i ≡ Absent
 absent-stays stays i e = e
-absent-stays {limit} (steps {h} {k} w program alu predicate booleans jump s) i e =
-    let kept : Keeps h k = subst (KeepsAfter h) s (step-keeps limit program alu predicate booleans h) in
+absent-stays {mode} (steps {h} {k} w program alu predicate booleans jump s) i e =
+    let kept : Keeps h k = subst (KeepsAfter h) s (step-keeps mode program alu predicate booleans h) in
     absent-of (k .procs i) (kept .live i ∙ ap isLive (absent-stays w i e))
-absent-stays {limit} (runs {h} {k} w program booleans masks n s) i e =
-    let kept : Keeps h k = subst (RunKeeps h) s (run-keeps limit program booleans masks h) in
+absent-stays {mode} (runs {h} {k} w program booleans masks n s) i e =
+    let kept : Keeps h k = subst (RunKeeps h) s (run-keeps mode program booleans masks h) in
     absent-of (k .procs i) (kept .live i ∙ ap isLive (absent-stays w i e))
 absent-stays (kills {h} {k} w slots registers mask now s) i e =
     made slots registers mask h now k s .each-processor i ∙ picked-absent (isKilled registers mask h i) (absent-stays w i e)
 
 -- who was killed stays killed
-pub killed-stays : {limit : ℕ} {g h : Group} → Leads limit g h → (i : ℕ) → i < 32 → on i (g .killed) ≡ true → on i (h .killed) ≡ true
+pub killed-stays : {mode : Mode} {g h : Group} → Leads mode g h → (i : ℕ) → i < 32 → on i (g .killed) ≡ true → on i (h .killed) ≡ true
 killed-stays stays i l e = e
-killed-stays {limit} (steps {h} {k} w program alu predicate booleans jump s) i l e =
-    let kept : Keeps h k = subst (KeepsAfter h) s (step-keeps limit program alu predicate booleans h) in
+killed-stays {mode} (steps {h} {k} w program alu predicate booleans jump s) i l e =
+    let kept : Keeps h k = subst (KeepsAfter h) s (step-keeps mode program alu predicate booleans h) in
     ap (on i) (kept .same) ∙ killed-stays w i l e
-killed-stays {limit} (runs {h} {k} w program booleans masks n s) i l e =
-    let kept : Keeps h k = subst (RunKeeps h) s (run-keeps limit program booleans masks h) in
+killed-stays {mode} (runs {h} {k} w program booleans masks n s) i l e =
+    let kept : Keeps h k = subst (RunKeeps h) s (run-keeps mode program booleans masks h) in
     ap (on i) (kept .same) ∙ killed-stays w i l e
 killed-stays (kills {h} {k} w slots registers mask now s) i l e =
     made slots registers mask h now k s .so-far i l ∙ or-left (isKilled registers mask h i) (killed-stays w i l e)
 
 -- "Killed processors are never active again": whoever a kill kills is absent after it, through any number of steps, runs and kills
 pub never-again :
-    {limit : ℕ} (slots : ℕ) (registers : List Float) (mask now : ℕ) (g h k : Group) → killOf slots registers mask g ≡ Kills now h →
-    Leads limit h k → (i : ℕ) → i < 32 → on i now ≡ true → k .procs i ≡ Absent
+    {mode : Mode} (slots : ℕ) (registers : List Float) (mask now : ℕ) (g h k : Group) → killOf slots registers mask g ≡ Kills now h →
+    Leads mode h k → (i : ℕ) → i < 32 → on i now ≡ true → k .procs i ≡ Absent
 never-again slots registers mask now g h k e w i l t =
     let m = made slots registers mask g now h e in
     absent-stays w i (m .each-processor i ∙ pick-yes Absent (g .procs i) (sym (m .who i l) ∙ t))
@@ -243,12 +248,12 @@ start-of-kill {g = g} m =
     count-same 32 _ _
     (λ i l. ap₂ (λ (p : Proc) (b : Bool). isLive p or b) (m .each-processor i) (m .so-far i l) ∙ moved _ (on i (g .killed)) (g .procs i))
 
-pub start-stays : {limit : ℕ} {g h : Group} → Leads limit g h → startSize h ≡ startSize g
+pub start-stays : {mode : Mode} {g h : Group} → Leads mode g h → startSize h ≡ startSize g
 start-stays stays = refl
-start-stays {limit} (steps {h} {k} w program alu predicate booleans jump s) =
-    start-of-kept (subst (KeepsAfter h) s (step-keeps limit program alu predicate booleans h)) ∙ start-stays w
-start-stays {limit} (runs {h} {k} w program booleans masks n s) =
-    start-of-kept (subst (RunKeeps h) s (run-keeps limit program booleans masks h)) ∙ start-stays w
+start-stays {mode} (steps {h} {k} w program alu predicate booleans jump s) =
+    start-of-kept (subst (KeepsAfter h) s (step-keeps mode program alu predicate booleans h)) ∙ start-stays w
+start-stays {mode} (runs {h} {k} w program booleans masks n s) =
+    start-of-kept (subst (RunKeeps h) s (run-keeps mode program booleans masks h)) ∙ start-stays w
 start-stays (kills {h} {k} w slots registers mask now s) = start-of-kill (made slots registers mask h now k s) ∙ start-stays w
 
 -- a fresh group's is its size, so that 11 asks for the number that the group began with
@@ -331,20 +336,25 @@ kill-sound limit slots registers mask g s =
     (λ u.
     by-pick (SoundKill limit) (eqb (length registers) (startSize g * 4)) _ _ (λ v. killed-sound limit registers mask g s) (λ v. tt)))
 
-kill-left : (l : List ℕ) (o : Outcome) → GroupGiven l → SoundKill counterLimit o → GroupGiven (killLeaves l o)
-kill-left l (Kills now g) m s = given-of g s
+kill-left : (l : List ℕ) (o : Outcome) → GroupGiven l → SoundKill (limitOf (modeIn l)) o → GroupGiven (killLeaves l o)
+kill-left l (Kills now g) m s = given-of (modeIn l) g s
 kill-left l (Fails why) m s = m
 
 pub kill-leaves-given :
     (l : List ℕ) (slots : ℕ) (registers : List Float) (mask : ℕ) → GroupGiven l →
     GroupGiven (killLeaves l (killOf slots registers mask (groupOf l)))
 kill-leaves-given l slots registers mask m =
-    kill-left l (killOf slots registers mask (groupOf l)) m (kill-sound counterLimit slots registers mask (groupOf l) (m .sound))
+    kill-left l (killOf slots registers mask (groupOf l)) m (kill-sound (limitOf (modeIn l)) slots registers mask (groupOf l) (m .sound))
 
 pub kill-gives :
     {l leaves : List ℕ} {r : Killed} (slots : ℕ) (registers : List Float) (mask : ℕ) → GroupGiven l →
     KillDone l leaves r (killOf slots registers mask (groupOf l)) → GroupGiven leaves
 kill-gives {l} slots registers mask m d = subst GroupGiven (sym (d .left)) (kill-leaves-given l slots registers mask m)
+
+-- and they are in the mode that they were in: a kill is the same in both
+pub kill-mode : (l : List ℕ) (o : Outcome) → modeIn (killLeaves l o) ≡ modeIn l
+kill-mode l (Kills now g) = mode-kept (modeIn l) g
+kill-mode l (Fails why) = refl
 
 -- "they count as not in the group": a step doesn't ask who was killed, so that it is the step of a group that never had them
 chosen-blind :
@@ -392,16 +402,19 @@ module _ (limit slots first second alu predicate booleans : ℕ) (g : Group) (de
   loop-blind word = chosen-blind dead (allowedLoop first second) _ _ (turn-blind (turnOf (opOf first) word (g .loops)) _ _) refl
 
 pub step-blind :
-    (limit : ℕ) (program : Program) (alu predicate booleans : ℕ) (g : Group) (dead : ℕ) →
-    groupStep limit program alu predicate booleans (withKilled g dead) ≡
-    withKilledAfter dead (groupStep limit program alu predicate booleans g)
+    (mode : Mode) (program : Program) (alu predicate booleans : ℕ) (g : Group) (dead : ℕ) →
+    groupStep mode program alu predicate booleans (withKilled g dead) ≡
+    withKilledAfter dead (groupStep mode program alu predicate booleans g)
 unfolding groupStep slotStep ended
-step-blind limit program alu predicate booleans g dead =
+step-blind mode program alu predicate booleans g dead =
     let first = getD (program .firsts) (g .position) 0 in
     let second = getD (program .seconds) (g .position) 0 in
+    let word = wordAt (integerNumber second) (program .integers) in
     chosen-blind dead (leb (program .slots) (g .position)) _ _ refl
     (chosen-blind dead (leb (program .slots) 512) _ _
+    (chosen-blind dead (permits mode first) _ _
     (chosen-blind dead (eqb (opOf first) 0) _ _
-    (jump-blind limit (program .slots) first second alu predicate booleans g dead)
-    (loop-blind limit (program .slots) first second alu predicate booleans g dead (wordAt (integerNumber second) (program .integers))))
+    (jump-blind (limitOf mode) (program .slots) first second alu predicate booleans g dead)
+    (loop-blind (limitOf mode) (program .slots) first second alu predicate booleans g dead word))
+    refl)
     refl)

@@ -7,7 +7,7 @@ use lib.Ieee.{Float}
 use Rattle.refusal.specs.Number.{numberOf}
 use Rattle.refusal.specs.Told.{Told, gives, refuses}
 use Rattle.registers.specs.Registers.{channelCount}
-use Rattle.group.specs.Cells.{groupOf, cellsOf, GroupGiven}
+use Rattle.group.specs.Cells.{modeIn, groupOf, cellsOf, GroupGiven}
 use Rattle.kill.specs.declared.Killed.{Killed}
 use Rattle.kill.specs.declared.Killed.the-variants as killed
 use Rattle.kill.specs.Kill.{Outcome, killedNow, afterKill, startSize, killTold, killLeaves}
@@ -25,7 +25,7 @@ pub record TakesOut (cells : List ℕ) (registers : List Float) : Type 0 where
   pub given : GroupGiven cells
   pub whole : length registers ≡ startSize (groupOf cells) * channelCount
 
--- those who are killed, and the cells of the group then
+-- those who are killed, and the cells of the group then, in the same mode
 pub record TakenOut (entry leaves : List ℕ) (registers : List Float) (mask gone : ℕ) : Type 0 where
   pub now : gone ≡ killedNow registers mask (groupOf entry)
-  pub left : leaves ≡ cellsOf (afterKill registers mask (groupOf entry))
+  pub left : leaves ≡ cellsOf (modeIn entry) (afterKill registers mask (groupOf entry))

@@ -12,7 +12,7 @@ use Rattle.refusal.specs.Told.{Told, gives, refuses}
 use Rattle.registers.specs.Registers.{channelCount, killedBy, registerAt}
 use Rattle.group.specs.Proc.{Absent, isLive, isActive, mostProcessors}
 use Rattle.group.specs.Group.{Group}
-use Rattle.group.specs.Cells.{cellsOf}
+use Rattle.group.specs.Cells.{modeIn, cellsOf}
 
 -- "An active processor with a channel under the mask less than zero is killed, and no other."
 abbrev pub isKilled : List Float → ℕ → Group → ℕ → Bool
@@ -59,7 +59,7 @@ abbrev pub killTold : Outcome → Told
 killTold (Kills now g) = gives (now ∷ [])
 killTold (Fails why) = refuses why
 
--- the cells after it; a refusal leaves them as they were
+-- the cells after it, in the same mode; a refusal leaves them as they were
 abbrev pub killLeaves : List ℕ → Outcome → List ℕ
-killLeaves l (Kills now g) = cellsOf g
+killLeaves l (Kills now g) = cellsOf (modeIn l) g
 killLeaves l (Fails why) = l

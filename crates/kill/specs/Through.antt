@@ -9,6 +9,7 @@ use lib.Ieee.{Float}
 use Rattle.laws.specs.Choice.{pick}
 use Rattle.laws.specs.Masks.{_or_, on}
 use Rattle.group.specs.Proc.{Absent, mostProcessors}
+use Rattle.group.specs.Modes.{Mode}
 use Rattle.group.specs.Group as group
 use Rattle.group.specs.Group.{Group, Program, Steps, Makes, groupStep, groupRun}
 use Rattle.registers.specs.Registers.{channelCount}
@@ -32,18 +33,18 @@ pub data Refused (slots : ℕ) (registers : List Float) (mask : ℕ) (g : Group)
   badLength :
       g .position < slots → mask ≤ allChannels → (length registers ≡ startSize g * channelCount → ⊥) → Refused slots registers mask g 11
 
--- from one state to another by any number of steps, runs and kills, under any programs
-pub data Leads (limit : ℕ) (g : Group) : Group → Type 0 where
-  stays : Leads limit g g
+-- from one state to another by any number of steps, runs and kills in a mode, under any programs
+pub data Leads (mode : Mode) (g : Group) : Group → Type 0 where
+  stays : Leads mode g g
   steps :
-      {h k : Group} → Leads limit g h → (program : Program) (alu predicate booleans : ℕ) (jump : Bool) →
-      groupStep limit program alu predicate booleans h ≡ Steps jump k → Leads limit g k
+      {h k : Group} → Leads mode g h → (program : Program) (alu predicate booleans : ℕ) (jump : Bool) →
+      groupStep mode program alu predicate booleans h ≡ Steps jump k → Leads mode g k
   runs :
-      {h k : Group} → Leads limit g h → (program : Program) (booleans : ℕ) (masks : List ℕ) (made : ℕ) →
-      groupRun limit program booleans masks h ≡ Makes made k → Leads limit g k
+      {h k : Group} → Leads mode g h → (program : Program) (booleans : ℕ) (masks : List ℕ) (made : ℕ) →
+      groupRun mode program booleans masks h ≡ Makes made k → Leads mode g k
   kills :
-      {h k : Group} → Leads limit g h → (slots : ℕ) (registers : List Float) (mask now : ℕ) →
-      killOf slots registers mask h ≡ Kills now k → Leads limit g k
+      {h k : Group} → Leads mode g h → (slots : ℕ) (registers : List Float) (mask now : ℕ) →
+      killOf slots registers mask h ≡ Kills now k → Leads mode g k
 
 -- the same group with another mask of the killed
 abbrev pub withKilled : Group → ℕ → Group

@@ -350,11 +350,11 @@ pub fn program_load(
     unsafe { raw::egretfold_program_load(start, length, firsts, seconds, slots) }
 }
 
-/// cells: a fresh group's. 13.
+/// cells: a fresh group's, in the mode of this number, 0 full or 1 partial. 13.
 #[inline]
-pub fn group_begin(size: u32, cells: &mut [u32; CELLS]) -> u32 {
+pub fn group_begin(size: u32, mode: u32, cells: &mut [u32; CELLS]) -> u32 {
     // SAFETY: one room, of the right length; no state is read.
-    unsafe { raw::egretfold_group_begin(size, cells) }
+    unsafe { raw::egretfold_group_begin(size, mode, cells) }
 }
 
 /// One step under the masks (alu, predicate, booleans) and the integer words.

@@ -186,7 +186,7 @@ extern "C" {
         slots: &mut [u32; 1],
     ) -> u32;
 
-    pub fn egretfold_group_begin(size: u32, cells: &mut [u32; CELLS]) -> u32;
+    pub fn egretfold_group_begin(size: u32, mode: u32, cells: &mut [u32; CELLS]) -> u32;
 
     pub fn egretfold_group_step(
         firsts: &[u32; SLOTS],

@@ -2,7 +2,7 @@
 //! what the killed are skipped by, every refusal in its order, and the bits that the
 //! maximum and the choice copy.
 
-use boundary::{choice, lent, maximum, Group, Program};
+use boundary::{choice, lent, maximum, Group, Mode, Program};
 
 const SIGN: u32 = 0x8000_0000;
 
@@ -163,20 +163,19 @@ fn refusals_come_in_their_order_and_change_nothing() {
 }
 
 #[test]
-fn kills_add_up_over_32_processors() {
+fn kills_add_up_over_32_processors_in_both_modes() {
     let program = plain(1);
-    let mut group = Group::begin(32).unwrap();
-    let mut all = 0;
-    for chosen in [0x8000_0001, 0x0000_FF00, 0x8000_FFFF, u32::MAX] {
-        assert_eq!(
-            group.kill(&program, &negative(32, chosen), 1),
-            Ok(chosen & !all)
-        );
-        all |= chosen;
-        assert_eq!(
-            (group.killed(), group.active(), group.mask()),
-            (all, !all, !all)
-        );
+    for mode in [Mode::Full, Mode::Partial] {
+        let mut group = Group::begin_in(32, mode).unwrap();
+        let mut all = 0;
+        for chosen in [0x8000_0001, 0x0000_FF00, 0x8000_FFFF, u32::MAX] {
+            let answer = group.kill(&program, &negative(32, chosen), 1);
+            assert_eq!(answer, Ok(chosen & !all));
+            all |= chosen;
+            let masks = (group.killed(), group.active(), group.mask());
+            assert_eq!(masks, (all, !all, !all));
+            assert_eq!((group.mode(), group.started()), (mode, 32));
+        }
     }
 }
 

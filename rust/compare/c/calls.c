@@ -425,11 +425,14 @@ static void check_program(void)
 
 static void check_group(uint32_t cells[EGRETFOLD_CELLS])
 {
-    const uint32_t fresh[20] = {15, 15};
+    const uint32_t fresh[20] = {15, 15}, partial[20] = {15, 15, [12] = 1};
     cells[0] = 9;
-    agree("group_begin, 33", egretfold_group_begin(33, cells), 13);
+    agree("group_begin, 33", egretfold_group_begin(33, 0, cells), 13);
+    agree("group_begin, mode 2", egretfold_group_begin(4, 2, cells), 13);
     agree("group_begin, room after a refusal", cells[0], 9);
-    agree("group_begin", egretfold_group_begin(4, cells), 0);
+    agree("group_begin, partial mode", egretfold_group_begin(4, 1, cells), 0);
+    agree_words("group_begin, partial mode", cells, partial, 20);
+    agree("group_begin", egretfold_group_begin(4, 0, cells), 0);
     agree_words("group_begin", cells, fresh, 20);
 }
 

@@ -1,4 +1,4 @@
-//! Cases of the eighth kind: a group takes steps, runs and kills in any order, and
+//! Cases of the ninth kind: a group takes steps, runs and kills in any order, and
 //! its state is compared after each; the registers have floats of every class. Then
 //! the maximum and the choice of registers, bit for bit.
 
@@ -7,8 +7,8 @@ use crate::floats;
 use crate::flow::{self, Given, Loaded, Masks};
 use crate::groups::Both;
 use crate::programs;
-use boundary::lent;
-use second::flow::Processor;
+use boundary::{lent, Mode};
+use second::flow::{Group, Processor};
 
 /// Refused calls after which a case has told enough.
 const MOST_REFUSALS: u32 = 6;
@@ -24,12 +24,27 @@ pub fn run(case: &mut Case) -> Agreement {
     floats::agree(case)?;
     let words = programs::any(&mut case.random);
     let program = flow::loaded(case, words)?;
-    let fresh = flow::begun(case)?;
+    let fresh = match case.random.coin() {
+        true => flow::begun(case)?,
+        false => Some(in_partial_mode(case)?),
+    };
     if let (Some(program), Some(both)) = (program, fresh) {
         let masks = flow::any_masks(&mut case.random);
         mixed(case, &program, both, &masks)?;
     }
     Ok(())
+}
+
+/// A group of any size in partial mode, in which kills are the same.
+fn in_partial_mode(case: &mut Case) -> Agreed<Both> {
+    let size = case.random.between(1, 32);
+    let both = Both {
+        product: boundary::Group::begin_in(size, Mode::Partial).expect("a group"),
+        second: Group::begin_in(size, Mode::Partial.number()).expect("a group"),
+    };
+    both.agree(case, || format!("begin a group of {size} in partial mode"))?;
+    case.tally.mark("groups in partial mode");
+    Ok(both)
 }
 
 /// Kills between steps and runs. Whoever was killed is never active, in the group

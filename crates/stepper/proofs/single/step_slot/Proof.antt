@@ -1,10 +1,11 @@
--- `stepper::step_slot` meets its contract: the first half of the step, and the second by its callee. Assumes nothing.
+-- `stepper::single::step_slot` meets its contract: the first half of the step, and the second by its callee. Assumes nothing.
 use denote.Ref.{now}
 use Rattle.group.proofs.State.{given-masks}
+use Rattle.stepper.specs.Answers.{ownLimit}
 use Rattle.stepper.proofs.Stepping.{slot-refused, slot-masks, slot-done}
 use borrow.Author.Needs.{needs}
-use Rattle.stepper.proofs.step_slot.Statement.{statement}
-use Rattle.stepper.proofs.step_slot.Tie as tie
+use Rattle.stepper.proofs.single.step_slot.Statement.{statement}
+use Rattle.stepper.proofs.single.step_slot.Tie as tie
 
 fits-first-requires : tie.Need-fits-first-requires
 fits-first-requires c κs = search needs
@@ -37,7 +38,7 @@ settle-requires c κs =
       entry .pre .0,
       entry .pre .1,
       entry .pre .2,
-      slot-masks (now (entry .args .cells)) (entry .args .first) (entry .args .second) (entry .args .alu)
+      slot-masks (ownLimit (now (entry .args .cells))) (now (entry .args .cells)) (entry .args .first) (entry .args .second) (entry .args .alu)
           (entry .args .predicate) (entry .args .booleans) (entry .pre .0) (at-turn-if .turn-if .ensures),
     )
 
@@ -51,7 +52,7 @@ returns c =
     let at-if1 = at-turn-if .before .before .before in
     let at-fits-first = at-if1 .before in
     let entry = at-fits-first .before in
-    slot-done (now (entry .args .cells)) (entry .args .first) (entry .args .second) (entry .args .slots) (entry .args .decision) (entry .args .alu)
+    slot-done (ownLimit (now (entry .args .cells))) (now (entry .args .cells)) (entry .args .first) (entry .args .second) (entry .args .slots) (entry .args .decision) (entry .args .alu)
     (entry .args .predicate) (entry .args .booleans) (entry .pre .0) (at-fits-first .fits-first .ensures)
     (at-turn-if .turn-if .ensures) (at-if1 .if1 .taken) (at-wishes .wishes .ensures) (at-decides .decides .ensures)
     (at-overrule .overrule .ensures) (c .settle .ensures)
@@ -65,7 +66,7 @@ returns-2 c =
     let at-if1 = c .before in
     let at-fits-first = at-if1 .before in
     let entry = at-fits-first .before in
-    slot-refused (now (entry .args .cells)) (entry .args .first) (entry .args .second) (entry .args .slots) (entry .args .decision) (entry .args .alu)
+    slot-refused (ownLimit (now (entry .args .cells))) (now (entry .args .cells)) (entry .args .first) (entry .args .second) (entry .args .slots) (entry .args .decision) (entry .args .alu)
     (entry .args .predicate) (entry .args .booleans) (entry .pre .0) (at-fits-first .fits-first .ensures)
     (c .number .ensures) (at-if1 .if1 .left)
 

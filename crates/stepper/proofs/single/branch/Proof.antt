@@ -1,4 +1,4 @@
--- `stepper::branch` meets its contract: the words of an operation are written; without one the planes are right already. Assumes nothing.
+-- `stepper::single::branch` meets its contract: the words of an operation are written; without one the planes are right already. Assumes nothing.
 use denote.Ref.{now}
 use mathlib.Core.Path.{ap, _∙_}
 use Rattle.group.specs.Cells.{withActive}
@@ -6,8 +6,8 @@ use Rattle.group.specs.Masks.{withMasks}
 use Rattle.group.proofs.Places.{masks-shown, branch-lower, branch-raise, branch-none}
 use Rattle.stepper.proofs.Going.{active-cell}
 use borrow.Author.Needs.{needs}
-use Rattle.stepper.proofs.branch.Statement.{statement}
-use Rattle.stepper.proofs.branch.Tie as tie
+use Rattle.stepper.proofs.single.branch.Statement.{statement}
+use Rattle.stepper.proofs.single.branch.Tie as tie
 
 element-copy-out-lower : tie.Need-element-copy-out-lower
 element-copy-out-lower c = search needs

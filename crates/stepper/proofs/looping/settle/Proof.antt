@@ -1,13 +1,14 @@
--- `stepper::settle` meets its contract: each return is the outcome as far as the tests on the way decide it. Assumes nothing.
+-- `stepper::looping::settle` meets its contract: each return is the outcome as far as the tests on the way decide it. Assumes nothing.
 use denote.Ref.{now}
 use native.Mathlib.Omega.{arith}
+use Rattle.group.specs.Proc.{counterLimit}
 use Rattle.group.specs.Group.{aOp, jumpAddress, wayOf}
 use Rattle.group.specs.Cells.{positionIn, groupOf}
 use Rattle.stepper.proofs.Going.{gone-named, gone-masks}
-use Rattle.stepper.proofs.Stepping.{settle-over, settle-refused, settle-made}
+use Rattle.stepper.proofs.Stepping.{over-full, settle-over, settle-refused, settle-made}
 use borrow.Author.Needs.{needs}
-use Rattle.stepper.proofs.settle.Statement.{statement}
-use Rattle.stepper.proofs.settle.Tie as tie
+use Rattle.stepper.proofs.looping.settle.Statement.{statement}
+use Rattle.stepper.proofs.looping.settle.Tie as tie
 
 branch-op-requires : tie.Need-branch-op-requires
 branch-op-requires c κs = search needs
@@ -24,8 +25,9 @@ returns c =
     let at-over-limit = at-if1 .before in
     let at-branch-op = at-over-limit .before .before in
     let entry = at-branch-op .before in
-    settle-over (now (entry .args .cells)) (entry .args .first) (entry .args .second) (entry .args .slots) (entry .args .active)
-    (entry .args .wish) (entry .args .jump) (entry .pre .0) (entry .pre .3) (at-branch-op .branch-op .ensures) (at-over-limit .over-limit .ensures)
+    settle-over counterLimit (now (entry .args .cells)) (entry .args .first) (entry .args .second) (entry .args .slots) (entry .args .active)
+    (entry .args .wish) (entry .args .jump) (entry .pre .0) (entry .pre .3) (at-branch-op .branch-op .ensures)
+    (over-full (now (entry .args .cells)) (entry .pre .3) (entry .args .first) (entry .args .jump) (at-branch-op .branch-op .ensures) (at-over-limit .over-limit .ensures))
     (c .number .ensures) (at-if1 .if1 .taken)
 
 go-requires : tie.Need-go-requires
@@ -38,8 +40,9 @@ returns-2 c =
     let at-over-limit = at-if1 .before in
     let at-branch-op = at-over-limit .before .before in
     let entry = at-branch-op .before in
-    settle-refused (now (entry .args .cells)) (entry .args .first) (entry .args .second) (entry .args .slots) (entry .args .active)
-    (entry .args .wish) (entry .args .jump) (entry .pre .0) (entry .pre .3) (at-branch-op .branch-op .ensures) (at-over-limit .over-limit .ensures)
+    settle-refused counterLimit (now (entry .args .cells)) (entry .args .first) (entry .args .second) (entry .args .slots) (entry .args .active)
+    (entry .args .wish) (entry .args .jump) (entry .pre .0) (entry .pre .3) (at-branch-op .branch-op .ensures)
+    (over-full (now (entry .args .cells)) (entry .pre .3) (entry .args .first) (entry .args .jump) (at-branch-op .branch-op .ensures) (at-over-limit .over-limit .ensures))
     (at-if1 .if1 .left) _ _ (at-go .go .ensures) (c .if2 .taken)
 
 branch-requires : tie.Need-branch-requires
@@ -64,8 +67,9 @@ returns-3 c =
     let at-over-limit = at-if1 .before in
     let at-branch-op = at-over-limit .before .before in
     let entry = at-branch-op .before in
-    settle-made (now (entry .args .cells)) (entry .args .first) (entry .args .second) (entry .args .slots) (entry .args .active)
-    (entry .args .wish) (entry .args .jump) (entry .pre .0) (entry .pre .3) (at-branch-op .branch-op .ensures) (at-over-limit .over-limit .ensures)
+    settle-made counterLimit (now (entry .args .cells)) (entry .args .first) (entry .args .second) (entry .args .slots) (entry .args .active)
+    (entry .args .wish) (entry .args .jump) (entry .pre .0) (entry .pre .3) (at-branch-op .branch-op .ensures)
+    (over-full (now (entry .args .cells)) (entry .pre .3) (entry .args .first) (entry .args .jump) (at-branch-op .branch-op .ensures) (at-over-limit .over-limit .ensures))
     (at-if1 .if1 .left) _ _ _ (at-go .go .ensures) (at-if2 .if2 .left) (c .branch .ensures)
 
 pub settle-spec : {M : Type 1} → statement M

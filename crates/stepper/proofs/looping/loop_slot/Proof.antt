@@ -1,12 +1,12 @@
--- `stepper::loop_slot` meets its contract: the words, the loop's turn, the rest of the step, and the loops last. Assumes nothing.
+-- `stepper::looping::loop_slot` meets its contract: the words, the loop's turn, the rest of the step, and the loops last. Assumes nothing.
 use denote.Ref.{now}
 use Rattle.group.specs.Proc.{counterLimit}
-use Rattle.group.specs.Cells.{groupOf}
-use Rattle.group.proofs.State.{given-loops, loop-sound}
+use Rattle.group.specs.Cells.{modeIn, groupOf}
+use Rattle.group.proofs.State.{given-loops, sound-mode, loop-sound}
 use Rattle.stepper.proofs.Stepping.{loop-bad, loop-stops, loop-refused, loop-stored, left-size}
 use borrow.Author.Needs.{needs}
-use Rattle.stepper.proofs.loop_slot.Statement.{statement}
-use Rattle.stepper.proofs.loop_slot.Tie as tie
+use Rattle.stepper.proofs.looping.loop_slot.Statement.{statement}
+use Rattle.stepper.proofs.looping.loop_slot.Tie as tie
 
 allowed-loop-requires : tie.Need-allowed-loop-requires
 allowed-loop-requires c κs = search needs
@@ -78,7 +78,7 @@ returns-3 c =
     (entry .args .predicate) (entry .args .booleans) (at-allowed-loop .allowed-loop .ensures) (at-if1 .if1 .taken) _ (at-turn .turn .ensures)
     (at-if2 .if2 .left) _ _ (at-step-slot .step-slot .ensures) (at-if3 .if3 .left)
     (loop-sound counterLimit (entry .args .slots) (entry .args .first) (entry .args .second) (entry .args .alu) (entry .args .predicate)
-    (entry .args .booleans) (groupOf (now (entry .args .cells))) (entry .pre .0 .sound) (entry .pre .2) (entry .pre .1) (entry .args .word))
+    (entry .args .booleans) (groupOf (now (entry .args .cells))) (sound-mode (modeIn (now (entry .args .cells))) (entry .pre .0 .sound)) (entry .pre .2) (entry .pre .1) (entry .args .word))
     (c .put-loops .ensures)
 
 number-requires : tie.Need-number-requires
