@@ -387,12 +387,6 @@ partial-word p0 p1 p2 p3 p4 h0 h1 h2 h3 h4 =
     ap not (none-zero 32 _) ∙ not-not _ ∙
     some-same 32 _ _ (λ i h. five (on i p0) (on i p1) (on i p2) (on i p3) (on i p4))
 
--- a test that is left to the first of two
-pub and-first : (a : Bool) {b : Bool} → b ≡ true → (a and b) ≡ a
-unfolding _and_
-and-first true e = e
-and-first false e = refl
-
 and-no-part : (a b c : Bool) → (b and c) ≡ false → ((a and b) and c) ≡ false
 unfolding _and_
 and-no-part true b c z = z

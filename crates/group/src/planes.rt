@@ -110,19 +110,20 @@ pub fn at_partial(p0: u32, p1: u32, p2: u32, p3: u32, p4: u32) -> bool
     p3 | p4 | p2 & (p0 | p1) != 0
 }
 
-// The same as `over_limit` by the limit of partial mode. The counters are looked at first, for the same reason.
+// The same as `over_limit` by the limit of partial mode. The operation is asked first here: so a step that isn't an increment reads no plane,
+// and takes no longer than in full mode.
 pub fn over_partial(op: u32, cells: &[u32; crate::CELLS]) -> bool
     requires { ⌜ length (now cells) ≡ cellCount ⌝ }
     ensures { λ r. ⌜ r ≡ (eqb op increment and someAtPartialIn (now (cells .entry))) ⌝ }
 {
-    if at_partial(
-        cells[crate::PLANE_0],
-        cells[crate::PLANE_1],
-        cells[crate::PLANE_2],
-        cells[crate::PLANE_3],
-        cells[crate::PLANE_4],
-    ) {
-        return op == crate::INCREMENT;
+    if op == crate::INCREMENT {
+        return at_partial(
+            cells[crate::PLANE_0],
+            cells[crate::PLANE_1],
+            cells[crate::PLANE_2],
+            cells[crate::PLANE_3],
+            cells[crate::PLANE_4],
+        );
     }
     false
 }

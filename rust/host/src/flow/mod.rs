@@ -16,7 +16,7 @@ use crate::input::lines::Lines;
 use crate::input::numbers;
 use crate::input::source::{self, Source};
 use crate::input::words::Words;
-use boundary::{Group, Program, Report};
+use boundary::{Group, Mode, Program, Report};
 use clap::Args;
 use serde_json::json;
 use std::io::Write;
@@ -29,6 +29,7 @@ Examples, from the repository's root:
   egretfold flow --hex samples/branch.hex --processors 8 --masks samples/branch.masks
   egretfold flow --hex samples/branch.hex --processors 8 0,0 --repeat 20
   egretfold flow --hex samples/loops.hex --integers samples/loops.integers --processors 4 --masks samples/loops.masks
+  egretfold flow --partial --hex samples/nest.hex --processors 8 --masks samples/nest.masks
   egretfold flow --hex samples/kill.hex --processors 8 --masks samples/kill.masks --kill 1:F:samples/kill.registers";
 
 #[derive(Args)]
@@ -53,6 +54,9 @@ pub struct Options {
     /// The integer words that LOOP and REP take, hex text, from number 0 on
     #[arg(long, value_name = "FILE")]
     integers: Option<PathBuf>,
+    /// Partial mode: no loops, no pops and pushes, branch counters up to 5
+    #[arg(long)]
+    partial: bool,
     /// Kills before step STEP, from 0 on, under a write mask, hex; registers a line each
     #[arg(long = "kill", value_name = "STEP:MASK:FILE", value_parser = kills::asked)]
     kills: Vec<kills::Asked>,
@@ -62,6 +66,15 @@ pub struct Options {
     /// One JSON object a row and for the run, a line each
     #[arg(long)]
     json: bool,
+}
+
+impl Options {
+    fn mode(&self) -> Mode {
+        match self.partial {
+            true => Mode::Partial,
+            false => Mode::Full,
+        }
+    }
 }
 
 /// A run takes its masks as one list, which is kept in memory.
@@ -98,10 +111,10 @@ pub fn run(options: &Options, out: &mut dyn Write) -> Outcome {
         integers: all_integers(options)?,
     };
     if lists.masks.is_empty() && lists.kills.is_empty() {
-        return steps::list(&program, &lists.integers, options.json, out);
+        return steps::list(&program, &lists.integers, options.mode(), options.json, out);
     }
     let size = options.processors;
-    let group = Group::begin(size).map_err(|number| {
+    let group = Group::begin_in(size, options.mode()).map_err(|number| {
         let refused = cause::refused(number, Some("a group has 1 to 32 processors".into()));
         Failure::Refused(format!("--processors {size}: {refused}"))
     })?;
@@ -109,7 +122,15 @@ pub fn run(options: &Options, out: &mut dyn Write) -> Outcome {
         let slots = text::count(u64::from(program.slots()), "slot");
         let group_words = text::count(u64::from(size), "processor");
         let booleans = Word(options.booleans);
-        writeln!(out, "{name}: {slots}, {group_words}, booleans {booleans}")?;
+        let mode = if options.partial {
+            ", partial mode"
+        } else {
+            ""
+        };
+        writeln!(
+            out,
+            "{name}: {slots}, {group_words}, booleans {booleans}{mode}"
+        )?;
         for line in steps::head(&group, steps::has_loops(&program), !lists.kills.is_empty()) {
             writeln!(out, "{line}")?;
         }
@@ -313,12 +334,24 @@ fn report(
             show_report(options, program, &group, report, out)
         }
         (Err(number), Err(step)) if number == step.refused.number => {
-            show_refused(options, name, &step, out)
+            let in_full = in_full_mode(options, program, lists);
+            show_refused(options, name, &step, in_full, out)
         }
         _ => Err(Failure::wrong(
             "the run and its steps differ: this is a fault of the program",
         )),
     }
+}
+
+/// How many steps the run makes in full mode, where partial mode refused it and full
+/// mode doesn't.
+fn in_full_mode(options: &Options, program: &Program, lists: &Lists) -> Option<u64> {
+    if !options.partial {
+        return None;
+    }
+    let mut group = Group::begin(options.processors).ok()?;
+    let ran = ran(options, program, &mut group, lists);
+    ran.ok().map(|report| report.steps)
 }
 
 fn show_report(
@@ -356,7 +389,13 @@ fn show_report(
     Ok(())
 }
 
-fn show_refused(options: &Options, name: &str, step: &RefusedStep, out: &mut dyn Write) -> Outcome {
+fn show_refused(
+    options: &Options,
+    name: &str,
+    step: &RefusedStep,
+    in_full: Option<u64>,
+    out: &mut dyn Write,
+) -> Outcome {
     let RefusedStep {
         call,
         step,
@@ -364,6 +403,10 @@ fn show_refused(options: &Options, name: &str, step: &RefusedStep, out: &mut dyn
         refused,
     } = step;
     let is_kill = !call.is_empty();
+    let hint = in_full.map(|steps| {
+        let steps = text::count(steps, "step");
+        format!("in full mode, without --partial, the run makes {steps}")
+    });
     if options.json {
         let mut value = json!({"step": step, "slot": number.0});
         if is_kill {
@@ -371,6 +414,9 @@ fn show_refused(options: &Options, name: &str, step: &RefusedStep, out: &mut dyn
         }
         value["refused"] = json!(refused.number);
         value["cause"] = json!(refused.cause);
+        if let Some(steps) = in_full {
+            value["steps_in_full_mode"] = json!(steps);
+        }
         writeln!(out, "{}", json!({ "run": value }))?;
     } else {
         writeln!(out, "{step:>4}  {number:>4}  {call}{refused}")?;
@@ -380,7 +426,11 @@ fn show_refused(options: &Options, name: &str, step: &RefusedStep, out: &mut dyn
             out,
             "{what}: refused {number}; the group is as before the {what}"
         )?;
+        if let Some(hint) = &hint {
+            writeln!(out, "hint: {hint}")?;
+        }
     }
-    let told = format!("{name}: step {step}, slot {number}: {call}{refused}");
+    let hint = hint.map_or(String::new(), |hint| format!("; {hint}"));
+    let told = format!("{name}: step {step}, slot {number}: {call}{refused}{hint}");
     Err(Failure::Refused(told))
 }

@@ -324,6 +324,41 @@ const CASES: &[(&str, &str, &str)] = &[
     ("flow-loops-none", "flow --hex --processors 4 - 0,0", "4 0"),
     ("flow-loops-op", "flow --hex --processors 4 - 0,0", "5 0"),
     (
+        "flow-partial",
+        "flow --partial --hex samples/nest.hex --processors 8 --masks samples/nest.masks",
+        "",
+    ),
+    (
+        "flow-partial-json",
+        "flow --partial --hex --json samples/nest.hex --processors 8 --masks samples/nest.masks",
+        "",
+    ),
+    (
+        "flow-partial-through",
+        "flow --partial --hex samples/nest.hex --processors 8 0,0 --repeat 15",
+        "",
+    ),
+    (
+        "flow-partial-list",
+        "flow --partial --hex samples/branch.hex",
+        "",
+    ),
+    (
+        "flow-partial-list-json",
+        "flow --partial --hex --json samples/loops.hex --integers samples/loops.integers",
+        "",
+    ),
+    (
+        "flow-partial-call",
+        "flow --partial --hex samples/branch.hex --processors 8 --masks samples/branch.masks",
+        "",
+    ),
+    (
+        "flow-partial-loop",
+        "flow --partial --hex --processors 4 - 0,0",
+        "1 20200",
+    ),
+    (
         "flow-kill",
         "flow --hex samples/kill.hex --processors 8 --masks samples/kill.masks --kill 1:F:samples/kill.registers --kill 3:1:samples/kill.registers",
         "",
@@ -357,6 +392,11 @@ const CASES: &[(&str, &str, &str)] = &[
         "flow-kill-length-json",
         "flow --hex --json samples/kill.hex --processors 7 --masks samples/kill.masks --kill 0:F:samples/kill.registers",
         "",
+    ),
+    (
+        "flow-kill-partial",
+        "flow --partial --hex samples/nest.hex --processors 8 --masks samples/nest.masks --kill 6:1:-",
+        "0 0 0 0\n0 0 0 0\n0 0 0 0\n0 0 0 0\n0 0 0 0\n0 0 0 0\n-1 0 0 0\n0 0 0 0\n",
     ),
     (
         "flow-kill-ended",

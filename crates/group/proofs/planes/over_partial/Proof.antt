@@ -1,8 +1,7 @@
 -- `group::planes::over_partial` meets its contract: an increment, and a counter at 5. Assumes nothing.
 use mathlib.Core.Path.{_∙_, sym}
-use lib.Dec.{eqb}
-use Rattle.laws.proofs.Choice.{and-no-right}
-use Rattle.group.proofs.Places.{and-first}
+use borrow.Author.Tests.{eq-eqb, ne-eqb}
+use Rattle.laws.proofs.Choice.{and-yes, and-no-left}
 use borrow.Author.Needs.{needs}
 use Rattle.group.proofs.planes.over_partial.Statement.{statement}
 use Rattle.group.proofs.planes.over_partial.Tie as tie
@@ -25,19 +24,16 @@ element-copy-out-at-partial-5 c = search needs
 at-partial-requires : tie.Need-at-partial-requires
 at-partial-requires c κs = search needs
 
--- a counter is at the limit: the operation decides
+-- an increment: the counters decide
 returns : tie.Need-returns
 returns c =
-    let at-partial = c .before in
-    let args = at-partial .before .before .before .before .before .before .args in
-    sym (and-first (eqb (args .op) 2) (sym (at-partial .at-partial .ensures) ∙ c .if1 .taken))
+    let at-if1 = c .before .before .before .before .before .before in
+    let args = at-if1 .before .args in
+    c .at-partial .ensures ∙ sym (and-yes _ (eq-eqb (args .op) 2 (at-if1 .if1 .taken)))
 
--- none is
+-- another operation
 returns-2 : tie.Need-returns-2
-returns-2 c =
-    let at-partial = c .before in
-    let args = at-partial .before .before .before .before .before .before .args in
-    sym (and-no-right (eqb (args .op) 2) (sym (at-partial .at-partial .ensures) ∙ c .if1 .left))
+returns-2 c = sym (and-no-left _ (ne-eqb (c .before .args .op) 2 (c .if1 .left)))
 
 pub over-partial-spec : {M : Type 1} → statement M
 over-partial-spec =
