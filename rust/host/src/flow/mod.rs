@@ -29,7 +29,7 @@ Examples, from the repository's root:
   egretfold flow --hex samples/branch.hex --processors 8 --masks samples/branch.masks
   egretfold flow --hex samples/branch.hex --processors 8 0,0 --repeat 20
   egretfold flow --hex samples/loops.hex --integers samples/loops.integers --processors 4 --masks samples/loops.masks
-  egretfold flow --partial --hex samples/nest.hex --processors 8 --masks samples/nest.masks
+  egretfold flow --partial --hex samples/nest.hex --processors 8 0,0 --repeat 15
   egretfold flow --hex samples/kill.hex --processors 8 --masks samples/kill.masks --kill 1:F:samples/kill.registers";
 
 #[derive(Args)]
