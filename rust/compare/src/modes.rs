@@ -104,7 +104,8 @@ fn side_by_side(
                 same_but_the_mode(case, &asked, &pair)?;
                 let deepest = deepest(&pair.partial.second);
                 if deepest == Some(MOST_COUNTER) {
-                    case.tally.mark("steps of partial mode that left a counter at 5");
+                    case.tally
+                        .mark("steps of partial mode that left a counter at 5");
                 }
             }
             (Ok(_), Err(number)) => {
@@ -119,7 +120,8 @@ fn side_by_side(
             }
             (Err(of_full), Err(of_partial)) => {
                 if of_full != of_partial {
-                    case.tally.mark("steps refused by both modes with other numbers");
+                    case.tally
+                        .mark("steps refused by both modes with other numbers");
                 }
                 return Ok(());
             }
@@ -239,7 +241,9 @@ fn ran(
         first: report.first,
         active: report.active,
     });
-    let expected = both.second.run_with(&program.second, list, booleans, integers);
+    let expected = both
+        .second
+        .run_with(&program.second, list, booleans, integers);
     let asked = || format!("in mode {:?}, {}", before.mode(), asked());
     case.agree_answer(asked, &product, &expected)?;
     both.agree(case, asked)?;
