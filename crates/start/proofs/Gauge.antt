@@ -11,12 +11,12 @@ use Rattle.laws.specs.Below.{some, every}
 use Rattle.laws.specs.Masks.{digit}
 use Rattle.laws.proofs.Choice.{pick-yes, pick-no, Tested, holds, fails, tested}
 use Rattle.refusal.specs.Told.{Told, gives, refuses}
-use Rattle.state.specs.State.{Buffer, Domain, mostExtent}
+use Rattle.state.specs.State.{Buffer, Domain, Readiness, Party, Shared, mostExtent}
 use Rattle.state.specs.Start.{stepOfBuffer, output, isSet, counts, containsDomain, complete, covered, disjoint, readyOf, numberTold, readinessOf}
-use Rattle.state.specs.Readiness.{lesser, leastExtent, columnsLeft, rowsLeft, gaugeOf}
-use Rattle.state.specs.Valid.{DomainValid}
+use Rattle.state.specs.Readiness.{lesser, leastExtent, columnsLeft, rowsLeft, gaugeOf, workedOut}
+use Rattle.state.specs.Effects.{withNumber, withReadiness, renewed}
 use Rattle.start.specs.Windows.{firstOf}
-use Rattle.start.specs.Gauge.{readyBy}
+use Rattle.start.specs.Gauge.{readyBy, settled}
 
 -- below the lesser of two is below both
 below-lesser : (i a b : ℕ) → ltb i (lesser a b) ≡ (ltb i a and ltb i b)
@@ -77,16 +77,15 @@ numbers true true false = refl
 numbers true false z = refl
 numbers false y z = refl
 
-module _ (mask : ℕ) (outputs : List Buffer) (d : Domain) (i : Buffer) (v : DomainValid d) where
+module _ (mask : ℕ) (outputs : List Buffer) (d : Domain) (i : Buffer) (column : d .i1 < mostExtent) (row : d .j1 < mostExtent) where
   covered-gauged : (ltb (d .i1) (gaugeOf mask outputs .columns) and ltb (d .j1) (gaugeOf mask outputs .rows)) ≡ covered mask outputs d
   unfolding gaugeOf columnsLeft rowsLeft covered containsDomain
   covered-gauged =
-      ap₂ _and_ (below-least 4 (d .i1) _ (v .column-most)) (below-least 4 (d .j1) _ (v .row-most)) ∙
+      ap₂ _and_ (below-least 4 (d .i1) _ column) (below-least 4 (d .j1) _ row) ∙
       every-both 4 _ _ ∙
       every-each 4 _ _
       (λ n.
-      asks (counts mask outputs n) (d .i1) (d .j1) (stepOfBuffer (output outputs n)) (output outputs n .height) (v .column-most)
-      (v .row-most))
+      asks (counts mask outputs n) (d .i1) (d .j1) (stepOfBuffer (output outputs n)) (output outputs n .height) column row)
 
   pub readiness-gauged : readyBy d i (gaugeOf mask outputs) ≡ readinessOf d i mask outputs
   unfolding readyBy readinessOf readyOf complete
@@ -98,3 +97,12 @@ module _ (mask : ℕ) (outputs : List Buffer) (d : Domain) (i : Buffer) (v : Dom
 
       apart-path : eqb (gaugeOf mask outputs .apart) 1 ≡ disjoint mask outputs
       apart-path = unfold gaugeOf in digit-one (disjoint mask outputs)
+
+-- what was kept of the same mask and outputs, settled, is what the settings give
+pub settled-kept : (p : Party) (h : Shared) (d : Domain) (i : Buffer) → p .domain .i1 < mostExtent → p .domain .j1 < mostExtent →
+    p .readiness ≡ workedOut d i (h .mask) (h .outputs) → settled p ≡ renewed h p
+unfolding workedOut
+settled-kept p h d i column row e =
+    ap (λ (r : Readiness). withReadiness (withNumber (readyBy (p .domain) (p .instructions) (r .gauge)) r) p) e ∙
+    ap (λ (n : ℕ). withReadiness (withNumber n (workedOut d i (h .mask) (h .outputs))) p)
+    (readiness-gauged (h .mask) (h .outputs) (p .domain) (p .instructions) column row)

@@ -283,7 +283,7 @@ module _ (shared : List ℕ) where
     gauged-kept =
         λ k.
         record {
-          number = readiness-gauged mask outputs (party .domain) (party .instructions) (asked .domain) k;
+          number = readiness-gauged mask outputs (party .domain) (party .instructions) (asked .domain .column-most) (asked .domain .row-most) k;
           gauge = gaugeOf mask outputs;
           window0 = asked .windows .first k;
           window1 = asked .windows .second k;
