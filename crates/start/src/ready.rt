@@ -19,7 +19,10 @@ ghost use Rattle.start.specs.Gauge.{RenewAsked, settled};
 ghost use Rattle.start.specs.Windows.{columnsBy, countsBy, creditBy, eachApart, extentLeft, firstOf, keepsApart, outputBy, rowsBy, someSet, spansApart};
 
 // The most columns and the most rows that a window has.
-const MOST_EXTENT: u32 = 4096;
+pub const MOST_EXTENT: u32 = 4096;
+
+// What a start gets where nothing is set: the number of refusal::Refusal::StartUnset.
+pub const UNSET: u32 = 7;
 
 // An output as a start sees it: whether it is set, whether it counts, and its window.
 pub struct Output {
