@@ -400,6 +400,20 @@ pub claim-told : (own : List ℕ) {p : ℕ} → partyOf own [] .readiness .gauge
 unfolding pairsOf partyOf
 claim-told own k e = (ap (λ (x : ℕ). x * getD own 24 0) (e .0), claim-fits (e .1) k)
 
+-- the answer is the one that its number tells
+first-answer : (x y z : Bool) →
+    toldFirst x y z ≡ pick (eqb (numberTold (toldFirst x y z)) 0) (gives []) (refuses (numberTold (toldFirst x y z)))
+unfolding numberTold pick
+first-answer true true true = refl
+first-answer true true false = refl
+first-answer true false z = refl
+first-answer false y z = refl
+
+pub readiness-answer : (d : Domain) (i : Buffer) (m : ℕ) (o : List Buffer) →
+    readyOf d i m o ≡ pick (eqb (readinessOf d i m o) 0) (gives []) (refuses (readinessOf d i m o))
+unfolding readinessOf readyOf
+readiness-answer d i m o = first-answer _ _ _
+
 -- the credit that is kept is the number of outputs that count, so that the claim is the settings'
 module _ (own tallies shared : List ℕ) (asked : OwnAsked own tallies shared) where
   abbrev counted : ℕ

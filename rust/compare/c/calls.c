@@ -136,7 +136,7 @@ static void check_words(struct session *s)
     agree("session_feed, stopped", feed(s, stream, 15, fed), 1);
     agree("session_feed, words of a stopped session", fed[0], 0);
     agree("session_feed, commands of a stopped session", fed[1], 0);
-    check_status("session_status, stopped", s, 17, 1, 0, 0);
+    check_status("session_status, stopped", s, 17, 1, 0, 0, 0);
 }
 
 /* A piece with a refused word: those before it stand. */
@@ -236,7 +236,7 @@ static void check_log(void)
     check_part("log_part of the first day", &r, 1, 1, 1728);
     check_part("log_part of the second day", &r, 2, 0, 0);
     check_part("log_part past the last day", &r, 3, 0, 0);
-    check_status("session_status of a replay", &r.s, 18, 1, 0, 0);
+    check_status("session_status of a replay", &r.s, 18, 1, 0, 0, 0);
     put_record(bytes + 5, 3, 0);
     agree("log_feed, a wrong kind", feed_log(&r, bytes, 10, taken), 18);
     agree("log_feed, bytes before the wrong kind", taken[0], 5);
