@@ -10,18 +10,18 @@ use Rattle.laws.specs.Choice.{pick, placeOf}
 use Rattle.laws.proofs.Choice.{pick-yes, pick-no}
 use Rattle.refusal.specs.Told.{Told, gives, refuses, thenTold}
 use Rattle.command.specs.Table.{headers, countOf}
-use Rattle.command.specs.Kinds.{allowed, kindOf}
+use Rattle.command.specs.Kinds.{allowed, faultOf, kindOf}
 use Rattle.command.specs.Commands.{commandOf}
 use Rattle.rules.specs.Rules.{lastRuleOf}
 use Rattle.command.specs.declared.commands.Stored.the-variants as stored
 use Rattle.command.specs.declared.commands.Command.{Command}
 use Rattle.command.specs.declared.commands.Command.the-variants as command
 use Rattle.start.proofs.Readiness.{readiness-answer}
-use Rattle.state.specs.State.{Open, Readiness, Session}
+use Rattle.state.specs.State.{Open, Readiness, Session, atLine}
 use Rattle.state.specs.Start.{readyOf, readinessOf}
 use Rattle.state.specs.Readiness.{workedOut, readinessFor}
-use Rattle.state.specs.Effects.{limit, ownAfter, sharedAfter, after, withParameter}
-use Rattle.session.specs.Step.{Reply, stillOpen, completed, refused, Stepped, startRuleOf, judged, completing, placing, parameterStep, headerStep, stepOf}
+use Rattle.state.specs.Effects.{limit, opening, took, ownAfter, sharedAfter, after, withParameter}
+use Rattle.session.specs.Step.{Reply, stillOpen, completed, refused, Stepped, refusing, startRuleOf, judged, completing, placing, parameterStep, headerStep, stepOf}
 use Rattle.session.specs.Feed.{First, Fed, nothing, proceed, feedOf, ended, onward}
 use Rattle.session.specs.Reached.{Reached}
 use Rattle.session.specs.Stored.{toldBy, forgotten, SameAnswers}
@@ -45,14 +45,14 @@ module _ (s : Session) (r : Reached s) where
       ap (λ (n : ℕ). pick (eqb n 0) (gives []) (refuses n)) (sym stored-number)
 
 -- what a step leaves, with what is kept of readiness set aside
-abbrev asideOf : Stepped → Stepped
+asideOf : Stepped → Stepped
 asideOf t = record { reply = t .reply; session = forgotten (t .session) }
 
-either-way : (b : Bool) {x y u v : Stepped} → asideOf x ≡ asideOf u → asideOf y ≡ asideOf v →
+either-way : (b : Bool) (x y u v : Stepped) → asideOf x ≡ asideOf u → asideOf y ≡ asideOf v →
     asideOf (pick b x y) ≡ asideOf (pick b u v)
 unfolding pick
-either-way true e f = e
-either-way false e f = f
+either-way true x y u v e f = e
+either-way false x y u v e f = f
 
 after-aside : (c : Command) (s : Session) → forgotten (after c (forgotten s)) ≡ forgotten (after c s)
 unfolding after ownAfter
@@ -71,7 +71,7 @@ after-aside (command.ConditionalMask mask) s = refl
 after-aside (command.Test test) s = refl
 
 judged-aside : (t : Told) (c : Command) (s : Session) → asideOf (judged t c (forgotten s)) ≡ asideOf (judged t c s)
-unfolding judged
+unfolding judged asideOf
 judged-aside (gives values) c s = λ k. record { reply = completed c; session = after-aside c s k }
 judged-aside (refuses n) c s = refl
 
@@ -95,22 +95,55 @@ completing-aside o s =
     ap (λ (t : Told). asideOf (judged (thenTold (lastRuleOf c) t) c (forgotten s))) (rule-aside c s) ∙
     judged-aside (thenTold (lastRuleOf c) (startRuleOf c s)) c s
 
+-- the command stays open, or the word is refused
+open-aside : (o : Open) (s : Session) →
+    asideOf (record { reply = stillOpen; session = record { party = opening o (took (forgotten s .party)); shared = s .shared } }) ≡
+    asideOf (record { reply = stillOpen; session = record { party = opening o (took (s .party)); shared = s .shared } })
+unfolding asideOf
+open-aside o s = refl
+
+refusing-aside : (s : Session) (n : ℕ) → asideOf (refusing (forgotten s) n) ≡ asideOf (refusing s n)
+unfolding asideOf
+refusing-aside s n = refl
+
+stopped-aside : (s : Session) → asideOf (record { reply = refused 1; session = forgotten s }) ≡ asideOf (record { reply = refused 1; session = s })
+unfolding asideOf
+stopped-aside s = refl
+
 placing-aside : (o : Open) (s : Session) → asideOf (placing o (forgotten s)) ≡ asideOf (placing o s)
 unfolding placing
-placing-aside o s = either-way (ltb (o .count) (countOf (o .line))) refl (completing-aside o s)
+placing-aside o s = either-way (ltb (o .count) (countOf (o .line))) _ _ _ _ (open-aside o s) (completing-aside o s)
 
-pub step-aside : (s : Session) (w : ℕ) → asideOf (stepOf (forgotten s) w) ≡ asideOf (stepOf s w)
-unfolding stepOf headerStep parameterStep
-step-aside s w =
+parameter-aside : (s : Session) (w : ℕ) → asideOf (parameterStep (forgotten s) w) ≡ asideOf (parameterStep s w)
+unfolding parameterStep
+parameter-aside s w =
     let o = s .party .opened in
-    either-way (eqb (s .party .stopped) 1) refl
-    (either-way (leb limit (s .party .taken)) refl
-    (either-way (eqb (o .line) 21) (either-way (ltb (placeOf w headers) (length headers)) refl refl)
-    (either-way (allowed (kindOf (o .line) (o .count)) w) (placing-aside (withParameter o w) s) refl)))
+    either-way (allowed (kindOf (o .line) (o .count)) w) _ _ _ _ (placing-aside (withParameter o w) s)
+    (refusing-aside s (faultOf (kindOf (o .line) (o .count))))
+
+header-aside : (s : Session) (w : ℕ) → asideOf (headerStep (forgotten s) w) ≡ asideOf (headerStep s w)
+unfolding headerStep
+header-aside s w =
+    either-way (ltb (placeOf w headers) (length headers)) _ _ _ _ (open-aside (atLine (placeOf w headers)) s) (refusing-aside s 2)
+
+step-aside : (s : Session) (w : ℕ) → asideOf (stepOf (forgotten s) w) ≡ asideOf (stepOf s w)
+unfolding stepOf
+step-aside s w =
+    either-way (eqb (s .party .stopped) 1) _ _ _ _ (stopped-aside s)
+    (either-way (leb limit (s .party .taken)) _ _ _ _ (refusing-aside s 17)
+    (either-way (eqb (s .party .opened .line) 21) _ _ _ _ (header-aside s w) (parameter-aside s w)))
 
 -- sessions that differ in nothing but what is kept get the same answers
 step-alike : (s u : Session) (w : ℕ) → forgotten s ≡ forgotten u → asideOf (stepOf s w) ≡ asideOf (stepOf u w)
 step-alike s u w e = sym (step-aside s w) ∙ ap (λ (x : Session). asideOf (stepOf x w)) e ∙ step-aside u w
+
+reply-alike : (t v : Stepped) → asideOf t ≡ asideOf v → t .reply ≡ v .reply
+unfolding asideOf
+reply-alike t v e = ap (λ (x : Stepped). x .reply) e
+
+session-alike : (t v : Stepped) → asideOf t ≡ asideOf v → forgotten (t .session) ≡ forgotten (v .session)
+unfolding asideOf
+session-alike t v e = ap (λ (x : Stepped). x .session) e
 
 go-on : (r q : Reply) (s u : Session) (f g : Fed) → r ≡ q → forgotten s ≡ forgotten u → SameAnswers f g →
     SameAnswers (proceed r s f) (proceed q u g)
@@ -142,9 +175,9 @@ unfolding feedOf
 answers-alike [] s u e = record { taken = refl; commands = refl; refusal = refl; session = e }
 answers-alike (w ∷ ws) s u e =
     let same = step-alike s u w e in
-    let after = ap (λ (t : Stepped). t .session) same in
+    let after = session-alike (stepOf s w) (stepOf u w) same in
     go-on (stepOf s w .reply) (stepOf u w .reply) (stepOf s w .session) (stepOf u w .session) (feedOf (stepOf s w .session) ws)
-    (feedOf (stepOf u w .session) ws) (ap (λ (t : Stepped). t .reply) same) after
+    (feedOf (stepOf u w .session) ws) (reply-alike (stepOf s w) (stepOf u w) same) after
     (answers-alike ws (stepOf s w .session) (stepOf u w .session) after)
 
 -- "every answer stays as it was": what is kept plays no part in it, nor in what else the session holds afterwards
