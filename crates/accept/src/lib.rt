@@ -90,7 +90,7 @@ fn take_instructions(own: &mut [u32; state::OWN_CELLS], words: u32, base: u32, f
     if fits::window(base, format, 1) {
         own::count_words(own, words);
         own::set_instructions(own, base, format);
-        ready::settle(own);
+        ready::settle(own); // a start asks for the format
         words
     } else {
         0
@@ -207,7 +207,7 @@ fn take_mask(
     if mask < 65536 {
         own::count_words(own, words);
         shared[settings::MASK] = mask;
-        ready::renew(own, shared);
+        ready::renew(own, shared); // the mask tells which outputs count
         words
     } else {
         0

@@ -39,7 +39,11 @@ fn flag_of(present: bool) -> u32
 fn open_header(line: u32) -> u32
     ensures { λ r. ⌜ r ≡ openHeader line ⌝ }
 {
-    if line < own::NO_LINE { table::header(line) } else { 0 }
+    if line < own::NO_LINE {
+        table::header(line)
+    } else {
+        0
+    }
 }
 
 // Words taken, stopped or not, the open command's header and how many of its parameters were taken, and which of 0, 7, 8 and 9 the

@@ -34,19 +34,21 @@ pub struct Output {
     pub span: u32,
 }
 
+// The bits of the channels that a format code has, four for each code from the lowest on: one, four, one, two and four of them, and
+// none of the codes 5 to 7.
+const CHANNELS: u32 = 0xF31F1;
+
+const LAST_CODE: u32 = 7;
+
 // The mask's bits for the channels that a format code has. `bits` are the mask's from the output's own on, so those of later
-// outputs stand above. The codes 5 to 7 have no channel.
+// outputs stand above. The codes of a stream can't be foretold, so no branch is taken on them.
 fn channel_bits(bits: u32, code: u32) -> u32
     ensures { λ r. ⌜ r ≡ bits % 2 ^ channelsOf code ⌝ }
 {
-    match code {
-        0 => bits % 2,
-        1 => bits % 16,
-        2 => bits % 2,
-        3 => bits % 4,
-        4 => bits % 16,
-        _ => 0,
+    if LAST_CODE < code {
+        return 0;
     }
+    bits & ((CHANNELS >> (4 * code)) % 16)
 }
 
 // Whether the mask has a bit set for a channel of the format: the output isn't silent.
@@ -228,10 +230,34 @@ pub fn renew(own: &mut [u32; state::OWN_CELLS], shared: &[u32; state::SHARED_CEL
     ensures { λ _. ⌜ now (own .exit) ≡ partyCells (renewed (sharedOf (now (shared .entry))) (partyOf (now (own .entry)) [])) ⌝ }
 {
     let mask = shared[settings::MASK];
-    let a = output_at(mask, shared, settings::OUTPUT_0, own[own::STEP_0], own[own::SPAN_0]);
-    let b = output_at(mask / 16, shared, settings::OUTPUT_1, own[own::STEP_1], own[own::SPAN_1]);
-    let c = output_at(mask / 256, shared, settings::OUTPUT_2, own[own::STEP_2], own[own::SPAN_2]);
-    let d = output_at(mask / 4096, shared, settings::OUTPUT_3, own[own::STEP_3], own[own::SPAN_3]);
+    let a = output_at(
+        mask,
+        shared,
+        settings::OUTPUT_0,
+        own[own::STEP_0],
+        own[own::SPAN_0],
+    );
+    let b = output_at(
+        mask / 16,
+        shared,
+        settings::OUTPUT_1,
+        own[own::STEP_1],
+        own[own::SPAN_1],
+    );
+    let c = output_at(
+        mask / 256,
+        shared,
+        settings::OUTPUT_2,
+        own[own::STEP_2],
+        own[own::SPAN_2],
+    );
+    let d = output_at(
+        mask / 4096,
+        shared,
+        settings::OUTPUT_3,
+        own[own::STEP_3],
+        own[own::SPAN_3],
+    );
     let some = digit(some_set(a, b, c, d));
     let apart = digit(each_apart(a, b, c, d));
     own::set_gauge(
