@@ -144,7 +144,10 @@ impl fmt::Display for Ready {
             _ => self.cause.as_deref().unwrap_or("the settings refuse it"),
         };
         if self.stopped {
-            write!(f, "a start now would get 1: the session is stopped; by the settings alone ")?;
+            write!(
+                f,
+                "a start now would get 1: the session is stopped; by the settings alone "
+            )?;
         } else {
             write!(f, "a start now would get ")?;
         }
