@@ -27,7 +27,8 @@ returns c =
     let at-count-words = c .before .before .before .before in
     let at-if1 = at-count-words .before .before in
     let at-window = at-if1 .before in
-    instructions-tried _ _ _ (at-count-words .count-words .ensures) _ _ (fine _ (stored-judged _ _ (at-window .window .ensures) Instructions) (at-if1 .if1 .taken)) _ (c .before .before .set-instructions .ensures) _ (c .settle .ensures)
+    instructions-tried _ _ _ (at-count-words .count-words .ensures) _ _
+    (fine _ (stored-judged _ _ (at-window .window .ensures) Instructions) (at-if1 .if1 .taken)) _ (c .before .before .set-instructions .ensures) _ (c .settle .ensures)
 
 returns-2 : tie.Need-returns-2
 returns-2 c t h rest z = denied (stored-judged _ _ (c .before .window .ensures) Instructions) (c .if1 .left)

@@ -48,7 +48,9 @@ renew-requires c κs =
     let at-if1 = at-count-words .before .before in
     let at-output = at-if1 .before in
     let at-start = at-output .before in
-    output-asked _ _ _ _ _ (at-count-words .count-words .ensures) (at-start .pre .1) _ _ _ _ (output-most _ _ _ _ (fine _ (at-output .output .ensures) (at-if1 .if1 .taken))) _ (at-window-of .window-of .ensures) _ (c .before .before .set-window .ensures) (at-put .put .ensures)
+    output-asked _ _ _ _ _ (at-count-words .count-words .ensures) (at-start .pre .1) _ _ _ _
+    (output-most _ _ _ _ (fine _ (at-output .output .ensures) (at-if1 .if1 .taken))) _
+    (at-window-of .window-of .ensures) _ (c .before .before .set-window .ensures) (at-put .put .ensures)
 
 returns : tie.Need-returns
 returns c =
@@ -57,7 +59,8 @@ returns c =
     let at-count-words = at-put .before .before in
     let at-if1 = at-count-words .before .before in
     let at-output = at-if1 .before in
-    output-tried _ _ _ (at-count-words .count-words .ensures) _ _ _ _ _ _ (fine _ (at-output .output .ensures) (at-if1 .if1 .taken)) (at-put .put .ensures) _ _ (at-set-window .set-window .ensures) _ (c .renew .ensures)
+    output-tried _ _ _ (at-count-words .count-words .ensures) _ _ _ _ _ _
+    (fine _ (at-output .output .ensures) (at-if1 .if1 .taken)) (at-put .put .ensures) _ _ (at-set-window .set-window .ensures) _ (c .renew .ensures)
 
 returns-2 : tie.Need-returns-2
 returns-2 c t rest z = denied (c .before .output .ensures) (c .if1 .left)

@@ -32,7 +32,8 @@ returns-3 c =
     let at-if2 = at-count-words .before .before in
     let at-if1 = at-if2 .before .before in
     let at-start = at-if1 .before in
-    start-tried _ _ _ (at-count-words .count-words .ensures) (at-start .args .tallies .now) (at-start .args .shared .now) (at-start .pre .1) _ (at-if1 .if1 .left) (at-if2 .if2 .left) _ (c .count-start .ensures)
+    start-tried _ _ _ (at-count-words .count-words .ensures) (at-start .args .tallies .now) (at-start .args .shared .now) (at-start .pre .1) _
+    (at-if1 .if1 .left) (at-if2 .if2 .left) _ (c .count-start .ensures)
 
 pub take-start-spec : {M : Type 1} → statement M
 take-start-spec =

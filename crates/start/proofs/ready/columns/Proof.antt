@@ -37,7 +37,8 @@ returns c =
     let at-extent-left2 = at-lesser2 .before in
     let at-lesser = at-extent-left2 .before in
     let at-extent-left = at-lesser .before in
-    columns-told _ _ _ _ (at-extent-left .extent-left .ensures) (at-lesser .lesser .ensures) (at-extent-left2 .extent-left2 .ensures) (at-lesser2 .lesser2 .ensures) (at-extent-left3 .extent-left3 .ensures) (c .before .before .lesser3 .ensures) (c .before .extent-left4 .ensures) (c .lesser4 .ensures)
+    columns-told _ _ _ _ (at-extent-left .extent-left .ensures) (at-lesser .lesser .ensures) (at-extent-left2 .extent-left2 .ensures) (at-lesser2 .lesser2 .ensures)
+    (at-extent-left3 .extent-left3 .ensures) (c .before .before .lesser3 .ensures) (c .before .extent-left4 .ensures) (c .lesser4 .ensures)
 
 pub columns-spec : {M : Type 1} → statement M
 columns-spec =

@@ -76,8 +76,10 @@ credit-requires c κs = search needs
 set-gauge-requires : tie.Need-set-gauge-requires
 set-gauge-requires c κs =
     let earlier = c .before .before .before .before .before in
-    let at-output-at3 = earlier .before .before .before .before .before .before in
-    let at-output-at = at-output-at3 .before .before .before .before .before .before in
+    let at-output-at4 = earlier .before .before .before in
+    let at-output-at3 = at-output-at4 .before .before .before in
+    let at-output-at2 = at-output-at3 .before .before .before in
+    let at-output-at = at-output-at2 .before .before .before in
     let at-start = at-output-at .before .before .before .before in
     at-start .pre .own-length
 
@@ -98,7 +100,14 @@ returns c =
     let at-output-at2 = at-output-at3 .before .before .before in
     let at-output-at = at-output-at2 .before .before .before in
     let at-start = at-output-at .before .before .before .before in
-    renew-told (at-start .args .shared .now) (at-start .args .own .now) (at-start .pre) (gauge-told (at-start .args .shared .now) (at-start .args .own .now) (at-start .pre) (at-output-at .output-at .ensures) (at-output-at2 .output-at2 .ensures) (at-output-at3 .output-at3 .ensures) (at-output-at4 .output-at4 .ensures) (at-some-set .some-set .ensures) (at-digit .digit .ensures .0) (at-columns .columns .ensures) (at-rows .rows .ensures) (at-each-apart .each-apart .ensures) (at-digit2 .digit2 .ensures .0) (at-credit .credit .ensures)) _ (c .before .before .set-gauge .ensures) _ (c .settle .ensures)
+    let gauge =
+    gauge-told (at-start .args .shared .now) (at-start .args .own .now) (at-start .pre) (at-output-at .output-at .ensures)
+    (at-output-at2 .output-at2 .ensures) (at-output-at3 .output-at3 .ensures) (at-output-at4 .output-at4 .ensures)
+    (at-some-set .some-set .ensures) (at-digit .digit .ensures .0) (at-columns .columns .ensures) (at-rows .rows .ensures)
+    (at-each-apart .each-apart .ensures) (at-digit2 .digit2 .ensures .0) (at-credit .credit .ensures)
+    in
+    renew-told (at-start .args .shared .now) (at-start .args .own .now) (at-start .pre) gauge _ (c .before .before .set-gauge .ensures) _
+    (c .settle .ensures)
 
 pub renew-spec : {M : Type 1} → statement M
 renew-spec =
