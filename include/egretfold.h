@@ -18,7 +18,8 @@
  *     10  a pair is outside its window
  *     11  room, element data or memory of a wrong length or place
  *     12  no pair of the window owns the address
- *     13  flow word field or group size not allowed; no such integer word, or one with reserved bits
+ *     13  flow word field, group size or mode not allowed; no such integer word, or one with reserved bits; in partial mode an
+ *         op other than 0 or an A_OP
  *     14  branch counter, return stack, open loops or aL at their limit, or a close that fits no open loop
  *     15  a jump past the program's end, or a program of a wrong length
  *     16  the program has already ended
@@ -55,6 +56,7 @@ enum { EGRETFOLD_LOG = 10, EGRETFOLD_MARKS = 800 };
  *   2 to 6   the branch counters of the inactive ones: bit i of cell 2 + k is bit k of processor i's counter
  *   7        the position
  *   8 to 11  the stored returns, the last one first, 0 where there is none
+ *   12       the mode, 0 full or 1 partial
  *   14 to 17 the open loops, the innermost first, 0 where there is none: a LOOP as its count in bits 7:0, its aL in 15:8, its
  *            step in 23:16 and bit 24 set; a REP as its count
  *   the rest zeros */
@@ -169,9 +171,10 @@ uint32_t egretfold_command_write(uint32_t header, const uint32_t fields[4], uint
 /* window: the row step in elements and the span in bytes. 3 or 6. */
 uint32_t egretfold_layout(uint32_t base, uint32_t pitch, uint32_t height, uint32_t size, bool tiled, uint32_t window[2]);
 
-/* address: where the element at (x, y) begins. 3, 6 or 10. */
+/* address: where the element at (x, y) begins, and its run: how many elements of the row, from this one on, lie at consecutive
+ * addresses, so that one copy of run * size bytes takes them all. At least 1. 3, 6 or 10. */
 uint32_t egretfold_translate(uint32_t base, uint32_t pitch, uint32_t height, uint32_t size, bool tiled, uint32_t x,
-                             uint32_t y, uint32_t address[1]);
+                             uint32_t y, uint32_t address[2]);
 
 /* pair: x and y of the pair that owns the byte at the address, and the byte's place in its element. 3, 6 or 12. */
 uint32_t egretfold_locate(uint32_t base, uint32_t pitch, uint32_t height, uint32_t size, bool tiled, uint32_t address,
@@ -200,8 +203,10 @@ uint32_t egretfold_element_superfine(uint32_t base, uint32_t format, uint32_t he
 uint32_t egretfold_program_load(const uint32_t *words, size_t length, uint32_t firsts[EGRETFOLD_SLOTS],
                                 uint32_t seconds[EGRETFOLD_SLOTS], uint32_t slots[1]);
 
-/* A fresh group of 1 to 32 processors. 13. */
-uint32_t egretfold_group_begin(uint32_t size, uint32_t cells[EGRETFOLD_CELLS]);
+/* A fresh group of 1 to 32 processors in a mode, which it keeps: 0 full, or 1 partial, for programs without loops and
+ * subroutines and with branches nested at most 6 deep: there ops 1 to 4 and A_OP other than 0 get 13, and branch counters run to 5
+ * instead of 31. What partial mode accepts, full mode answers identically. 13. */
+uint32_t egretfold_group_begin(uint32_t size, uint32_t mode, uint32_t cells[EGRETFOLD_CELLS]);
 
 /* One step under a program of `slots` running slots, with `numbers` integer words, of which LOOP and REP take theirs by its
  * number. taken: 1 for a jump, 0 for a stay; and the next position. 13 to 16. */

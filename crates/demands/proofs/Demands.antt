@@ -1,4 +1,4 @@
--- The page of top theorems, in the order of the demands: 1, 2, 3, then elements, flow, and the requests 1 to 6. Each statement has
+-- The page of top theorems, in the order of the demands: 1, 2, 3, then elements, flow, and the requests 1 to 8. Each statement has
 -- its sentence above it and a proof that only cites the file that has it. What a statement asks for is what its sentence says or what an
 -- entry asks for: a session, a replay or a group's cells that came from the entries (`Reached`, `Handed`), and bytes that are bytes.
 -- Assumes nothing.
@@ -10,7 +10,7 @@ use lib.Count.{ones, trailingZeros}
 use lib.ListN.{length, take}
 use Rattle.laws.specs.Bits.{xor}
 use Rattle.laws.specs.Choice.{_and_, pick, placeOf}
-use Rattle.laws.specs.Below.{some, every, sum}
+use Rattle.laws.specs.Below.{some, every, sum, least}
 use Rattle.laws.specs.Masks.{_or_, differ, digit, on, pack}
 use Rattle.refusal.specs.Told.{Told, gives, refuses}
 use Rattle.layout.specs.Sizes.{isSize, widthOf, heightOf}
@@ -18,16 +18,20 @@ use Rattle.layout.specs.Layout.{wellFormed, unitOf, rowStep, tileRows, spanOf, 
 use Rattle.layout.specs.declared.Layout.{Layout}
 use Rattle.layout.proofs.Window.{form-size}
 use Rattle.address.specs.Offset.{blockWidth, blockHeight, codeOf, insideOf, tiledOffset, linearOffset, offsetOf}
-use Rattle.address.specs.Address.{ifAccepted, inside, addressOf, translateOf}
+use Rattle.address.specs.Address.{stepOf as rowStepOf, ifAccepted, inside, addressOf, breaks, runOf, translateOf, locateOf}
 use Rattle.address.specs.Inverse.{Accepted, Inside, Inverse}
 use Rattle.address.specs.Formula.{printedAddress, guideAddress}
+use Rattle.address.specs.Run.{Longest, runNumber}
 use Rattle.address.proofs.Formula.{printed, address-printed, address-guide}
 use Rattle.address.proofs.Inverse.{inverse}
+use Rattle.address.proofs.Runs.{longest, run-number, run-back as leads-back}
 use Rattle.memory.specs.Bytes.{Touched}
-use Rattle.memory.specs.Elements.{readOf}
+use Rattle.memory.specs.Elements.{readOf, writeOf}
 use Rattle.memory.specs.Reads.{ReadBack}
+use Rattle.memory.specs.Restated.{fromAddress, readAt, writeAt}
 use Rattle.memory.proofs.Bytes.{touched}
 use Rattle.memory.proofs.ReadBack.{read-back}
+use Rattle.memory.proofs.Restated.{read-restated, write-restated}
 use Rattle.superfine.specs.InLine.{joined}
 use Rattle.superfine.specs.Superfine.{superfineWord, superfineReadOf, formatLayout}
 use Rattle.superfine.proofs.FourReads.{four-reads}
@@ -76,12 +80,17 @@ use Rattle.score.proofs.Lines.{bounds}
 use Rattle.score.proofs.Midnights.{midnight-records}
 use Rattle.score.proofs.Promises.{line-first, dark-day, refused-with, scored-as, log-refused, log-scored, in-pieces}
 use Rattle.score.proofs.Verdicts.{full-if, full-only-if, calling}
-use Rattle.group.specs.Proc.{mostProcessors, wants, decided, branched}
+use Rattle.group.specs.Proc.{mostProcessors, counterLimit, wants, decided, branched}
+use Rattle.group.specs.Modes.{Mode, Full as FullMode, Partial as PartialMode, modeOf}
 use Rattle.group.specs.Group.{
   Program,
   Group,
+  Outcome,
   Steps,
   Fails,
+  Run,
+  Makes,
+  Breaks,
   firstActive,
   numberActive,
   allowed,
@@ -100,7 +109,10 @@ use Rattle.group.specs.Group.{
 }
 use Rattle.group.specs.Cells as cells
 use Rattle.group.specs.Cells.{activeMask}
+use Rattle.group.specs.Causes.{Cause, Met}
 use Rattle.group.proofs.State.{old-answers}
+use Rattle.group.proofs.Modes.{step-shared, step-cause, cause-refuses, run-shared, run-cause}
+use Rattle.group_rooms.specs.Rooms.{BeginCrosses as GroupBegins}
 use Rattle.loops.specs.Loops.{Opened, Looping, Repeating, turnOf, shownAL}
 use Rattle.flow.specs.Looping.{opAt, integerAt, LedBy, Turning, Inside as InLoop}
 use Rattle.flow.proofs.Looping.{step-led, rep-times, loop-times, al-shown-up, al-shown-down}
@@ -126,7 +138,7 @@ use Rattle.demands.specs.Windows.{Fits, PairOutside, ByteShared}
 use Rattle.demands.proofs.Calls.{refused-call}
 use Rattle.demands.proofs.Days.{day-so-far, day-ended, before-first, days-stand}
 use Rattle.demands.proofs.Elements.{write-done}
-use Rattle.demands.proofs.Flow.{step-made, step-refused, run-walks, same-step, same-run, handed-made}
+use Rattle.demands.proofs.Flow.{step-made, step-refused, run-walks, same-step, same-run, handed-made, begun-mode, step-mode, run-mode}
 use Rattle.demands.proofs.Pieces.{handed-reached, handed-given, word-refused, as-one}
 use Rattle.demands.proofs.Refused.{refused-place}
 use Rattle.demands.proofs.Windows.{passes, gets-eight, gets-nine}
@@ -237,7 +249,7 @@ demand2-counted = counted
 -- "For every accepted layout, linear or tiled, at each of the five sizes, every pair inside its window goes by the guide's formula, as
 -- document 01 gives it, to an element": the formula and the table are those that are printed, line by line.
 pub demand3-formula :
-    (l : Layout) → Accepted l → (x y : ℕ) → Inside l x y → translateOf l x y ≡ gives (printedAddress l x y ∷ [])
+    (l : Layout) → Accepted l → (x y : ℕ) → Inside l x y → translateOf l x y ≡ gives (printedAddress l x y ∷ runOf l x y ∷ [])
 demand3-formula = printed
 
 -- It is the address by source 003's columns of bits, linear and tiled.
@@ -290,32 +302,32 @@ start-shared = gets-nine
 -- A step that is made, in the order of document 01 and request 4: what B_ELSE leaves, the wishes, the decision (theirs, or with ops 1
 -- to 4 the loops') and the loops then, what each processor becomes, the return stack, and the position.
 pub flow-step :
-    (limit : ℕ) (p : Program) (alu predicate booleans : ℕ) (g : Group) (jump : Bool) (g' : Group) →
-    flowStep limit p alu predicate booleans g ≡ Steps jump g' → Made limit p alu predicate booleans g jump g'
+    (mode : Mode) (p : Program) (alu predicate booleans : ℕ) (g : Group) (jump : Bool) (g' : Group) →
+    flowStep mode p alu predicate booleans g ≡ Steps jump g' → Made mode p alu predicate booleans g jump g'
 flow-step = step-made
 
 -- A step that is refused has the cause of its number. "Order: 16, 13, 14, 15.": 13 for the words and then for the integer word, 14 for
 -- the loops and then for the counters and the returns.
 pub flow-refused :
-    (limit : ℕ) (p : Program) (alu predicate booleans : ℕ) (g : Group) (n : ℕ) →
-    flowStep limit p alu predicate booleans g ≡ Fails n → Refused limit p alu predicate booleans g n
+    (mode : Mode) (p : Program) (alu predicate booleans : ℕ) (g : Group) (n : ℕ) →
+    flowStep mode p alu predicate booleans g ≡ Fails n → Refused mode p alu predicate booleans g n
 flow-refused = step-refused
 
 -- A run is its steps, up to the list's or the program's end; if one is refused, the whole run is (and by demand 1 leaves the cells as
 -- they were).
 pub flow-run :
-    (limit : ℕ) (p : Program) (booleans : ℕ) (masks : List ℕ) (g : Group) → Ran limit p booleans masks g (groupRun limit p booleans masks g)
+    (mode : Mode) (p : Program) (booleans : ℕ) (masks : List ℕ) (g : Group) → Ran mode p booleans masks g (groupRun mode p booleans masks g)
 flow-run = run-walks
 
 -- "Mask bits above the group are ignored": masks that say the same of every processor in the group give the same step and the same run.
 pub flow-masks :
-    (limit : ℕ) (p : Program) (booleans : ℕ) (g : Group) (alu predicate alu' predicate' : ℕ) → Agree g alu alu' →
-    Agree g predicate predicate' → flowStep limit p alu predicate booleans g ≡ flowStep limit p alu' predicate' booleans g
+    (mode : Mode) (p : Program) (booleans : ℕ) (g : Group) (alu predicate alu' predicate' : ℕ) → Agree g alu alu' →
+    Agree g predicate predicate' → flowStep mode p alu predicate booleans g ≡ flowStep mode p alu' predicate' booleans g
 flow-masks = same-step
 
 pub flow-run-masks :
-    (limit : ℕ) (p : Program) (booleans : ℕ) (ms ms' : List ℕ) (g : Group) → AllAgree g ms ms' →
-    groupRun limit p booleans ms g ≡ groupRun limit p booleans ms' g
+    (mode : Mode) (p : Program) (booleans : ℕ) (ms ms' : List ℕ) (g : Group) → AllAgree g ms ms' →
+    groupRun mode p booleans ms g ≡ groupRun mode p booleans ms' g
 flow-run-masks = same-run
 
 -- The cells given out are those taken: what begin, step and run left is what step and run ask for.
@@ -443,43 +455,43 @@ mask-zeros mask g shown = (mask-first mask g shown, mask-none mask g shown)
 
 -- "With op 0 every old answer stays": such a step is document 01's, whatever loops are open and whatever integer words are lent.
 pub loops-op-0 :
-    (limit slots : ℕ) (integers : List ℕ) (first second alu predicate booleans : ℕ) (g : Group) → opOf first ≡ 0 →
-    slotStep limit slots integers first second alu predicate booleans g ≡ jumpStep limit slots first second alu predicate booleans g
+    (slots : ℕ) (integers : List ℕ) (first second alu predicate booleans : ℕ) (g : Group) → opOf first ≡ 0 →
+    slotStep FullMode slots integers first second alu predicate booleans g ≡ jumpStep counterLimit slots first second alu predicate booleans g
 loops-op-0 = old-answers
 
 -- "These decisions override the processors' wishes": a step of another op is refused, or its decision and the loops that it leaves are
 -- those of its turn, whatever the masks. (`flow-step` and `flow-refused` above have the whole step and its order.)
 pub loops-decide :
-    (limit : ℕ) (p : Program) (alu predicate booleans : ℕ) (g : Group) → (opAt p g ≡ 0 → ⊥) →
-    LedBy (turnOf (opAt p g) (integerAt p g) (g .loops)) (flowStep limit p alu predicate booleans g)
+    (mode : Mode) (p : Program) (alu predicate booleans : ℕ) (g : Group) → (opAt p g ≡ 0 → ⊥) →
+    LedBy (turnOf (opAt p g) (integerAt p g) (g .loops)) (flowStep mode p alu predicate booleans g)
 loops-decide = step-led
 
 -- A loop of count n around a body that comes back to the loop's close with the loops as they were runs the body n times: where k closes
 -- have jumped and the next one stays, k + 1 is n, and the loop is gone.
 pub rep-runs :
-    (limit : ℕ) (p : Program) (booleans : ℕ) (Body : Group → Group → Type 0) → InLoop p false Body →
+    (mode : Mode) (p : Program) (booleans : ℕ) (Body : Group → Group → Type 0) → InLoop p false Body →
     (n : ℕ) (loops : List Opened) (k : ℕ) (g s c g' : Group) (alu predicate : ℕ) → 1 ≤ n → g .loops ≡ Repeating n ∷ loops →
-    Turning limit p booleans Body k g s → Body s c → flowStep limit p alu predicate booleans c ≡ Steps false g' →
+    Turning mode p booleans Body k g s → Body s c → flowStep mode p alu predicate booleans c ≡ Steps false g' →
     (suc k ≡ n) × (g' .loops ≡ loops)
 rep-runs = rep-times
 
 pub loop-runs :
-    (limit : ℕ) (p : Program) (booleans : ℕ) (Body : Group → Group → Type 0) → InLoop p true Body →
+    (mode : Mode) (p : Program) (booleans : ℕ) (Body : Group → Group → Type 0) → InLoop p true Body →
     (n al step : ℕ) (loops : List Opened) (k : ℕ) (g s c g' : Group) (alu predicate : ℕ) → 1 ≤ n → g .loops ≡ Looping n al step ∷ loops →
-    Turning limit p booleans Body k g s → Body s c → flowStep limit p alu predicate booleans c ≡ Steps false g' →
+    Turning mode p booleans Body k g s → Body s c → flowStep mode p alu predicate booleans c ≡ Steps false g' →
     (suc k ≡ n) × (g' .loops ≡ loops)
 loop-runs = loop-times
 
 -- After k turns the aL shown is its start and k steps, as long as that is within 0 to 255; a step of 128 or more is itself less 256.
 pub al-rises :
-    (limit : ℕ) (p : Program) (booleans : ℕ) (Body : Group → Group → Type 0) → InLoop p true Body →
-    (n al step : ℕ) (loops : List Opened) (k : ℕ) (g s : Group) → g .loops ≡ Looping n al step ∷ loops → Turning limit p booleans Body k g s →
+    (mode : Mode) (p : Program) (booleans : ℕ) (Body : Group → Group → Type 0) → InLoop p true Body →
+    (n al step : ℕ) (loops : List Opened) (k : ℕ) (g s : Group) → g .loops ≡ Looping n al step ∷ loops → Turning mode p booleans Body k g s →
     step < 128 → k < n → al + k * step ≤ 255 → shownAL (s .loops) ≡ al + k * step
 al-rises = al-shown-up
 
 pub al-falls :
-    (limit : ℕ) (p : Program) (booleans : ℕ) (Body : Group → Group → Type 0) → InLoop p true Body →
-    (n al step : ℕ) (loops : List Opened) (k : ℕ) (g s : Group) → g .loops ≡ Looping n al step ∷ loops → Turning limit p booleans Body k g s →
+    (mode : Mode) (p : Program) (booleans : ℕ) (Body : Group → Group → Type 0) → InLoop p true Body →
+    (n al step : ℕ) (loops : List Opened) (k : ℕ) (g s : Group) → g .loops ≡ Looping n al step ∷ loops → Turning mode p booleans Body k g s →
     128 ≤ step → step ≤ 255 → k < n → k * (256 - step) ≤ al → shownAL (s .loops) ≡ al - k * (256 - step)
 al-falls = al-shown-down
 
@@ -566,14 +578,88 @@ start-by-number = start-reads
 pub answers-as-before : (s : Session) (ws : List ℕ) → SameAnswers (feedOf (forgotten s) ws) (feedOf s ws)
 answers-as-before = forgotten-answers
 
+-- REQUEST 7, "Partial flow control"
+
+-- The mode is chosen at the start and never changed: a group begins in the mode that its begin was given, and a step or a run leaves it in
+-- the mode that it had.
+pub mode-chosen :
+    (size mode r : ℕ) (l l' : List ℕ) → GroupBegins size mode r l l' → r ≡ 0 → cells.modeIn l' ≡ modeOf mode
+mode-chosen = begun-mode
+
+pub mode-stays : (l : List ℕ) (o : Outcome) → cells.modeIn (cells.stepLeaves l o) ≡ cells.modeIn l
+mode-stays = step-mode
+
+pub mode-stays-in-runs : (l : List ℕ) (o : Run) → cells.modeIn (cells.runLeaves l o) ≡ cells.modeIn l
+mode-stays-in-runs = run-mode
+
+-- "from flow states that differ only in the mode, whatever partial mode accepts, full mode answers identically, the mode aside": a step, and
+-- a whole run. (The mode is no part of a state, so the same state under both modes is two flow states that differ only in the mode.)
+pub partial-shared :
+    (p : Program) (alu predicate booleans : ℕ) (g : Group) (jump : Bool) (g' : Group) →
+    flowStep PartialMode p alu predicate booleans g ≡ Steps jump g' → flowStep FullMode p alu predicate booleans g ≡ Steps jump g'
+partial-shared = step-shared
+
+pub partial-run-shared :
+    (p : Program) (booleans : ℕ) (masks : List ℕ) (g g' : Group) (n : ℕ) →
+    groupRun PartialMode p booleans masks g ≡ Makes n g' → groupRun FullMode p booleans masks g ≡ Makes n g'
+partial-run-shared = run-shared
+
+-- "Partial mode refuses what full mode accepts for the three causes above and no other.": where full mode makes the step, partial mode refuses it
+-- with a number exactly where there is a cause of that number; and a run, where full mode's run comes to a step with a cause.
+pub partial-causes :
+    (p : Program) (alu predicate booleans : ℕ) (g : Group) (n : ℕ) (jump : Bool) (g' : Group) →
+    flowStep PartialMode p alu predicate booleans g ≡ Fails n → flowStep FullMode p alu predicate booleans g ≡ Steps jump g' →
+    Cause p g alu predicate booleans n
+partial-causes = step-cause
+
+pub partial-refuses :
+    (p : Program) (alu predicate booleans : ℕ) (g : Group) (n : ℕ) (jump : Bool) (g' : Group) →
+    Cause p g alu predicate booleans n → flowStep FullMode p alu predicate booleans g ≡ Steps jump g' →
+    flowStep PartialMode p alu predicate booleans g ≡ Fails n
+partial-refuses = cause-refuses
+
+pub partial-run-causes :
+    (p : Program) (booleans : ℕ) (masks : List ℕ) (g g' : Group) (n k : ℕ) →
+    groupRun PartialMode p booleans masks g ≡ Breaks n → groupRun FullMode p booleans masks g ≡ Makes k g' → Met p booleans masks g n
+partial-run-causes = run-cause
+
+-- REQUEST 8, "How far may a copy run?"
+
+-- "Where translation succeeds, its answer shall also say how many elements from this pair on, in the same row, lie at consecutive
+-- addresses: at least 1, the longest such run that stays in the window."
+pub run-longest : (l : Layout) → Accepted l → (x y : ℕ) → Inside l x y → Longest l x y (runOf l x y)
+run-longest = longest
+
+-- "Linear: E - x." Where tiled it is g - x mod g, with g = 8, 4, 4, 2 and 4 for the five sizes.
+pub run-formula :
+    (l : Layout) → Accepted l → (x y : ℕ) → Inside l x y → runOf l x y ≡ runNumber (l .tiled) (l .size) (rowStepOf l) x
+run-formula = run-number
+
+-- "Superfine reads, element writes and the way back keep their answers, restated over the new one." A read and a write answer the
+-- translation's refusal, or what memory makes of its address; a superfine read is four reads (`superfine-reads`).
+pub run-reads :
+    (l : Layout) (x y at : ℕ) (m : List ℕ) → readOf l x y at m ≡ fromAddress (translateOf l x y) (readAt at m (l .size))
+run-reads = read-restated
+
+pub run-writes :
+    (l : Layout) (x y at : ℕ) (given m : List ℕ) →
+    writeOf l x y at given m ≡ fromAddress (translateOf l x y) (writeAt at given m (l .size))
+run-writes = write-restated
+
+-- Every byte of every element of a run leads back to that element's pair and to its place there.
+pub run-back :
+    (l : Layout) → Accepted l → (x y : ℕ) → Inside l x y → (k place : ℕ) → k < runOf l x y → place < l .size →
+    locateOf l (addressOf l x y + k * l .size + place) ≡ gives ((x + k) ∷ y ∷ place ∷ [])
+run-back = leads-back
+
 -- THE WORKED CASES
 
 -- The worked cases C1 to C12 of document 01, all together.
 pub worked-cases : Cases cases
 unfolding
     _and_ pick placeOf isSize widthOf heightOf wellFormed unitOf rowStep tileRows spanOf inBounds windowRule judgeOf xor blockWidth
-    blockHeight codeOf insideOf tiledOffset linearOffset offsetOf ifAccepted inside addressOf translateOf _or_ differ digit on pack
-    some every wants decided branched allowed fresh turnedIf wishOf overLimit wayOf settled jumpStep slotStep ended flowStep
+    blockHeight codeOf insideOf tiledOffset linearOffset offsetOf ifAccepted inside addressOf breaks least runOf translateOf _or_ differ digit
+    on pack some every wants decided branched allowed fresh turnedIf wishOf overLimit wayOf settled jumpStep slotStep ended flowStep
     oneWord c9 c10 c11 c12
 worked-cases =
     (refl, (refl, (refl, (refl, (refl, (refl, (refl, (refl, (refl, (refl, (refl, (refl, (refl, (refl, (refl, tt)))))))))))))))

@@ -11,6 +11,7 @@ use Rattle.address.specs.Address.{layoutOf, translateOf, locateOf}
 use Rattle.memory.specs.Elements.{readOf, writeOf}
 use Rattle.superfine.specs.Superfine.{superfineReadOf}
 use Rattle.state.specs.State.{Party, Shared}
+use Rattle.group.specs.Modes.{Mode}
 use Rattle.group.specs.Group.{Program, Group, stepTold, runTold, beginTold, groupStep, groupRun}
 use Rattle.flow.specs.Store.{loadTold}
 use Rattle.replay.specs.State.{Replay}
@@ -75,16 +76,16 @@ pub data Call : Told → ℕ → List (List ℕ) → List (List ℕ) → Type 0 
       LoadCrosses words r firsts firsts' seconds seconds' slots slots' →
       Call (loadTold words) r (firsts ∷ seconds ∷ slots ∷ []) (firsts' ∷ seconds' ∷ slots' ∷ [])
   -- egretfold_group_begin
-  begin : (size r : ℕ) (cells cells' : List ℕ) →
-      BeginCrosses size r cells cells' → Call (beginTold size) r (cells ∷ []) (cells' ∷ [])
+  begin : (size mode r : ℕ) (cells cells' : List ℕ) →
+      BeginCrosses size mode r cells cells' → Call (beginTold size mode) r (cells ∷ []) (cells' ∷ [])
   -- egretfold_group_step
-  step : (limit : ℕ) (program : Program) (alu predicate booleans : ℕ) (g : Group) (r : ℕ) (cells cells' taken taken' : List ℕ) →
-      StepCrosses (groupStep limit program alu predicate booleans g) r cells cells' taken taken' →
-      Call (stepTold (groupStep limit program alu predicate booleans g)) r (cells ∷ taken ∷ []) (cells' ∷ taken' ∷ [])
+  step : (mode : Mode) (program : Program) (alu predicate booleans : ℕ) (g : Group) (r : ℕ) (cells cells' taken taken' : List ℕ) →
+      StepCrosses (groupStep mode program alu predicate booleans g) r cells cells' taken taken' →
+      Call (stepTold (groupStep mode program alu predicate booleans g)) r (cells ∷ taken ∷ []) (cells' ∷ taken' ∷ [])
   -- egretfold_group_run
-  run : (limit : ℕ) (program : Program) (booleans : ℕ) (masks : List ℕ) (g : Group) (r : ℕ) (cells cells' report report' : List ℕ) →
-      RunCrosses (groupRun limit program booleans masks g) r cells cells' report report' →
-      Call (runTold (groupRun limit program booleans masks g)) r (cells ∷ report ∷ []) (cells' ∷ report' ∷ [])
+  run : (mode : Mode) (program : Program) (booleans : ℕ) (masks : List ℕ) (g : Group) (r : ℕ) (cells cells' report report' : List ℕ) →
+      RunCrosses (groupRun mode program booleans masks g) r cells cells' report report' →
+      Call (runTold (groupRun mode program booleans masks g)) r (cells ∷ report ∷ []) (cells' ∷ report' ∷ [])
   -- egretfold_score_month
   month : (l : Lease) (replay : Replay) (r : ℕ) (claimed served month claimed' served' month' : List ℕ) →
       MonthCrosses (scoreOf l replay) r claimed served month claimed' served' month' →

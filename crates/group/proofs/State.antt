@@ -1,5 +1,5 @@
 -- A group and its cells: a sound group is read back from its cells, cells handed in show their processors and their returns,
--- a step leads from a sound group to a sound one, and with op 0 it is document 01's. Assumes nothing.
+-- a step leads from a sound group to a sound one, and with op 0 it is document 01's, in full mode. Assumes nothing.
 use mathlib.Core.Path.{_≡_, refl, sym, ap, _∙_, subst, fun-ext}
 use mathlib.Core.Bool.{Bool, true, false}
 use mathlib.Core.List.{List, [], _∷_}
@@ -17,9 +17,10 @@ use Rattle.laws.proofs.Masks.{on-pack, on-above}
 use Rattle.loops.specs.Loops.{field, Opened, Turn, Turns, NoRoom, NoWord, wordAt, turnOf, areOpened, Held}
 use Rattle.loops.proofs.Stack.{four-back, TurnSound, turn-of-sound}
 use Rattle.group.specs.Proc.{Proc, Active, Idle, Absent, isLive, isActive, counterBit, within, turned, lowered, raised, atLimit, branched, counterLimit}
+use Rattle.group.specs.Modes.{Mode, Full, Partial, limitOf, modeNumber, modeOf}
 use Rattle.group.specs.Group.{Group, Outcome, Steps, Fails, Program, Way, Goes, Stuck, opOf, bElse, jumpFunc, booleanNumber, integerNumber, turnedIf, wishOf, overLimit, popped, wayOf, arrived, settled}
-use Rattle.group.specs.Group.{allowed, allowedLoop, jumpStep, onTurn, withLoops, loopStep, slotStep, ended, groupStep, fresh}
-use Rattle.group.specs.Cells.{liveIn, activeIn, planeIn, loopIn, liveMask, activeMask, plane, counterOf, procOf, procAt, returnsIn, groupOf, cellsOf, aReturn, areReturns, Sound, GroupGiven, stepLeaves}
+use Rattle.group.specs.Group.{permits, allowed, allowedLoop, jumpStep, onTurn, withLoops, loopStep, slotStep, ended, groupStep, fresh}
+use Rattle.group.specs.Cells.{liveIn, activeIn, planeIn, modeIn, loopIn, liveMask, activeMask, plane, counterOf, procOf, procAt, returnsIn, groupOf, cellsOf, aReturn, areReturns, Sound, GroupGiven, stepLeaves}
 use Rattle.group.specs.Masks.{MasksOf}
 
 -- two equal numbers, as a computed test at each counter
@@ -126,24 +127,64 @@ masks-of g s =
       counters = s .counters;
     }
 
+-- a mode is read back from its number
+pub mode-back : (mode : Mode) → modeOf (modeNumber mode) ≡ mode
+unfolding modeOf pick
+mode-back Full = refl
+mode-back Partial = refl
+
+-- and the number tells it
+pub mode-partial : (n : ℕ) → n ≡ 1 → modeOf n ≡ Partial
+unfolding modeOf
+mode-partial n e = pick-yes _ _ (eq-eqb n 1 e)
+
+pub mode-full : (n : ℕ) → (n ≡ 1 → ⊥) → modeOf n ≡ Full
+unfolding modeOf
+mode-full n e = pick-no _ _ (ne-eqb n 1 e)
+
+-- counters within a mode's limit are within document 01's, the most that five planes hold
+pub within-mode : (mode : Mode) (p : Proc) → within (limitOf mode) p ≡ true → within counterLimit p ≡ true
+within-mode Full p w = w
+within-mode Partial Active w = refl
+within-mode Partial (Idle n) w = let h : n ≤ 5 = leb-true n 5 w in le-leb n 31 (omega arith)
+within-mode Partial Absent w = refl
+
+pub sound-mode : (mode : Mode) {g : Group} → Sound (limitOf mode) g → Sound counterLimit g
+sound-mode mode {g} s =
+    record {
+      outside = s .outside;
+      counters = λ i. within-mode mode (g .procs i) (s .counters i);
+      place = s .place;
+      depth = s .depth;
+      slots = s .slots;
+      nested = s .nested;
+      opened = s .opened;
+    }
+
 -- a sound group is read back from its cells
-pub group-back : (g : Group) → Sound counterLimit g → groupOf (cellsOf g) ≡ g
-group-back g s =
+pub group-back : (mode : Mode) (g : Group) → Sound (limitOf mode) g → groupOf (cellsOf mode g) ≡ g
+group-back mode g s =
     λ j. record {
-      procs = shows (masks-of g s) (s .outside) j;
+      procs = shows (masks-of g (sound-mode mode s)) (s .outside) j;
       position = g .position;
       returns = returns-back (g .returns) (s .depth) (s .slots) j;
       loops = four-back (g .loops) (s .nested) (s .opened) j;
     }
 
 -- so its cells are such as came from these entries
-pub given-of : (g : Group) → Sound counterLimit g → GroupGiven (cellsOf g)
-given-of g s =
+pub given-of : (mode : Mode) (g : Group) → Sound (limitOf mode) g → GroupGiven (cellsOf mode g)
+given-of mode g s =
     record {
       size = refl;
-      sound = subst (Sound counterLimit) (sym (group-back g s)) s;
-      whole = sym (ap cellsOf (group-back g s));
+      sound =
+          subst (λ (m : Mode). Sound (limitOf m) (groupOf (cellsOf mode g))) (sym (mode-back mode))
+          (subst (Sound (limitOf mode)) (sym (group-back mode g s)) s);
+      whole = λ j. cellsOf (sym (mode-back mode) j) (sym (group-back mode g s) j);
     }
+
+-- and they keep their mode
+pub mode-kept : (mode : Mode) (g : Group) → modeIn (cellsOf mode g) ≡ mode
+mode-kept mode g = mode-back mode
 
 -- cells handed in are the masks of their processors
 pub given-masks :
@@ -158,7 +199,7 @@ given-masks l m =
       word2 = ap (planeIn 2) (m .whole);
       word3 = ap (planeIn 3) (m .whole);
       word4 = ap (planeIn 4) (m .whole);
-      counters = m .sound .counters;
+      counters = λ i. within-mode (modeIn l) (groupOf l .procs i) (m .sound .counters i);
     }
 
 -- and of its open loops
@@ -341,37 +382,51 @@ module _ (limit slots first second alu predicate booleans : ℕ) (g : Group) (s 
       (wishOf (jumpFunc first) (on (booleanNumber second) booleans) alu predicate))
       (λ a. (omega arith, omega arith))
 
-  slot-sound : (integers : List ℕ) → SoundAfter limit (slotStep limit slots integers first second alu predicate booleans g)
-  unfolding slotStep
-  slot-sound integers =
-      by-pick (SoundAfter limit) (eqb (opOf first) 0) _ _ (λ e. jump-sound) (λ e. loop-sound (wordAt (integerNumber second) integers))
+-- in either mode
+slot-sound :
+    (mode : Mode) (slots : ℕ) (integers : List ℕ) (first second alu predicate booleans : ℕ) (g : Group) → Sound (limitOf mode) g →
+    slots ≤ 512 → g .position < slots → SoundAfter (limitOf mode) (slotStep mode slots integers first second alu predicate booleans g)
+unfolding slotStep
+slot-sound mode slots integers first second alu predicate booleans g s most before =
+    by-pick (SoundAfter (limitOf mode)) (permits mode first) _ _
+    (λ p.
+    by-pick (SoundAfter (limitOf mode)) (eqb (opOf first) 0) _ _
+    (λ e. jump-sound (limitOf mode) slots first second alu predicate booleans g s most before)
+    (λ e. loop-sound (limitOf mode) slots first second alu predicate booleans g s most before (wordAt (integerNumber second) integers)))
+    (λ p. (omega arith, omega arith))
 
 -- a step leads from a sound group to a sound one
 pub step-sound :
-    (limit : ℕ) (program : Program) (alu predicate booleans : ℕ) (g : Group) → Sound limit g →
-    SoundAfter limit (groupStep limit program alu predicate booleans g)
+    (mode : Mode) (program : Program) (alu predicate booleans : ℕ) (g : Group) → Sound (limitOf mode) g →
+    SoundAfter (limitOf mode) (groupStep mode program alu predicate booleans g)
 unfolding groupStep ended
-step-sound limit program alu predicate booleans g s =
-    by-pick (SoundAfter limit) (leb (program .slots) (g .position)) _ _ (λ e. (omega arith, omega arith))
+step-sound mode program alu predicate booleans g s =
+    by-pick (SoundAfter (limitOf mode)) (leb (program .slots) (g .position)) _ _ (λ e. (omega arith, omega arith))
     (λ e.
     let before : g .position < program .slots = leb-false (program .slots) (g .position) e in
-    by-pick (SoundAfter limit) (leb (program .slots) 512) _ _
+    by-pick (SoundAfter (limitOf mode)) (leb (program .slots) 512) _ _
     (λ t.
-    slot-sound limit (program .slots) (getD (program .firsts) (g .position) 0) (getD (program .seconds) (g .position) 0) alu predicate booleans g s
-    (leb-true (program .slots) 512 t) before (program .integers))
+    slot-sound mode (program .slots) (program .integers) (getD (program .firsts) (g .position) 0) (getD (program .seconds) (g .position) 0)
+    alu predicate booleans g s (leb-true (program .slots) 512 t) before)
     (λ t. (omega arith, omega arith)))
+
+-- a slot of op 0 that the mode permits: document 01's step, with the mode's limit
+pub jump-permitted :
+    (mode : Mode) (slots : ℕ) (integers : List ℕ) (first second alu predicate booleans : ℕ) (g : Group) → opOf first ≡ 0 → permits mode first ≡ true →
+    slotStep mode slots integers first second alu predicate booleans g ≡ jumpStep (limitOf mode) slots first second alu predicate booleans g
+unfolding slotStep
+jump-permitted mode slots integers first second alu predicate booleans g e p = pick-yes _ _ p ∙ pick-yes _ _ (eq-eqb (opOf first) 0 e)
 
 -- Request 4: with op 0 every old answer stays, whatever the open loops and the integer words: the step is document 01's
 pub old-answers :
-    (limit slots : ℕ) (integers : List ℕ) (first second alu predicate booleans : ℕ) (g : Group) → opOf first ≡ 0 →
-    slotStep limit slots integers first second alu predicate booleans g ≡ jumpStep limit slots first second alu predicate booleans g
-unfolding slotStep
-old-answers limit slots integers first second alu predicate booleans g e = pick-yes _ _ (eq-eqb (opOf first) 0 e)
+    (slots : ℕ) (integers : List ℕ) (first second alu predicate booleans : ℕ) (g : Group) → opOf first ≡ 0 →
+    slotStep Full slots integers first second alu predicate booleans g ≡ jumpStep counterLimit slots first second alu predicate booleans g
+old-answers slots integers first second alu predicate booleans g e = jump-permitted Full slots integers first second alu predicate booleans g e refl
 
 -- so do the cells that a step leaves
 pub left-given :
-    (l : List ℕ) (o : Outcome) → GroupGiven l → SoundAfter counterLimit o → GroupGiven (stepLeaves l o)
-left-given l (Steps jump g) m s = given-of g s
+    (l : List ℕ) (o : Outcome) → GroupGiven l → SoundAfter (limitOf (modeIn l)) o → GroupGiven (stepLeaves l o)
+left-given l (Steps jump g) m s = given-of (modeIn l) g s
 left-given l (Fails why) m s = m
 
 -- and a fresh group is sound

@@ -86,6 +86,25 @@ pub struct Loops {
     pub al: u32,
 }
 
+/// A group's mode, chosen when it begins and never changed. In partial mode ops 1 to
+/// 4 and A_OP other than 0 get 13, and branch counters run to 5 instead of 31.
+#[derive(Clone, Copy, Debug, PartialEq, Eq)]
+pub enum Mode {
+    Full,
+    Partial,
+}
+
+impl Mode {
+    /// The mode's number at the boundary and in the cells.
+    #[inline]
+    pub fn number(self) -> u32 {
+        match self {
+            Mode::Full => 0,
+            Mode::Partial => 1,
+        }
+    }
+}
+
 /// A group's state. Its cells are private, so that it is always one that the
 /// library gave out. It may be copied and both copies used, also under another
 /// program than the one it came from.
@@ -95,11 +114,17 @@ pub struct Group {
 }
 
 impl Group {
-    /// A fresh group of 1 to 32 processors. 13.
+    /// A fresh group of 1 to 32 processors in full mode, document 01's. 13.
     #[inline]
     pub fn begin(size: u32) -> Answer<Group> {
+        Group::begin_in(size, Mode::Full)
+    }
+
+    /// A fresh group of 1 to 32 processors in a mode. 13.
+    #[inline]
+    pub fn begin_in(size: u32, mode: Mode) -> Answer<Group> {
         let mut cells = [0; CELLS];
-        answer(lent::group_begin(size, &mut cells))?;
+        answer(lent::group_begin(size, mode.number(), &mut cells))?;
         Ok(Group { cells })
     }
 
@@ -179,6 +204,15 @@ impl Group {
     #[inline]
     pub fn position(&self) -> u32 {
         self.cells[7]
+    }
+
+    /// The mode that the group began in.
+    #[inline]
+    pub fn mode(&self) -> Mode {
+        match self.cells[12] {
+            0 => Mode::Full,
+            _ => Mode::Partial,
+        }
     }
 
     /// The stored returns, oldest first.

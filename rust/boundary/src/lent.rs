@@ -244,9 +244,9 @@ pub fn layout(layout: &Layout, window: &mut [u32; 2]) -> u32 {
     unsafe { raw::egretfold_layout(l.base, l.pitch, l.height, l.size, l.tiled, window) }
 }
 
-/// address: where the element at (x, y) begins. 3, 6 or 10.
+/// address: where the element at (x, y) begins, and its run. 3, 6 or 10.
 #[inline]
-pub fn translate(layout: &Layout, x: u32, y: u32, address: &mut [u32; 1]) -> u32 {
+pub fn translate(layout: &Layout, x: u32, y: u32, address: &mut [u32; 2]) -> u32 {
     let l = layout;
     // SAFETY: one room, of the right length.
     unsafe { raw::egretfold_translate(l.base, l.pitch, l.height, l.size, l.tiled, x, y, address) }
@@ -350,11 +350,11 @@ pub fn program_load(
     unsafe { raw::egretfold_program_load(start, length, firsts, seconds, slots) }
 }
 
-/// cells: a fresh group's. 13.
+/// cells: a fresh group's, in the mode of this number, 0 full or 1 partial. 13.
 #[inline]
-pub fn group_begin(size: u32, cells: &mut [u32; CELLS]) -> u32 {
+pub fn group_begin(size: u32, mode: u32, cells: &mut [u32; CELLS]) -> u32 {
     // SAFETY: one room, of the right length; no state is read.
-    unsafe { raw::egretfold_group_begin(size, cells) }
+    unsafe { raw::egretfold_group_begin(size, mode, cells) }
 }
 
 /// One step under the masks (alu, predicate, booleans) and the integer words.

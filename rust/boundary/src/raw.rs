@@ -123,7 +123,7 @@ extern "C" {
         tiled: bool,
         x: u32,
         y: u32,
-        address: &mut [u32; 1],
+        address: &mut [u32; 2],
     ) -> u32;
 
     pub fn egretfold_locate(
@@ -186,7 +186,7 @@ extern "C" {
         slots: &mut [u32; 1],
     ) -> u32;
 
-    pub fn egretfold_group_begin(size: u32, cells: &mut [u32; CELLS]) -> u32;
+    pub fn egretfold_group_begin(size: u32, mode: u32, cells: &mut [u32; CELLS]) -> u32;
 
     pub fn egretfold_group_step(
         firsts: &[u32; SLOTS],

@@ -9,7 +9,7 @@ use crate::programs;
 use crate::random::Random;
 use crate::turns::Turn;
 use boundary::lengths::{CELLS, SLOTS};
-use boundary::lent;
+use boundary::{lent, Mode};
 use second::flow::{Group, Processor, Program, Report, Stepped};
 use second::Answer;
 
@@ -17,18 +17,18 @@ use second::Answer;
 const MOST_REFUSALS: u32 = 3;
 
 /// A flow program as both programs have loaded it.
-struct Loaded {
-    product: boundary::Program,
-    second: Program,
+pub struct Loaded {
+    pub product: boundary::Program,
+    pub second: Program,
     words: Vec<u32>,
 }
 
 /// Two masks for each step, alu then predicate; one boolean word and one list of
 /// integer words for all.
-struct Masks {
-    list: Vec<u32>,
-    booleans: u32,
-    integers: Vec<u32>,
+pub struct Masks {
+    pub list: Vec<u32>,
+    pub booleans: u32,
+    pub integers: Vec<u32>,
 }
 
 pub fn run(case: &mut Case) -> Agreement {
@@ -49,7 +49,7 @@ pub fn run(case: &mut Case) -> Agreement {
 }
 
 /// A program loaded by both: its slots, or the refusal.
-fn loaded(case: &mut Case, words: Vec<u32>) -> Agreed<Option<Loaded>> {
+pub fn loaded(case: &mut Case, words: Vec<u32>) -> Agreed<Option<Loaded>> {
     let asked = || format!("load {words:X?}");
     let product = boundary::Program::load(&words);
     let second = Program::load(&words);
@@ -122,7 +122,7 @@ fn begun(case: &mut Case) -> Agreed<Option<Both>> {
     if product.is_err() {
         let filled = [case.random.word(); CELLS];
         let mut cells = filled;
-        lent::group_begin(size, &mut cells);
+        lent::group_begin(size, Mode::Full.number(), &mut cells);
         case.untouched(asked, &cells, &filled)?;
     }
     Ok(product
@@ -131,7 +131,7 @@ fn begun(case: &mut Case) -> Agreed<Option<Both>> {
         .map(|(product, second)| Both { product, second }))
 }
 
-fn any_masks(random: &mut Random) -> Masks {
+pub fn any_masks(random: &mut Random) -> Masks {
     let most = random.one_of(&[8, 48, 96, 160]);
     // An odd list ends with an alu without its predicate.
     let count = random.between(0, most);
@@ -142,7 +142,7 @@ fn any_masks(random: &mut Random) -> Masks {
     }
 }
 
-fn about(program: &Loaded, masks: &Masks) -> String {
+pub fn about(program: &Loaded, masks: &Masks) -> String {
     let (words, Masks { list, booleans, .. }) = (&program.words, masks);
     let integers = &masks.integers;
     format!(

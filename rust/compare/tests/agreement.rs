@@ -222,6 +222,41 @@ fn flow_second_half() {
     flow(320_000..640_000);
 }
 
+#[test]
+fn modes() {
+    let tally = agree(Kind::Modes, 0..200_000);
+    marks(&tally, &[("steps in both modes", 300_000)]);
+    marks(&tally, &[("runs in both modes", 150_000)]);
+    marks(&tally, &[("runs that both modes accepted", 20_000)]);
+    marks(&tally, &[("runs that full mode alone accepted", 5_000)]);
+    let at_five = "steps of partial mode that left a counter at 5";
+    marks(&tally, &[(at_five, 1_000)]);
+    // The three causes, each by itself.
+    let op = "steps refused in partial mode for their op";
+    let a_op = "steps refused in partial mode for their A_OP";
+    let counter = "steps refused in partial mode for a counter at 5";
+    marks(&tally, &[(op, 5_000), (a_op, 500), (counter, 1_000)]);
+    let other = "steps refused by both modes with other numbers";
+    marks(&tally, &[(other, 500)]);
+    for depth in 4..=7 {
+        let through = format!("nests {depth} deep, through in both modes");
+        marks(&tally, &[(&through, 1_000)]);
+    }
+    // Six branches are the most: the sixth to be entered after a processor left.
+    for depth in [4, 5, 6] {
+        let refused = format!("nests {depth} deep, refused in partial mode alone");
+        assert_eq!(tally.marked(&refused), 0, "{refused}");
+    }
+    marks(
+        &tally,
+        &[("nests 7 deep, refused in partial mode alone", 1_000)],
+    );
+    refusals(
+        &tally,
+        &[(13, 200_000), (14, 2_000), (15, 500), (16, 10_000)],
+    );
+}
+
 fn logs(numbers: Range<u64>) {
     let tally = agree(Kind::Logs, numbers);
     marks(&tally, &[("bytes", 20_000_000), ("midnights", 500_000)]);

@@ -192,6 +192,7 @@ pub const ALL: [Refusal; 20] = [
     )
     .changed_by(&[
         "Add ops 1 LOOP, 2 ENDLOOP, 3 REP, 4 ENDREP, with the integer number in second-word bits 12:8 of ops 1 and 3, from a lent list of integer words (no such word: 13): count in bits 7:0, start of aL in 15:8, step in 23:16 as -128 to 127, the rest 0, else 13.",
+        "Add it as a mode chosen at the start: ops 1 to 4 and A_OP other than 0 get 13, and inactive counters run 0 to 5 (from 5, increment gets 14).",
     ]),
     entry(
         14,
@@ -206,6 +207,7 @@ pub const ALL: [Refusal; 20] = [
     .changed_by(&[
         "At most 4 open loops; a fifth push, or a close with none open or of the other kind, gets 14.",
         "LOOP's close also adds the step to its aL on a jump; aL outside 0 to 255 gets 14.",
+        "Add it as a mode chosen at the start: ops 1 to 4 and A_OP other than 0 get 13, and inactive counters run 0 to 5 (from 5, increment gets 14).",
     ]),
     entry(
         15,

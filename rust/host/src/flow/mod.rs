@@ -14,7 +14,7 @@ use crate::input::lines::Lines;
 use crate::input::numbers;
 use crate::input::source::{self, Source};
 use crate::input::words::Words;
-use boundary::{Group, Program, Report};
+use boundary::{Group, Mode, Program, Report};
 use clap::Args;
 use serde_json::json;
 use std::io::Write;
@@ -26,7 +26,8 @@ Examples, from the repository's root:
   egretfold flow --hex samples/branch.hex
   egretfold flow --hex samples/branch.hex --processors 8 --masks samples/branch.masks
   egretfold flow --hex samples/branch.hex --processors 8 0,0 --repeat 20
-  egretfold flow --hex samples/loops.hex --integers samples/loops.integers --processors 4 --masks samples/loops.masks";
+  egretfold flow --hex samples/loops.hex --integers samples/loops.integers --processors 4 --masks samples/loops.masks
+  egretfold flow --partial --hex samples/nest.hex --processors 8 0,0 --repeat 15";
 
 #[derive(Args)]
 pub struct Options {
@@ -50,12 +51,24 @@ pub struct Options {
     /// The integer words that LOOP and REP take, hex text, from number 0 on
     #[arg(long, value_name = "FILE")]
     integers: Option<PathBuf>,
+    /// Partial mode: no loops, no pops and pushes, branch counters up to 5
+    #[arg(long)]
+    partial: bool,
     /// The program is hex text
     #[arg(long)]
     hex: bool,
     /// One JSON object a row and for the run, a line each
     #[arg(long)]
     json: bool,
+}
+
+impl Options {
+    fn mode(&self) -> Mode {
+        match self.partial {
+            true => Mode::Partial,
+            false => Mode::Full,
+        }
+    }
 }
 
 /// A run takes its masks as one list, which is kept in memory.
@@ -86,10 +99,10 @@ pub fn run(options: &Options, out: &mut dyn Write) -> Outcome {
         integers: all_integers(options)?,
     };
     if lists.masks.is_empty() {
-        return steps::list(&program, &lists.integers, options.json, out);
+        return steps::list(&program, &lists.integers, options.mode(), options.json, out);
     }
     let size = options.processors;
-    let group = Group::begin(size).map_err(|number| {
+    let group = Group::begin_in(size, options.mode()).map_err(|number| {
         let refused = cause::refused(number, Some("a group has 1 to 32 processors".into()));
         Failure::Refused(format!("--processors {size}: {refused}"))
     })?;
@@ -97,7 +110,11 @@ pub fn run(options: &Options, out: &mut dyn Write) -> Outcome {
         let slots = text::count(u64::from(program.slots()), "slot");
         let group_words = text::count(u64::from(size), "processor");
         let booleans = Word(options.booleans);
-        writeln!(out, "{name}: {slots}, {group_words}, booleans {booleans}")?;
+        let mode = if options.partial { ", partial mode" } else { "" };
+        writeln!(
+            out,
+            "{name}: {slots}, {group_words}, booleans {booleans}{mode}"
+        )?;
         for line in steps::head(&group, steps::has_loops(&program)) {
             writeln!(out, "{line}")?;
         }
@@ -228,12 +245,29 @@ fn report(
             show_report(options, program, &group, report, out)
         }
         (Err(number), Err(step)) if number == step.refused.number => {
-            show_refused(options, name, &step, out)
+            let in_full = in_full_mode(options, program, &list, integers);
+            show_refused(options, name, &step, in_full, out)
         }
         _ => Err(Failure::wrong(
             "the run and its steps differ: this is a fault of the program",
         )),
     }
+}
+
+/// How many steps the run makes in full mode, where partial mode refused it and full
+/// mode doesn't.
+fn in_full_mode(
+    options: &Options,
+    program: &Program,
+    list: &[u32],
+    integers: &[u32],
+) -> Option<u64> {
+    if !options.partial {
+        return None;
+    }
+    let mut group = Group::begin(options.processors).ok()?;
+    let ran = group.run(program, list, options.booleans, integers);
+    ran.ok().map(|report| report.steps)
 }
 
 fn show_report(
@@ -266,22 +300,39 @@ fn show_report(
     Ok(())
 }
 
-fn show_refused(options: &Options, name: &str, step: &RefusedStep, out: &mut dyn Write) -> Outcome {
+fn show_refused(
+    options: &Options,
+    name: &str,
+    step: &RefusedStep,
+    in_full: Option<u64>,
+    out: &mut dyn Write,
+) -> Outcome {
     let RefusedStep {
         step,
         number,
         refused,
     } = step;
+    let hint = in_full.map(|steps| {
+        let steps = text::count(steps, "step");
+        format!("in full mode, without --partial, the run makes {steps}")
+    });
     if options.json {
         let mut value = json!({"step": step, "slot": number.0});
         value["refused"] = json!(refused.number);
         value["cause"] = json!(refused.cause);
+        if let Some(steps) = in_full {
+            value["steps_in_full_mode"] = json!(steps);
+        }
         writeln!(out, "{}", json!({ "run": value }))?;
     } else {
         writeln!(out, "{step:>4}  {number:>4}  {refused}")?;
         let number = refused.number;
         writeln!(out, "run: refused {number}; the group is as before the run")?;
+        if let Some(hint) = &hint {
+            writeln!(out, "hint: {hint}")?;
+        }
     }
-    let told = format!("{name}: step {step}, slot {number}: {refused}");
+    let hint = hint.map_or(String::new(), |hint| format!("; {hint}"));
+    let told = format!("{name}: step {step}, slot {number}: {refused}{hint}");
     Err(Failure::Refused(told))
 }

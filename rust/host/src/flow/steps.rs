@@ -3,22 +3,36 @@
 use crate::common::failure::Outcome;
 use crate::common::kinds::{SlotNumber, Word};
 use crate::flow::loops;
-use crate::flow::slots::Slot;
-use boundary::{Group, Program, Stepped};
+use crate::flow::slots::{self, Slot};
+use boundary::{Group, Mode, Program, Stepped};
 use serde_json::{json, Value};
 use std::io::Write;
 
-/// The program's slots, a row each.
-pub fn list(program: &Program, integers: &[u32], as_json: bool, out: &mut dyn Write) -> Outcome {
+/// The program's slots, a row each; of each that the mode forbids it is said why.
+pub fn list(
+    program: &Program,
+    integers: &[u32],
+    mode: Mode,
+    as_json: bool,
+    out: &mut dyn Write,
+) -> Outcome {
     if !as_json {
         writeln!(out, "slot  first     second    fields")?;
     }
     for number in (0..program.slots()).map(SlotNumber) {
         let slot = Slot::of(program, number, integers);
         let (first, second) = (Word(slot.first), Word(slot.second));
-        match as_json {
-            true => writeln!(out, "{}", slot_json(number, slot))?,
-            false => writeln!(out, "{number:>4}  {first}  {second}  {}", slot.words())?,
+        let forbidden = slots::in_full_mode_only(mode, slot);
+        if as_json {
+            let mut value = slot_json(number, slot);
+            if let Some(cause) = forbidden {
+                value["forbidden"] = json!(cause);
+            }
+            writeln!(out, "{value}")?;
+        } else {
+            let cause = forbidden.map_or(String::new(), |cause| format!("; {cause}"));
+            let fields = slot.words();
+            writeln!(out, "{number:>4}  {first}  {second}  {fields}{cause}")?;
         }
     }
     Ok(())

@@ -338,6 +338,41 @@ const CASES: &[(&str, &str, &str)] = &[
     ),
     ("flow-loops-none", "flow --hex --processors 4 - 0,0", "4 0"),
     ("flow-loops-op", "flow --hex --processors 4 - 0,0", "5 0"),
+    (
+        "flow-partial",
+        "flow --partial --hex samples/nest.hex --processors 8 --masks samples/nest.masks",
+        "",
+    ),
+    (
+        "flow-partial-json",
+        "flow --partial --hex --json samples/nest.hex --processors 8 --masks samples/nest.masks",
+        "",
+    ),
+    (
+        "flow-partial-through",
+        "flow --partial --hex samples/nest.hex --processors 8 0,0 --repeat 15",
+        "",
+    ),
+    (
+        "flow-partial-list",
+        "flow --partial --hex samples/branch.hex",
+        "",
+    ),
+    (
+        "flow-partial-list-json",
+        "flow --partial --hex --json samples/loops.hex --integers samples/loops.integers",
+        "",
+    ),
+    (
+        "flow-partial-call",
+        "flow --partial --hex samples/branch.hex --processors 8 --masks samples/branch.masks",
+        "",
+    ),
+    (
+        "flow-partial-loop",
+        "flow --partial --hex --processors 4 - 0,0",
+        "1 20200",
+    ),
     ("explain", "explain", ""),
     ("explain-6", "explain 6", ""),
     ("explain-7", "explain 7", ""),
