@@ -78,7 +78,9 @@ pub fn run(options: &Options, out: &mut dyn Write) -> Outcome {
         tile.width, tile.height
     )?;
     drawn.blocks(out)?;
-    drawn.elements(out)
+    drawn.elements(out)?;
+    drawn.runs(out)?;
+    drawn.show_mark(out)
 }
 
 impl Drawn {
@@ -146,7 +148,37 @@ impl Drawn {
             write!(out, "        ")?;
             show_row(&bytes, down, marked, out)?;
         }
-        self.show_mark(out)
+        Ok(())
+    }
+
+    /// The runs of the tile's first row, or of the marked one: elements at consecutive addresses. Each by its
+    /// first column, its length and the byte at which it begins.
+    fn row_runs(&self) -> Outcome<(u32, Vec<(u32, u32, u32)>)> {
+        let (left, top) = self.first();
+        let row = self.mark.map_or(top, |(_, y)| y);
+        let mut runs = Vec::new();
+        let mut x = left;
+        while x < left + self.tile.width {
+            let (byte, run) = self.place(x, row)?;
+            runs.push((x, run, byte));
+            x += run;
+        }
+        Ok((row, runs))
+    }
+
+    fn runs(&self, out: &mut dyn Write) -> Outcome {
+        let (row, runs) = self.row_runs()?;
+        let (mut columns, mut begins) = (String::new(), String::new());
+        for (x, run, byte) in runs {
+            columns += &format!(" {:>9}", format!("{x}-{}", x + run - 1));
+            begins += &format!(" {byte:>9}");
+        }
+        writeln!(
+            out,
+            "\nin row {row} of the window: the runs, and the byte of the tile at which each begins\n"
+        )?;
+        writeln!(out, "        {columns}\n        {begins}")?;
+        Ok(())
     }
 
     /// The marked pair's place in words.
@@ -164,6 +196,9 @@ impl Drawn {
 
     fn json(&self) -> Outcome<Value> {
         let (wide, high) = self.block();
+        let (row, runs) = self.row_runs()?;
+        let run = |(x, run, byte)| json!({"x": x, "elements": run, "byte": byte});
+        let runs: Vec<Value> = runs.into_iter().map(run).collect();
         let mark = match self.mark {
             Some((x, y)) => {
                 let inside = self.inside(x, y)?;
@@ -180,12 +215,18 @@ impl Drawn {
             "block": {"width": wide, "height": high, "bytes": BLOCK_BYTES},
             "blocks": self.block_numbers()?,
             "elements": self.element_bytes()?,
+            "runs": {"row": row, "runs": runs},
             "mark": mark,
         }))
     }
 
-    /// A pair's place inside the tile, in bytes, in a window that is just large enough for the tile.
+    /// A pair's place inside the tile, in bytes.
     fn inside(&self, x: u32, y: u32) -> Outcome<u32> {
+        Ok(self.place(x, y)?.0)
+    }
+
+    /// A pair's place inside the tile, in bytes, and its run, in a window that is just large enough for the tile.
+    fn place(&self, x: u32, y: u32) -> Outcome<(u32, u32)> {
         let tile = self.tile;
         let columns = self.column.saturating_add(1);
         let rows = self.row.saturating_add(1);
@@ -199,7 +240,10 @@ impl Drawn {
         let number = u64::from(self.row) * u64::from(columns) + u64::from(self.column);
         match boundary::translate(&layout, x, y) {
             // no wrap: the tile's number is that of the tile which holds the pair
-            Ok(address) => Ok((u64::from(address) - number * u64::from(TILE_BYTES)) as u32),
+            Ok(at) => {
+                let begins = number * u64::from(TILE_BYTES);
+                Ok(((u64::from(at.address) - begins) as u32, at.run))
+            }
             Err(number) => Err(Failure::Refused(format!(
                 "tile in column {}, row {}: refused {number}, a window has at most 4096 columns and 4096 rows",
                 self.column, self.row

@@ -182,7 +182,9 @@ fn compare_forms(run: &Run, text: &Output) {
             {
                 assert!(text.contains(&format!("\n{verdict}: ")), "{text}");
                 let served = &lines[lines.len() - 1]["summary"]["served"];
-                let total = text.lines().find(|line| line.trim_start().starts_with("total"));
+                let total = text
+                    .lines()
+                    .find(|line| line.trim_start().starts_with("total"));
                 let total = total.expect("the totals").split_whitespace().nth(2);
                 assert_eq!(total, Some(served.to_string().as_str()));
             }
