@@ -110,7 +110,11 @@ pub fn run(options: &Options, out: &mut dyn Write) -> Outcome {
         let slots = text::count(u64::from(program.slots()), "slot");
         let group_words = text::count(u64::from(size), "processor");
         let booleans = Word(options.booleans);
-        let mode = if options.partial { ", partial mode" } else { "" };
+        let mode = if options.partial {
+            ", partial mode"
+        } else {
+            ""
+        };
         writeln!(
             out,
             "{name}: {slots}, {group_words}, booleans {booleans}{mode}"
