@@ -151,7 +151,11 @@ struct Lists {
 fn load(options: &Options) -> Outcome<(String, Program)> {
     let source = Source::open(options.file.as_deref())?;
     let name = source.name.clone();
-    let words = Words::new(source, options.hex).first(MOST_WORDS).all()?;
+    let mut input = Words::new(source, options.hex).first(MOST_WORDS);
+    let words = match input.all() {
+        Ok(words) => words,
+        Err(failure) => return Err(failure.hinted(input.hint())),
+    };
     let program = Program::load(&words).map_err(|number| {
         let more = if words.len() as u64 == MOST_WORDS {
             " or more"
@@ -160,7 +164,8 @@ fn load(options: &Options) -> Outcome<(String, Program)> {
         };
         let count = words.len();
         let cause = format!("{count}{more} words are no program, which has 2 to 1024, two a slot");
-        Failure::Refused(format!("{name}: {}", cause::refused(number, Some(cause))))
+        let told = format!("{name}: {}", cause::refused(number, Some(cause)));
+        Failure::Refused(told).hinted(input.hint())
     })?;
     Ok((name, program))
 }

@@ -114,7 +114,7 @@ impl Words {
     }
 
     /// All words, of an input that is known to have few.
-    pub fn all(mut self) -> Outcome<Vec<u32>> {
+    pub fn all(&mut self) -> Outcome<Vec<u32>> {
         let mut all = Vec::new();
         loop {
             match self.piece()? {

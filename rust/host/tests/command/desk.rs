@@ -366,6 +366,16 @@ const HINTS: &[(&str, &str, &str)] = &[
         "\n  this looks like words in hex text: try egretfold decode --hex\n",
     ),
     (
+        "flow samples/several.txt",
+        "",
+        "\n  this looks like a listing: try egretfold encode, and decode what it writes\n",
+    ),
+    (
+        "flow",
+        "1000 2000 3000",
+        "\n  this looks like words in hex text: try --hex\n",
+    ),
+    (
         "decode --hex samples/whole.ctm",
         "",
         "\n  this looks like command words in binary: try it without --hex\n",
