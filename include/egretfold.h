@@ -86,8 +86,9 @@ uint32_t egretfold_session_feed(uint32_t own[EGRETFOLD_OWN], uint64_t tallies[EG
                                 uint32_t shared[EGRETFOLD_SHARED], const uint32_t *words, size_t length, uint64_t fed[2]);
 
 /* status: the words taken since the session began; 1 if it is stopped, else 0; the open command's header, 0 if none is open;
- * and how many of its parameters were taken. Returns 0. */
-uint32_t egretfold_session_status(const uint32_t own[EGRETFOLD_OWN], uint32_t status[4]);
+ * how many of its parameters were taken; and what the settings alone give a start, 0, 7, 8 or 9, which the session keeps: a
+ * stop, the words taken and the open command don't change it. Returns 0. */
+uint32_t egretfold_session_status(const uint32_t own[EGRETFOLD_OWN], uint32_t status[5]);
 
 /* counts: runs (starts that passed) and the elements that they claimed: the pairs of the domain, times the set outputs that
  * are not silent at the start. An output is silent when no mask bit is set for a channel that its format has: bit 4n + c is

@@ -1,4 +1,4 @@
--- The page of top theorems, in the order of the demands: 1, 2, 3, then elements, flow, and the requests 1 to 5, 7, 8 and 11. Each statement has
+-- The page of top theorems, in the order of the demands: 1, 2, 3, then elements, flow, and the requests 1 to 8 and 11. Each statement has
 -- its sentence above it and a proof that only cites the file that has it. What a statement asks for is what its sentence says or what an
 -- entry asks for: a session, a replay or a group's cells that came from the entries (`Reached`, `Handed`), and bytes that are bytes.
 -- Assumes nothing.
@@ -38,6 +38,8 @@ use Rattle.superfine.specs.Superfine.{superfineWord, superfineReadOf, formatLay
 use Rattle.superfine.proofs.FourReads.{four-reads}
 use Rattle.command.specs.declared.commands.Command.the-variants as command
 use Rattle.state.specs.State.{Session, newSession}
+use Rattle.state.specs.Start.{readinessOf}
+use Rattle.state.specs.Readiness.{readinessFor}
 use Rattle.state.specs.Effects.{limit}
 use Rattle.state.specs.Asked.{Given}
 use Rattle.state.specs.Cells.{sessionOf}
@@ -48,10 +50,12 @@ use Rattle.session.specs.Refusals.{RefusedTo}
 use Rattle.session.specs.Again.{Idle, SameSettings}
 use Rattle.session.specs.Reached.{Reached, mostWords, allByWriter, ReadInFull}
 use Rattle.session.specs.Silent.{SilentSettings, startWords, EmptyRun, AsBefore}
+use Rattle.session.specs.Stored.{toldBy, forgotten, SameAnswers}
 use Rattle.session.proofs.Cut.{cut-anywhere}
 use Rattle.session.proofs.Reached.{reached-valid, by-writer, back-by-writer, read-in-full, read-here}
 use Rattle.session.proofs.Refusals.{refused-word, refused-piece, stopped-for-good, stopped-piece}
 use Rattle.session.proofs.Silent.{silent-start, as-before}
+use Rattle.session.proofs.Stored.{stored-kept, stored-number, start-reads, as-before as forgotten-answers}
 use Rattle.session.proofs.Tallies.{Tallied, tallied, counted}
 use Rattle.replay.specs.State.{Replay, newReplay}
 use Rattle.replay.specs.Step.{refused as byteRefused, isKind, afterWord}
@@ -563,6 +567,26 @@ pub score-calls :
     ScoreCrosses l (a' .log) (a' .marks) (a' .tallies) r claimed served month claimed' served' month' →
     MonthCrosses (scoreOfLog l (uncut ps)) r claimed served month claimed' served' month'
 score-calls = score-from-log
+
+-- REQUEST 6, "Keep readiness instead of asking again"
+
+-- "The stored number must always equal the one worked out from the settings": in every session that the entries give out, stopped or
+-- not, what is stored is what document 01 works out, and so are the gauge and the windows that it is reckoned from.
+pub stored-readiness :
+    (s : Session) → Reached s →
+    s .party .readiness .number ≡ readinessOf (s .party .domain) (s .party .instructions) (s .shared .mask) (s .shared .outputs)
+stored-readiness = stored-number
+
+pub stored-whole : (s : Session) → Reached s → s .party .readiness ≡ readinessFor (s .party) (s .shared)
+stored-whole = stored-kept
+
+-- "start reads it": what document 01 answers a start of the settings is what the stored number tells.
+pub start-by-number : (s : Session) → Reached s → startRuleOf command.Start s ≡ toldBy (s .party .readiness .number)
+start-by-number = start-reads
+
+-- Every answer is as it was: with anything else stored, a piece gets the same answers, and leaves the same but for what is stored.
+pub answers-as-before : (s : Session) (ws : List ℕ) → SameAnswers (feedOf (forgotten s) ws) (feedOf s ws)
+answers-as-before = forgotten-answers
 
 -- REQUEST 7, "Partial flow control"
 

@@ -75,7 +75,7 @@ pub fn session_feed(session: &mut Session, words: &[u32], fed: &mut [u64; 2]) ->
 /// status: words taken, 1 if stopped, the open command's header and how many of
 /// its parameters were taken.
 #[inline]
-pub fn session_status(session: &Session, status: &mut [u32; 4]) -> u32 {
+pub fn session_status(session: &Session, status: &mut [u32; 5]) -> u32 {
     // SAFETY: the array is a session's that the library gave out.
     unsafe { raw::egretfold_session_status(&session.own, status) }
 }

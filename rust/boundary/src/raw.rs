@@ -28,7 +28,7 @@ extern "C" {
         fed: &mut [u64; 2],
     ) -> u32;
 
-    pub fn egretfold_session_status(own: &[u32; OWN], status: &mut [u32; 4]) -> u32;
+    pub fn egretfold_session_status(own: &[u32; OWN], status: &mut [u32; 5]) -> u32;
 
     pub fn egretfold_session_tallies(tallies: &[u64; TALLIES], counts: &mut [u64; 2]) -> u32;
 

@@ -57,12 +57,12 @@ static uint32_t feed(struct session *s, const uint32_t *words, size_t length, ui
 }
 
 static void check_status(const char *call, const struct session *s, uint32_t taken, uint32_t stopped, uint32_t header,
-                         uint32_t parameters)
+                         uint32_t parameters, uint32_t readiness)
 {
-    uint32_t status[4] = {9, 9, 9, 9};
-    const uint32_t expected[4] = {taken, stopped, header, parameters};
+    uint32_t status[5] = {99, 99, 99, 99, 99};
+    const uint32_t expected[5] = {taken, stopped, header, parameters, readiness};
     agree(call, egretfold_session_status(s->own, status), 0);
-    agree_words(call, status, expected, 4);
+    agree_words(call, status, expected, 5);
 }
 
 /* The whole stream in two pieces, cut behind the output's number. */
@@ -73,11 +73,11 @@ static void check_feed(struct session *s)
     agree("session_feed, first piece", feed(s, stream, 5, fed), 0);
     agree("session_feed, words of the first piece", fed[0], 5);
     agree("session_feed, commands of the first piece", fed[1], 1);
-    check_status("session_status inside a command", s, 5, 0, 0xC0030C00, 1);
+    check_status("session_status inside a command", s, 5, 0, 0xC0030C00, 1, 7);
     agree("session_feed, second piece", feed(s, stream + 5, 10, fed), 0);
     agree("session_feed, words of the second piece", fed[0], 10);
     agree("session_feed, commands of the second piece", fed[1], 3);
-    check_status("session_status at the end", s, 15, 0, 0, 0);
+    check_status("session_status at the end", s, 15, 0, 0, 0, 0);
 }
 
 /* What the whole stream leaves: four commands, one run, 1,728 elements. */
@@ -136,7 +136,7 @@ static void check_words(struct session *s)
     agree("session_feed, stopped", feed(s, stream, 15, fed), 1);
     agree("session_feed, words of a stopped session", fed[0], 0);
     agree("session_feed, commands of a stopped session", fed[1], 0);
-    check_status("session_status, stopped", s, 17, 1, 0, 0);
+    check_status("session_status, stopped", s, 17, 1, 0, 0, 0);
 }
 
 /* A piece with a refused word: those before it stand. */
@@ -236,7 +236,7 @@ static void check_log(void)
     check_part("log_part of the first day", &r, 1, 1, 1728);
     check_part("log_part of the second day", &r, 2, 0, 0);
     check_part("log_part past the last day", &r, 3, 0, 0);
-    check_status("session_status of a replay", &r.s, 18, 1, 0, 0);
+    check_status("session_status of a replay", &r.s, 18, 1, 0, 0, 0);
     put_record(bytes + 5, 3, 0);
     agree("log_feed, a wrong kind", feed_log(&r, bytes, 10, taken), 18);
     agree("log_feed, bytes before the wrong kind", taken[0], 5);

@@ -94,14 +94,14 @@ fn side_by_side(
         let asked = || format!("step {number} of {}", about(program, masks));
         let before = pair.full.second.clone();
         let given = (two[0], two[1]);
-        let full = step(case, &asked, program, masks, given, &mut pair.full)?;
-        let partial = step(case, &asked, program, masks, given, &mut pair.partial)?;
+        let full = step(case, asked, program, masks, given, &mut pair.full)?;
+        let partial = step(case, asked, program, masks, given, &mut pair.partial)?;
         case.tally.mark("steps in both modes");
         match (&full, &partial) {
             (_, Ok(_)) => {
                 let asked = || format!("in full mode, {}", asked());
                 case.agree(asked, &full, &partial)?;
-                same_but_the_mode(case, &asked, &pair)?;
+                same_but_the_mode(case, asked, &pair)?;
                 let deepest = deepest(&pair.partial.second);
                 if deepest == Some(MOST_COUNTER) {
                     case.tally

@@ -111,6 +111,10 @@ fn streams(numbers: Range<u64>) {
     marks(&tally, &[("questions refused", 50_000)]);
     let above = "streams that claim 2^32 elements or more";
     marks(&tally, &[(above, 300)]);
+    marks(&tally, &[("starts that would pass", 1_000_000)]);
+    marks(&tally, &[("starts that would get 7", 500_000)]);
+    marks(&tally, &[("starts that would get 8", 100_000)]);
+    marks(&tally, &[("starts that would get 9", 50_000)]);
     masked_starts(&tally, 6_000);
     for header in HEADERS {
         marks(&tally, &[(commands::name(header), 5_000)]);

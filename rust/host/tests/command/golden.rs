@@ -90,6 +90,21 @@ const CASES: &[(&str, &str, &str)] = &[
     ("decode-refused", "decode --hex samples/refused.hex", ""),
     ("decode-terse", "decode --terse samples/several.ctm", ""),
     (
+        "decode-ready",
+        "decode --ready --hex samples/ready.hex",
+        "",
+    ),
+    (
+        "decode-ready-terse",
+        "decode --ready --terse --hex samples/ready.hex",
+        "",
+    ),
+    (
+        "decode-ready-json",
+        "decode --ready --json --hex samples/ready.hex",
+        "",
+    ),
+    (
         "decode-terse-refused",
         "decode --terse --hex samples/refused.hex",
         "",
