@@ -5,11 +5,14 @@ use crate::score::civil::Date;
 use clap::Args;
 use serde_json::{json, Value};
 
+// Named otherwise than the subcommand's own options: clap takes the name for a group of arguments, and each must be
+// unique in a line.
+
 /// The version with its commit.
 pub const VERSION: &str = env!("EGRETFOLD_VERSION");
 
 #[derive(Args)]
-pub struct Options {
+pub struct IssueOptions {
     /// The station's name, for the card
     #[arg(long, value_name = "NAME")]
     station: Option<String>,
@@ -29,7 +32,7 @@ pub struct Issue {
 
 impl Issue {
     /// The one place that asks for today.
-    pub fn new(options: &Options) -> Issue {
+    pub fn new(options: &IssueOptions) -> Issue {
         let name = |text: &Option<String>| {
             let text = text.as_deref().map(str::trim).unwrap_or_default();
             (!text.is_empty()).then(|| visible::line(text))

@@ -74,7 +74,7 @@ pub struct Options {
     #[arg(long, value_name = "FILE")]
     svg: Option<PathBuf>,
     #[command(flatten)]
-    issue: issue::Options,
+    issue: issue::IssueOptions,
 }
 
 /// A lease line as it was given.
