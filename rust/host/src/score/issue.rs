@@ -5,12 +5,11 @@ use crate::score::civil::Date;
 use clap::Args;
 use serde_json::{json, Value};
 
-// Named otherwise than the subcommand's own options: clap takes the name for a group of arguments, and each must be
-// unique in a line.
-
 /// The version with its commit.
 pub const VERSION: &str = env!("EGRETFOLD_VERSION");
 
+// Named otherwise than the subcommand's own options: clap takes the name for a group
+// of arguments, and each must be unique in a line.
 #[derive(Args)]
 pub struct IssueOptions {
     /// The station's name, for the card
