@@ -38,11 +38,29 @@ pub struct Options {
     hex: bool,
 }
 
+impl Options {
+    /// Whether text is written.
+    pub fn is_text(&self) -> bool {
+        self.hex
+    }
+}
+
+/// Binary words would be obeyed by a terminal, not shown.
+pub fn ask_terminal(is_terminal: bool) -> Outcome {
+    match is_terminal {
+        true => Err(Failure::wrong(
+            "words in binary are nothing for a terminal: take --hex, or --output FILE",
+        )),
+        false => Ok(()),
+    }
+}
+
 pub fn run(options: &Options, out: &mut dyn Write) -> Outcome {
     let mut lines = Lines::new(Source::open(options.file.as_deref())?);
     let mut position = 0;
     while let Some(line) = lines.next()? {
-        let words = words_of(&line, position).map_err(|fault| fault.at(&lines))?;
+        let words =
+            words_of(&line, position).map_err(|fault| fault.at(&lines).hinted(lines.hint()))?;
         for word in &words {
             match options.hex {
                 true => writeln!(out, "{word:08X}")?,
@@ -92,17 +110,32 @@ fn hex(tokens: &[&str]) -> Result<Vec<u32>, String> {
 }
 
 fn listed(tokens: &[&str], position: u64) -> Result<u32, String> {
-    let stated = tokens[0].trim_end_matches(':');
-    if stated.parse() != Ok(position) {
+    let stated = tokens[0].strip_suffix(':').unwrap_or(tokens[0]);
+    let digits = stated.bytes().all(|byte| byte.is_ascii_digit());
+    if !digits || stated.parse() != Ok(position) {
         return Err(format!("position {stated} stands where {position} is due"));
     }
     let word = tokens.get(1).ok_or("no word behind the position")?;
     numbers::word(word)
 }
 
+/// A name that no command has, with the one that it may be meant for.
+fn no_command(name: &str) -> String {
+    let near = |line: &Line| strsim::damerau_levenshtein(name, line.name);
+    match names::COMMANDS.iter().min_by_key(|line| near(line)) {
+        Some(line) if near(line) <= LIKE => {
+            format!("{name:?} is no command; {} is one", line.name)
+        }
+        _ => format!("{name:?} is no command"),
+    }
+}
+
+/// So many letters wrong, missing or exchanged are taken for a slip.
+const LIKE: usize = 3;
+
 /// A command by its name: its words by the product's writer.
 fn named(name: &str, rest: &[&str]) -> Result<Vec<u32>, Fault> {
-    let line = names::command_named(name).ok_or_else(|| format!("{name:?} is no command"))?;
+    let line = names::command_named(name).ok_or_else(|| no_command(name))?;
     let fields = fields(line, hex(rest)?)?;
     let mut command = Command {
         header: line.header,

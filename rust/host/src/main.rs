@@ -5,7 +5,8 @@
 //! A folder a subcommand, whose first page is the subcommand itself:
 //!
 //! * `score`: a lease line and a log; its forms are the `card`, the `rows` for
-//!   programs and the `picture`; `sample` is for no arguments, which scores
+//!   programs and the `picture`; `checks` say what to look at before it is sent, and
+//!   `issue` by whom and when it is; `sample` is for no arguments, which scores
 //!   `station` 14's month;
 //! * `decode`: words given to a session by a `walk`; its forms are the `listing` and
 //!   `json`. `encode` is the way back, on one page;
@@ -13,7 +14,8 @@
 //! * `address`, with `locate` and `tile`: the `work`ing of an address by hand,
 //!   and document 01's `tiles`;
 //! * `flow`: a program's `slots`, and the `steps` of a group;
-//! * `explain`: the table of `refusals`, and the `cause` of one that came.
+//! * `explain`: the table of `refusals`, and the `cause` of one that came;
+//! * `completions` and `manual`: the command line itself, for shells and for man.
 //!
 //! `input` reads what a user gives, and `common` has what several share.
 
@@ -21,17 +23,21 @@
 
 mod address;
 mod common;
+mod completions;
 mod decode;
 mod encode;
 mod explain;
 mod flow;
 mod input;
+mod manual;
 mod replay;
 mod score;
 
-use clap::{Parser, Subcommand};
-use common::failure::{Failure, Outcome};
-use std::io::{self, BufWriter, Write};
+use clap::{CommandFactory, Parser, Subcommand};
+use common::failure::Outcome;
+use common::output::{self, Output};
+use common::visible;
+use std::io::{self, Write};
 use std::process::ExitCode;
 
 const AFTER: &str = "\
@@ -41,10 +47,12 @@ Exit status: 0 fine, 1 something was refused, 2 a wrong command line or file, 3 
 
 /// Months scored, logs replayed, command streams decoded, tile addresses worked both ways, flow programs stepped
 #[derive(Parser)]
-#[command(name = "egretfold", version, after_help = AFTER)]
+#[command(name = "egretfold", version = env!("EGRETFOLD_VERSION"), after_help = AFTER)]
 struct Line {
     #[command(subcommand)]
     what: Option<What>,
+    #[command(flatten)]
+    output: output::Options,
 }
 
 #[derive(Subcommand)]
@@ -68,28 +76,58 @@ enum What {
     #[command(after_help = address::locate::EXAMPLES)]
     Locate(address::locate::Options),
     /// A tile drawn, with the place of each block
+    #[command(after_help = address::tile::EXAMPLES)]
     Tile(address::tile::Options),
     /// A flow program listed, or stepped with given masks
     #[command(after_help = flow::EXAMPLES)]
     Flow(flow::Options),
     /// What a refusal means, in the documents' words
     Explain(explain::Options),
+    /// What a shell completes, in the shell's language
+    #[command(after_help = completions::EXAMPLES)]
+    Completions(completions::Options),
+    /// The manual page, for man
+    #[command(after_help = manual::EXAMPLES)]
+    Manual(manual::Options),
 }
 
 fn main() -> ExitCode {
-    let line = Line::parse();
-    let mut out = BufWriter::new(io::stdout().lock());
-    let outcome = run(&line, &mut out);
-    let flushed = out.flush().map_err(Failure::from);
-    let ended = match (outcome, flushed) {
-        // A short month is told by its card, so that must have been written.
-        (Err(Failure::Short), Err(Failure::Wrong(text))) => Err(Failure::Wrong(text)),
-        (outcome, flushed) => outcome.and(flushed),
+    let line = match Line::try_parse() {
+        Ok(line) => line,
+        Err(told) => return ExitCode::from(tell(&told)),
     };
-    match ended {
+    match answer(&line) {
         Ok(()) => ExitCode::SUCCESS,
         Err(failure) => ExitCode::from(failure.tell()),
     }
+}
+
+/// A wrong line, or help that was asked for: its text, which may hold what the user
+/// wrote, and its exit status.
+fn tell(told: &clap::Error) -> u8 {
+    let text = visible::lines(&told.to_string());
+    // Where it can't be written, the status alone must do.
+    let _ = match told.use_stderr() {
+        true => write!(io::stderr(), "{text}"),
+        false => write!(io::stdout(), "{text}"),
+    };
+    u8::from(told.use_stderr()) * WRONG
+}
+
+/// The exit status of a wrong line.
+const WRONG: u8 = 2;
+
+fn answer(line: &Line) -> Outcome {
+    let mut output = Output::open(&line.output)?;
+    let outcome = match &line.what {
+        // Words in binary go through as they are.
+        Some(What::Encode(options)) if !options.is_text() => {
+            encode::ask_terminal(output.is_terminal())?;
+            encode::run(options, &mut output)
+        }
+        _ => run(line, &mut output.text()),
+    };
+    output.end(outcome)
 }
 
 fn run(line: &Line, out: &mut dyn Write) -> Outcome {
@@ -104,5 +142,7 @@ fn run(line: &Line, out: &mut dyn Write) -> Outcome {
         Some(What::Tile(options)) => address::tile::run(options, out),
         Some(What::Flow(options)) => flow::run(options, out),
         Some(What::Explain(options)) => explain::run(options, out),
+        Some(What::Completions(options)) => completions::run(options, Line::command(), out),
+        Some(What::Manual(_)) => manual::run(Line::command(), out),
     }
 }

@@ -1,6 +1,7 @@
 //! The options that describe a layout, for `address` and `locate`.
 
 use crate::common::failure::{Failure, Outcome};
+use crate::common::kinds::Address;
 use crate::common::names::Kind;
 use crate::common::text;
 use crate::explain::cause;
@@ -57,6 +58,28 @@ impl LayoutOptions {
         }
     }
 
+    /// What to try where a base, or an address, was refused that may be meant in
+    /// decimal: it has decimal digits alone, and read so it is taken.
+    pub fn hint(&self, layout: &Layout, address: Option<&str>) -> Option<String> {
+        let base = decimal(&self.base)?;
+        let meant = Layout { base, ..*layout };
+        if self.decimal || boundary::layout(&meant).is_err() {
+            return None;
+        }
+        let (option, text, read) = match address {
+            _ if boundary::layout(layout).is_err() => ("--base ", &self.base[..], base),
+            Some(text) => ("", text, decimal(text)?),
+            None => return None,
+        };
+        if address.is_some() && option.is_empty() && boundary::locate(&meant, read).is_err() {
+            return None;
+        }
+        let read = Address(read);
+        Some(format!(
+            "{option}{text} is read as hex; with --decimal it is {read}"
+        ))
+    }
+
     /// An address as the user gives it.
     pub fn address(&self, text: &str) -> Result<u32, String> {
         match self.decimal {
@@ -64,6 +87,12 @@ impl LayoutOptions {
             false => numbers::word(text),
         }
     }
+}
+
+/// The number that decimal digits alone are.
+fn decimal(text: &str) -> Option<u32> {
+    let digits = text.bytes().all(|byte| byte.is_ascii_digit());
+    text.parse().ok().filter(|_| digits)
 }
 
 /// Has the product judge a format word, in a command that takes any.

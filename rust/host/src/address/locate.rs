@@ -8,6 +8,7 @@ use crate::common::failure::{Failure, Outcome};
 use crate::common::kinds::Address;
 use crate::explain::cause;
 use crate::input::lines::Lines;
+use crate::input::numbers;
 use crate::input::source::{self, Source};
 use boundary::Layout;
 use clap::Args;
@@ -31,10 +32,10 @@ pub struct Options {
     addresses: Vec<String>,
     /// Asks the windows that this stream of command words sets, instead of one layout
     #[arg(long, value_name = "FILE",
-          conflicts_with_all = ["pitch", "height", "size", "tiled", "format", "work"])]
+          conflicts_with_all = ["base", "pitch", "height", "size", "tiled", "format", "work"])]
     stream: Option<PathBuf>,
     /// With --stream: only the stream's first N words count
-    #[arg(long, value_name = "N", requires = "stream")]
+    #[arg(long, value_name = "N", requires = "stream", value_parser = numbers::long_count)]
     words: Option<u64>,
     /// With --stream: the file is hex text
     #[arg(long, requires = "stream")]
@@ -54,13 +55,21 @@ pub fn run(options: &Options, out: &mut dyn Write) -> Outcome {
                 "stream and addresses can't both be on standard input",
             ));
         }
-        let session = owners::read(file, options.hex, options.words, options.json, out)?;
-        return each(options, out, &mut |address, out| {
-            owners::answer(&session, address, options.json, out)
-        });
+        let mut read = owners::read(file, options.hex, options.words, options.json, out)?;
+        let refused = read.refused.take();
+        each(options, None, out, &mut |address, out| {
+            owners::answer(&read, address, options.json, out)
+        })?;
+        return refused.map_or(Ok(()), Err);
+    }
+    // Beside a layout's options clap doesn't ask for the stream that these require.
+    if options.hex || options.words.is_some() {
+        return Err(Failure::wrong(
+            "--hex and --words tell of a stream: they need --stream FILE",
+        ));
     }
     let layout = options.layout.layout()?;
-    each(options, out, &mut |address, out| {
+    each(options, Some(&layout), out, &mut |address, out| {
         one(options, &layout, address, out)
     })
 }
@@ -69,8 +78,17 @@ pub fn run(options: &Options, out: &mut dyn Write) -> Outcome {
 type Answerer<'a> = dyn FnMut(u32, &mut dyn Write) -> Outcome<Option<String>> + 'a;
 
 /// Answers every address asked, and ends with the first refusal, if there is one.
-fn each(options: &Options, out: &mut dyn Write, answer: &mut Answerer) -> Outcome {
+fn each(
+    options: &Options,
+    layout: Option<&Layout>,
+    out: &mut dyn Write,
+    answer: &mut Answerer,
+) -> Outcome {
     let mut first = None;
+    let refused = |told, text: &str| {
+        let hint = layout.and_then(|layout| options.layout.hint(layout, Some(text)));
+        Failure::Refused(told).hinted(hint)
+    };
     if options.addresses.is_empty() {
         let mut lines = Lines::new(Source::open(None)?);
         while let Some(line) = lines.next()? {
@@ -80,15 +98,15 @@ fn each(options: &Options, out: &mut dyn Write, answer: &mut Answerer) -> Outcom
                     .address(&line)
                     .map_err(|text| lines.wrong(&text))?;
                 let told = answer(address, out)?;
-                first = first.or(told.map(|told| lines.place(&told)));
+                first = first.or(told.map(|told| refused(lines.place(&told), &line)));
             }
         }
     }
     for text in &options.addresses {
         let address = options.layout.address(text).map_err(Failure::Wrong)?;
-        first = first.or(answer(address, out)?);
+        first = first.or(answer(address, out)?.map(|told| refused(told, text)));
     }
-    first.map_or(Ok(()), |told| Err(Failure::Refused(told)))
+    first.map_or(Ok(()), Err)
 }
 
 fn one(
@@ -118,12 +136,17 @@ fn one(
         }
         Err(number) => {
             let refused = cause::refused(number, cause::of_address(number, layout, address));
+            let work = options.work.then(|| work::refused(layout, &refused));
             if options.json {
                 let (at, cause) = (at.to_string(), &refused.cause);
-                let value = json!({"address": at, "refused": number, "cause": cause});
+                let mut value = json!({"address": at, "refused": number, "cause": cause});
+                if let Some(work) = work {
+                    value["work"] = work.json();
+                }
                 writeln!(out, "{value}")?;
             } else {
                 writeln!(out, "{at}  {refused}")?;
+                work.map_or(Ok(()), |work| work.show(layout, out))?;
             }
             Ok(Some(format!("address {at}: {refused}")))
         }

@@ -62,7 +62,8 @@ pub fn run(options: &Options, out: &mut dyn Write) -> Outcome {
     for pair in &options.pairs {
         first = first.or(one(options, &layout, *pair, out)?);
     }
-    first.map_or(Ok(()), |told| Err(Failure::Refused(told)))
+    let hint = || options.layout.hint(&layout, None);
+    first.map_or(Ok(()), |told| Err(Failure::Refused(told).hinted(hint())))
 }
 
 fn one(
@@ -94,12 +95,17 @@ fn one(
         }
         Err(number) => {
             let refused = cause::refused(number, cause::of_pair(number, layout, x, y));
+            let work = options.work.then(|| work::refused(layout, &refused));
             if options.json {
                 let cause = &refused.cause;
-                let value = json!({"x": x, "y": y, "refused": number, "cause": cause});
+                let mut value = json!({"x": x, "y": y, "refused": number, "cause": cause});
+                if let Some(work) = work {
+                    value["work"] = work.json();
+                }
                 writeln!(out, "{value}")?;
             } else {
                 writeln!(out, "({x}, {y})  {refused}")?;
+                work.map_or(Ok(()), |work| work.show(layout, out))?;
             }
             Ok(Some(format!("pair ({x}, {y}): {refused}")))
         }

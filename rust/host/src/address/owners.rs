@@ -1,6 +1,6 @@
 //! `egretfold locate --stream`: which windows of a stream's settings own a byte.
 
-use crate::common::failure::Outcome;
+use crate::common::failure::{Failure, Outcome};
 use crate::common::kinds::{Address, Position};
 use crate::common::settings::{self, Setting, Value};
 use crate::decode::walk::{Quiet, Walk};
@@ -16,6 +16,8 @@ use std::path::Path;
 pub struct Read {
     settings: Vec<Setting>,
     domain: Option<[u32; 4]>,
+    /// The stream's refusal, which was told.
+    pub refused: Option<Failure>,
 }
 
 /// Reads the stream, or its first so many words. A refused word ends it and is
@@ -49,7 +51,15 @@ pub fn read(
         Value::Domain(domain) => Some(domain),
         _ => None,
     });
-    Ok(Read { settings, domain })
+    let refused = totals.refused.map(|(at, refused)| {
+        let told = format!("{}: word {at}: {refused}", totals.name);
+        Failure::Refused(told).hinted(totals.hint)
+    });
+    Ok(Read {
+        settings,
+        domain,
+        refused,
+    })
 }
 
 /// How an owned pair stands to the domain.
@@ -80,13 +90,16 @@ pub fn answer(
 ) -> Outcome<Option<String>> {
     let owners = owners(read, address);
     let at = Address(address);
+    let why = "no window of the stream's settings owns it";
+    let refused = cause::refused(12, Some(why.into()));
     if as_json {
         let list: Vec<_> = owners.iter().map(Owner::json).collect();
-        writeln!(
-            out,
-            "{}",
-            json!({"address": at.to_string(), "owners": list})
-        )?;
+        let mut value = json!({"address": at.to_string(), "owners": list});
+        if owners.is_empty() {
+            value["refused"] = json!(refused.number);
+            value["cause"] = json!(refused.cause);
+        }
+        writeln!(out, "{value}")?;
     } else {
         for owner in &owners {
             writeln!(out, "{at}  {}", owner.words())?;
@@ -95,8 +108,6 @@ pub fn answer(
     if !owners.is_empty() {
         return Ok(None);
     }
-    let why = "no window of the stream's settings owns it";
-    let refused = cause::refused(12, Some(why.into()));
     if !as_json {
         writeln!(out, "{at}  {refused}")?;
         for (name, cause) in near(read, address) {

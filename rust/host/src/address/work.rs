@@ -6,6 +6,7 @@ use crate::address::tiles::{self, Bit, Inside, Tile, TILE_BYTES};
 use crate::common::failure::Outcome;
 use crate::common::kinds::Address;
 use crate::common::text;
+use crate::explain::cause::Refused;
 use boundary::Layout;
 use serde_json::{json, Value};
 use std::io::Write;
@@ -68,6 +69,38 @@ fn row_step(lines: &mut Working, layout: &Layout) -> Option<u32> {
         format!("E = {step}: pitch {pitch} cut down to a multiple of {of}"),
     );
     Some(step)
+}
+
+/// The working up to a refusal: the row step, the tiles, the window's span and its
+/// end, as far as the layout has them, and then why it goes no further.
+pub fn refused(layout: &Layout, refused: &Refused) -> Working {
+    let mut lines = Working::default();
+    window(&mut lines, layout);
+    put(
+        &mut lines,
+        "refused",
+        format!("{}: {}", refused.number, refused.cause),
+    );
+    lines
+}
+
+fn window(lines: &mut Working, layout: &Layout) -> Option<()> {
+    let step = row_step(lines, layout).filter(|step| *step > 0)?;
+    let (height, size) = (layout.height, layout.size);
+    let span = tiles::span(layout).filter(|span| *span > 0)?;
+    let text = match layout.tiled {
+        true => {
+            let tile = tiles::tile_of(size)?;
+            let in_row = tiles_in_row(lines, tile, step);
+            let rows = span / u64::from(TILE_BYTES) / u64::from(in_row);
+            format!("{rows} rows of tiles * {in_row} * {TILE_BYTES} bytes = {span}")
+        }
+        false => format!("H * E * s = {height} * {step} * {size} bytes = {span}"),
+    };
+    put(lines, "span", text);
+    let (base, end) = (Address(layout.base), u64::from(layout.base) + span);
+    put(lines, "end", format!("base {base} + {span} = {end:08X}"));
+    Some(())
 }
 
 /// The working from a pair of an accepted layout to its address.

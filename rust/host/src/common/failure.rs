@@ -1,5 +1,6 @@
 //! How a subcommand ends other than well, and the exit status that says so.
 
+use crate::common::visible;
 use std::fmt::Display;
 use std::io::{self, Write};
 
@@ -11,19 +12,17 @@ pub enum Failure {
     Wrong(String),
     /// A month that is short, which the card has told. Exit status 3.
     Short,
-    /// The reader of our output has gone, as `head` does: nothing to complain of.
-    Closed,
 }
 
 pub type Outcome<T = ()> = Result<T, Failure>;
 
-/// Errors of our own output. Those of files that we read are named with their
-/// file where they arise.
+/// Errors of our own output. Those of files are named with their file where they
+/// arise.
 impl From<io::Error> for Failure {
     fn from(error: io::Error) -> Failure {
-        match error.kind() {
-            io::ErrorKind::BrokenPipe => Failure::Closed,
-            _ => Failure::Wrong(format!("standard output: {error}")),
+        match error.get_ref() {
+            Some(named) => Failure::wrong(named),
+            None => Failure::Wrong(format!("standard output: {error}")),
         }
     }
 }
@@ -33,14 +32,27 @@ impl Failure {
         Failure::Wrong(text.to_string())
     }
 
+    /// The same failure with something to try, on a line of its own.
+    pub fn hinted(self, hint: Option<String>) -> Failure {
+        let behind = |text| match &hint {
+            Some(hint) => format!("{text}\n  {hint}"),
+            None => text,
+        };
+        match self {
+            Failure::Refused(text) => Failure::Refused(behind(text)),
+            Failure::Wrong(text) => Failure::Wrong(behind(text)),
+            Failure::Short => Failure::Short,
+        }
+    }
+
     /// Says what is wrong on standard error and gives the exit status.
     pub fn tell(self) -> u8 {
         let (text, status) = match self {
             Failure::Refused(text) => (text, 1),
             Failure::Wrong(text) => (text, 2),
             Failure::Short => return 3,
-            Failure::Closed => return 0,
         };
+        let text = visible::lines(&text);
         // Where standard error is closed too, the status alone must do.
         let _ = writeln!(io::stderr(), "egretfold: {text}");
         status

@@ -1,8 +1,14 @@
 //! What several subcommands share: the documents' names, the kinds of number, a
-//! session's settings, shapes of text, and how a subcommand ends.
+//! session's settings, shapes of text, where an answer goes, and how a subcommand
+//! ends.
 
+pub mod digits;
 pub mod failure;
+pub mod file;
+pub mod interrupt;
 pub mod kinds;
 pub mod names;
+pub mod output;
 pub mod settings;
 pub mod text;
+pub mod visible;

@@ -2,6 +2,7 @@
 //! Lines of the listing that are no words begin with #, so that `encode` passes
 //! over them.
 
+use crate::common::digits::Digits;
 use crate::common::failure::Outcome;
 use crate::common::kinds::{Address, Position, Word};
 use crate::common::names::Kind;
@@ -208,6 +209,7 @@ fn raw(words: &[u32]) -> String {
 /// The totals alone.
 pub struct Summary<'a> {
     pub out: &'a mut dyn Write,
+    pub digits: Digits,
 }
 
 impl Form for Summary<'_> {
@@ -230,7 +232,7 @@ impl Form for Summary<'_> {
         }
         writeln!(out, "commands")?;
         for (line, count) in &totals.commands {
-            writeln!(out, "  {:<20}  {count}", line.name)?;
+            writeln!(out, "  {:<20}  {}", line.name, self.digits.of(*count))?;
         }
         writeln!(out, "settings at the end")?;
         for setting in &totals.settings {

@@ -4,6 +4,7 @@ mod json;
 mod listing;
 pub mod walk;
 
+use crate::common::digits::Digits;
 use crate::common::failure::{Failure, Outcome};
 use crate::decode::json::Json;
 use crate::decode::listing::{Listing, Summary, Terse};
@@ -41,6 +42,9 @@ pub struct Options {
     /// What a start would get of the settings, at each command that changes it
     #[arg(long)]
     ready: bool,
+    /// With --summary: large numbers without commas between their digits
+    #[arg(long, requires = "summary", conflicts_with = "json")]
+    plain: bool,
 }
 
 pub fn run(options: &Options, out: &mut dyn Write) -> Outcome {
@@ -49,7 +53,8 @@ pub fn run(options: &Options, out: &mut dyn Write) -> Outcome {
     if options.json {
         show(words, options.ready, &mut Json { out, summary })
     } else if summary {
-        show(words, options.ready, &mut Summary { out })
+        let digits = Digits::plain(options.plain);
+        show(words, options.ready, &mut Summary { out, digits })
     } else if options.terse {
         let open = Vec::new();
         show(words, options.ready, &mut Terse { out, open })
@@ -64,9 +69,8 @@ pub fn show(words: Words, changes: bool, form: &mut dyn Form) -> Outcome {
     match totals.refused {
         Some((position, refused)) => {
             let name = totals.name;
-            Err(Failure::Refused(format!(
-                "{name}: word {position}: {refused}"
-            )))
+            let told = Failure::Refused(format!("{name}: word {position}: {refused}"));
+            Err(told.hinted(totals.hint))
         }
         None => Ok(()),
     }

@@ -75,6 +75,8 @@ pub struct Totals {
     /// The refused word.
     pub refused: Option<(Position, Refused)>,
     pub settings: Vec<Setting>,
+    /// What to try where these were no command words.
+    pub hint: Option<String>,
     pub ready: Ready,
 }
 
@@ -212,9 +214,12 @@ impl Walk {
                 Err(failure) => break Err(failure),
             }
         };
-        let totals = self.totals(words.name());
+        let totals = self.totals(&words);
         form.end(&totals)?;
-        ended.map(|()| totals)
+        match ended {
+            Ok(()) => Ok(totals),
+            Err(failure) => Err(failure.hinted(totals.hint)),
+        }
     }
 
     fn word(&mut self, word: u32, form: &mut dyn Form) -> Outcome {
@@ -320,12 +325,12 @@ impl Walk {
         Ok(Outputs { set, silent })
     }
 
-    fn totals(&self, name: &str) -> Totals {
+    fn totals(&self, words: &Words) -> Totals {
         let status = self.session.status();
         let counted = names::COMMANDS.iter().zip(self.commands);
         let due = |header| boundary::parameters(header).unwrap_or(0);
         Totals {
-            name: name.to_string(),
+            name: words.name().to_string(),
             words: self.position,
             taken: u64::from(status.taken),
             commands: counted.filter(|(_, count)| *count > 0).collect(),
@@ -336,6 +341,7 @@ impl Walk {
                 .map(|(header, taken)| (names::command_name(header), taken, due(header))),
             refused: self.refused.clone(),
             settings: settings::all(&self.session),
+            hint: words.hint(),
             ready: Ready::of(&self.session),
         }
     }

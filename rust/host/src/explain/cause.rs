@@ -159,8 +159,9 @@ fn window_rule(layout: &Layout) -> Option<String> {
 pub fn of_word(number: u32, session: &Session, open: &[u32]) -> Option<String> {
     let word = *open.last()?;
     if number == 2 {
+        let house = house_word(word).unwrap_or_default();
         return Some(format!(
-            "header {} stands in no line of the command table",
+            "header {} stands in no line of the command table{house}",
             Word(word)
         ));
     }
@@ -182,6 +183,17 @@ pub fn of_start(number: u32, session: &Session) -> Option<String> {
         9 => settings::shared_bytes(session),
         _ => None,
     }
+}
+
+/// Document 01's house words, in whose place the guide has others.
+fn house_word(word: u32) -> Option<String> {
+    let header = match word {
+        0xC003_8000 => headers::SET_DOMAIN,
+        0xC000_8100 => headers::START_PROGRAM,
+        _ => return None,
+    };
+    let name = names::command_name(header);
+    Some(format!(": the guide's word for {name} is {}", Word(header)))
 }
 
 /// The writer's refusal of a command: 3 to 6, by all its fields.

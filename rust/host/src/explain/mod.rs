@@ -6,6 +6,7 @@ mod refusals;
 use crate::common::failure::{Failure, Outcome};
 use crate::common::text;
 use crate::explain::refusals::Refusal;
+use crate::input::numbers;
 use clap::Args;
 use serde_json::{json, Value};
 use std::io::Write;
@@ -13,6 +14,7 @@ use std::io::Write;
 #[derive(Args)]
 pub struct Options {
     /// The refusal's number; all are listed where none is given
+    #[arg(value_parser = numbers::count)]
     number: Option<u32>,
     /// One JSON object a refusal, a line each
     #[arg(long)]

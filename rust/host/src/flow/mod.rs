@@ -110,14 +110,15 @@ pub fn run(options: &Options, out: &mut dyn Write) -> Outcome {
         masks,
         integers: all_integers(options)?,
     };
-    if lists.masks.is_empty() && lists.kills.is_empty() {
-        return steps::list(&program, &lists.integers, options.mode(), options.json, out);
-    }
+    // Also where it isn't stepped, so that a group is refused or not, whatever is asked.
     let size = options.processors;
     let group = Group::begin_in(size, options.mode()).map_err(|number| {
         let refused = cause::refused(number, Some("a group has 1 to 32 processors".into()));
         Failure::Refused(format!("--processors {size}: {refused}"))
     })?;
+    if lists.masks.is_empty() && lists.kills.is_empty() {
+        return steps::list(&program, &lists.integers, options.mode(), options.json, out);
+    }
     if !options.json {
         let slots = text::count(u64::from(program.slots()), "slot");
         let group_words = text::count(u64::from(size), "processor");
@@ -150,7 +151,11 @@ struct Lists {
 fn load(options: &Options) -> Outcome<(String, Program)> {
     let source = Source::open(options.file.as_deref())?;
     let name = source.name.clone();
-    let words = Words::new(source, options.hex).first(MOST_WORDS).all()?;
+    let mut input = Words::new(source, options.hex).first(MOST_WORDS);
+    let words = match input.all() {
+        Ok(words) => words,
+        Err(failure) => return Err(failure.hinted(input.hint())),
+    };
     let program = Program::load(&words).map_err(|number| {
         let more = if words.len() as u64 == MOST_WORDS {
             " or more"
@@ -159,27 +164,42 @@ fn load(options: &Options) -> Outcome<(String, Program)> {
         };
         let count = words.len();
         let cause = format!("{count}{more} words are no program, which has 2 to 1024, two a slot");
-        Failure::Refused(format!("{name}: {}", cause::refused(number, Some(cause))))
+        let told = format!("{name}: {}", cause::refused(number, Some(cause)));
+        Failure::Refused(told).hinted(input.hint())
     })?;
     Ok((name, program))
 }
 
 fn all_masks(options: &Options) -> Outcome<Vec<(u32, u32)>> {
     let mut once = options.masks.clone();
+    few_enough(&once, options)?;
     if let Some(file) = &options.list {
         let mut lines = Lines::new(Source::open(Some(file))?);
         while let Some(line) = lines.next()? {
             if !line.is_empty() {
                 once.push(masks(&line).map_err(|text| lines.wrong(&text))?);
+                few_enough(&once, options)?;
             }
         }
     }
-    let steps = once.len().saturating_mul(options.repeat as usize);
-    if steps > MOST_STEPS {
-        let text = format!("masks for {steps} steps; {MOST_STEPS} are the most");
-        return Err(Failure::Wrong(text));
+    match options.repeat {
+        0 => Err(Failure::wrong("--repeat 0: no step would be made")),
+        _ if once.is_empty() && options.repeat > 1 => {
+            Err(Failure::wrong("--repeat: there are no masks to go through"))
+        }
+        times => Ok(once.repeat(times as usize)),
     }
-    Ok(once.repeat(options.repeat as usize))
+}
+
+/// Asked while they are read, so that a list without an end is not kept.
+fn few_enough(once: &[(u32, u32)], options: &Options) -> Outcome {
+    let steps = once.len().saturating_mul(options.repeat as usize);
+    match steps > MOST_STEPS {
+        true => Err(Failure::Wrong(format!(
+            "masks for over {MOST_STEPS} steps, which are the most"
+        ))),
+        false => Ok(()),
+    }
 }
 
 /// The integer words, as many as slots can name.

@@ -1,10 +1,15 @@
 //! Lines of text read from an input, for lists and for `encode`.
 
 use crate::common::failure::{Failure, Outcome};
+use crate::input::looks::{self, Looks};
 use crate::input::source::{Source, PIECE};
+
+/// The most bytes of a line, its end not counted.
+const LONGEST: usize = PIECE;
 
 pub struct Lines {
     source: Source,
+    /// Room for the longest line and its end.
     bytes: Vec<u8>,
     /// The part of `bytes` that is read and not handed out.
     start: usize,
@@ -17,7 +22,7 @@ impl Lines {
     pub fn new(source: Source) -> Lines {
         Lines {
             source,
-            bytes: vec![0; PIECE],
+            bytes: vec![0; LONGEST + 1],
             start: 0,
             end: 0,
             number: 0,
@@ -52,13 +57,18 @@ impl Lines {
         self.end += self.source.fill(&mut self.bytes[self.end..])?;
         match line_end(&self.bytes[..self.end]) {
             Some(length) => Ok(Some(length)),
-            None if self.end == PIECE => {
+            None if self.end > LONGEST => {
                 self.number += 1;
-                Err(self.wrong(&format!("longer than {PIECE} bytes")))
+                Err(self.wrong(&format!("longer than {LONGEST} bytes")))
             }
             None if self.end == 0 => Ok(None),
             None => Ok(Some(self.end)),
         }
+    }
+
+    /// What to try where these are no lines for `encode`.
+    pub fn hint(&self) -> Option<String> {
+        looks::hint(self.source.begin(), Looks::Listing)
     }
 
     /// The text behind the input's name and the number of the line being read.

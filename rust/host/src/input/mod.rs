@@ -2,7 +2,9 @@
 //! numbers as they are written.
 
 pub mod lines;
+pub mod looks;
 pub mod numbers;
-mod progress;
+mod packed;
+pub mod progress;
 pub mod source;
 pub mod words;

@@ -9,6 +9,16 @@ pub fn count(text: &str) -> Result<u32, String> {
     }
 }
 
+/// A count of up to 64 bits.
+pub fn long_count(text: &str) -> Result<u64, String> {
+    let (digits, base) = match hex_prefix(text) {
+        Some(digits) => (digits, 16),
+        None => (text, 10),
+    };
+    only_digits(text, digits, base)?;
+    u64::from_str_radix(digits, base).map_err(|_| format!("{text} is over 64 bits"))
+}
+
 /// A word: hex, with or without 0x.
 pub fn word(text: &str) -> Result<u32, String> {
     in_base(text, hex_prefix(text).unwrap_or(text), 16)
@@ -35,17 +45,24 @@ fn hex_prefix(text: &str) -> Option<&str> {
 }
 
 fn in_base(text: &str, digits: &str, base: u32) -> Result<u32, String> {
-    let kind = if base == 16 { "hex" } else { "decimal" };
-    // from_str_radix would take a sign.
-    if digits.is_empty() || !digits.chars().all(|c| c.is_digit(base)) {
-        return Err(format!("{text:?} is no {kind} number"));
-    }
+    only_digits(text, digits, base)?;
     u32::from_str_radix(digits, base).map_err(|_| format!("{text} is over 32 bits"))
+}
+
+/// from_str_radix would take a sign.
+fn only_digits(text: &str, digits: &str, base: u32) -> Result<(), String> {
+    let kind = if base == 16 { "hex" } else { "decimal" };
+    let is_number = |digits: &str| !digits.is_empty() && digits.chars().all(|c| c.is_digit(base));
+    match digits.strip_prefix('-') {
+        _ if is_number(digits) => Ok(()),
+        Some(rest) if is_number(rest) => Err(format!("{text} is below 0, the least")),
+        _ => Err(format!("{text:?} is no {kind} number")),
+    }
 }
 
 #[cfg(test)]
 mod tests {
-    use super::{count, pair, word};
+    use super::{count, long_count, pair, word};
 
     #[test]
     fn counts_are_decimal_and_words_hex() {
@@ -62,6 +79,9 @@ mod tests {
             assert!(word(text).is_err(), "{text}");
         }
         assert_eq!(count("A"), Err("\"A\" is no decimal number".into()));
+        assert_eq!(count("-1"), Err("-1 is below 0, the least".into()));
+        assert!(long_count("+4").is_err() && long_count("-4").is_err());
+        assert_eq!(long_count("0x100000000"), Ok(1 << 32));
         assert_eq!(
             count("4294967296"),
             Err("4294967296 is over 32 bits".into())

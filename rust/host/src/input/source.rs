@@ -1,26 +1,49 @@
 //! Where input comes from: a file, or standard input for "-" or no name. It is
 //! read in pieces of fixed size, so that memory stays the same for any length; a
-//! mapped file would do no better here and could be cut short under our eyes.
+//! mapped file would do no better here and could be cut short under our eyes. What
+//! begins as gzip's files do is unpacked on the way.
 
 use crate::common::failure::{Failure, Outcome};
-use crate::input::progress;
-use indicatif::ProgressBar;
-use std::fs::File;
-use std::io::{self, Read};
+use crate::common::visible;
+use crate::input::packed::{self, Counted};
+use crate::input::progress::Bar;
+use std::fs::{self, File};
+use std::io::{self, Read, Write};
+use std::os::unix::fs::MetadataExt;
 use std::path::{Path, PathBuf};
+use std::sync::{Mutex, PoisonError};
 
 /// Bytes that are read at once: a whole number of words.
 pub const PIECE: usize = 1 << 16;
 
+/// So many bytes of an input's begin are kept, to tell what it looks like.
+const BEGIN: usize = 512;
+
 pub struct Source {
-    /// The file's name, for messages.
+    /// The file's name, for messages, with nothing that a terminal would obey.
     pub name: String,
     reader: Box<dyn Read>,
-    /// Bytes read so far.
+    /// Whether nothing is read yet.
+    fresh: bool,
+    /// Whether what is read is unpacked.
+    packed: bool,
+    /// Bytes read so far, and those of the file that they came from.
     at: u64,
+    raw: Counted,
+    /// The first bytes read.
+    begin: Vec<u8>,
     /// What the input failed with.
     error: Option<io::Error>,
-    bar: ProgressBar,
+    bar: Bar,
+}
+
+/// The files that are read, by device and number.
+static READ: Mutex<Vec<(u64, u64)>> = Mutex::new(Vec::new());
+
+/// Whether this is a file that is read, by whatever name.
+pub fn is_read(path: &Path) -> bool {
+    let read = READ.lock().unwrap_or_else(PoisonError::into_inner);
+    fs::metadata(path).map_or(false, |about| read.contains(&(about.dev(), about.ino())))
 }
 
 /// Whether the name says standard input.
@@ -32,18 +55,30 @@ impl Source {
     pub fn open(file: Option<&Path>) -> Outcome<Source> {
         let path = match file {
             Some(path) if !is_standard(file) => path,
-            _ => {
-                return Ok(Source::new(
-                    "standard input".into(),
-                    Box::new(io::stdin()),
-                    None,
-                ))
-            }
+            _ => return Ok(Source::standard()),
         };
-        let name = path.display().to_string();
-        let file = File::open(path).map_err(|error| Failure::Wrong(format!("{name}: {error}")))?;
-        let length = file.metadata().ok().map(|about| about.len());
-        Ok(Source::new(name, Box::new(file), length))
+        let name = visible::line(&path.display().to_string());
+        let wrong = |error| Failure::Wrong(format!("{name}: {error}"));
+        let file = File::open(path).map_err(wrong)?;
+        let about = file.metadata().map_err(wrong)?;
+        if about.is_dir() {
+            // As reading it would fail, but before anything is answered.
+            return Err(Failure::Wrong(format!("{name}: is a folder")));
+        }
+        let mut read = READ.lock().unwrap_or_else(PoisonError::into_inner);
+        read.push((about.dev(), about.ino()));
+        Ok(Source::new(name, Box::new(file), Some(about.len())))
+    }
+
+    fn standard() -> Source {
+        if atty::is(atty::Stream::Stdin) {
+            // Where standard error is closed, nobody wonders.
+            let _ = writeln!(
+                io::stderr(),
+                "egretfold: reading standard input; Ctrl-D ends it"
+            );
+        }
+        Source::new("standard input".into(), Box::new(io::stdin()), None)
     }
 
     /// All of these files; standard input where none is named. All are opened first,
@@ -61,13 +96,17 @@ impl Source {
     }
 
     fn new(name: String, reader: Box<dyn Read>, length: Option<u64>) -> Source {
-        let bar = progress::bar(length);
+        let raw = Counted::default();
         Source {
             name,
-            reader,
+            reader: Box::new(raw.counting(reader)),
+            fresh: true,
+            packed: false,
             at: 0,
+            raw,
+            begin: Vec::new(),
             error: None,
-            bar,
+            bar: Bar::new(length),
         }
     }
 
@@ -75,6 +114,11 @@ impl Source {
     /// the input fails, the bytes before that come first, and the failure with the
     /// next call.
     pub fn fill(&mut self, room: &mut [u8]) -> Outcome<usize> {
+        if self.fresh {
+            self.fresh = false;
+            let reader = std::mem::replace(&mut self.reader, Box::new(io::empty()));
+            (self.packed, self.reader) = packed::unpacked(reader);
+        }
         let mut filled = 0;
         while filled < room.len() && self.error.is_none() {
             match self.reader.read(&mut room[filled..]) {
@@ -84,11 +128,20 @@ impl Source {
                 Err(error) => self.error = Some(error),
             }
         }
+        let missing = BEGIN.saturating_sub(self.begin.len()).min(filled);
+        self.begin.extend(&room[..missing]);
         self.at += filled as u64;
-        self.bar.set_position(self.at);
+        self.bar.at(self.raw.bytes());
         match &self.error {
-            Some(error) if filled == 0 => Err(self.wrong(format!("byte {}: {error}", self.at))),
+            Some(error) if filled == 0 => Err(self.wrong(self.failed(error))),
             _ => Ok(filled),
+        }
+    }
+
+    fn failed(&self, error: &io::Error) -> String {
+        match self.packed {
+            true => format!("byte {} of what gzip packed: {error}", self.at),
+            false => format!("byte {}: {error}", self.at),
         }
     }
 
@@ -97,14 +150,13 @@ impl Source {
         self.at
     }
 
+    /// The input's first bytes, as far as they are read.
+    pub fn begin(&self) -> &[u8] {
+        &self.begin
+    }
+
     /// A failure that names this input.
     pub fn wrong(&self, text: String) -> Failure {
         Failure::Wrong(format!("{}: {text}", self.name))
-    }
-}
-
-impl Drop for Source {
-    fn drop(&mut self) {
-        self.bar.finish_and_clear();
     }
 }

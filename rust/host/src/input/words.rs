@@ -3,6 +3,7 @@
 //! remark to the line's end.
 
 use crate::common::failure::{Failure, Outcome};
+use crate::input::looks::{self, Looks};
 use crate::input::numbers;
 use crate::input::source::{Source, PIECE};
 
@@ -52,6 +53,15 @@ impl Words {
 
     pub fn name(&self) -> &str {
         &self.source.name
+    }
+
+    /// What to try where these are no words at all.
+    pub fn hint(&self) -> Option<String> {
+        let wanted = match self.text {
+            Some(_) => Looks::Hex,
+            None => Looks::Words,
+        };
+        looks::hint(self.source.begin(), wanted)
     }
 
     /// The next words, none at the input's end. Where the input fails, the words
@@ -104,7 +114,7 @@ impl Words {
     }
 
     /// All words, of an input that is known to have few.
-    pub fn all(mut self) -> Outcome<Vec<u32>> {
+    pub fn all(&mut self) -> Outcome<Vec<u32>> {
         let mut all = Vec::new();
         loop {
             match self.piece()? {

@@ -1,6 +1,7 @@
 //! The forms of `replay`: a table of the days, and JSON; also what `score` tells of a
 //! log beside its score.
 
+use crate::common::digits::Digits;
 use crate::common::failure::Outcome;
 use crate::common::names;
 use crate::common::text;
@@ -8,17 +9,22 @@ use crate::explain::cause::Refused;
 use crate::replay::log::{Log, RefusedAt, RECORD};
 use boundary::Part;
 use serde_json::{json, Value};
-use std::io::Write;
+use std::io::{self, Write};
 
 /// A line for what ended before the first midnight, for each day and for all of
 /// it; then how the log ends and what was refused.
-pub fn table(log: &Log, out: &mut dyn Write) -> Outcome {
-    writeln!(out, "{:>10}  {:>10}  {:>17}", "day", "runs", "claimed")?;
-    line(out, "before", log.replay.before())?;
-    for day in log.replay.days() {
-        line(out, &day.number.to_string(), day.part)?;
+pub fn table(log: &Log, digits: Digits, out: &mut dyn Write) -> Outcome {
+    let mut rows = vec![["day", "runs", "claimed"].map(String::from)];
+    let total = ("total".to_string(), total(log));
+    for (name, part) in parts(log).chain([total]) {
+        rows.push([name, digits.of(part.runs), digits.of(part.claims)]);
     }
-    line(out, "total", total(log))?;
+    let width = |place: usize| rows.iter().map(|row| row[place].len()).max();
+    let [a, b, c] =
+        [(0, 10), (1, 10), (2, 17)].map(|(place, least)| width(place).unwrap_or(least).max(least));
+    for [name, runs, claimed] in &rows {
+        writeln!(out, "{name:>a$}  {runs:>b$}  {claimed:>c$}")?;
+    }
     writeln!(
         out,
         "{}: {}, {}",
@@ -32,9 +38,32 @@ pub fn table(log: &Log, out: &mut dyn Write) -> Outcome {
     Ok(())
 }
 
-fn line(out: &mut dyn Write, name: &str, part: Part) -> Outcome {
-    writeln!(out, "{name:>10}  {:>10}  {:>17}", part.runs, part.claims)?;
+/// What ended before the first midnight and each day, by their names.
+fn parts(log: &Log) -> impl Iterator<Item = (String, Part)> + '_ {
+    let days = log.replay.days();
+    let days = days
+        .into_iter()
+        .map(|day| (day.number.to_string(), day.part));
+    std::iter::once(("before".to_string(), log.replay.before())).chain(days)
+}
+
+/// A head and a row for what ended before the first midnight and for each day. The
+/// rows have no place for what is told below the table: it goes to standard error.
+pub fn csv(log: &Log, out: &mut dyn Write) -> Outcome {
+    writeln!(out, "day,runs,claimed")?;
+    for (name, part) in parts(log) {
+        writeln!(out, "{name},{},{}", part.runs, part.claims)?;
+    }
+    out.flush()?;
+    tell_notes(log);
     Ok(())
+}
+
+/// The notes on standard error. Where that is closed, the rows must do.
+fn tell_notes(log: &Log) {
+    for note in notes(log) {
+        let _ = writeln!(io::stderr(), "{note}");
+    }
 }
 
 fn total(log: &Log) -> Part {
@@ -60,19 +89,26 @@ pub fn notes(log: &Log) -> Vec<String> {
             "  the replay is stopped, {after} after it not taken"
         ));
     }
-    if let Some((name, taken, due)) = open(log) {
-        lines.push(format!(
-            "ends inside {name}: {taken} of its {due} parameters taken"
-        ));
-    }
-    let unfinished = log.replay.status().unfinished;
-    if unfinished > 0 {
-        let record = log.records();
-        lines.push(format!(
-            "ends inside record {record}: {unfinished} of its {RECORD} bytes, counted nowhere"
-        ));
-    }
+    lines.extend(open_command(log));
+    lines.extend(unfinished_record(log));
     lines
+}
+
+/// How the log's end cuts a command.
+pub fn open_command(log: &Log) -> Option<String> {
+    let (name, taken, due) = open(log)?;
+    Some(format!(
+        "ends inside {name}: {taken} of its {due} parameters taken"
+    ))
+}
+
+/// How the log's end cuts a record.
+pub fn unfinished_record(log: &Log) -> Option<String> {
+    let unfinished = log.replay.status().unfinished;
+    let record = log.records();
+    (unfinished > 0).then(|| {
+        format!("ends inside record {record}: {unfinished} of its {RECORD} bytes, counted nowhere")
+    })
 }
 
 /// The open command at the end: its name, parameters taken, parameters due.

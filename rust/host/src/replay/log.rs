@@ -3,8 +3,10 @@
 
 use crate::common::failure::Outcome;
 use crate::explain::cause::{self, Refused};
+use crate::input::looks::{self, Looks};
 use crate::input::source::{Source, PIECE};
 use boundary::{LogStatus, Replay};
+use sha2::{Digest, Sha256};
 use std::fmt;
 
 /// The bytes of a record.
@@ -47,6 +49,10 @@ pub struct Log {
     pub word: Option<RefusedAt>,
     /// The byte that stopped the replay.
     pub stop: Option<RefusedAt>,
+    /// Takes in the bytes read, where their digest is wanted.
+    digest: Option<Sha256>,
+    /// The first bytes of the first input.
+    begin: Vec<u8>,
     /// The end of what was read before the piece at hand.
     tail: Vec<u8>,
 }
@@ -60,8 +66,24 @@ impl Log {
             taken: 0,
             word: None,
             stop: None,
+            digest: None,
+            begin: Vec::new(),
             tail: Vec::new(),
         }
+    }
+
+    /// A log whose SHA-256 is wanted.
+    pub fn with_digest() -> Log {
+        Log {
+            digest: Some(Sha256::new()),
+            ..Log::new()
+        }
+    }
+
+    /// The SHA-256 of all bytes read, in hex.
+    pub fn digest(&self) -> Option<String> {
+        let bytes = self.digest.clone()?.finalize();
+        Some(bytes.iter().map(|byte| format!("{byte:02x}")).collect())
     }
 
     /// Reads all inputs, one behind the other. Where one fails on the way, what
@@ -78,13 +100,24 @@ impl Log {
                     count => self.piece(&room[..count]),
                 }
             }
+            if place == 0 {
+                self.begin = source.begin().to_vec();
+            }
         }
         Ok(())
+    }
+
+    /// What to try where this is no log at all.
+    pub fn hint(&self) -> Option<String> {
+        looks::hint(&self.begin, Looks::Log)
     }
 
     fn piece(&mut self, piece: &[u8]) {
         if self.stop.is_none() {
             self.feed(piece);
+        }
+        if let Some(digest) = &mut self.digest {
+            digest.update(piece);
         }
         self.bytes += piece.len() as u64;
     }

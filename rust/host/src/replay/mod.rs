@@ -3,6 +3,7 @@
 pub mod days;
 pub mod log;
 
+use crate::common::digits::Digits;
 use crate::common::failure::{Failure, Outcome};
 use crate::input::source::Source;
 use crate::replay::log::Log;
@@ -19,6 +20,7 @@ a word was refused: the days go on, but later words add nothing.
 Examples, from the repository's root:
   egretfold replay samples/three-days.log
   egretfold replay --json samples/refused.log
+  egretfold replay --csv samples/three-days.log
   head -c 98 samples/three-days.log | egretfold replay -";
 
 #[derive(Args)]
@@ -26,21 +28,28 @@ pub struct Options {
     /// The log; several files in their order are one log; standard input for - or where none is given
     files: Vec<PathBuf>,
     /// One JSON object a part and for the whole, a line each
-    #[arg(long)]
+    #[arg(long, conflicts_with = "csv")]
     json: bool,
+    /// One row of comma-separated values a part
+    #[arg(long)]
+    csv: bool,
+    /// Large numbers without commas between their digits
+    #[arg(long, conflicts_with_all = ["json", "csv"])]
+    plain: bool,
 }
 
 pub fn run(options: &Options, out: &mut dyn Write) -> Outcome {
     let mut log = Log::new();
     let ended = log.read(Source::open_all(&options.files)?);
-    match options.json {
-        true => days::json(&log, out)?,
-        false => days::table(&log, out)?,
+    match (options.json, options.csv) {
+        (true, _) => days::json(&log, out)?,
+        (_, true) => days::csv(&log, out)?,
+        _ => days::table(&log, Digits::plain(options.plain), out)?,
     }
     ended?;
     // What stopped the replay tells more than a word that it went on after.
     match log.stop.as_ref().or(log.word.as_ref()) {
-        Some(refused) => Err(Failure::Refused(log.complaint(refused))),
+        Some(refused) => Err(Failure::Refused(log.complaint(refused)).hinted(log.hint())),
         None => Ok(()),
     }
 }

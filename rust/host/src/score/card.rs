@@ -1,33 +1,39 @@
 //! The card: a month as people read it.
 
+use crate::common::digits::Digits;
 use crate::common::failure::Outcome;
-use crate::common::text;
-use crate::replay::days;
 use crate::score::month::{filled, Day, Score};
 use std::io::Write;
 
 /// Characters of a bar.
 const BAR: usize = 20;
 
-/// A heading, a row a day, the totals and the verdict; then what was refused and
-/// what the log's end cuts, since these explain a short month.
-pub fn text(score: &Score, out: &mut dyn Write) -> Outcome {
+/// A heading, a row a day and the totals, what to check before the card is sent, and
+/// the verdict.
+pub fn text(score: &Score, digits: Digits, out: &mut dyn Write) -> Outcome {
     writeln!(out, "score of {}", score.log_name())?;
-    writeln!(out, "{}", lease(score))?;
+    if let Some(whose) = score.issue.whose() {
+        writeln!(out, "{whose}")?;
+    }
+    writeln!(out, "{}", lease(score, digits))?;
     writeln!(out)?;
-    for line in table(score) {
+    for line in table(score, digits) {
         writeln!(out, "{line}")?;
     }
     writeln!(out)?;
-    writeln!(out, "{}", score.verdict())?;
-    for note in days::notes(score.log) {
-        writeln!(out, "{note}")?;
+    if !score.checks.is_empty() {
+        writeln!(out, "check before sending:")?;
+        for check in &score.checks {
+            writeln!(out, "  {}", check.text)?;
+        }
+        writeln!(out)?;
     }
+    writeln!(out, "{}", score.verdict())?;
     Ok(())
 }
 
 /// The lease line in words.
-fn lease(score: &Score) -> String {
+fn lease(score: &Score, digits: Digits) -> String {
     let lease = &score.lease;
     let (first, last) = (lease.first_day(), lease.last_day());
     let days = match lease.days() {
@@ -39,7 +45,10 @@ fn lease(score: &Score) -> String {
         Some((first, last)) => format!(" ({first} to {last})"),
         None => String::new(),
     };
-    let owed = text::count(u64::from(lease.owed()), "element");
+    let owed = match lease.owed() {
+        1 => "1 element".to_string(),
+        owed => format!("{} elements", digits.of(u64::from(owed))),
+    };
     format!("lease of {days}{dates}, {owed} owed a day")
 }
 
@@ -51,13 +60,13 @@ struct Row {
 
 /// The rows, each column as wide as it must be: numbers to the right, dates to the
 /// left.
-fn table(score: &Score) -> Vec<String> {
+fn table(score: &Score, digits: Digits) -> Vec<String> {
     let mut rows = vec![Row {
         columns: ["day", "date", "claimed", "served", "owed"].map(String::from),
         behind: "served of owed".to_string(),
     }];
-    rows.extend(score.days.iter().map(row));
-    rows.push(total(score));
+    rows.extend(score.days.iter().map(|day| row(day, digits)));
+    rows.push(total(score, digits));
     let width = |place: usize| rows.iter().map(|row| row.columns[place].len()).max();
     let [a, b, c, d, e] = [0, 1, 2, 3, 4].map(|place| width(place).unwrap_or(0));
     let dated = score.dates().is_some();
@@ -73,7 +82,7 @@ fn table(score: &Score) -> Vec<String> {
     rows.iter().map(line).collect()
 }
 
-fn row(day: &Day) -> Row {
+fn row(day: &Day, digits: Digits) -> Row {
     let dark = if day.is_dark() { "  dark" } else { "" };
     let absent = match day.in_log {
         true => "",
@@ -83,26 +92,29 @@ fn row(day: &Day) -> Row {
         columns: [
             day.number.to_string(),
             day.date.map_or(String::new(), |date| date.to_string()),
-            day.claimed.to_string(),
-            day.served.to_string(),
-            day.owed.to_string(),
+            digits.of(day.claimed),
+            digits.of(day.served),
+            digits.of(day.owed),
         ],
         behind: bar(day.served, day.owed) + dark + absent,
     }
 }
 
-fn total(score: &Score) -> Row {
+fn total(score: &Score, digits: Digits) -> Row {
     let claimed: u64 = score.days.iter().map(|day| day.claimed).sum();
     let (served, owed) = (score.month.served, score.month.owed);
     Row {
         columns: [
             "total".to_string(),
             String::new(),
-            claimed.to_string(),
-            served.to_string(),
-            owed.to_string(),
+            digits.of(claimed),
+            digits.of(served),
+            digits.of(owed),
         ],
-        behind: bar(served, owed),
+        behind: match score.percent() {
+            Some(percent) => format!("{}  {percent}", bar(served, owed)),
+            None => bar(served, owed),
+        },
     }
 }
 

@@ -1,6 +1,7 @@
 //! Dates of the civil (Gregorian) calendar, from 0001-01-01 to 9999-12-31.
 
 use std::fmt;
+use std::time::{SystemTime, UNIX_EPOCH};
 
 const LAST_YEAR: u32 = 9999;
 
@@ -58,6 +59,33 @@ impl Date {
             number.filter(|_| plain).ok_or_else(wrong)
         };
         Date::of(number(year, 4)?, number(month, 2)?, number(day, 2)?)
+    }
+
+    /// The date of this moment, UTC.
+    pub fn today() -> Date {
+        let seconds = match SystemTime::now().duration_since(UNIX_EPOCH) {
+            Ok(since) => since.as_secs(),
+            // A clock that is set before 1970.
+            Err(_) => 0,
+        };
+        Date::since_1970(seconds / (24 * 60 * 60))
+    }
+
+    /// The date so many days after 1970-01-01, or the last one.
+    fn since_1970(days: u64) -> Date {
+        let begin = Date {
+            year: 1970,
+            month: 1,
+            day: 1,
+        };
+        let mut date = begin;
+        for _ in 0..days {
+            match date.next() {
+                Some(next) => date = next,
+                None => break,
+            }
+        }
+        date
     }
 
     fn of(year: u32, month: u32, day: u32) -> Result<Date, String> {
@@ -209,6 +237,19 @@ mod tests {
         }
         assert_eq!(at, date("9999-12-31"));
         assert_eq!(days, 25 * 146_097 - 366);
+    }
+
+    #[test]
+    fn days_since_1970_are_dates() {
+        for (days, text) in [
+            (0, "1970-01-01"),
+            (59, "1970-03-01"),
+            (11_016, "2000-02-29"),
+            (20_575, "2026-05-02"),
+            (u64::MAX >> 20, "9999-12-31"),
+        ] {
+            assert_eq!(Date::since_1970(days), date(text));
+        }
     }
 
     #[test]

@@ -2,7 +2,9 @@
 
 use crate::common::text;
 use crate::replay::log::Log;
+use crate::score::checks::{self, Check};
 use crate::score::civil::Date;
+use crate::score::issue::Issue;
 use boundary::{Lease, Month, ScoredDay, Verdict};
 
 /// A month, its lease and the log that it is of.
@@ -11,6 +13,9 @@ pub struct Score<'a> {
     pub log: &'a Log,
     pub month: Month,
     pub days: Vec<Day>,
+    /// What to look at before the card is sent.
+    pub checks: Vec<Check>,
+    pub issue: Issue,
 }
 
 /// A day of the lease.
@@ -52,7 +57,13 @@ impl Day {
 impl<'a> Score<'a> {
     /// The product's month, with what is known of its days besides: a date for each or
     /// for none, and which of them the log has.
-    pub fn new(lease: Lease, dates: Vec<Option<Date>>, month: Month, log: &'a Log) -> Score<'a> {
+    pub fn new(
+        lease: Lease,
+        dates: Vec<Option<Date>>,
+        month: Month,
+        log: &'a Log,
+        issue: Issue,
+    ) -> Score<'a> {
         let ends = log.replay.status().days;
         let in_log = |number| ends.map_or(false, |(first, last)| first <= number && number <= last);
         let day = |(day, date): (&ScoredDay, Option<Date>)| Day {
@@ -63,12 +74,15 @@ impl<'a> Score<'a> {
             owed: u64::from(lease.owed()),
             in_log: in_log(day.number),
         };
-        let days = month.days.iter().zip(dates).map(day).collect();
+        let days: Vec<Day> = month.days.iter().zip(dates).map(day).collect();
+        let checks = checks::all(log, &lease, &days);
         Score {
             lease,
             log,
             month,
             days,
+            checks,
+            issue,
         }
     }
 
@@ -85,13 +99,7 @@ impl<'a> Score<'a> {
 
     /// The log by its inputs' names.
     pub fn log_name(&self) -> String {
-        match self.log.inputs.as_slice() {
-            [(name, _)] => name.clone(),
-            [(first, _), .., (last, _)] => {
-                format!("{first} to {last}, {} inputs", self.log.inputs.len())
-            }
-            [] => String::new(),
-        }
+        log_name(self.log, |name| name.to_string())
     }
 
     /// What the month is called, in the request's words.
@@ -112,14 +120,55 @@ impl<'a> Score<'a> {
             Verdict::Full => format!("{name}: each of the {days} days is served in full"),
             Verdict::NothingOwed => format!("{name}: no day of the lease owes an element"),
             Verdict::Short => format!(
-                "{name}: of {}, {} served in full, {} in part, {} dark",
+                "{name}: of {}, {} served in full, {} in part, {} dark{}",
                 text::count(days as u64, "day"),
                 self.count(Served::InFull),
                 self.count(Served::InPart),
                 self.count(Served::Dark),
+                self.explained(),
             ),
         }
     }
+
+    /// Where a check explains a short month, the verdict says so.
+    fn explained(&self) -> String {
+        let explains: Vec<&str> = self
+            .checks
+            .iter()
+            .filter_map(|check| check.explains)
+            .collect();
+        match explains.is_empty() {
+            true => String::new(),
+            false => format!("; this may be because {}", explains.join(" and ")),
+        }
+    }
+
+    /// The part of what is owed that is served, in percent.
+    pub fn percent(&self) -> Option<String> {
+        percent(self.month.served, self.month.owed)
+    }
+}
+
+/// The log by its inputs' names, each as this gives it.
+pub fn log_name(log: &Log, shown: impl Fn(&str) -> String) -> String {
+    match log.inputs.as_slice() {
+        [(name, _)] => shown(name),
+        [(first, _), .., (last, _)] => {
+            let (first, last) = (shown(first), shown(last));
+            format!("{first} to {last}, {} inputs", log.inputs.len())
+        }
+        [] => String::new(),
+    }
+}
+
+/// A part in percent with two places, cut down, so that only all of it is 100; none
+/// where nothing is owed.
+fn percent(served: u64, owed: u64) -> Option<String> {
+    if served == owed && owed > 0 {
+        return Some("100 %".to_string());
+    }
+    let hundredths = (served * 10_000).checked_div(owed)?;
+    Some(format!("{}.{:02} %", hundredths / 100, hundredths % 100))
 }
 
 /// How much of a bar's width the served part of what is owed fills: all of it only
@@ -134,7 +183,23 @@ pub fn filled(served: u64, owed: u64, width: u64, least: u64) -> u64 {
 
 #[cfg(test)]
 mod tests {
-    use super::filled;
+    use super::{filled, percent};
+
+    #[test]
+    fn a_percentage_is_cut_down_and_only_all_of_it_is_100() {
+        const MOST: u64 = 31 * 100_000_000;
+        for (served, owed, text) in [
+            (0, 0, None),
+            (0, MOST, Some("0.00 %")),
+            (1, MOST, Some("0.00 %")),
+            (1, 3, Some("33.33 %")),
+            (2, 3, Some("66.66 %")),
+            (MOST - 1, MOST, Some("99.99 %")),
+            (MOST, MOST, Some("100 %")),
+        ] {
+            assert_eq!(percent(served, owed).as_deref(), text);
+        }
+    }
 
     #[test]
     fn only_all_of_it_fills_a_bar_and_the_least_of_it_shows() {

@@ -5,6 +5,7 @@ use crate::common::failure::Outcome;
 use crate::explain::cause::Refused;
 use crate::replay::days;
 use crate::replay::log::Log;
+use crate::score::checks::Check;
 use crate::score::month::{Score, Served};
 use crate::score::LeaseLine;
 use serde_json::{json, Value};
@@ -25,8 +26,13 @@ pub fn json(score: &Score, line: &LeaseLine, out: &mut dyn Write) -> Outcome {
         writeln!(out, "{value}")?;
     }
     let mut summary = summary(line, Value::Null);
+    score.issue.put(&mut summary);
+    summary["sha256"] = json!(score.log.digest());
+    let checks: Vec<Value> = score.checks.iter().map(Check::json).collect();
+    summary["checks"] = json!(checks);
     summary["served"] = json!(score.month.served);
     summary["owed"] = json!(score.month.owed);
+    summary["percent"] = json!(score.percent());
     summary["verdict"] = json!(score.verdict_name());
     summary["full_days"] = json!(score.count(Served::InFull));
     summary["part_days"] = json!(score.count(Served::InPart));
@@ -63,12 +69,15 @@ fn summary(line: &LeaseLine, refusal: Value) -> Value {
 /// A head and a row a day; numbers and dates need no quotes.
 pub fn csv(score: &Score, out: &mut dyn Write) -> Outcome {
     let date = score.dates().map_or("", |_| "date,");
-    writeln!(out, "day,{date}claimed,served,owed,dark")?;
+    writeln!(out, "day,{date}claimed,served,owed,dark,in_log")?;
     for day in &score.days {
         let date = day.date.map_or(String::new(), |date| format!("{date},"));
         let (claimed, served, owed) = (day.claimed, day.served, day.owed);
-        let dark = day.is_dark();
-        writeln!(out, "{},{date}{claimed},{served},{owed},{dark}", day.number)?;
+        let (number, dark, in_log) = (day.number, day.is_dark(), day.in_log);
+        writeln!(
+            out,
+            "{number},{date}{claimed},{served},{owed},{dark},{in_log}"
+        )?;
     }
     Ok(())
 }

@@ -9,7 +9,7 @@ use compare::{loops, programs, words};
 const TOLD: &[(&str, &str)] = &[
     (
         "C0038000",
-        "word 0: refused 2, header C0038000 stands in no line of the command table",
+        "word 0: refused 2, header C0038000 stands in no line of the command table: the guide's word for set_domain is C0030700",
     ),
     (
         "C0000900 2",

@@ -17,7 +17,7 @@ const CASES: &[(&str, &str, &str)] = &[
     ),
     (
         "score-json",
-        "score samples/station-14.log --first-day 101 --days 30 --owed 14000000 --from 2026-04-01 --json",
+        "score samples/station-14.log --first-day 101 --days 30 --owed 14000000 --from 2026-04-01 --json --issued 2026-05-02",
         "",
     ),
     (
@@ -67,7 +67,7 @@ const CASES: &[(&str, &str, &str)] = &[
     ),
     (
         "score-unfinished-json",
-        "score - --first-day 101 --days 1 --owed 1 --json",
+        "score - --first-day 101 --days 1 --owed 1 --json --issued 2026-05-02",
         "\u{2}\u{65}\0\0\0\u{1}\u{7}\0\0\0\u{1}\0",
     ),
     (
@@ -168,6 +168,8 @@ const CASES: &[(&str, &str, &str)] = &[
         "replay samples/three-days.log samples/refused.log",
         "",
     ),
+    ("replay-csv", "replay --csv samples/three-days.log", ""),
+    ("replay-plain", "replay --plain samples/station-14.log", ""),
     ("replay-nothing", "replay", ""),
     ("replay-folder", "replay samples/three-days.log samples", ""),
     ("replay-kind", "replay -", "\u{1}\0\u{9}\0\0\u{7}more"),
@@ -192,6 +194,8 @@ const CASES: &[(&str, &str, &str)] = &[
         "64,0 # C4\n0 32\n\n",
     ),
     ("tile", "tile --size 2 --column 1 --row 1", ""),
+    ("tile-mark", "tile --size 4 --mark 37,18", ""),
+    ("tile-json", "tile --size 16 --mark 15,7 --json", ""),
     ("tile-size", "tile --size 3", ""),
     ("tile-outside", "tile --size 16 --column 256", ""),
     (
@@ -206,12 +210,12 @@ const CASES: &[(&str, &str, &str)] = &[
     ),
     (
         "address-window",
-        "address --pitch 28 --height 1 --size 4 --tiled 0,0",
+        "address --pitch 28 --height 1 --size 4 --tiled --work 0,0",
         "",
     ),
     (
         "address-top",
-        "address --base FFFFF800 --pitch 8 --height 65 --size 4 0,0",
+        "address --base FFFFF800 --pitch 8 --height 65 --size 4 --work 0,0",
         "",
     ),
     (
@@ -440,7 +444,7 @@ const CASES: &[(&str, &str, &str)] = &[
 const PICTURES: &[(&str, &str)] = &[
     (
         "station-14",
-        "samples/station-14.log --first-day 101 --days 30 --owed 14000000 --from 2026-04-01",
+        "samples/station-14.log --first-day 101 --days 30 --owed 14000000 --from 2026-04-01 --station 14 --lessee Harbour",
     ),
     (
         "full-month",
@@ -454,6 +458,10 @@ const PICTURES: &[(&str, &str)] = &[
         "without-dates",
         "samples/station-14.log --first-day 95 --days 12 --owed 15000000",
     ),
+    (
+        "refused",
+        "samples/damaged.log --first-day 101 --days 30 --owed 14000000 --from 2026-04-01 --station 14 --lessee Harbour",
+    ),
 ];
 
 #[test]
@@ -463,8 +471,9 @@ fn the_pictures_are_as_stored() {
     let drawn = Folder::new("pictures");
     for (name, arguments) in PICTURES {
         let is = drawn.0.join(format!("{name}.svg"));
-        egretfold(&format!("score {arguments} --svg {}", is.display()), b"");
-        let is = fs::read_to_string(is).expect("the picture is there");
+        let svg = format!("--issued 2026-05-02 --svg {}", is.display());
+        egretfold(&format!("score {arguments} {svg}"), b"");
+        let is = without_version(&fs::read_to_string(is).expect("the picture is there"));
         let file = folder.join(format!("{name}.svg"));
         if renew {
             fs::write(&file, &is).expect("the file is written");
@@ -513,10 +522,19 @@ fn every_file_has_its_case(folder: &Path) {
 fn seen(arguments: &str, input: &str) -> String {
     let output = egretfold(arguments, input.as_bytes());
     let status = output.status.code().expect("it ends by itself");
-    format!(
+    let seen = format!(
         "$ {}\n{}{}exit status {status}\n",
         format!("egretfold {arguments}").trim_end(),
         told(&output),
         complained(&output)
-    )
+    );
+    without_version(&seen)
+}
+
+/// The text without the commit that the command is built from, which no stored file can
+/// know.
+fn without_version(text: &str) -> String {
+    let version = told(&egretfold("--version", b""));
+    let version = version.trim().trim_start_matches("egretfold ");
+    text.replace(version, "VERSION")
 }

@@ -1,11 +1,15 @@
 //! The command `egretfold` run as a user runs it: its outputs held against stored
-//! ones, its command line, streams there and back, logs over midnight, months scored, the
-//! working by hand, and the examples of the documents.
+//! ones, its command line, streams there and back, logs over midnight, months scored and
+//! their cards, the working by hand, what a desk meets beside the answers, hostile lines and inputs,
+//! and the examples of the documents.
 
+mod card;
 mod causes;
 mod common;
+mod desk;
 mod examples;
 mod golden;
+mod hostile;
 mod program;
 mod replay;
 mod round_trip;

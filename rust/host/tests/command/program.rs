@@ -7,8 +7,18 @@ use std::fs;
 use std::io::Write;
 use std::process::{Command, Stdio};
 
-const SUBCOMMANDS: [&str; 9] = [
-    "score", "decode", "encode", "replay", "address", "locate", "tile", "flow", "explain",
+const SUBCOMMANDS: [&str; 11] = [
+    "score",
+    "decode",
+    "encode",
+    "replay",
+    "address",
+    "locate",
+    "tile",
+    "flow",
+    "explain",
+    "completions",
+    "manual",
 ];
 
 #[test]

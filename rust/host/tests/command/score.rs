@@ -109,8 +109,8 @@ fn the_forms_agree() {
         for (object, row) in objects.iter().zip(&by_rows) {
             let dated = object["date"].is_string();
             let keys: &[&str] = match dated {
-                true => &["day", "date", "claimed", "served", "owed", "dark"],
-                false => &["day", "claimed", "served", "owed", "dark"],
+                true => &["day", "date", "claimed", "served", "owed", "dark", "in_log"],
+                false => &["day", "claimed", "served", "owed", "dark", "in_log"],
             };
             let values: Vec<String> = keys
                 .iter()
@@ -120,18 +120,17 @@ fn the_forms_agree() {
             served += object["served"].as_u64().expect("a number");
         }
         assert_eq!(summary["served"], served);
-        let card = told(&score(log, line));
+        let card = told(&score(log, &format!("{line} --plain")));
         for row in &by_rows {
             let shown = card
                 .lines()
                 .find(|line| line.trim_start().starts_with(&row[0]));
             let shown = shown.expect("a row for each day");
-            let values: Vec<&str> = shown.split_whitespace().take(row.len() - 1).collect();
-            assert_eq!(values, row[..row.len() - 1]);
-            assert_eq!(
-                shown.contains("  dark"),
-                row.last().expect("dark") == "true"
-            );
+            let values: Vec<&str> = shown.split_whitespace().take(row.len() - 2).collect();
+            assert_eq!(values, row[..row.len() - 2]);
+            let [dark, in_log] = [row.len() - 2, row.len() - 1].map(|place| row[place] == "true");
+            assert_eq!(shown.contains("  dark"), dark);
+            assert_eq!(shown.contains("  no midnight in the log"), !in_log);
         }
     }
 }
@@ -238,19 +237,30 @@ fn day_files_in_their_order_are_one_month() {
 #[test]
 fn a_refused_word_and_an_unfinished_record_are_told_and_refuse_nothing() {
     let log = &sample("refused.log")[..143];
-    let notes = "byte 110, record 22, day 102: word refused 4, output number 4 is over 3\n  \
-                 the days go on, 4 words after it without effect\n\
-                 ends inside record 28: 3 of its 5 bytes, counted nowhere\n";
+    let checks = [
+        "byte 110, record 22, day 102: word refused 4, output number 4 is over 3; \
+         the days go on, 4 words after it without effect",
+        "ends inside record 28: 3 of its 5 bytes, counted nowhere",
+    ];
     // What was claimed before it fills this lease.
     let output = egretfold("score --first-day 101 --days 2 --owed 1728", log);
     assert_eq!(output.status.code(), Some(0));
-    let due = format!("\nfull: each of the 2 days is served in full\n{notes}");
+    let [word, record] = checks;
+    let outside = "the log has 1 day outside the lease: 103";
+    let due = format!(
+        "\ncheck before sending:\n  {word}\n  {outside}\n  {record}\n\n\
+         full: each of the 2 days is served in full\n"
+    );
     assert!(told(&output).ends_with(&due), "{}", told(&output));
     assert_eq!(complained(&output), "");
     // And not that one. Rows have no place for it.
     let output = egretfold("score --first-day 101 --days 3 --owed 1728 --csv", log);
     assert_eq!(output.status.code(), Some(3));
-    assert_eq!(complained(&output), notes);
+    let told: String = checks
+        .iter()
+        .map(|check| format!("check before sending: {check}\n"))
+        .collect();
+    assert_eq!(complained(&output), told);
 }
 
 /// A log that can't be read to its end has no score.
@@ -297,7 +307,8 @@ fn a_long_log_takes_no_more_memory() {
     let days = (0..32).map(|day| [midnights(day..day + 1), piece.clone()].concat());
     let (output, kilobytes) = peak_on("score - --first-day 0 --days 31 --owed 1", days);
     assert!(kilobytes < 16 << 10, "{kilobytes} kB for 32 MB of records");
-    assert!(told(&output).ends_with("\nshort: of 31 days, 0 served in full, 0 in part, 31 dark\n"));
+    let due = "\n  the log has 1 day outside the lease: 31\n\nshort: of 31 days, 0 served in full, 0 in part, 31 dark\n";
+    assert!(told(&output).ends_with(due), "{}", told(&output));
 }
 
 /// The picture of April into this file.
@@ -376,17 +387,11 @@ fn a_picture_that_cannot_be_written_leaves_the_earlier_one() {
     assert!(complained(&output).starts_with(&format!("egretfold: {earlier}: ")));
     assert_eq!(fs::read(&earlier).expect("it is there"), b"<svg earlier");
     assert_eq!(fs::read_dir(&folder.0).expect("the folder").count(), 1);
-    // A refused log draws nothing over an earlier picture.
-    let folder = Folder::new("score-kept");
-    let earlier = folder.write("kept.svg", b"<svg earlier");
-    let line = format!("{APRIL} --svg {earlier}");
-    assert_eq!(score("samples/damaged.log", &line).status.code(), Some(1));
-    assert_eq!(fs::read(&earlier).expect("it is there"), b"<svg earlier");
 }
 
 /// Walks through the elements: names that open and close, attributes in quotes, and
 /// no `<` or bare `&` elsewhere. Gives how many elements there are.
-fn well_formed(text: &str) -> usize {
+pub fn well_formed(text: &str) -> usize {
     let mut open: Vec<&str> = Vec::new();
     let mut count = 0;
     for part in text.split('<').skip(1) {

@@ -54,7 +54,7 @@ fn every_byte_of_a_window_is_worked_as_it_is_located() {
         let output = egretfold(&line, addresses.as_bytes());
         let answers = told(&output)
             .lines()
-            .filter(|line| line.contains("\"work\""))
+            .filter(|line| line.contains("\"place\":") && line.contains("\"work\""))
             .count();
         let refused = told(&output)
             .lines()

@@ -1,5 +1,6 @@
 //! A day's cell in the picture of a month.
 
+use crate::common::digits::grouped;
 use crate::score::month::{filled, Day, Served};
 use crate::score::picture::svg::{Drawing, Style, FULL, INK, PALE_INK, PAPER, PART};
 
@@ -139,36 +140,5 @@ pub fn mark(drawing: &mut Drawing, kind: Served, (x, y): (u32, u32)) {
             drawing.path(&cross, &white);
         }
         Served::NothingOwed => {}
-    }
-}
-
-/// Digits in groups of three.
-pub fn grouped(number: u64) -> String {
-    let digits = number.to_string();
-    let mut text = String::new();
-    for (place, digit) in digits.chars().enumerate() {
-        if place > 0 && (digits.len() - place) % 3 == 0 {
-            text.push(',');
-        }
-        text.push(digit);
-    }
-    text
-}
-
-#[cfg(test)]
-mod tests {
-    use super::grouped;
-
-    #[test]
-    fn digits_stand_in_groups_of_three() {
-        for (number, text) in [
-            (0, "0"),
-            (999, "999"),
-            (1_000, "1,000"),
-            (14_000_000, "14,000,000"),
-            (u64::MAX, "18,446,744,073,709,551,615"),
-        ] {
-            assert_eq!(grouped(number), text);
-        }
     }
 }

@@ -1,17 +1,13 @@
-//! A file that is written whole or not at all: beside its place, then put there.
+//! A picture's file: new, or in place of an earlier picture.
 
-use crate::common::failure::{Failure, Outcome};
-use std::fs::{self, File, OpenOptions};
+use crate::common::failure::Outcome;
+use crate::common::file::{Place, Stands};
+use std::fs::File;
 use std::io::{self, Read, Write};
 use std::path::{Path, PathBuf};
-use std::process;
 
-/// A picture's file, new or in place of an earlier picture.
 pub struct Replaced {
-    /// As the user named it.
     name: PathBuf,
-    /// The same, or what a link by that name leads to.
-    path: PathBuf,
 }
 
 /// How a picture of ours begins.
@@ -21,53 +17,31 @@ impl Replaced {
     /// A place for a picture. A file that stands there is replaced only if it is a
     /// picture itself, so that a name in the wrong place costs no log.
     pub fn new(name: &Path) -> Outcome<Replaced> {
-        let wrong = |error| failed(name, error);
-        let path = match fs::metadata(name) {
-            Ok(about) if !about.is_file() => return Err(failed(name, "is no file")),
-            Ok(_) => {
-                if !is_picture(name).map_err(wrong)? {
-                    let is = "stands there and is no SVG picture; it is left as it is";
-                    return Err(failed(name, is));
-                }
-                fs::canonicalize(name).map_err(wrong)?
-            }
-            Err(error) if error.kind() == io::ErrorKind::NotFound => name.to_path_buf(),
-            Err(error) => return Err(wrong(error)),
-        };
-        Ok(Replaced {
+        let replaced = Replaced {
             name: name.to_path_buf(),
-            path,
-        })
+        };
+        replaced.place()?;
+        Ok(replaced)
+    }
+
+    fn place(&self) -> Outcome<Place> {
+        let place = Place::of(&self.name)?;
+        match place.stands {
+            Stands::Special => Err(place.failed("is no file")),
+            Stands::File if !is_picture(&self.name).map_err(|error| place.failed(error))? => {
+                let is = "stands there and is no SVG picture; it is left as it is";
+                Err(place.failed(is))
+            }
+            Stands::File | Stands::Nothing => Ok(place),
+        }
     }
 
     pub fn write(&self, text: &str) -> Outcome {
-        let wrong = |error| failed(&self.name, error);
-        let beside = self.beside();
-        let new = OpenOptions::new()
-            .write(true)
-            .create_new(true)
-            .open(&beside);
-        let mut file = new.map_err(wrong)?;
+        let mut file = self.place()?.begin()?;
         let written = file.write_all(text.as_bytes());
-        let stored = written.and_then(|()| file.sync_all());
-        let put = stored.and_then(|()| fs::rename(&beside, &self.path));
-        put.map_err(|error| {
-            // What is half written is of no use; that it can't be removed is no news.
-            let _ = fs::remove_file(&beside);
-            wrong(error)
-        })
+        written.map_err(|error| file.failed(error))?;
+        file.put()
     }
-
-    /// A name in the same folder, so that the file can be moved from there at once.
-    fn beside(&self) -> PathBuf {
-        let mut name = self.path.file_name().unwrap_or_default().to_os_string();
-        name.push(format!(".{}.part", process::id()));
-        self.path.with_file_name(name)
-    }
-}
-
-fn failed(name: &Path, what: impl std::fmt::Display) -> Failure {
-    Failure::Wrong(format!("{}: {what}", name.display()))
 }
 
 /// Whether the file is empty or begins as SVG does.

@@ -5,18 +5,24 @@
 
 mod cell;
 pub mod file;
+mod foot;
+mod notice;
 mod svg;
+pub mod unscored;
 
-use crate::replay::days;
-use crate::score::civil::WEEKDAYS;
-use crate::score::month::{Score, Served};
-use crate::score::picture::cell::{bar, grouped};
+use crate::common::digits::grouped;
+use crate::common::text;
+use crate::score::civil::{Date, WEEKDAYS};
+use crate::score::month::{self, Score, Served};
+use crate::score::picture::cell::bar;
 use crate::score::picture::file::BEGIN;
+use crate::score::picture::notice::Notice;
 use crate::score::picture::svg::{Drawing, Style, FULL, INK, PALE_INK, PAPER, PART};
 use boundary::Verdict;
 
-/// Millimetres on paper: within A4 on its side.
+/// Millimetres on paper, at most: within A4 on its side.
 const PAPER_WIDTH: u32 = 260;
+const PAPER_HEIGHT: u32 = 195;
 
 /// The drawing's own units.
 const WIDTH: u32 = 1080;
@@ -27,46 +33,60 @@ const COLUMNS: usize = 7;
 /// From one cell's begin to the next one's.
 const COLUMN: u32 = cell::WIDTH + 6;
 const ROW: u32 = cell::HEIGHT + 6;
-/// Where the first row of cells begins.
-const TOP: u32 = 186;
-/// From one note to the next.
-const NOTE: u32 = 18;
+/// Where the first row of cells begins, below the notice.
+const TOP: u32 = 210;
+/// From the notice to what is below it.
+const GAP: u32 = 8;
 
 const TITLE: Style = Style::of(32, INK).bold();
 const PLAIN: Style = Style::of(15, INK);
 const SMALL: Style = Style::of(12, PALE_INK);
 
 pub fn svg(score: &Score) -> String {
-    let notes = days::notes(score.log);
+    let texts: Vec<String> = score
+        .checks
+        .iter()
+        .map(|check| check.text.clone())
+        .collect();
+    let notice = (!texts.is_empty()).then(|| Notice::new("Check before sending", &texts));
+    // What is to be checked stands above all else.
+    let down = notice
+        .as_ref()
+        .map_or(0, |notice| notice.height() + 2 * GAP);
     // The weekday of the first day, where dates are known.
     let begin = score.dates().map_or(0, |(first, _)| first.weekday());
     let rows = (begin + score.days.len() + COLUMNS - 1) / COLUMNS;
-    let below = TOP + ROW * rows as u32;
-    let height = below + 52 + NOTE * notes.len() as u32;
+    let below = down + TOP + ROW * rows as u32;
+    let height = below + 22 + foot::HEIGHT;
     let mut drawing = Drawing::default();
     drawing.rect((0, 0), (WIDTH, height), &format!(r#"fill="{PAPER}""#));
-    head(&mut drawing, score);
-    weekdays(&mut drawing, score);
+    if let Some(notice) = &notice {
+        notice.draw(&mut drawing, 2 * GAP);
+    }
+    head(&mut drawing, score, down);
+    weekdays(&mut drawing, score, down);
     for (place, day) in score.days.iter().enumerate() {
         let at = begin + place;
         let x = LEFT + COLUMN * (at % COLUMNS) as u32;
-        let y = TOP + ROW * (at / COLUMNS) as u32;
+        let y = down + TOP + ROW * (at / COLUMNS) as u32;
         cell::draw(&mut drawing, day, (x, y), place == 0);
     }
     legend(&mut drawing, score, below + 22);
-    for (place, note) in notes.iter().enumerate() {
-        let y = below + 48 + NOTE * place as u32;
-        drawing.text((LEFT, y), note.trim(), &SMALL.at_most(RIGHT - LEFT));
-    }
-    whole(score, height, &drawing.elements())
+    foot::issue(&mut drawing, &score.issue, score.log.digest(), below + 22);
+    foot::sign(&mut drawing, below + 22);
+    framed(&title(score), &score.verdict(), height, &drawing.elements())
 }
 
 /// The drawing in its frame, with words for those who can't see it.
-fn whole(score: &Score, height: u32, elements: &str) -> String {
-    let paper_height = (PAPER_WIDTH * height + WIDTH / 2) / WIDTH;
-    let title = Drawing::escaped(&title(score));
-    let told = Drawing::escaped(&score.verdict());
-    let size = format!(r#"width="{PAPER_WIDTH}mm" height="{paper_height}mm""#);
+fn framed(title: &str, told: &str, height: u32, elements: &str) -> String {
+    let scaled = |most: u32, of: u32, by: u32| (most * of + by / 2) / by;
+    let (paper_width, paper_height) = match scaled(PAPER_WIDTH, height, WIDTH) {
+        high if high <= PAPER_HEIGHT => (PAPER_WIDTH, high),
+        _ => (scaled(PAPER_HEIGHT, WIDTH, height), PAPER_HEIGHT),
+    };
+    let title = Drawing::escaped(title);
+    let told = Drawing::escaped(told);
+    let size = format!(r#"width="{paper_width}mm" height="{paper_height}mm""#);
     let view = format!(r#"viewBox="0 0 {WIDTH} {height}""#);
     // Common fonts, of which each machine has one.
     let fonts = r#"font-family="DejaVu Sans, Verdana, Arial, Helvetica, sans-serif""#;
@@ -90,11 +110,16 @@ fn whole(score: &Score, height: u32, elements: &str) -> String {
 fn title(score: &Score) -> String {
     match score.dates() {
         Some((first, last)) if (first.year, first.month) == (last.year, last.month) => {
-            format!("{} {}", first.month_name(), first.year)
+            month_of(first)
         }
         Some((first, last)) => format!("{first} to {last}"),
         None => days_of(score),
     }
+}
+
+/// "April 2026".
+pub fn month_of(date: Date) -> String {
+    format!("{} {}", date.month_name(), date.year)
 }
 
 fn days_of(score: &Score) -> String {
@@ -104,40 +129,85 @@ fn days_of(score: &Score) -> String {
     }
 }
 
-/// Title, lease and log on the left, verdict and totals on the right, and a bar of
-/// the whole month below them.
-fn head(drawing: &mut Drawing, score: &Score) {
+/// Title, whose it is, lease and log on the left, verdict, totals and days on the
+/// right, and a bar of the whole month below them; all so far down.
+fn head(drawing: &mut Drawing, score: &Score, down: u32) {
     let owed = grouped(u64::from(score.lease.owed()));
     let lease = match score.dates() {
         Some(_) => format!("{}, {owed} elements owed a day", days_of(score)),
         None => format!("{owed} elements owed a day"),
     };
-    let log = ending(&score.log_name(), 80);
-    drawing.text((LEFT, 58), &title(score), &TITLE);
-    drawing.text((LEFT, 88), &lease, &PLAIN);
-    drawing.text((LEFT, 112), &log, &PLAIN.at_most(580));
-    verdict(drawing, score);
+    let log = format!("Log {}", month::log_name(score.log, file_name));
+    drawing.text((LEFT, down + 58), &title(score), &TITLE);
+    let lines = [score.issue.whose(), Some(lease), Some(log)];
+    for (y, line) in (88..).step_by(24).zip(lines.iter().flatten()) {
+        let style = PLAIN.at_most(580);
+        drawing.text((LEFT, down + y), &within(line, 80), &style);
+    }
+    verdict(drawing, score, down);
     let (served, owed) = (score.month.served, score.month.owed);
     let total = format!("{} of {} elements served", grouped(served), grouped(owed));
-    drawing.text((RIGHT, 112), &total, &PLAIN.bold().to_the_left());
+    let right = PLAIN.to_the_left();
+    drawing.text((RIGHT, down + 112), &total, &right.bold());
+    drawing.text((RIGHT, down + 136), &in_days(score), &right);
     let fill = match score.month.verdict {
         Verdict::Full => FULL,
         _ => PART,
     };
     let size = (RIGHT - LEFT, 12);
-    bar(drawing, (LEFT, 124), size, (served, owed), fill);
+    bar(drawing, (LEFT, down + 148), size, (served, owed), fill);
 }
 
-/// A text, or so many letters of its end.
-fn ending(text: &str, most: usize) -> String {
-    match text.chars().count().checked_sub(most) {
-        Some(over) if over > 0 => format!("…{}", text.chars().skip(over).collect::<String>()),
-        _ => text.to_string(),
+/// "85.08 %: 25 days in full, 1 in part, 4 dark".
+fn in_days(score: &Score) -> String {
+    let percent = match score.percent() {
+        Some(percent) => percent,
+        None => return "nothing owed".to_string(),
+    };
+    let full = text::count(score.count(Served::InFull) as u64, "day");
+    let (part, dark) = (score.count(Served::InPart), score.count(Served::Dark));
+    format!("{percent}: {full} in full, {part} in part, {dark} dark")
+}
+
+/// A file's name without the folders that it is in.
+pub fn file_name(path: &str) -> String {
+    let name = path.rsplit('/').next().unwrap_or(path);
+    within(name, 60)
+}
+
+/// A text, or so many letters of its begin and its end.
+fn within(text: &str, most: usize) -> String {
+    let letters: Vec<char> = text.chars().collect();
+    if letters.len() <= most {
+        return text.to_string();
     }
+    let (begin, end) = (most / 2, letters.len() - (most - most / 2));
+    let (begin, end) = (&letters[..begin], &letters[end..]);
+    begin.iter().chain(&['…']).chain(end).collect()
+}
+
+/// A text in lines of at most so many letters, broken at blanks; a word that is longer
+/// stands in lines of its own.
+fn wrapped(text: &str, most: usize) -> Vec<String> {
+    let mut lines = vec![String::new()];
+    for word in text.split(' ') {
+        let letters: Vec<char> = word.chars().collect();
+        for (place, part) in letters.chunks(most).enumerate() {
+            let line = lines.last().map_or(0, |line| line.chars().count());
+            let fits = place == 0 && line + 1 + part.len() <= most;
+            let part: String = part.iter().collect();
+            match lines.last_mut() {
+                Some(line) if line.is_empty() => *line = part,
+                Some(line) if fits => *line += &format!(" {part}"),
+                _ => lines.push(part),
+            }
+        }
+    }
+    lines
 }
 
 /// The verdict in a frame; only a full month's is filled.
-fn verdict(drawing: &mut Drawing, score: &Score) {
+fn verdict(drawing: &mut Drawing, score: &Score, down: u32) {
     let framed = |look: &str| format!(r#"fill="{PAPER}" stroke="{INK}" {look}"#);
     let (width, ink, look) = match score.month.verdict {
         Verdict::Full => (120, PAPER, format!(r#"fill="{FULL}""#)),
@@ -151,17 +221,17 @@ fn verdict(drawing: &mut Drawing, score: &Score) {
     let x = RIGHT - width;
     let name = score.verdict_name().to_uppercase();
     let style = Style::of(26, ink).bold().in_the_middle();
-    drawing.rect((x, 30), (width, 46), &look);
-    drawing.text((x + width / 2, 62), &name, &style);
+    drawing.rect((x, down + 30), (width, 46), &look);
+    drawing.text((x + width / 2, down + 62), &name, &style);
 }
 
-fn weekdays(drawing: &mut Drawing, score: &Score) {
+fn weekdays(drawing: &mut Drawing, score: &Score, down: u32) {
     if score.dates().is_none() {
         return;
     }
     for (place, name) in WEEKDAYS.iter().enumerate() {
         let x = LEFT + COLUMN * place as u32 + cell::WIDTH / 2;
-        drawing.text((x, TOP - 12), name, &PLAIN.bold().in_the_middle());
+        drawing.text((x, down + TOP - 12), name, &PLAIN.bold().in_the_middle());
     }
 }
 
@@ -186,11 +256,21 @@ fn legend(drawing: &mut Drawing, score: &Score, y: u32) {
 
 #[cfg(test)]
 mod tests {
-    use super::ending;
+    use super::{file_name, within, wrapped};
 
     #[test]
-    fn a_long_name_keeps_its_end() {
-        assert_eq!(ending("station.log", 11), "station.log");
-        assert_eq!(ending("é/station.log", 11), "…station.log");
+    fn a_long_name_keeps_its_begin_and_its_end() {
+        assert_eq!(within("station.log", 11), "station.log");
+        assert_eq!(within("é-station-14.log", 11), "é-sta…14.log");
+        assert_eq!(file_name("/a/b/station.log"), "station.log");
+        assert_eq!(file_name("standard input"), "standard input");
+    }
+
+    #[test]
+    fn long_text_is_broken_at_blanks() {
+        assert_eq!(wrapped("a bc def", 4), ["a bc", "def"]);
+        assert_eq!(wrapped("abcdefghi j", 4), ["abcd", "efgh", "i j"]);
+        assert_eq!(wrapped("a abcdef", 4), ["a", "abcd", "ef"]);
+        assert_eq!(wrapped("", 4), [""]);
     }
 }

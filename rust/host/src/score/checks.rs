@@ -1,0 +1,167 @@
+//! What to look at before a card is sent: a log that isn't the lease's, or isn't
+//! whole, makes a short month that is nobody's fault but the file's.
+
+use crate::common::text;
+use crate::replay::days;
+use crate::replay::log::Log;
+use crate::score::month::Day;
+use boundary::{headers, Lease};
+use serde_json::{json, Value};
+
+pub struct Check {
+    /// For programs.
+    pub key: &'static str,
+    pub text: String,
+    /// What a short month may come from by it.
+    pub explains: Option<&'static str>,
+}
+
+/// All that hold, those first that explain most.
+pub fn all(log: &Log, lease: &Lease, days: &[Day]) -> Vec<Check> {
+    let mut checks = Vec::new();
+    empty(log, &mut checks);
+    covered(log, days, &mut checks);
+    refused(log, days, &mut checks);
+    outside(log, lease, &mut checks);
+    let mut put = |key, text: Option<String>| {
+        let explains = None;
+        checks.extend(text.map(|text| Check {
+            key,
+            text,
+            explains,
+        }));
+    };
+    put("open_command", days::open_command(log));
+    put("unfinished_record", days::unfinished_record(log));
+    checks
+}
+
+impl Check {
+    pub fn json(&self) -> Value {
+        json!({"check": self.key, "text": self.text})
+    }
+}
+
+fn empty(log: &Log, checks: &mut Vec<Check>) {
+    let mut put = |text, explains| {
+        checks.push(Check {
+            key: "empty_input",
+            text,
+            explains,
+        });
+    };
+    if log.bytes == 0 {
+        return put("the log is empty".to_string(), Some("the log is empty"));
+    }
+    // Inputs that begin where the next one does.
+    let ends = log.inputs.iter().skip(1).map(|(_, begin)| *begin);
+    for ((name, begin), end) in log.inputs.iter().zip(ends.chain([log.bytes])) {
+        if *begin == end {
+            put(format!("{name} is empty"), Some("an input is empty"));
+        }
+    }
+}
+
+/// Days of the lease that the log doesn't have.
+fn covered(log: &Log, days: &[Day], checks: &mut Vec<Check>) {
+    let (first, last) = match log.replay.status().days {
+        Some(ends) => ends,
+        None => {
+            return checks.push(Check {
+                key: "no_midnight",
+                text: "the log has no midnight at all, so it covers no day".to_string(),
+                // An empty one is explained by that.
+                explains: (log.bytes > 0).then_some("the log has no midnight"),
+            });
+        }
+    };
+    let among = days.iter().filter(|day| day.in_log).count();
+    if among == days.len() {
+        return;
+    }
+    let covers = match first == last {
+        true => format!("day {first}"),
+        false => format!("days {first} to {last}"),
+    };
+    let due = days.len();
+    let verb = if among == 1 { "is" } else { "are" };
+    checks.push(Check {
+        key: "not_covered",
+        text: format!(
+            "the log covers {covers}, and {among} of the lease's {due} days {verb} among them"
+        ),
+        explains: Some("the log doesn't cover the lease"),
+    });
+}
+
+/// The first refused word, after which nothing counts.
+fn refused(log: &Log, days: &[Day], checks: &mut Vec<Check>) {
+    let (place, refused) = match &log.word {
+        Some(word) => word,
+        None => return,
+    };
+    let from = place.day.unwrap_or(0);
+    let short = days
+        .iter()
+        .any(|day| day.number >= from && day.served < day.owed);
+    if refused.number == NOT_SET && nothing_is_set(log) {
+        checks.push(Check {
+            key: "set_up_missing",
+            text: "the first start was refused 7 before anything was set: files from the set-up on are missing"
+                .to_string(),
+            explains: short.then(|| "the set-up is missing"),
+        });
+    }
+    let after = text::count(log.words_after(), "word");
+    checks.push(Check {
+        key: "refused_word",
+        text: format!("{place}: word {refused}; the days go on, {after} after it without effect"),
+        explains: short.then(|| "a word was refused"),
+    });
+}
+
+/// The refusal of a start without what it needs.
+const NOT_SET: u32 = 7;
+
+/// The session's settings are those that the refused word met.
+fn nothing_is_set(log: &Log) -> bool {
+    let session = log.replay.session();
+    let is_set = |header, number| matches!(session.format(header, number), Ok(Some(_)));
+    let outputs = (0..4).any(|number| is_set(headers::SET_OUT_FMT, number));
+    session.runs() == 0
+        && session.domain().is_none()
+        && !outputs
+        && !is_set(headers::SET_INST_FMT, 0)
+}
+
+/// Days of the log that aren't the lease's.
+fn outside(log: &Log, lease: &Lease, checks: &mut Vec<Check>) {
+    let (first, last) = match log.replay.status().days {
+        Some(ends) => ends,
+        None => return,
+    };
+    let before = (lease.first_day() > first).then(|| (first, last.min(lease.first_day() - 1)));
+    let after = (lease.last_day() < last).then(|| (first.max(lease.last_day() + 1), last));
+    let parts: Vec<(u32, u32)> = before.into_iter().chain(after).collect();
+    let count: u64 = parts
+        .iter()
+        .map(|(from, to)| u64::from(to - from) + 1)
+        .sum();
+    if count == 0 {
+        return;
+    }
+    let named = |(from, to): &(u32, u32)| match from == to {
+        true => from.to_string(),
+        false => format!("{from} to {to}"),
+    };
+    let named: Vec<String> = parts.iter().map(named).collect();
+    let days = text::count(count, "day");
+    checks.push(Check {
+        key: "outside_the_lease",
+        text: format!(
+            "the log has {days} outside the lease: {}",
+            named.join(" and ")
+        ),
+        explains: None,
+    });
+}

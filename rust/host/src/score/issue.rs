@@ -1,0 +1,76 @@
+//! What a card says of itself: whose month it is, when it was issued, and by what.
+
+use crate::common::visible;
+use crate::score::civil::Date;
+use clap::Args;
+use serde_json::{json, Value};
+
+/// The version with its commit.
+pub const VERSION: &str = env!("EGRETFOLD_VERSION");
+
+// Named otherwise than the subcommand's own options: clap takes the name for a group
+// of arguments, and each must be unique in a line.
+#[derive(Args)]
+pub struct IssueOptions {
+    /// The station's name, for the card
+    #[arg(long, value_name = "NAME")]
+    station: Option<String>,
+    /// The lessee's name, for the card
+    #[arg(long, value_name = "NAME")]
+    lessee: Option<String>,
+    /// The card's date of issue; today (UTC) where none is given
+    #[arg(long, value_name = "YYYY-MM-DD", value_parser = Date::parse)]
+    issued: Option<Date>,
+}
+
+pub struct Issue {
+    pub station: Option<String>,
+    pub lessee: Option<String>,
+    pub date: Date,
+}
+
+impl Issue {
+    /// The one place that asks for today.
+    pub fn new(options: &IssueOptions) -> Issue {
+        let name = |text: &Option<String>| {
+            let text = text.as_deref().map(str::trim).unwrap_or_default();
+            (!text.is_empty()).then(|| visible::line(text))
+        };
+        Issue {
+            station: name(&options.station),
+            lessee: name(&options.lessee),
+            date: options.issued.unwrap_or_else(Date::today),
+        }
+    }
+
+    /// The card of the sample, which is nobody's.
+    pub fn nobody() -> Issue {
+        Issue {
+            station: None,
+            lessee: None,
+            date: Date::today(),
+        }
+    }
+
+    /// "Station 14, leased to the harbour", as far as they are given.
+    pub fn whose(&self) -> Option<String> {
+        match (&self.station, &self.lessee) {
+            (Some(station), Some(lessee)) => Some(format!("Station {station}, leased to {lessee}")),
+            (Some(station), None) => Some(format!("Station {station}")),
+            (None, Some(lessee)) => Some(format!("Leased to {lessee}")),
+            (None, None) => None,
+        }
+    }
+
+    /// "Issued 2026-05-02 by egretfold 0.1.0".
+    pub fn told(&self) -> String {
+        format!("Issued {} by egretfold {VERSION}", self.date)
+    }
+
+    pub fn put(&self, summary: &mut Value) {
+        summary["station"] = json!(self.station);
+        summary["lessee"] = json!(self.lessee);
+        summary["issued"] = json!(self.date.to_string());
+        summary["version"] = json!(VERSION);
+    }
+}

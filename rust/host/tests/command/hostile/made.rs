@@ -1,0 +1,391 @@
+//! Hostile inputs and lines, made from a case's number.
+
+use crate::common::sample;
+use compare::random::Random;
+use std::ffi::OsString;
+use std::os::unix::ffi::OsStringExt;
+
+/// A line of arguments, what stands on standard input, and what is written where the
+/// line names the files.
+pub struct Case {
+    pub arguments: Vec<OsString>,
+    pub input: Vec<u8>,
+    pub files: Vec<(OsString, Vec<u8>)>,
+}
+
+/// Stands in a line for a file of the case's own; the driver puts its folder before it.
+pub const OWN: &str = "own/";
+
+const SAMPLES: [&str; 12] = [
+    "whole.ctm",
+    "whole.hex",
+    "several.ctm",
+    "several.txt",
+    "masked.ctm",
+    "refused.hex",
+    "station-14.log",
+    "three-days.log",
+    "refused.log",
+    "branch.hex",
+    "branch.masks",
+    "loops.hex",
+];
+
+const LOGS: [&str; 4] = [
+    "station-14.log",
+    "three-days.log",
+    "refused.log",
+    "damaged.log",
+];
+
+/// Numbers at bounds, numbers past them, and what is no number.
+const NUMBERS: [&str; 34] = [
+    "0",
+    "1",
+    "2",
+    "3",
+    "4",
+    "8",
+    "16",
+    "20",
+    "28",
+    "30",
+    "31",
+    "32",
+    "33",
+    "95",
+    "96",
+    "100",
+    "101",
+    "102",
+    "1024",
+    "4096",
+    "4097",
+    "8188",
+    "8192",
+    "14000000",
+    "100000000",
+    "100000001",
+    "4294967295",
+    "4294967296",
+    "0x10",
+    "0xFFFFFFFF",
+    "-1",
+    "+4",
+    "x",
+    "99999999999999999999",
+];
+
+/// Good more often than not, so that lines come through.
+const GOOD: [&str; 8] = ["1", "4", "8", "16", "30", "96", "100", "101"];
+
+const DATES: [&str; 5] = [
+    "2026-04-01",
+    "2024-02-29",
+    "2026-02-29",
+    "9999-12-31",
+    "April",
+];
+
+const PAIRS: [&str; 8] = [
+    "0,0",
+    "37,18",
+    "95,11",
+    "4095,4095",
+    "4294967295,0",
+    "1,2,3",
+    "x,y",
+    "5 2",
+];
+
+const WORDS: [&str; 10] = [
+    "0",
+    "800",
+    "1000",
+    "2010064",
+    "4010010",
+    "5000010",
+    "FFFFF800",
+    "FFFFFFFF",
+    "123456789",
+    "zz",
+];
+
+/// Names that a shell, a terminal or a table could stumble over.
+const NAMES: [&[u8]; 10] = [
+    b"plain.log",
+    b"with blank.log",
+    b"\x1b[31mred\x1b[0m.log",
+    b"new\nline.log",
+    b"carriage\rreturn",
+    b"-dash.log",
+    b"\xff\xfe not utf-8",
+    b"\xe2\x80\xae gol.",
+    b"quote\"'&<>.log",
+    b"comma,semi;colon",
+];
+
+pub fn case(random: &mut Random) -> Case {
+    let mut made = Made {
+        random,
+        case: Case {
+            arguments: Vec::new(),
+            input: Vec::new(),
+            files: Vec::new(),
+        },
+    };
+    made.line();
+    made.case
+}
+
+struct Made<'a> {
+    random: &'a mut Random,
+    case: Case,
+}
+
+impl Made<'_> {
+    fn put(&mut self, argument: &str) {
+        self.case.arguments.push(argument.into());
+    }
+
+    /// An option with a value, now and then.
+    fn valued(&mut self, times: u32, option: &str, values: &[&str]) {
+        if self.random.once_in(times) {
+            self.put(option);
+            let value = self.random.one_of(values);
+            self.put(value);
+        }
+    }
+
+    fn numbered(&mut self, times: u32, option: &str) {
+        let bad = self.random.once_in(3);
+        self.valued(times, option, if bad { &NUMBERS } else { &GOOD });
+    }
+
+    fn flag(&mut self, times: u32, flag: &str) {
+        if self.random.once_in(times) {
+            self.put(flag);
+        }
+    }
+
+    fn line(&mut self) {
+        match self.random.below(20) {
+            0..=5 => self.score(),
+            6..=8 => self.replay(),
+            9..=11 => self.decode(),
+            12 | 13 => self.encode(),
+            14 => self.address(),
+            15 | 16 => self.locate(),
+            17 => self.tile(),
+            18 => self.flow(),
+            _ => self.other(),
+        }
+    }
+
+    fn score(&mut self) {
+        self.put("score");
+        for (option, good) in [
+            ("--first-day", "101"),
+            ("--days", "30"),
+            ("--owed", "14000000"),
+        ] {
+            self.put(option);
+            let number = match self.random.once_in(6) {
+                true => self.random.one_of(&NUMBERS),
+                false => good,
+            };
+            self.put(number);
+        }
+        self.valued(3, "--from", &DATES);
+        self.valued(6, "--station", &["14", "\u{1b}[2J", "<&\">", ""]);
+        self.valued(6, "--lessee", &["Harbour", "a\nb", "\u{202e}x"]);
+        // Most often as a program would ask, so that the forms can be compared.
+        for (times, flag) in [(4, "--json"), (6, "--csv"), (8, "--plain")] {
+            self.flag(times, flag);
+        }
+        self.valued(8, "--svg", &["-"]);
+        self.logs();
+    }
+
+    fn replay(&mut self) {
+        self.put("replay");
+        for flag in ["--json", "--csv", "--plain"] {
+            self.flag(5, flag);
+        }
+        self.logs();
+    }
+
+    fn decode(&mut self) {
+        self.put("decode");
+        for (times, flag) in [
+            (3, "--hex"),
+            (4, "--summary"),
+            (5, "--terse"),
+            (4, "--json"),
+            (9, "--plain"),
+        ] {
+            self.flag(times, flag);
+        }
+        self.any_input();
+    }
+
+    fn encode(&mut self) {
+        self.put("encode");
+        self.flag(2, "--hex");
+        self.any_input();
+    }
+
+    fn layout(&mut self) {
+        self.valued(2, "--base", &WORDS);
+        match self.random.once_in(4) {
+            true => self.valued(1, "--format", &WORDS),
+            false => {
+                self.numbered(1, "--pitch");
+                self.valued(1, "--size", &["1", "2", "4", "8", "16", "16", "3", "0x4"]);
+                self.flag(2, "--tiled");
+            }
+        }
+        self.numbered(1, "--height");
+        self.flag(8, "--decimal");
+        self.flag(3, "--work");
+        self.flag(3, "--json");
+    }
+
+    fn address(&mut self) {
+        self.put("address");
+        self.layout();
+        for _ in 0..self.random.below(4) {
+            let pair = self.random.one_of(&PAIRS);
+            self.put(pair);
+        }
+        self.case.input = self.random.one_of(&PAIRS).into();
+    }
+
+    fn locate(&mut self) {
+        self.put("locate");
+        match self.random.coin() {
+            true => self.layout(),
+            false => {
+                self.put("--stream");
+                self.file(&SAMPLES);
+                self.flag(3, "--hex");
+                self.numbered(5, "--words");
+                self.flag(2, "--json");
+            }
+        }
+        for _ in 0..self.random.below(4) {
+            let word = self.random.one_of(&WORDS);
+            self.put(word);
+        }
+        self.case.input = self.random.one_of(&WORDS).into();
+    }
+
+    fn tile(&mut self) {
+        self.put("tile");
+        self.valued(1, "--size", &["1", "2", "4", "8", "16", "16", "3", "0x4"]);
+        self.numbered(3, "--column");
+        self.numbered(3, "--row");
+        self.valued(3, "--mark", &PAIRS);
+        self.flag(3, "--json");
+    }
+
+    fn flow(&mut self) {
+        self.put("flow");
+        self.flag(2, "--hex");
+        self.numbered(3, "--processors");
+        self.valued(4, "--booleans", &WORDS);
+        self.flag(3, "--json");
+        self.any_input();
+        if self.random.coin() {
+            self.put("0,0");
+            self.numbered(2, "--repeat");
+        }
+    }
+
+    fn other(&mut self) {
+        let name = self.random.one_of(&[
+            "explain",
+            "manual",
+            "completions",
+            "scor",
+            "\u{1b}[31m",
+            "",
+            "help",
+        ]);
+        self.put(name);
+        self.flag(3, "--json");
+        let number = self.random.one_of(&NUMBERS);
+        self.put(number);
+    }
+
+    /// One to three logs, or standard input.
+    fn logs(&mut self) {
+        for _ in 0..self.random.below(4) {
+            let list: &[&str] = if self.random.once_in(8) {
+                &SAMPLES
+            } else {
+                &LOGS
+            };
+            self.file(list);
+        }
+        self.case.input = self.bytes(&LOGS);
+    }
+
+    fn any_input(&mut self) {
+        match self.random.coin() {
+            true => self.file(&SAMPLES),
+            false => self.put("-"),
+        }
+        self.case.input = self.bytes(&SAMPLES);
+    }
+
+    /// A file of the case's own with a hostile name, or one that isn't there.
+    fn file(&mut self, samples: &[&str]) {
+        if self.random.once_in(12) {
+            let name = self
+                .random
+                .one_of(&["no-such.log", "samples", "/dev/null", ""]);
+            return self.put(name);
+        }
+        let name = self.random.one_of(&NAMES);
+        let number = self.case.files.len();
+        let name = [format!("{number}").as_bytes(), name].concat();
+        let bytes = self.bytes(samples);
+        let argument = [OWN.as_bytes(), &name].concat();
+        self.case.arguments.push(OsString::from_vec(argument));
+        self.case.files.push((OsString::from_vec(name), bytes));
+    }
+
+    /// A sample with some damage, or none.
+    fn bytes(&mut self, samples: &[&str]) -> Vec<u8> {
+        let mut bytes = sample(self.random.one_of(samples));
+        for _ in 0..self.random.below(4) {
+            self.damage(&mut bytes);
+        }
+        bytes
+    }
+
+    fn damage(&mut self, bytes: &mut Vec<u8>) {
+        if bytes.is_empty() {
+            return;
+        }
+        let at = self.random.below(bytes.len() as u32) as usize;
+        match self.random.below(7) {
+            0 => bytes.truncate(at),
+            1 => bytes[at] ^= self.random.bit() as u8,
+            2 => bytes[at] = self.random.word() as u8,
+            3 => bytes.insert(at, self.random.word() as u8),
+            4 => drop(bytes.remove(at)),
+            5 => {
+                let end = (at + 40).min(bytes.len());
+                let again = bytes[at..end].to_vec();
+                bytes.extend(again);
+            }
+            _ => {
+                let mut noise = [0; 12];
+                self.random.fill(&mut noise);
+                bytes.splice(at..at, noise);
+            }
+        }
+    }
+}
