@@ -1,6 +1,6 @@
 // Addresses: a pair of a window to the address of its element, and any byte address back to the pair that owns the byte
 // and the byte's place in the element. `translate` answers the address or 3, 6, 10; `locate` the pair or 3, 6, 12.
-mod block;
+pub mod block;
 mod offset;
 
 use layout::ByteAddress;

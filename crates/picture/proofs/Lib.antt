@@ -1,3 +1,4 @@
+pub mod Moves
 pub mod Patches
 pub mod Pictures
 pub mod Spots

@@ -1,0 +1,54 @@
+-- Bytes moved from one list into another, part by part. Assumes nothing.
+use mathlib.Core.Path.{_≡_}
+use mathlib.Core.Bool.{Bool, true, false}
+use mathlib.Core.List.{List, [], _∷_, _++_}
+use Prim.Native.Nat.{ℕ, zero, suc, _+_, _*_, _≤_, _^_}
+use lib.ListN.{length, take, drop}
+use Rattle.memory.specs.Elements.{overwritten}
+
+-- a part of so many bytes, where it stands in the source and where it goes in the target
+pub record Move : Type 0 where
+  pub from : ℕ
+  pub to : ℕ
+  pub bytes : ℕ
+
+abbrev pub partOf : List ℕ → Move → List ℕ
+partOf source v = take (v .bytes) (drop (v .from) source)
+
+-- the target after these moves, one after the other
+unfoldable pub moved : List Move → List ℕ → List ℕ → List ℕ
+moved [] source m = m
+moved (v ∷ vs) source m = moved vs source (overwritten (v .to) (partOf source v) m)
+
+-- a move between memory and a room: out of memory, or into it
+abbrev pub turned : Bool → ℕ → ℕ → ℕ → Move
+turned true place line n = record { from = place; to = line; bytes = n }
+turned false place line n = record { from = line; to = place; bytes = n }
+
+-- which of the two lengths is memory's, and which is the room's
+abbrev pub memoryOf : Bool → ℕ → ℕ → ℕ
+memoryOf true source target = source
+memoryOf false source target = target
+
+abbrev pub roomOf : Bool → ℕ → ℕ → ℕ
+roomOf true source target = target
+roomOf false source target = source
+
+-- a part of `n` bytes at a place of memory and a line of the room
+pub record PartAsked (out : Bool) (place line n source target : ℕ) : Type 0 where
+  pub few : n ≤ 32
+  pub place-fits : place + n ≤ memoryOf out source target
+  pub line-fits : line + n ≤ roomOf out source target
+
+-- two pairs of parts: each pair's second stands 32 bytes on in memory, and right behind the first in the room
+abbrev pub pairsOf : Bool → ℕ → ℕ → ℕ → ℕ → List Move
+pairsOf out n a b line =
+    turned out a line n ∷ turned out (a + 32) (line + n) n ∷ turned out b (line + 2 * n) n ∷ turned out (b + 32) (line + 3 * n) n ∷ []
+
+pub record PairsAsked (out : Bool) (n a b line source target : ℕ) : Type 0 where
+  pub few : n ≤ 32
+  pub memory-most : memoryOf out source target ≤ 2 ^ 32
+  pub room-most : roomOf out source target ≤ 2 ^ 32
+  pub a-fits : a + 32 + n ≤ memoryOf out source target
+  pub b-fits : b + 32 + n ≤ memoryOf out source target
+  pub line-fits : line + 4 * n ≤ roomOf out source target
