@@ -1,5 +1,5 @@
 -- Moves one after the other: their lengths, lists of moves side by side, and parts that are cut. Assumes nothing.
-use mathlib.Core.Path.{_≡_, refl, sym, ap, ap₂, _∙_, subst}
+use mathlib.Core.Path.{_≡_, refl, sym, ap, ap₂, _∙_, subst, subst₂}
 use mathlib.Core.Bool.{Bool, true, false, false≢true}
 use mathlib.Core.List.{List, [], _∷_, _++_, append-assoc}
 use Prim.Native.Nat.{ℕ, zero, suc, _+_, _-_, _*_, _<_, _≤_, _^_}
@@ -9,7 +9,7 @@ use lib.ListN.{length, take, drop, replicate, length-drop, length-append, length
 use lib.Seq.{length-take-le, take-add, drop-drop, take-at, drop-append-add}
 use Rattle.memory.specs.Elements.{overwritten}
 use Rattle.memory.proofs.Overwritten.{length-overwritten, part-overwritten}
-use Rattle.picture.specs.Moves.{Move, partOf, moved, turned, memoryOf, roomOf, PartAsked, PairsAsked, pairsOf}
+use Rattle.picture.specs.Moves.{Move, partOf, moved, turned, memoryOf, roomOf, PartAsked, PairsAsked, pairsOf, EightAsked, eightOf}
 
 abbrev zeros : List ℕ
 zeros = replicate 32 0
@@ -117,3 +117,34 @@ module _ (out : Bool) (n a b line source target target' : ℕ) (asked : PairsAsk
   pub fourth-asked : PartAsked out (b + 32) (line + 3 * n) n source target'
   fourth-asked =
       part-again out (b + 32) (line + 3 * n) n source target target' e (asked .few) (asked .b-fits) (omega (arith, asked .line-fits))
+
+module _ (out : Bool) (n a b c d line source target : ℕ) (asked : EightAsked out n a b c d line source target) (o : Bool) (k : ℕ) (eo : out ≡ o) (en : n ≡ k) where
+  pub pairs-first : PairsAsked o k a b line source target
+  pairs-first =
+      subst₂ (λ (p : Bool) (q : ℕ). PairsAsked p q a b line source target) eo en
+      (record {
+        few = asked .few; memory-most = asked .memory-most; room-most = asked .room-most; a-fits = asked .a-fits; b-fits = asked .b-fits;
+        line-fits = omega (arith, asked .line-fits);
+      })
+
+  pub pairs-last : (target' : ℕ) → target' ≡ target → PairsAsked o k c d (line + 4 * n) source target'
+  pairs-last target' e =
+      subst₂ (λ (p : Bool) (q : ℕ). PairsAsked p q c d (line + 4 * n) source target') eo en
+      (subst (PairsAsked out n c d (line + 4 * n) source) (sym e)
+      (record {
+        few = asked .few; memory-most = asked .memory-most; room-most = asked .room-most; a-fits = asked .c-fits; b-fits = asked .d-fits;
+        line-fits = omega (arith, asked .line-fits);
+      }))
+
+pub eight-moved :
+    (out o : Bool) (n k a b c d line : ℕ) (source m m1 m2 : List ℕ) → out ≡ o → n ≡ k → m1 ≡ moved (pairsOf o k a b line) source m →
+    m2 ≡ moved (pairsOf o k c d (line + 4 * n)) source m1 → m2 ≡ moved (eightOf out n a b c d line) source m
+eight-moved out o n k a b c d line source m m1 m2 eo en e1 e2 =
+    e2 ∙ ap (λ (l : List ℕ). moved (pairsOf o k c d (line + 4 * n)) source l) e1 ∙
+    sym (moved-both (pairsOf o k a b line) (pairsOf o k c d (line + 4 * n)) source m) ∙
+    ap₂ (λ (p : Bool) (q : ℕ). moved (pairsOf p q a b line ++ pairsOf p q c d (line + 4 * n)) source m) (sym eo) (sym en)
+
+pub same-part :
+    (out : Bool) (place line n k : ℕ) (source m m' : List ℕ) → n ≡ k → m' ≡ moved (turned out place line k ∷ []) source m →
+    m' ≡ moved (turned out place line n ∷ []) source m
+same-part out place line n k source m m' e same = same ∙ ap (λ (q : ℕ). moved (turned out place line q ∷ []) source m) (sym e)

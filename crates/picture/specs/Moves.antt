@@ -52,3 +52,17 @@ pub record PairsAsked (out : Bool) (n a b line source target : ℕ) : Type 0 whe
   pub a-fits : a + 32 + n ≤ memoryOf out source target
   pub b-fits : b + 32 + n ≤ memoryOf out source target
   pub line-fits : line + 4 * n ≤ roomOf out source target
+
+-- the eight parts of a tile's row
+abbrev pub eightOf : Bool → ℕ → ℕ → ℕ → ℕ → ℕ → ℕ → List Move
+eightOf out n a b c d line = pairsOf out n a b line ++ pairsOf out n c d (line + 4 * n)
+
+pub record EightAsked (out : Bool) (n a b c d line source target : ℕ) : Type 0 where
+  pub few : n ≤ 32
+  pub memory-most : memoryOf out source target ≤ 2 ^ 32
+  pub room-most : roomOf out source target ≤ 2 ^ 32
+  pub a-fits : a + 32 + n ≤ memoryOf out source target
+  pub b-fits : b + 32 + n ≤ memoryOf out source target
+  pub c-fits : c + 32 + n ≤ memoryOf out source target
+  pub d-fits : d + 32 + n ≤ memoryOf out source target
+  pub line-fits : line + 8 * n ≤ roomOf out source target
