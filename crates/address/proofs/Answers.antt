@@ -1,15 +1,15 @@
 -- The answers of translation and of the way back, as far as the tests on the way decide them: one law a return of the code.
 -- Assumes nothing.
-use mathlib.Core.Path.{_≡_, refl, sym, ap, _∙_, subst}
+use mathlib.Core.Path.{_≡_, refl, sym, ap, ap₂, _∙_, subst}
 use mathlib.Core.Bool.{Bool, true, false}
 use mathlib.Core.List.{List, [], _∷_}
-use Prim.Native.Nat.{ℕ, _+_, _-_, _*_, _/_, _<_, _≤_, _^_}
+use Prim.Native.Nat.{ℕ, _+_, _-_, _*_, _/_, _%_, _<_, _≤_, _^_}
 use native.Mathlib.Nat.{mul-div-cancel, mul-le-mul, le-of-mul-le-mul-right, lt-of-mul-lt-mul-right}
 use native.Mathlib.Omega.{arith}
 use lib.Dec.{leb, ltb, eqb}
 use borrow.Author.Tests.{lt-ltb, le-ltb, eqb-true, eqb-false, leb-true, leb-false}
 use Rattle.laws.specs.Choice.{_and_, pick, placeOf}
-use Rattle.laws.proofs.Choice.{pick-yes, pick-no, and-intro, and-no-left, and-no-right, Tested, tested, holds, fails}
+use Rattle.laws.proofs.Choice.{pick-yes, pick-no, and-intro, and-left, and-right, and-no-left, and-no-right, Tested, tested, holds, fails}
 use Rattle.refusal.specs.Told.{Told, gives, refuses}
 use Rattle.layout.specs.Sizes.{sizes, isSize, widthOf}
 use Rattle.layout.proofs.Sizes.{no-size}
@@ -20,26 +20,34 @@ use Rattle.layout.proofs.Window.{form-size, size-most, rule-bounds}
 use Rattle.layout.proofs.Rows.{Ruled, ruled, unruled}
 use Rattle.address.specs.Asked.{PairAsked, StepAsked}
 use Rattle.address.specs.Offset.{offsetOf, xOf, yOf, bytePlace}
-use Rattle.address.specs.Address.{stepOf, ifAccepted, inside, addressOf, translateOf, backOf, locateOf, layoutOf, refusedAs, toldNumber}
+use Rattle.address.specs.Address.{stepOf, ifAccepted, inside, addressOf, runOf, translateOf, backOf, locateOf, layoutOf, refusedAs, toldNumber}
 use Rattle.address.specs.Inverse.{Accepted, Inside}
+use Rattle.address.specs.Run.{runNumber}
 use Rattle.address.proofs.Offsets.{blocks}
 use Rattle.address.proofs.Windows.{tiles-pos}
 use Rattle.address.proofs.Inverse.{grid, answered, below-base, from-base, inverse}
+use Rattle.address.proofs.Runs.{clash, run-number, longest}
 
 told-apart : {v : List ℕ} {n : ℕ} → gives v ≡ refuses n → ⊥
 told-apart h = let z : _≡_ {A = ℕ} 0 1 = cc in omega arith
 
 -- a number as an answer
-pub told-address : (n : ℕ) → n < 2 ^ 32 → toldNumber n ≡ gives (n ∷ [])
+pub told-address : (n : ℕ) → n < 2 ^ 63 → toldNumber n ≡ gives (n % 2 ^ 32 ∷ n / 2 ^ 32 ∷ [])
 unfolding toldNumber
 told-address n h = pick-yes _ _ (lt-ltb _ _ h)
 
-pub told-refusal : (n : ℕ) → 2 ^ 32 ≤ n → toldNumber n ≡ refuses (n - 2 ^ 32)
+pub told-run : (run a : ℕ) → run ≤ 4096 → a < 2 ^ 32 → toldNumber (run * 2 ^ 32 + a) ≡ gives (a ∷ run ∷ [])
+told-run run a few small =
+    told-address (run * 2 ^ 32 + a) (omega arith) ∙
+    ap₂ (λ (b n : ℕ). gives (b ∷ n ∷ [])) {x = (run * 2 ^ 32 + a) % 2 ^ 32} {y = a} {u = (run * 2 ^ 32 + a) / 2 ^ 32} {v = run}
+    (omega arith) (omega arith)
+
+pub told-refusal : (n : ℕ) → 2 ^ 63 ≤ n → toldNumber n ≡ refuses (n - 2 ^ 63)
 unfolding toldNumber
 told-refusal n h = pick-no _ _ (le-ltb _ _ h)
 
 pub told-refused : (number : ℕ) → toldNumber (refusedAs number) ≡ refuses number
-told-refused number = told-refusal (refusedAs number) (omega arith) ∙ ap refuses {x = 2 ^ 32 + number - 2 ^ 32} (omega arith)
+told-refused number = told-refusal (refusedAs number) (omega arith) ∙ ap refuses {x = 2 ^ 63 + number - 2 ^ 63} (omega arith)
 
 -- a layout that isn't accepted
 module _ (l : Layout) where
@@ -76,34 +84,51 @@ module _ (l : Layout) where
       go (holds f) (holds w) (holds i) = absurd (told-apart (sym (pick-yes _ _ f ∙ pick-yes _ _ w ∙ pick-yes _ _ i) ∙ told))
 
   pub refused-outside :
-      (x y n : ℕ) → toldNumber n ≡ translateOf l x y → 2 ^ 32 ≤ n → (n ≡ refusedAs 3 → ⊥) → (n ≡ refusedAs 6 → ⊥) →
+      (x y n : ℕ) → toldNumber n ≡ translateOf l x y → 2 ^ 63 ≤ n → (n ≡ refusedAs 3 → ⊥) → (n ≡ refusedAs 6 → ⊥) →
       refuses 10 ≡ translateOf l x y
   refused-outside x y n told h three six =
-      ap refuses (sym (ten-left x y (n - 2 ^ 32) (sym told ∙ told-refusal n h) (λ e. three (omega arith)) (λ e. six (omega arith)))) ∙
+      ap refuses (sym (ten-left x y (n - 2 ^ 63) (sym told ∙ told-refusal n h) (λ e. three (omega arith)) (λ e. six (omega arith)))) ∙
       sym (told-refusal n h) ∙
       told
 
-  refusal-small : (x y n : ℕ) → toldNumber n ≡ translateOf l x y → 2 ^ 32 ≤ n → n - 2 ^ 32 ≤ 10
-  refusal-small x y n told h = go (tested (eqb (n - 2 ^ 32) 3)) (tested (eqb (n - 2 ^ 32) 6))
+  refusal-small : (x y n : ℕ) → toldNumber n ≡ translateOf l x y → 2 ^ 63 ≤ n → n - 2 ^ 63 ≤ 10
+  refusal-small x y n told h = go (tested (eqb (n - 2 ^ 63) 3)) (tested (eqb (n - 2 ^ 63) 6))
     where
-      go : Tested (eqb (n - 2 ^ 32) 3) → Tested (eqb (n - 2 ^ 32) 6) → n - 2 ^ 32 ≤ 10
-      go (holds a) b = omega (arith, eqb-true (n - 2 ^ 32) 3 a)
-      go (fails a) (holds b) = omega (arith, eqb-true (n - 2 ^ 32) 6 b)
+      go : Tested (eqb (n - 2 ^ 63) 3) → Tested (eqb (n - 2 ^ 63) 6) → n - 2 ^ 63 ≤ 10
+      go (holds a) b = omega (arith, eqb-true (n - 2 ^ 63) 3 a)
+      go (fails a) (holds b) = omega (arith, eqb-true (n - 2 ^ 63) 6 b)
       go (fails a) (fails b) =
           omega
-          (arith, ten-left x y (n - 2 ^ 32) (sym told ∙ told-refusal n h) (eqb-false (n - 2 ^ 32) 3 a) (eqb-false (n - 2 ^ 32) 6 b))
+          (arith, ten-left x y (n - 2 ^ 63) (sym told ∙ told-refusal n h) (eqb-false (n - 2 ^ 63) 3 a) (eqb-false (n - 2 ^ 63) 6 b))
 
-  pub number-small : (x y n : ℕ) → toldNumber n ≡ translateOf l x y → n < 2 ^ 33
-  number-small x y n told = go (tested (leb (2 ^ 32) n))
+  pub number-small : (x y n : ℕ) → toldNumber n ≡ translateOf l x y → n < 2 ^ 63 + 2 ^ 32
+  number-small x y n told = go (tested (leb (2 ^ 63) n))
     where
-      go : Tested (leb (2 ^ 32) n) → n < 2 ^ 33
-      go (holds h) = omega (arith, refusal-small x y n told (leb-true (2 ^ 32) n h))
-      go (fails h) = omega (arith, leb-false (2 ^ 32) n h)
+      go : Tested (leb (2 ^ 63) n) → n < 2 ^ 63 + 2 ^ 32
+      go (holds h) = omega (arith, refusal-small x y n told (leb-true (2 ^ 63) n h))
+      go (fails h) = omega (arith, leb-false (2 ^ 63) n h)
 
 -- a number that is none of the five sizes
 no-form : (base pitch s : ℕ) → placeOf s sizes ≡ 5 → wellFormed base pitch s ≡ false
 unfolding wellFormed isSize
 no-form base pitch s e = and-no-right _ (and-no-right _ (and-no-right _ (ap (λ (n : ℕ). ltb n 5) e)))
+
+-- what is asked of base and pitch is the same at every size
+pub form-at :
+    (base pitch s s' : ℕ) → wellFormed base pitch s ≡ true → isSize s' ≡ true → wellFormed base pitch s' ≡ true
+unfolding wellFormed
+form-at base pitch s s' f z =
+    let g = and-right _ _ f in
+    let h = and-right _ _ g in
+    and-intro (and-left _ _ f) (and-intro (and-left _ _ g) (and-intro (and-left _ _ h) z))
+
+pub formless : (base pitch s : ℕ) → wellFormed base pitch 1 ≡ false → wellFormed base pitch s ≡ false
+unfolding isSize placeOf
+formless base pitch s f = go (tested (wellFormed base pitch s))
+  where
+    go : Tested (wellFormed base pitch s) → wellFormed base pitch s ≡ false
+    go (holds e) = absurd (clash (sym (form-at base pitch s 1 e refl) ∙ f))
+    go (fails e) = e
 
 pub sizeless :
     (base pitch height s : ℕ) (tiled : Bool) (x y : ℕ) → NoneOf Unit sizes s →
@@ -128,9 +153,9 @@ module _ (l : Layout) (f : wellFormed (l .base .0) (l .pitch) (l .size) ≡ true
   size-pos : 0 < l .size
   size-pos = blocks (l .size) (form-size (l .base .0) (l .pitch) (l .size) f) .s-pos
 
-  pub bytes-fit : (x : ℕ) → x ≤ 4096 → x * l .size ≤ 2 ^ 16
+  pub bytes-fit : (x : ℕ) → x ≤ 2 ^ 32 → x * l .size ≤ 2 ^ 36
   bytes-fit x h =
-      mul-le-mul {n₂ = 4096} {m₂ = 16} h (size-most (l .size) (form-size (l .base .0) (l .pitch) (l .size) f))
+      mul-le-mul {n₂ = 2 ^ 32} {m₂ = 16} h (size-most (l .size) (form-size (l .base .0) (l .pitch) (l .size) f))
 
   steps : r / l .size ≡ stepOf l
   steps = ap (λ (n : ℕ). n / l .size) (stride-ruled .stride) ∙ mul-div-cancel (stepOf l) size-pos
@@ -140,11 +165,6 @@ module _ (l : Layout) (f : wellFormed (l .base .0) (l .pitch) (l .size) ≡ true
 
   pub whole : r / l .size * l .size ≡ r
   whole = ap (λ (n : ℕ). n * l .size) steps ∙ sym (stride-ruled .stride)
-
-  pub past-all : (x : ℕ) → 4096 < x → r / l .size ≤ x
-  past-all x h =
-      omega
-      (arith, steps, rule-bounds (l .base .0) (l .tiled) (l .size) (stepOf l) (l .height) (stride-ruled .rule) .step-most)
 
   pub past-row : (x : ℕ) → r ≤ x * l .size → r / l .size ≤ x
   past-row x h = le-of-mul-le-mul-right (rw whole h) size-pos
@@ -200,8 +220,24 @@ module _ (l : Layout) (e : ℕ) (t : Taken l e) where
             omega
             (arith, is-address, inverse l (t .accepted) .within x y within .2, blocks (l .size) size .s-pos)
 
-        pub translated : translateOf l x y ≡ gives ((l .base .0 + o) ∷ [])
-        translated = inverse l (t .accepted) .there x y within ∙ ap (λ (n : ℕ). gives (n ∷ [])) is-address
+        module _ (run : ℕ) (er : run ≡ runNumber (l .tiled) (l .size) e x) where
+          is-run : runOf l x y ≡ run
+          is-run = run-number l (t .accepted) x y within ∙ rw (er, t .step)
+
+          pub run-few : run ≤ 4096
+          run-few =
+              omega (
+                arith,
+                is-run,
+                longest l (t .accepted) x y within .run .window,
+                rule-bounds (l .base .0) (l .tiled) (l .size) (stepOf l) (l .height) (t .accepted .window) .step-most,
+              )
+
+          pub translated : toldNumber (run * 2 ^ 32 + (l .base .0 + o)) ≡ translateOf l x y
+          translated =
+              told-run run (l .base .0 + o) run-few address-fits ∙
+              ap₂ (λ (a n : ℕ). gives (a ∷ n ∷ [])) (sym is-address) (sym is-run) ∙
+              sym (inverse l (t .accepted) .there x y within)
 
   module _ (a : ℕ) where
     pub below : a < l .base .0 → locateOf l a ≡ refuses 12

@@ -17,7 +17,7 @@ use Rattle.layout.specs.declared.Layout.{Layout}
 use Rattle.layout.proofs.Sizes.{by-size, tile}
 use Rattle.layout.proofs.Window.{form-size, rule-bounds}
 use Rattle.address.specs.Offset.{insideOf, tiledOffset, linearOffset, offsetOf}
-use Rattle.address.specs.Address.{stepOf, addressOf, translateOf}
+use Rattle.address.specs.Address.{stepOf, addressOf, runOf, translateOf}
 use Rattle.address.specs.Inverse.{Accepted, Inside}
 use Rattle.address.specs.Formula.{printedInside, printedLinear, printedTiled, printedAddress, linearColumns, tiledColumns, guideAddress}
 use Rattle.address.proofs.Inverse.{inverse}
@@ -52,10 +52,10 @@ address-printed l z x y = either (l .base .0) (l .size) (stepOf l) x y (l .tiled
 
 -- "every pair inside its window goes by the guide's formula, as document 01 gives it, to an element"
 pub printed :
-    (l : Layout) → Accepted l → (x y : ℕ) → Inside l x y → translateOf l x y ≡ gives (printedAddress l x y ∷ [])
+    (l : Layout) → Accepted l → (x y : ℕ) → Inside l x y → translateOf l x y ≡ gives (printedAddress l x y ∷ runOf l x y ∷ [])
 printed l accepted x y i =
     inverse l accepted .there x y i ∙
-    ap (λ (a : ℕ). gives (a ∷ [])) (address-printed l (form-size (l .base .0) (l .pitch) (l .size) (accepted .form)) x y)
+    ap (λ (a : ℕ). gives (a ∷ runOf l x y ∷ [])) (address-printed l (form-size (l .base .0) (l .pitch) (l .size) (accepted .form)) x y)
 
 -- an accepted layout's base and pitch, and a pair inside, are what 003's columns are cut from
 module _ (l : Layout) (accepted : Accepted l) (x y : ℕ) (i : Inside l x y) where

@@ -13,7 +13,7 @@ use Rattle.layout.specs.Layout.{wellFormed, rowStep, spanOf, windowRule}
 use Rattle.layout.specs.declared.Layout.{Layout}
 use Rattle.layout.proofs.Window.{form-size, rule-bounds, rule-room, step-whole}
 use Rattle.address.specs.Offset.{offsetOf, xOf, yOf, bytePlace}
-use Rattle.address.specs.Address.{stepOf, ifAccepted, inside, addressOf, translateOf, backOf, locateOf}
+use Rattle.address.specs.Address.{stepOf, ifAccepted, inside, addressOf, runOf, translateOf, backOf, locateOf}
 use Rattle.address.specs.Inverse.{Accepted, Inside, Owns, Inverse}
 use Rattle.address.proofs.Windows as windows
 use Rattle.address.proofs.Windows.{Grid}
@@ -52,7 +52,7 @@ module _ (l : Layout) (accepted : Accepted l) where
   unfolding ifAccepted
   answered answer = pick-yes _ _ (accepted .form) ∙ pick-yes _ _ (accepted .window)
 
-  there : (x y : ℕ) → Inside l x y → translateOf l x y ≡ gives (addressOf l x y ∷ [])
+  there : (x y : ℕ) → Inside l x y → translateOf l x y ≡ gives (addressOf l x y ∷ runOf l x y ∷ [])
   unfolding translateOf inside
   there x y i = answered _ ∙ pick-yes _ _ (and-intro (lt-ltb _ _ (i .column)) (lt-ltb _ _ (i .row)))
 

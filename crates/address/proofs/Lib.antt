@@ -4,5 +4,6 @@ pub mod Formula
 pub mod Inverse
 pub mod Offsets
 pub mod Printed
+pub mod Runs
 pub mod Sums
 pub mod Windows

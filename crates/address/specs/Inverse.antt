@@ -7,7 +7,7 @@ use Prim.Native.Nat.{ℕ, _+_, _<_, _≤_, _^_}
 use Rattle.refusal.specs.Told.{gives, refuses}
 use Rattle.layout.specs.Layout.{wellFormed, spanOf, windowRule}
 use Rattle.layout.specs.declared.Layout.{Layout}
-use Rattle.address.specs.Address.{stepOf, addressOf, translateOf, locateOf}
+use Rattle.address.specs.Address.{stepOf, addressOf, runOf, translateOf, locateOf}
 
 -- "accepted when it gets neither 3 nor 6"
 pub record Accepted (l : Layout) : Type 0 where
@@ -28,7 +28,7 @@ pub record Owns (l : Layout) (a x y place : ℕ) : Type 0 where
 -- "Address translation has an exact inverse."
 pub record Inverse (l : Layout) : Type 0 where
   -- "every pair inside its window goes by the guide's formula, as document 01 gives it, to an element"
-  pub there : (x y : ℕ) → Inside l x y → translateOf l x y ≡ gives (addressOf l x y ∷ [])
+  pub there : (x y : ℕ) → Inside l x y → translateOf l x y ≡ gives (addressOf l x y ∷ runOf l x y ∷ [])
   -- the element lies inside the span, and so below 2^32
   pub within :
       (x y : ℕ) → Inside l x y →

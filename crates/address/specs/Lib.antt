@@ -4,3 +4,4 @@ pub mod Formula
 pub mod Inverse
 pub mod Offset
 pub mod Printed
+pub mod Run

@@ -1,17 +1,23 @@
-// Addresses: a pair of a window to the address of its element, and any byte address back to the pair that owns the byte
-// and the byte's place in the element. `translate` answers the address or 3, 6, 10; `locate` the pair or 3, 6, 12.
+// Addresses: a pair of a window to the address of its element and the run from there on, and any byte address back to the pair
+// that owns the byte and the byte's place in the element. `translate` answers address and run or 3, 6, 10; `locate` the pair or
+// 3, 6, 12.
 pub mod block;
 mod offset;
+mod run;
 
 use layout::ByteAddress;
 use layout::Layout;
 use refusal::Refusal;
 ghost use mathlib.Core.Path.{_≡_};
 ghost use mathlib.Core.Bool.{true, false};
+ghost use Rattle.layout.specs.Layout.{wellFormed};
 ghost use Rattle.address.specs.Address.{translateOf, locateOf, layoutOf, toldNumber, toldTranslated, toldLocated};
 
-// In the one number that a translation is inside, 2^32 and a refusal's number: above every address.
-pub const REFUSED: u64 = 0x1_0000_0000;
+// A translation's answer is inside one number, which stays in a register: the address, and the run counted in 2^32 above it; or
+// 2^63 and a refusal's number, above every answer.
+pub const RUN_UNIT: u64 = 0x1_0000_0000;
+
+pub const REFUSED: u64 = 0x8000_0000_0000_0000;
 
 const MALFORMED: u64 = REFUSED + 3;
 
@@ -19,12 +25,9 @@ const WINDOW_RULE: u64 = REFUSED + 6;
 
 const PAIR_OUTSIDE: u64 = REFUSED + 10;
 
-// No row step is above 4,096.
-const STEP_MOST: u32 = 4096;
-
-// Where a pair's element begins, or the refusal.
+// Where a pair's element begins and how many elements of its row, from this one on, lie at consecutive addresses; or the refusal.
 pub enum Translated {
-    At { address: ByteAddress },
+    At { address: ByteAddress, run: u32 },
     Refused(Refusal),
 }
 
@@ -34,43 +37,46 @@ pub enum Located {
     Refused(Refusal),
 }
 
-// A translation's answer as one number, which stays in a register: the address, or 2^32 and the refusal's number above it.
-// Where size and kind are constants, every division below is one by a constant.
+// A translation's answer as one number, for a well-formed layout. Where size and kind are constants, every division below is one
+// by a constant.
 fn sized(base: u32, pitch: u32, height: u32, size: u32, tiled: bool, x: u32, y: u32) -> u64
+    requires { ⌜ wellFormed base pitch size ≡ true ⌝ }
     ensures { λ r. ⌜ toldNumber r ≡ translateOf (layoutOf base pitch height size tiled) x y ⌝ }
 {
-    if !layout::well_formed(base, pitch, size) {
-        return MALFORMED;
-    }
     let stride = layout::window_stride(base, pitch, height, size, tiled);
     if stride < 1 {
         return WINDOW_RULE;
     }
-    // up to the greatest row step the product can't wrap
-    if STEP_MOST < x {
-        return PAIR_OUTSIDE;
-    }
-    if stride <= x * size {
+    // at 64 bits the product can't wrap
+    if stride as u64 <= x as u64 * size as u64 {
         return PAIR_OUTSIDE;
     }
     if height <= y {
         return PAIR_OUTSIDE;
     }
     let offset = offset::offset(tiled, size, stride, x, y);
-    (base + offset) as u64
+    let run = run::run_from(tiled, size, stride, x);
+    run as u64 * RUN_UNIT + (base + offset) as u64
 }
 
 // The answer of a linear layout, given by its numbers.
 pub fn linear_number(base: u32, pitch: u32, height: u32, size: u32, x: u32, y: u32) -> u64
     ensures { λ r. ⌜ toldNumber r ≡ translateOf (layoutOf base pitch height size false) x y ⌝ }
 {
+    if !layout::well_formed(base, pitch, size) {
+        return MALFORMED;
+    }
     sized(base, pitch, height, size, false, x, y)
 }
 
-// The answer of a tiled layout, given by its numbers, with one branch on the size.
+// The answer of a tiled layout, given by its numbers, with one branch on the size. What is asked of base and pitch is the same at
+// every size, and asked once, at size 1.
 pub fn tiled_number(base: u32, pitch: u32, height: u32, size: u32, x: u32, y: u32) -> u64
     ensures { λ r. ⌜ toldNumber r ≡ translateOf (layoutOf base pitch height size true) x y ⌝ }
 {
+    if !layout::well_formed(base, pitch, 1) {
+        return MALFORMED;
+    }
     match size {
         1 => sized(base, pitch, height, 1, true, x, y),
         2 => sized(base, pitch, height, 2, true, x, y),
@@ -100,7 +106,8 @@ pub fn translate_numbers(
     }
 }
 
-// The address of the element at (x, y), or 3 and 6 for a layout that isn't accepted, or 10 for a pair outside its window.
+// The address of the element at (x, y) and the run from there on, or 3 and 6 for a layout that isn't accepted, or 10 for a pair
+// outside its window.
 pub fn translate(layout: Layout, x: u32, y: u32) -> Translated
     ensures { λ r. ⌜ toldTranslated r ≡ translateOf layout x y ⌝ }
 {
@@ -115,7 +122,8 @@ pub fn translate(layout: Layout, x: u32, y: u32) -> Translated
     );
     if number < REFUSED {
         return Translated::At {
-            address: ByteAddress(number as u32),
+            address: ByteAddress((number % RUN_UNIT) as u32),
+            run: (number / RUN_UNIT) as u32,
         };
     }
     match number {

@@ -4,13 +4,15 @@ use address::Located;
 use layout::ByteAddress;
 use layout::Judged;
 use layout::Layout;
-ghost use Prim.Native.Nat.{_^_, _<_};
+ghost use Prim.Native.Nat.{_+_, _^_, _<_};
 ghost use Rattle.layout.specs.Layout.{judgeOf};
 ghost use Rattle.address.specs.Address.{layoutOf, translateOf, locateOf, toldNumber};
 ghost use Rattle.refusal.specs.Crossing.{Crosses};
 
-// Lengths of rooms: a layout's row step and span; a pair's x, y and the byte's place in its element.
+// Lengths of rooms: a layout's row step and span; a pair's address and run; a pair's x, y and the byte's place in its element.
 pub const LAYOUT_NUMBERS: usize = 2;
+
+pub const ADDRESS_NUMBERS: usize = 2;
 
 pub const PLACE_NUMBERS: usize = 3;
 
@@ -42,19 +44,22 @@ pub fn judge(
 }
 
 // A translation's number as status and room.
-fn cross(number: u64, room: &mut [u32; 1]) -> u32
-    requires { ⌜ number < 2 ^ 33 ⌝ }
+fn cross(number: u64, room: &mut [u32; ADDRESS_NUMBERS]) -> u32
+    requires { ⌜ number < 2 ^ 63 + 2 ^ 32 ⌝ }
     ensures { λ r. ⌜ Crosses (toldNumber number) r (now (room .entry)) (now (room .exit)) ⌝ }
 {
     if number < address::REFUSED {
-        *room = [number as u32];
+        *room = [
+            (number % address::RUN_UNIT) as u32,
+            (number / address::RUN_UNIT) as u32,
+        ];
         0
     } else {
         (number - address::REFUSED) as u32
     }
 }
 
-// The address of the element at (x, y); 3, 6 or 10.
+// The address of the element at (x, y) and the run from there on; 3, 6 or 10.
 pub fn translate(
     base: u32,
     pitch: u32,
@@ -63,7 +68,7 @@ pub fn translate(
     tiled: bool,
     x: u32,
     y: u32,
-    room: &mut [u32; 1],
+    room: &mut [u32; ADDRESS_NUMBERS],
 ) -> u32
     ensures { λ r. ⌜ Crosses (translateOf (layoutOf base pitch height size tiled) x y) r (now (room .entry)) (now (room .exit)) ⌝ }
 {

@@ -13,7 +13,7 @@ use worked::windows::window_of;
 // Whether a pair goes to this address.
 pub fn goes_to(layout: Layout, x: u32, y: u32, at: u32) -> bool {
     match address::translate(layout, x, y) {
-        Translated::At { address } => address.0 == at,
+        Translated::At { address, run: _ } => address.0 == at,
         Translated::Refused(_) => false,
     }
 }
@@ -21,7 +21,7 @@ pub fn goes_to(layout: Layout, x: u32, y: u32, at: u32) -> bool {
 // Whether translating a pair is refused with this number.
 pub fn refused(layout: Layout, x: u32, y: u32, number: u32) -> bool {
     match address::translate(layout, x, y) {
-        Translated::At { address: _ } => false,
+        Translated::At { address: _, run: _ } => false,
         Translated::Refused(why) => refusal::number(why) == number,
     }
 }
@@ -99,7 +99,7 @@ fn steps() -> Tally {
 fn element(layout: Layout, x: u32, y: u32) -> Tally {
     let mut t = Tally::new();
     match address::translate(layout, x, y) {
-        Translated::At { address } => {
+        Translated::At { address, run: _ } => {
             for place in 0..layout.size {
                 let at = std::num::wrapping_add_u32(address.0, place);
                 t = t.with(leads_to(layout, at, x, y, place));

@@ -2,8 +2,10 @@
 // file holds what it must print; every line ends in '0 differed'.
 mod addresses;
 mod refusals;
+mod runs;
 
 fn main() {
     addresses::run();
     refusals::run();
+    runs::run();
 }

@@ -1,4 +1,4 @@
--- The page of top theorems, in the order of the demands: 1, 2, 3, then elements, flow, and the requests 1 to 5. Each statement has
+-- The page of top theorems, in the order of the demands: 1, 2, 3, then elements, flow, and the requests 1 to 5 and 8. Each statement has
 -- its sentence above it and a proof that only cites the file that has it. What a statement asks for is what its sentence says or what an
 -- entry asks for: a session, a replay or a group's cells that came from the entries (`Reached`, `Handed`), and bytes that are bytes.
 -- Assumes nothing.
@@ -10,7 +10,7 @@ use lib.Count.{ones, trailingZeros}
 use lib.ListN.{length, take}
 use Rattle.laws.specs.Bits.{xor}
 use Rattle.laws.specs.Choice.{_and_, pick, placeOf}
-use Rattle.laws.specs.Below.{some, every, sum}
+use Rattle.laws.specs.Below.{some, every, sum, least}
 use Rattle.laws.specs.Masks.{_or_, differ, digit, on, pack}
 use Rattle.refusal.specs.Told.{Told, gives, refuses}
 use Rattle.layout.specs.Sizes.{isSize, widthOf, heightOf}
@@ -18,16 +18,20 @@ use Rattle.layout.specs.Layout.{wellFormed, unitOf, rowStep, tileRows, spanOf, 
 use Rattle.layout.specs.declared.Layout.{Layout}
 use Rattle.layout.proofs.Window.{form-size}
 use Rattle.address.specs.Offset.{blockWidth, blockHeight, codeOf, insideOf, tiledOffset, linearOffset, offsetOf}
-use Rattle.address.specs.Address.{ifAccepted, inside, addressOf, translateOf}
+use Rattle.address.specs.Address.{stepOf, ifAccepted, inside, addressOf, breaks, runOf, translateOf, locateOf}
 use Rattle.address.specs.Inverse.{Accepted, Inside, Inverse}
 use Rattle.address.specs.Formula.{printedAddress, guideAddress}
+use Rattle.address.specs.Run.{Longest, runNumber}
 use Rattle.address.proofs.Formula.{printed, address-printed, address-guide}
 use Rattle.address.proofs.Inverse.{inverse}
+use Rattle.address.proofs.Runs.{longest, run-number, run-back as leads-back}
 use Rattle.memory.specs.Bytes.{Touched}
-use Rattle.memory.specs.Elements.{readOf}
+use Rattle.memory.specs.Elements.{readOf, writeOf}
 use Rattle.memory.specs.Reads.{ReadBack}
+use Rattle.memory.specs.Restated.{fromAddress, readAt, writeAt}
 use Rattle.memory.proofs.Bytes.{touched}
 use Rattle.memory.proofs.ReadBack.{read-back}
+use Rattle.memory.proofs.Restated.{read-restated, write-restated}
 use Rattle.superfine.specs.InLine.{joined}
 use Rattle.superfine.specs.Superfine.{superfineWord, superfineReadOf, formatLayout}
 use Rattle.superfine.proofs.FourReads.{four-reads}
@@ -233,7 +237,7 @@ demand2-counted = counted
 -- "For every accepted layout, linear or tiled, at each of the five sizes, every pair inside its window goes by the guide's formula, as
 -- document 01 gives it, to an element": the formula and the table are those that are printed, line by line.
 pub demand3-formula :
-    (l : Layout) → Accepted l → (x y : ℕ) → Inside l x y → translateOf l x y ≡ gives (printedAddress l x y ∷ [])
+    (l : Layout) → Accepted l → (x y : ℕ) → Inside l x y → translateOf l x y ≡ gives (printedAddress l x y ∷ runOf l x y ∷ [])
 demand3-formula = printed
 
 -- It is the address by source 003's columns of bits, linear and tiled.
@@ -542,14 +546,43 @@ pub score-calls :
     MonthCrosses (scoreOfLog l (uncut ps)) r claimed served month claimed' served' month'
 score-calls = score-from-log
 
+-- REQUEST 8, "How far may a copy run?"
+
+-- "Where translation succeeds, its answer shall also say how many elements from this pair on, in the same row, lie at consecutive
+-- addresses: at least 1, the longest such run that stays in the window."
+pub run-longest : (l : Layout) → Accepted l → (x y : ℕ) → Inside l x y → Longest l x y (runOf l x y)
+run-longest = longest
+
+-- "Linear: E - x." Where tiled it is g - x mod g, with g = 8, 4, 4, 2 and 4 for the five sizes.
+pub run-formula :
+    (l : Layout) → Accepted l → (x y : ℕ) → Inside l x y → runOf l x y ≡ runNumber (l .tiled) (l .size) (stepOf l) x
+run-formula = run-number
+
+-- "Superfine reads, element writes and the way back keep their answers, restated over the new one." A read and a write answer the
+-- translation's refusal, or what memory makes of its address; a superfine read is four reads (`superfine-reads`).
+pub run-reads :
+    (l : Layout) (x y at : ℕ) (m : List ℕ) → readOf l x y at m ≡ fromAddress (translateOf l x y) (readAt at m (l .size))
+run-reads = read-restated
+
+pub run-writes :
+    (l : Layout) (x y at : ℕ) (given m : List ℕ) →
+    writeOf l x y at given m ≡ fromAddress (translateOf l x y) (writeAt at given m (l .size))
+run-writes = write-restated
+
+-- Every byte of every element of a run leads back to that element's pair and to its place there.
+pub run-back :
+    (l : Layout) → Accepted l → (x y : ℕ) → Inside l x y → (k place : ℕ) → k < runOf l x y → place < l .size →
+    locateOf l (addressOf l x y + k * l .size + place) ≡ gives ((x + k) ∷ y ∷ place ∷ [])
+run-back = leads-back
+
 -- THE WORKED CASES
 
 -- The worked cases C1 to C12 of document 01, all together.
 pub worked-cases : Cases cases
 unfolding
     _and_ pick placeOf isSize widthOf heightOf wellFormed unitOf rowStep tileRows spanOf inBounds windowRule judgeOf xor blockWidth
-    blockHeight codeOf insideOf tiledOffset linearOffset offsetOf ifAccepted inside addressOf translateOf _or_ differ digit on pack
-    some every wants decided branched allowed fresh turnedIf wishOf overLimit wayOf settled jumpStep slotStep ended flowStep
+    blockHeight codeOf insideOf tiledOffset linearOffset offsetOf ifAccepted inside addressOf breaks least runOf translateOf _or_ differ digit
+    on pack some every wants decided branched allowed fresh turnedIf wishOf overLimit wayOf settled jumpStep slotStep ended flowStep
     oneWord c9 c10 c11 c12
 worked-cases =
     (refl, (refl, (refl, (refl, (refl, (refl, (refl, (refl, (refl, (refl, (refl, (refl, (refl, (refl, (refl, tt)))))))))))))))

@@ -33,17 +33,17 @@ abbrev pub cases : List Case
 cases =
     -- C1 linear, s 4, base 2048, pitch 100, H 3: E is 96, (5,2) at 2836
     (gives (rowStep false 4 100 ∷ []) is gives (96 ∷ [])) ∷
-    (translateOf (linear 4 2048 100 3) 5 2 is gives (2836 ∷ [])) ∷
+    (translateOf (linear 4 2048 100 3) 5 2 is gives (2836 ∷ 91 ∷ [])) ∷
     -- C2 (95,0) inside; (96,0) gets 10
-    (translateOf (linear 4 2048 100 3) 95 0 is gives (2428 ∷ [])) ∷
+    (translateOf (linear 4 2048 100 3) 95 0 is gives (2428 ∷ 1 ∷ [])) ∷
     (translateOf (linear 4 2048 100 3) 96 0 is refuses 10) ∷
     -- C3 tiled, s 4, base 0, pitch 100, H 20: (37,18) at 9828
-    (translateOf (tiled 4 0 100 20) 37 18 is gives (9828 ∷ [])) ∷
+    (translateOf (tiled 4 0 100 20) 37 18 is gives (9828 ∷ 3 ∷ [])) ∷
     -- C4 tiled, s 1, base 0, pitch 128, H 64: (64,0) at 3072; C5 (0,32) at 4608
-    (translateOf (tiled 1 0 128 64) 64 0 is gives (3072 ∷ [])) ∷
-    (translateOf (tiled 1 0 128 64) 0 32 is gives (4608 ∷ [])) ∷
+    (translateOf (tiled 1 0 128 64) 64 0 is gives (3072 ∷ 8 ∷ [])) ∷
+    (translateOf (tiled 1 0 128 64) 0 32 is gives (4608 ∷ 8 ∷ [])) ∷
     -- C6 tiled, s 16, base 0, pitch 16, H 8: (15,7) at 1648
-    (translateOf (tiled 16 0 16 8) 15 7 is gives (1648 ∷ [])) ∷
+    (translateOf (tiled 16 0 16 8) 15 7 is gives (1648 ∷ 1 ∷ [])) ∷
     -- C7 tiled, s 4, base 0, pitch 28, H 1: 6
     (judgeOf 0 28 1 4 true is refuses 6) ∷
     -- C8 linear, s 4, pitch 8, base 4294965248: H 64 accepted, H 65 gets 6

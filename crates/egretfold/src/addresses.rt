@@ -18,7 +18,7 @@ pub extern "C" fn egretfold_layout(
     address_rooms::judge(base, pitch, height, size, tiled, room)
 }
 
-// The address of the element at (x, y); 3, 6 or 10.
+// The address of the element at (x, y) and the run from there on; 3, 6 or 10.
 #[no_mangle]
 pub extern "C" fn egretfold_translate(
     base: u32,
@@ -28,7 +28,7 @@ pub extern "C" fn egretfold_translate(
     tiled: bool,
     x: u32,
     y: u32,
-    room: &mut [u32; 1],
+    room: &mut [u32; address_rooms::ADDRESS_NUMBERS],
 ) -> u32
     ensures { λ r. ⌜ Crosses (translateOf (layoutOf base pitch height size tiled) x y) r (now (room .entry)) (now (room .exit)) ⌝ }
 {

@@ -5,3 +5,4 @@ pub mod Overwritten
 pub mod Pairs
 pub mod Places
 pub mod ReadBack
+pub mod Restated

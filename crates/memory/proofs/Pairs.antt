@@ -12,7 +12,7 @@ use Rattle.refusal.specs.Told.{Told, gives, refuses}
 use Rattle.layout.specs.Layout.{wellFormed, windowRule}
 use Rattle.layout.specs.declared.Layout.{Layout}
 use Rattle.layout.proofs.Window.{rule-bounds}
-use Rattle.address.specs.Address.{stepOf, ifAccepted, inside, addressOf, translateOf}
+use Rattle.address.specs.Address.{stepOf, ifAccepted, inside, addressOf, runOf, translateOf}
 use Rattle.address.specs.Inverse.{Accepted, Inside}
 use Rattle.address.proofs.Inverse.{answered}
 
@@ -24,6 +24,12 @@ same-values h = cc
 
 pub same-one : {b c : ℕ} → gives (b ∷ []) ≡ gives (c ∷ []) → b ≡ c
 same-one h = cc
+
+same-first : {b c m n : ℕ} → gives (b ∷ m ∷ []) ≡ gives (c ∷ n ∷ []) → b ≡ c
+same-first h = cc
+
+same-second : {b c m n : ℕ} → gives (b ∷ m ∷ []) ≡ gives (c ∷ n ∷ []) → m ≡ n
+same-second h = cc
 
 -- a test that asks more than one that fails
 pub more-fails : (u t : Bool) → (u ≡ true → t ≡ true) → t ≡ false → u ≡ false
@@ -81,23 +87,25 @@ module _ (l : Layout) (x y : ℕ) where
   unfolding inside
   is-inside e = record { column = ltb-true _ _ (and-left _ _ e); row = ltb-true _ _ (and-right _ _ e) }
 
-  -- a pair inside an accepted layout, with its address
-  pub record In (a : ℕ) : Type 0 where
+  -- a pair inside an accepted layout, with its address and its run
+  pub record In (a n : ℕ) : Type 0 where
     pub accepted : Accepted l
     pub test : inside l x y ≡ true
     pub pair : Inside l x y
     pub address : a ≡ addressOf l x y
+    pub run : n ≡ runOf l x y
     pub told : (answer : Told) → answers l (inside l x y) answer ≡ answer
 
-  pub goes-to : (a : ℕ) → translateOf l x y ≡ gives (a ∷ []) → In a
+  pub goes-to : (a n : ℕ) → translateOf l x y ≡ gives (a ∷ n ∷ []) → In a n
   unfolding translateOf
-  goes-to a told =
-      let g = given l (inside l x y) (addressOf l x y ∷ []) (a ∷ []) told in
+  goes-to a n told =
+      let g = given l (inside l x y) (addressOf l x y ∷ runOf l x y ∷ []) (a ∷ n ∷ []) told in
       record {
         accepted = g .accepted;
         test = g .test;
         pair = is-inside (g .test);
-        address = same-one (ap gives (g .same));
+        address = same-first (ap gives (g .same));
+        run = same-second (ap gives (g .same));
         told = g .told;
       }
 
@@ -116,7 +124,9 @@ module _ (l : Layout) (x y : ℕ) where
       go : Tested (inside l x y) → inside l x y ≡ false
       go (holds i) =
           absurd
-          (told-apart (sym (answered l accepted (pick (inside l x y) (gives (addressOf l x y ∷ [])) (refuses 10)) ∙ pick-yes _ _ i) ∙ told))
+          (told-apart
+          (sym (answered l accepted (pick (inside l x y) (gives (addressOf l x y ∷ runOf l x y ∷ [])) (refuses 10)) ∙ pick-yes _ _ i) ∙
+          told))
       go (fails i) = i
 
   -- a pair inside is far below the limit of its type

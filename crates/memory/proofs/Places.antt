@@ -97,10 +97,11 @@ module _ (l : Layout) (x y first n : ℕ) where
   unfolding findOf inOrder
   find-refused k told = stays-out l x y k _ _ (λ i. i) told
 
-  pub find-started : (a : ℕ) (t : Told) → translateOf l x y ≡ gives (a ∷ []) → t ≡ startOf a (l .size) first n → t ≡ findOf l x y first n
+  pub find-started :
+      (a run : ℕ) (t : Told) → translateOf l x y ≡ gives (a ∷ run ∷ []) → t ≡ startOf a (l .size) first n → t ≡ findOf l x y first n
   unfolding findOf inOrder startOf
-  find-started a t told e =
-      let i = goes-to l x y a told in
+  find-started a run t told e =
+      let i = goes-to l x y a run told in
       e ∙ ap (λ (b : ℕ). startOf b (l .size) first n) (i .address) ∙ sym (i .told _)
 
   -- how an answer that asks the pair and the element comes about; `u` is any test that asks at least that the element is held

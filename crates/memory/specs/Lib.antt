@@ -2,3 +2,4 @@ pub mod Answers
 pub mod Bytes
 pub mod Elements
 pub mod Reads
+pub mod Restated

@@ -46,6 +46,6 @@ pub fn find(layout: Layout, x: u32, y: u32, first: ByteAddress, length: usize) -
 {
     match address::translate(layout, x, y) {
         Translated::Refused(why) => Place::Refused(why),
-        Translated::At { address } => start(address, layout.size, first, length),
+        Translated::At { address, run: _ } => start(address, layout.size, first, length),
     }
 }

@@ -41,7 +41,7 @@ fn element(x: u32, y: u32) -> [u8; 16] {
 fn expected(layout: Layout, x: u32, y: u32, first: u32, length: usize) -> u32 {
     match address::translate(layout, x, y) {
         Translated::Refused(why) => refusal::number(why),
-        Translated::At { address } => {
+        Translated::At { address, run: _ } => {
             if 65536 < length {
                 return 11;
             }
@@ -233,7 +233,7 @@ fn lent(t: Trial, memory: &mut [u8]) -> Tally {
     let size = t.layout.size as usize;
     let wanted = expected(t.layout, t.x, t.y, t.first, memory.len());
     let mut from = 0;
-    if let Translated::At { address } = address::translate(t.layout, t.x, t.y) {
+    if let Translated::At { address, run: _ } = address::translate(t.layout, t.x, t.y) {
         from = std::num::wrapping_sub_u32(address.0, t.first);
     }
     let bytes = bytes_from(memory, from as usize);

@@ -1,5 +1,5 @@
 -- The four addresses of a superfine read: one law a return of the code. Assumes nothing.
-use mathlib.Core.Path.{_≡_, _∙_}
+use mathlib.Core.Path.{_≡_, ap, _∙_}
 use mathlib.Core.Bool.{true, false}
 use mathlib.Core.List.{[], _∷_}
 use Prim.Native.Nat.{ℕ, _+_, _^_, _<_}
@@ -7,7 +7,7 @@ use Rattle.laws.specs.Choice.{_and_}
 use Rattle.laws.proofs.Choice.{pick-yes, pick-no, and-intro, and-right, and-no-left, and-no-right}
 use Rattle.refusal.specs.Told.{gives, refuses}
 use Rattle.layout.specs.declared.Layout.{Layout}
-use Rattle.address.specs.Address.{inside, translateOf}
+use Rattle.address.specs.Address.{inside, runOf, translateOf}
 use Rattle.address.proofs.Inverse.{answered}
 use Rattle.superfine.specs.Superfine.{fourInside, cornersOf}
 use Rattle.memory.proofs.Pairs.{In, goes-to, grows, stays-out, out-of-window}
@@ -22,9 +22,13 @@ module _ (l : Layout) (x y : ℕ) where
   unfolding cornersOf
   own-refused n told = stays-out l x y n (fourInside l x y) _ own-inside told
 
-  module _ (own : ℕ) (told : translateOf l x y ≡ gives (own ∷ [])) where
-    i : In l x y own
-    i = goes-to l x y own told
+  -- the run that comes with the address is the pair's
+  pub own-told : (a n : ℕ) → translateOf l x y ≡ gives (a ∷ n ∷ []) → translateOf l x y ≡ gives (a ∷ runOf l x y ∷ [])
+  own-told a n told = told ∙ ap (λ (r : ℕ). gives (a ∷ r ∷ [])) (goes-to l x y a n told .run)
+
+  module _ (own : ℕ) (told : translateOf l x y ≡ gives (own ∷ runOf l x y ∷ [])) where
+    i : In l x y own (runOf l x y)
+    i = goes-to l x y own (runOf l x y) told
 
     pub x-grows : x + 1 < 2 ^ 32
     x-grows = grows l x y (i .accepted) (i .pair) .0
@@ -50,13 +54,14 @@ module _ (l : Layout) (x y : ℕ) where
         out (and-no-right _ (and-no-right _ (and-no-left _ (out-of-window l (x + 1) (y + 1) n (i .accepted) t))))
 
     pub all-inside :
-        (right below across : ℕ) → translateOf l (x + 1) y ≡ gives (right ∷ []) → translateOf l x (y + 1) ≡ gives (below ∷ []) →
-        translateOf l (x + 1) (y + 1) ≡ gives (across ∷ []) → cornersOf l x y ≡ gives (right ∷ below ∷ across ∷ own ∷ [])
+        (right below across m n k : ℕ) → translateOf l (x + 1) y ≡ gives (right ∷ m ∷ []) →
+        translateOf l x (y + 1) ≡ gives (below ∷ n ∷ []) → translateOf l (x + 1) (y + 1) ≡ gives (across ∷ k ∷ []) →
+        cornersOf l x y ≡ gives (right ∷ below ∷ across ∷ own ∷ [])
     unfolding cornersOf fourInside
-    all-inside right below across t u v =
-        let r = goes-to l (x + 1) y right t in
-        let b = goes-to l x (y + 1) below u in
-        let c = goes-to l (x + 1) (y + 1) across v in
+    all-inside right below across m n k t u v =
+        let r = goes-to l (x + 1) y right m t in
+        let b = goes-to l x (y + 1) below n u in
+        let c = goes-to l (x + 1) (y + 1) across k v in
         answered l (i .accepted) _ ∙
         pick-yes _ _
         (and-intro (r .test) (and-intro (b .test) (and-intro (c .test) (i .test)))) ∙

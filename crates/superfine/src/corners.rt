@@ -6,7 +6,7 @@ use refusal::Refusal;
 ghost use mathlib.Core.Path.{_≡_};
 ghost use mathlib.Core.List.{[], _∷_};
 ghost use Rattle.refusal.specs.Told.{gives};
-ghost use Rattle.address.specs.Address.{translateOf};
+ghost use Rattle.address.specs.Address.{runOf, translateOf};
 ghost use Rattle.superfine.specs.Superfine.{cornersOf, toldCorners};
 
 // The addresses of (x + 1, y), (x, y + 1), (x + 1, y + 1) and (x, y).
@@ -22,16 +22,28 @@ pub enum Corners {
 
 // The four addresses, given that of (x, y). The pair is inside, so x and y are below 4,096 and can grow by 1.
 fn around(layout: Layout, x: u32, y: u32, own: ByteAddress) -> Corners
-    requires { ⌜ translateOf layout x y ≡ gives (own .0 ∷ []) ⌝ }
+    requires { ⌜ translateOf layout x y ≡ gives (own .0 ∷ runOf layout x y ∷ []) ⌝ }
     ensures { λ r. ⌜ toldCorners r ≡ cornersOf layout x y ⌝ }
 {
-    let Translated::At { address: right } = address::translate(layout, x + 1, y) else {
+    let Translated::At {
+        address: right,
+        run: _,
+    } = address::translate(layout, x + 1, y)
+    else {
         return Corners::Refused(Refusal::PairOutside);
     };
-    let Translated::At { address: below } = address::translate(layout, x, y + 1) else {
+    let Translated::At {
+        address: below,
+        run: _,
+    } = address::translate(layout, x, y + 1)
+    else {
         return Corners::Refused(Refusal::PairOutside);
     };
-    let Translated::At { address: across } = address::translate(layout, x + 1, y + 1) else {
+    let Translated::At {
+        address: across,
+        run: _,
+    } = address::translate(layout, x + 1, y + 1)
+    else {
         return Corners::Refused(Refusal::PairOutside);
     };
     Corners::At {
@@ -49,6 +61,6 @@ pub fn addresses(layout: Layout, x: u32, y: u32) -> Corners
 {
     match address::translate(layout, x, y) {
         Translated::Refused(why) => Corners::Refused(why),
-        Translated::At { address } => around(layout, x, y, address),
+        Translated::At { address, run: _ } => around(layout, x, y, address),
     }
 }

@@ -9,8 +9,11 @@ use Rattle.address.proofs.translate.Tie as tie
 translate-numbers-requires : tie.Need-translate-numbers-requires
 translate-numbers-requires c κs = search needs
 
-cast-t6 : tie.Need-cast-t6
-cast-t6 c = search needs
+cast-t7 : tie.Need-cast-t7
+cast-t7 c = search needs
+
+cast-t10 : tie.Need-cast-t10
+cast-t10 c = search needs
 
 returns : tie.Need-returns
 returns c = sym (told-address _ (c .if1 .taken)) ∙ c .before .translate-numbers .ensures
@@ -26,4 +29,5 @@ returns-4 c = refused-outside _ _ _ _ (c .before .before .translate-numbers .ens
 
 pub translate-spec : {M : Type 1} → statement M
 translate-spec =
-    tie.close (tie.spec translate-numbers-requires cast-t6 returns returns-2 returns-3 returns-4)
+    tie.close
+    (tie.spec translate-numbers-requires cast-t7 cast-t10 returns returns-2 returns-3 returns-4)

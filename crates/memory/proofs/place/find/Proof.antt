@@ -26,7 +26,7 @@ returns-2 : tie.Need-returns-2
 returns-2 c =
     let at-address = c .before .before in
     let at-translate = at-address .before .before in
-    find-started _ _ _ _ _ _ _ (sym (at-translate .translate .ensures) ∙ ap toldTranslated (at-address .address .given .1))
+    find-started _ _ _ _ _ _ _ _ (sym (at-translate .translate .ensures) ∙ ap toldTranslated (at-address .address .given .1))
     (c .start .ensures)
 
 pub find-spec : {M : Type 1} → statement M

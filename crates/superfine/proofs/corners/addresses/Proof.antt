@@ -1,7 +1,7 @@
 -- `superfine::corners::addresses` meets its contract: the refusal of (x, y), or what `around` finds. Assumes nothing.
 use mathlib.Core.Path.{sym, ap, _∙_}
 use Rattle.address.specs.Address.{toldTranslated}
-use Rattle.superfine.proofs.Around.{own-refused}
+use Rattle.superfine.proofs.Around.{own-refused, own-told}
 use borrow.Author.Needs.{needs}
 use Rattle.superfine.proofs.corners.addresses.Statement.{statement}
 use Rattle.superfine.proofs.corners.addresses.Tie as tie
@@ -16,7 +16,8 @@ enum-known-address : tie.Need-enum-known-address
 enum-known-address c = search needs
 
 around-requires : tie.Need-around-requires
-around-requires c κs = sym (c .before .before .before .translate .ensures) ∙ ap toldTranslated (c .before .address .given .1)
+around-requires c κs =
+    own-told _ _ _ _ _ (sym (c .before .before .before .translate .ensures) ∙ ap toldTranslated (c .before .address .given .1))
 
 returns : tie.Need-returns
 returns c = sym (own-refused _ _ _ _ (sym (c .before .before .before .translate .ensures) ∙ ap toldTranslated (c .before .why .given .1)))

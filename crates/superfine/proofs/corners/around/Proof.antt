@@ -82,7 +82,7 @@ returns-4 c =
     let translate3-told = sym (at-translate3 .translate3 .ensures) ∙ ap toldTranslated (at-across .across .given .1) in
     let translate2-told = sym (at-translate2 .translate2 .ensures) ∙ ap toldTranslated (at-below .below .given .1) in
     let translate-told = sym (at-translate .translate .ensures) ∙ ap toldTranslated (at-right .right .given .1) in
-    sym (all-inside _ _ _ _ (entry .pre) _ _ _ translate-told translate2-told translate3-told)
+    sym (all-inside _ _ _ _ (entry .pre) _ _ _ _ _ _ translate-told translate2-told translate3-told)
 
 pub around-spec : {M : Type 1} → statement M
 around-spec =
