@@ -2,8 +2,9 @@
 use mathlib.Core.Path.{_≡_}
 use mathlib.Core.Bool.{Bool, true, false}
 use mathlib.Core.List.{List, [], _∷_, _++_}
-use Prim.Native.Nat.{ℕ, zero, suc, _+_, _*_, _≤_, _^_}
+use Prim.Native.Nat.{ℕ, zero, suc, _+_, _*_, _/_, _<_, _≤_, _^_}
 use lib.ListN.{length, take, drop}
+use Rattle.address.specs.Offset.{codeOf}
 use Rattle.memory.specs.Elements.{overwritten}
 
 -- a part of so many bytes, where it stands in the source and where it goes in the target
@@ -66,3 +67,29 @@ pub record EightAsked (out : Bool) (n a b c d line source target : ℕ) : Type 0
   pub c-fits : c + 32 + n ≤ memoryOf out source target
   pub d-fits : d + 32 + n ≤ memoryOf out source target
   pub line-fits : line + 8 * n ≤ roomOf out source target
+
+-- the moves f i, f (i + 1), and so on, `n` of them
+abbrev pub along : (ℕ → Move) → ℕ → ℕ → List Move
+along f i zero = []
+along f i (suc n) = f i ∷ along f (suc i) n
+
+-- Parts of `n` bytes in a row: the part of column x + i stands at its place in memory, and in the room right behind the one before it.
+-- `count` of them, the first at the line `line` of the room.
+abbrev pub rowMove : Bool → (ℕ → ℕ) → ℕ → ℕ → ℕ → ℕ → Move
+rowMove out place n x line i = turned out (place (x + i)) (line + i * n) n
+
+abbrev pub rowMoves : Bool → (ℕ → ℕ) → ℕ → ℕ → ℕ → ℕ → List Move
+rowMoves out place n x line count = along (rowMove out place n x line) 0 count
+
+-- where the block at column X of a block row Y begins, of a window whose row of tiles begins at `start`
+abbrev pub blockPlace : ℕ → ℕ → ℕ → ℕ
+blockPlace start Y X = start + (2048 * (X / 8) + 32 * codeOf X Y)
+
+-- `count` tiles' rows of blocks' parts, from the tile `first` on
+pub record TilesAsked (out : Bool) (n start row first count line source target : ℕ) : Type 0 where
+  pub few : n ≤ 32
+  pub memory-most : memoryOf out source target ≤ 2 ^ 32
+  pub room-most : roomOf out source target ≤ 2 ^ 32
+  pub tiles-most : first + count ≤ 4096
+  pub places : (k : ℕ) → k < 8 * count → blockPlace start row (8 * first + k) + n ≤ memoryOf out source target
+  pub line-fits : line + 8 * count * n ≤ roomOf out source target

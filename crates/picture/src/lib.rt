@@ -1,2 +1,3 @@
 // Pictures: rectangles of elements in lent memory.
 mod parts;
+mod tiles;
