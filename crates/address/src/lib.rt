@@ -2,8 +2,8 @@
 // that owns the byte and the byte's place in the element. `translate` answers address and run or 3, 6, 10; `locate` the pair or
 // 3, 6, 12.
 pub mod block;
-mod offset;
-mod run;
+pub mod offset;
+pub mod run;
 
 use layout::ByteAddress;
 use layout::Layout;

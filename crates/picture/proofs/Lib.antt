@@ -4,4 +4,5 @@ pub mod Patches
 pub mod Pictures
 pub mod RowMoves
 pub mod Spots
+pub mod Stretches
 pub mod TileRows

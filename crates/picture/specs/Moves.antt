@@ -4,7 +4,9 @@ use mathlib.Core.Bool.{Bool, true, false}
 use mathlib.Core.List.{List, [], _∷_, _++_}
 use Prim.Native.Nat.{ℕ, zero, suc, _+_, _*_, _/_, _<_, _≤_, _^_}
 use lib.ListN.{length, take, drop}
-use Rattle.address.specs.Offset.{codeOf}
+use Rattle.layout.specs.Sizes.{isSize}
+use Rattle.address.specs.Offset.{codeOf, offsetOf}
+use Rattle.address.specs.Run.{runNumber}
 use Rattle.memory.specs.Elements.{overwritten}
 
 -- a part of so many bytes, where it stands in the source and where it goes in the target
@@ -93,3 +95,32 @@ pub record TilesAsked (out : Bool) (n start row first count line source target :
   pub tiles-most : first + count ≤ 4096
   pub places : (k : ℕ) → k < 8 * count → blockPlace start row (8 * first + k) + n ≤ memoryOf out source target
   pub line-fits : line + 8 * count * n ≤ roomOf out source target
+
+-- a stretch of any length
+pub record StretchAsked (out : Bool) (place line n source target : ℕ) : Type 0 where
+  pub memory-most : memoryOf out source target ≤ 2 ^ 32
+  pub room-most : roomOf out source target ≤ 2 ^ 32
+  pub place-fits : place + n ≤ memoryOf out source target
+  pub line-fits : line + n ≤ roomOf out source target
+
+-- where the elements of the row `y` stand, of a window whose base is at the place `at` of memory
+abbrev pub elementPlace : Bool → ℕ → ℕ → ℕ → ℕ → ℕ → ℕ
+elementPlace tiled s e at y x = at + offsetOf tiled s e x y
+
+-- `count` elements of a row from column x on, in a window of the row step stride / s: its runs are such that copies of them may be one
+pub record RunsAsked (out tiled : Bool) (s stride at x y count line source target : ℕ) : Type 0 where
+  pub size : isSize s ≡ true
+  pub most : s ≤ 16
+  pub whole : stride / s * s ≡ stride
+  pub step : stride / s ≤ 4096
+  pub columns : x + count ≤ stride / s
+  pub row : y < 4096
+  pub memory-most : memoryOf out source target ≤ 2 ^ 32
+  pub room-most : roomOf out source target ≤ 2 ^ 32
+  pub some : (c : ℕ) → c < stride / s → 0 < runNumber tiled s (stride / s) c
+  pub follow :
+      (c j : ℕ) → c < stride / s → j < runNumber tiled s (stride / s) c →
+      offsetOf tiled s (stride / s) (c + j) y ≡ offsetOf tiled s (stride / s) c y + j * s
+  pub places :
+      (i : ℕ) → i < count → elementPlace tiled s (stride / s) at y (x + i) + s ≤ memoryOf out source target
+  pub line-fits : line + count * s ≤ roomOf out source target
