@@ -1,8 +1,10 @@
+pub mod Blocks
 pub mod Example
 pub mod Moves
 pub mod Patches
 pub mod Pictures
 pub mod RowMoves
+pub mod RowParts
 pub mod Spots
 pub mod Stretches
 pub mod TileRows

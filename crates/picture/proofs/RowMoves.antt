@@ -10,7 +10,7 @@ use mir.Syntax.{w64}
 use lib.ListN.{length}
 use Rattle.memory.specs.Elements.{overwritten}
 use Rattle.picture.specs.Moves.{Move, partOf, moved, turned, memoryOf, roomOf, along, rowMove, rowMoves, TilesAsked, blockPlace}
-use Rattle.picture.proofs.Moves.{moved-both}
+use Rattle.picture.proofs.Moves.{moved-both, length-one, turned-fits, MoveFits}
 
 pub along-add : (f : ℕ → Move) (i a b : ℕ) → along f i (a + b) ≡ along f i a ++ along f (i + a) b
 along-add f i zero b = ap₂ (λ (p q : ℕ). along f p q) {x = i} {y = i + 0} {u = 0 + b} {v = b} (omega arith) (omega arith)
@@ -115,3 +115,30 @@ module _ (out : Bool) (place : ℕ → ℕ) (n first line : ℕ) (source m₀ : 
       m ≡ moved (rowMoves out place n (8 * first) line (8 * count)) source m₀
   tiles-done count k at m g up h =
       g .so-far ∙ ap (λ (q : ℕ). moved (rowMoves out place n (8 * first) line q) source m₀) {x = 8 * k} {y = 8 * count} (omega (arith, up, h))
+
+-- a row's moves keep the target's length
+pub row-long :
+    (out : Bool) (place : ℕ → ℕ) (n x line : ℕ) (source m : List ℕ) (b : ℕ) →
+    ((k : ℕ) → k < b → place (x + k) + n ≤ memoryOf out (length source) (length m)) →
+    line + b * n ≤ roomOf out (length source) (length m) → length (moved (rowMoves out place n x line b) source m) ≡ length m
+unfolding moved
+row-long out place n x line source m zero fits room = refl
+row-long out place n x line source m (suc b) fits room =
+    ap (λ (q : ℕ). length (moved (rowMoves out place n x line q) source m)) {x = suc b} {y = b + 1} (omega arith) ∙
+    ap length (row-add out place n source x line b 1 (x + b) (line + b * n) m refl refl) ∙
+    last (row-long out place n x line source m b (λ k h. fits k (omega (arith, h))) (omega (arith, room, all)))
+  where
+    before : List ℕ
+    before = moved (rowMoves out place n x line b) source m
+
+    all : suc b * n ≡ b * n + n
+    all = ap (λ (q : ℕ). q * n) {x = suc b} {y = b + 1} (omega arith) ∙ add-mul b 1 n ∙ omega arith
+
+    last : length before ≡ length m → length (moved (rowMoves out place n (x + b) (line + b * n) 1) source before) ≡ length m
+    last same =
+        length-one (turned out (place (x + b + 0)) (line + b * n + 0 * n) n) source before
+        (subst (MoveFits (turned out (place (x + b + 0)) (line + b * n + 0 * n) n) (length source)) (sym same)
+        (turned-fits out (place (x + b + 0)) (line + b * n + 0 * n) n (length source) (length m)
+        (subst (λ (q : ℕ). place q + n ≤ memoryOf out (length source) (length m)) {x = x + b} {y = x + b + 0} (omega arith) (fits b (omega arith)))
+        (omega (arith, room, all)))) ∙
+        same

@@ -1,3 +1,4 @@
 pub mod Example
 pub mod Moves
 pub mod Picture
+pub mod Rows

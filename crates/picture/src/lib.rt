@@ -1,4 +1,5 @@
 // Pictures: rectangles of elements in lent memory.
 mod parts;
+mod rows;
 mod runs;
 mod tiles;
