@@ -281,3 +281,10 @@ pub told-kind :
     m' ≡ moved (rowMoves out (elementPlace tiled s e at y) s x line w) source m
 told-kind out tiled kind s e at y x line w source m m' same told =
     told ∙ ap (λ (t : Bool). moved (rowMoves out (elementPlace t s e at y) s x line w) source m) (sym same)
+
+pub line-in :
+    (out tiled : Bool) (s n stride columns at x y lead first count inner tail rows source target : ℕ) →
+    RectAsked out tiled s n stride columns at x y lead first count inner tail rows source target →
+    (j line : ℕ) → j < rows → line ≡ 0 + j * ((lead + inner + tail) * s) → line + (lead + inner + tail) * s ≤ 2 ^ 32
+line-in out tiled s n stride columns at x y lead first count inner tail rows source target asked j line h el =
+    let r = asked .row j h .runs in omega (arith, r .line-fits, r .room-most, el)

@@ -1,68 +1,57 @@
+-- `picture::rows::rows` meets its contract: row after row. Assumes nothing.
+use mathlib.Core.Path.{_∙_}
+use Prim.Native.Nat.{ℕ, _+_, _-_, _*_, _/_}
+use native.Mathlib.Omega.{arith}
+use Rattle.picture.specs.Moves.{elementPlace}
+use Rattle.picture.proofs.RowParts.{RectGoing, rect-start, rect-next, rect-done, row-asked, rect-bytes, line-in}
 use Rattle.picture.proofs.rows.rows.Statement.{statement}
 use Rattle.picture.proofs.rows.rows.Tie as tie
-use Rattle.picture.proofs.rows.rows.Reads as reads
-use Rattle.picture.proofs.rows.rows.Lts as lts
-use Rattle.picture.proofs.rows.row.Reads as row-reads
 
 abbrev Inv-loop : tie.InvT-loop
-Inv-loop out tiled size n stride columns at x y lead first count inner tail rows from to₀ bytes j₀ line₀ to j line =
-    ?
+Inv-loop out tiled size n stride columns at x y lead first count inner tail rows from to₀ bytes j₀ line₀ to j line = 
+    RectGoing out (elementPlace tiled size (stride / size) at) size x (lead + inner + tail) y rows from to₀ j line to
 
 abbrev μ-loop : tie.MeasureT-loop
-μ-loop out tiled size n stride columns at x y lead first count inner tail rows from to₀ bytes j₀ line₀ to j line =
-    ?
+μ-loop out tiled size n stride columns at x y lead first count inner tail rows from to₀ bytes j₀ line₀ to j line = rows - j
 
--- src/rows.rt:51:19
 add-bytes : tie.Need-add-bytes Inv-loop μ-loop
-add-bytes c = ?
+add-bytes c = omega (arith, c .before .before .pre .width-most)
 
--- src/rows.rt:51:19
 add-bytes-2 : tie.Need-add-bytes-2 Inv-loop μ-loop
-add-bytes-2 c = ?
+add-bytes-2 c = omega (arith, c .before .before .pre .width-most)
 
--- src/rows.rt:51:18
 mul-bytes : tie.Need-mul-bytes Inv-loop μ-loop
-mul-bytes c = ?
+mul-bytes c = omega (arith, rect-bytes _ _ _ _ _ _ _ _ _ _ _ _ _ _ _ _ _ (c .before .before .pre))
 
--- src/rows.rt:51:17
 cast-bytes : tie.Need-cast-bytes Inv-loop μ-loop
-cast-bytes c = ?
+cast-bytes c = omega (arith, rect-bytes _ _ _ _ _ _ _ _ _ _ _ _ _ _ _ _ _ (c .before .before .pre))
 
--- src/rows.rt:54:5
 loop-holds : tie.Need-loop-holds Inv-loop μ-loop
-loop-holds c = ?
+loop-holds c = rect-start _ _ _ _ _ _ _ _ _
 
--- src/rows.rt:55:58
 add-row : tie.Need-add-row Inv-loop μ-loop
-add-row c = ?
+add-row c = omega (arith, c .before .before .before .before .pre .rows-most, c .loop-test .taken)
 
--- src/rows.rt:55:9
 row-requires : tie.Need-row-requires Inv-loop μ-loop
-row-requires c κs = ?
+row-requires c κs = row-asked _ _ _ _ _ _ _ _ _ _ _ _ _ _ _ _ _ (c .before .before .before .before .before .pre) _ _ _ (c .before .loop-test .taken) (c .before .before .loop .inv .line-at) (c .before .before .loop .inv .long)
 
--- src/rows.rt:56:9
 add-line : tie.Need-add-line Inv-loop μ-loop
-add-line c = ?
+add-line c = omega (arith, line-in _ _ _ _ _ _ _ _ _ _ _ _ _ _ _ _ _ (c .before .before .before .before .before .before .before .before .pre) _ _ (c .before .before .before .before .loop-test .taken) (c .before .before .before .before .before .loop .inv .line-at))
 
--- src/rows.rt:57:9
 add-j : tie.Need-add-j Inv-loop μ-loop
-add-j c = ?
+add-j c = omega (arith, c .before .before .before .before .before .before .before .before .pre .rows-most, c .before .before .before .before .loop-test .taken)
 
--- src/rows.rt:54:5
 loop-less : tie.Need-loop-less Inv-loop μ-loop
-loop-less c = ?
+loop-less c = omega (arith, c .before .before .before .before .loop-test .taken)
 
--- src/rows.rt:54:5
 loop-again : tie.Need-loop-again Inv-loop μ-loop
-loop-again c = ?
+loop-again c = rect-next _ _ _ _ _ _ _ _ _ _ _ _ _ (c .before .before .before .before .before .loop .inv) (c .before .before .before .before .loop-test .taken) (c .before .to .given) (c .before .before .row .ensures)
 
--- src/rows.rt:47:1
 same-length : tie.Need-same-length Inv-loop μ-loop
-same-length c = ?
+same-length c = c .before .loop .inv .long
 
--- src/rows.rt:47:1
 returns : tie.Need-returns Inv-loop μ-loop
-returns c = ?
+returns c = rect-done _ _ _ _ _ _ _ _ _ _ _ _ (c .before .loop .inv) (c .loop-test .left)
 
 pub rows-spec : {M : Type 1} → statement M
 rows-spec =
