@@ -123,7 +123,11 @@ module _ (out : Bool) (n a b c d line source target : ℕ) (asked : EightAsked o
   pairs-first =
       subst₂ (λ (p : Bool) (q : ℕ). PairsAsked p q a b line source target) eo en
       (record {
-        few = asked .few; memory-most = asked .memory-most; room-most = asked .room-most; a-fits = asked .a-fits; b-fits = asked .b-fits;
+        few = asked .few;
+        memory-most = asked .memory-most;
+        room-most = asked .room-most;
+        a-fits = asked .a-fits;
+        b-fits = asked .b-fits;
         line-fits = omega (arith, asked .line-fits);
       })
 
@@ -132,7 +136,11 @@ module _ (out : Bool) (n a b c d line source target : ℕ) (asked : EightAsked o
       subst₂ (λ (p : Bool) (q : ℕ). PairsAsked p q c d (line + 4 * n) source target') eo en
       (subst (PairsAsked out n c d (line + 4 * n) source) (sym e)
       (record {
-        few = asked .few; memory-most = asked .memory-most; room-most = asked .room-most; a-fits = asked .c-fits; b-fits = asked .d-fits;
+        few = asked .few;
+        memory-most = asked .memory-most;
+        room-most = asked .room-most;
+        a-fits = asked .c-fits;
+        b-fits = asked .d-fits;
         line-fits = omega (arith, asked .line-fits);
       }))
 

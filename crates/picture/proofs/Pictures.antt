@@ -91,7 +91,6 @@ module _ (c : Scene) (first : ℕ) where
           (write-told (win k) (k .x) (k .y) first (s .accepted) (s .pair) (bytes k) m
           (subst (λ (q : ℕ). Held first q (addr k) (win k .size)) (sym e) (s .held)) (s .size))
 
-
 module _ (c : Scene) (outputs : ℕ) (d : Domain) (first : ℕ) where
   abbrev win' : Spot → Layout
   win' k = win c first k

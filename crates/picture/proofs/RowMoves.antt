@@ -69,8 +69,8 @@ module _ (out : Bool) (place : ℕ → ℕ) (n x line : ℕ) (source m₀ : List
         line-at = omega (arith, g .line-at, ea, add-mul k a n);
         long = same ∙ g .long;
         so-far =
-          e ∙ ap (λ (q : List ℕ). moved (rowMoves out place n x' at a) source q) (g .so-far) ∙
-          sym (row-add out place n source x line k a x' at m₀ ex (g .line-at));
+            e ∙ ap (λ (q : List ℕ). moved (rowMoves out place n x' at a) source q) (g .so-far) ∙
+            sym (row-add out place n source x line k a x' at m₀ ex (g .line-at));
       }
 
 -- tiles one after the other
@@ -81,17 +81,19 @@ module _ (out : Bool) (n start row first count line source target : ℕ) (asked 
   one-tile k at target' h e ea =
       subst (TilesAsked out n start row (first + k) 1 at source) (sym e)
       (record {
-        few = asked .few; memory-most = asked .memory-most; room-most = asked .room-most;
+        few = asked .few;
+        memory-most = asked .memory-most;
+        room-most = asked .room-most;
         tiles-most = omega (arith, asked .tiles-most, h);
         places = λ j hj.
-          subst (λ (q : ℕ). blockPlace start row q + n ≤ memoryOf out source target) {x = 8 * first + (8 * k + j)} {y = 8 * (first + k) + j} (omega arith)
-          (asked .places (8 * k + j) (omega (arith, h, hj)));
+            subst (λ (q : ℕ). blockPlace start row q + n ≤ memoryOf out source target) {x = 8 * first + (8 * k + j)} {y = 8 * (first + k) + j} (omega arith)
+            (asked .places (8 * k + j) (omega (arith, h, hj)));
         line-fits =
-          (let up : 8 * k + 8 ≤ 8 * count = omega (arith, h) in
-          let rest : 8 * count ≡ 8 * k + 8 + (8 * count - (8 * k + 8)) = omega arith in
-          let all : 8 * count * n ≡ 8 * k * n + 8 * n + (8 * count - (8 * k + 8)) * n =
-          ap (λ (q : ℕ). q * n) rest ∙ add-mul (8 * k + 8) (8 * count - (8 * k + 8)) n ∙ ap (λ (q : ℕ). q + (8 * count - (8 * k + 8)) * n) (add-mul (8 * k) 8 n) in
-          omega (arith, asked .line-fits, all, ea));
+            (let up : 8 * k + 8 ≤ 8 * count = omega (arith, h) in
+            let rest : 8 * count ≡ 8 * k + 8 + (8 * count - (8 * k + 8)) = omega arith in
+            let all : 8 * count * n ≡ 8 * k * n + 8 * n + (8 * count - (8 * k + 8)) * n =
+            ap (λ (q : ℕ). q * n) rest ∙ add-mul (8 * k + 8) (8 * count - (8 * k + 8)) n ∙ ap (λ (q : ℕ). q + (8 * count - (8 * k + 8)) * n) (add-mul (8 * k) 8 n) in
+            omega (arith, asked .line-fits, all, ea));
       })
 
   pub line-small : (k at : ℕ) → k < count → at ≡ line + 8 * k * n → Fits w64 (at + 8 * n)

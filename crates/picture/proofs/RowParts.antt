@@ -32,17 +32,24 @@ pub part-of-row :
 part-of-row out tiled s stride at x y count line source target asked a b x' line' target' h ex el et =
     subst (RunsAsked out tiled s stride at x' y b line' source) (sym et)
     (record {
-      size = asked .size; most = asked .most; whole = asked .whole; step = asked .step;
+      size = asked .size;
+      most = asked .most;
+      whole = asked .whole;
+      step = asked .step;
       columns = omega (arith, asked .columns, h, ex);
-      row = asked .row; memory-most = asked .memory-most; room-most = asked .room-most; some = asked .some; follow = asked .follow;
+      row = asked .row;
+      memory-most = asked .memory-most;
+      room-most = asked .room-most;
+      some = asked .some;
+      follow = asked .follow;
       places = λ i hi.
-        subst (λ (q : ℕ). elementPlace tiled s (stride / s) at y q + s ≤ memoryOf out source target) {x = x + (a + i)} {y = x' + i}
-        (omega (arith, ex)) (asked .places (a + i) (omega (arith, h, hi)));
+          subst (λ (q : ℕ). elementPlace tiled s (stride / s) at y q + s ≤ memoryOf out source target) {x = x + (a + i)} {y = x' + i}
+          (omega (arith, ex)) (asked .places (a + i) (omega (arith, h, hi)));
       line-fits = omega (arith, asked .line-fits, el, add-mul a b s, mul-le-mul-right s h);
     })
 
 module _ (out : Bool) (s n stride columns at x y lead first count inner tail line source target : ℕ)
-         (asked : RowAsked out true s n stride columns at x y lead first count inner tail line source target) where
+    (asked : RowAsked out true s n stride columns at x y lead first count inner tail line source target) where
   abbrev e : ℕ
   e = stride / s
 
@@ -90,11 +97,12 @@ module _ (out : Bool) (s n stride columns at x y lead first count inner tail lin
   last-fit =
       let h : lead + inner ≤ lead + inner + tail = omega arith in
       let few : lead + inner ≤ 4096 = omega (arith, wide) in
-      let z : (lead + inner) * s ≤ 4096 * 16 = mul-le-mul few (asked .runs .most) in
-      (omega (arith, z),
-      omega (arith, mul-le-mul-right s h, asked .runs .line-fits, asked .runs .room-most),
-      omega (arith, wide),
-      omega (arith, asked .runs .columns, asked .runs .step))
+      let z : (lead + inner) * s ≤ 4096 * 16 = mul-le-mul few (asked .runs .most) in (
+        omega (arith, z),
+        omega (arith, mul-le-mul-right s h, asked .runs .line-fits, asked .runs .room-most),
+        omega (arith, wide),
+        omega (arith, asked .runs .columns, asked .runs .step),
+      )
 
   pub lead-asked : RunsAsked out true s stride at x y lead line source target
   lead-asked =
@@ -154,8 +162,12 @@ module _ (out : Bool) (s n stride columns at x y lead first count inner tail lin
   tiles-asked target' et =
       subst (TilesAsked out n (rowStart at columns n y) (y * n / 32) first count (line + lead * s) source) (sym et)
       (record {
-        few = asked .few; memory-most = asked .runs .memory-most; room-most = asked .runs .room-most; tiles-most = asked .tiles-most;
-        places = block-fits; line-fits = room-fits;
+        few = asked .few;
+        memory-most = asked .runs .memory-most;
+        room-most = asked .runs .room-most;
+        tiles-most = asked .tiles-most;
+        places = block-fits;
+        line-fits = room-fits;
       })
 
 -- the tiles' blocks are the inner elements
@@ -242,8 +254,8 @@ module _ (out : Bool) (place : ℕ → ℕ → ℕ) (s x w y rows : ℕ) (source
         line-at = omega (arith, g .line-at, add-mul j 1 (w * s));
         long = same ∙ g .long;
         so-far =
-          e ∙ ap₂ (λ (a : ℕ) (q : List ℕ). moved (rowMoves out (place (y + j)) s x a w) source q) (g .line-at) (g .so-far) ∙
-          sym (rect-last out place s x w 0 y source m₀ j);
+            e ∙ ap₂ (λ (a : ℕ) (q : List ℕ). moved (rowMoves out (place (y + j)) s x a w) source q) (g .line-at) (g .so-far) ∙
+            sym (rect-last out place s x w 0 y source m₀ j);
       }
 
   pub rect-done :

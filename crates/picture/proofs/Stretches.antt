@@ -157,7 +157,7 @@ product-most a b ha hb = mul-le-mul ha hb
 
 -- a row, run by run
 module _ (out tiled : Bool) (s stride at x y count line : ℕ) (source m₀ : List ℕ)
-         (asked : RunsAsked out tiled s stride at x y count line (length source) (length m₀)) where
+    (asked : RunsAsked out tiled s stride at x y count line (length source) (length m₀)) where
   abbrev e : ℕ
   e = stride / s
 
@@ -191,7 +191,7 @@ module _ (out tiled : Bool) (s stride at x y count line : ℕ) (source m₀ : Li
     place-small o same = omega (arith, asked .places i h, asked .memory-most, same)
 
     module _ (here many run o : ℕ) (m : List ℕ) (g : RunsGoing i here m) (same : o ≡ offsetOf tiled s e (x + i) y)
-             (er : run ≡ runNumber tiled s e (x + i)) (few : (many ≤ run) × (many ≤ count - i) × (0 < run → 0 < count - i → 0 < many)) where
+        (er : run ≡ runNumber tiled s e (x + i)) (few : (many ≤ run) × (many ≤ count - i) × (0 < run → 0 < count - i → 0 < many)) where
       pub some : 0 < many
       some = few .2 (subst (λ (q : ℕ). 0 < q) (sym er) (asked .some (x + i) (omega (arith, asked .columns, h)))) (omega (arith, h))
 
@@ -227,17 +227,21 @@ module _ (out tiled : Bool) (s stride at x y count line : ℕ) (source m₀ : Li
       run-asked =
           subst (StretchAsked out (at + o) here (many * s) (length source)) (sym (g .1 .long))
           (record {
-            memory-most = asked .memory-most; room-most = asked .room-most; place-fits = omega (arith, last, same); line-fits = room-fits;
+            memory-most = asked .memory-most;
+            room-most = asked .room-most;
+            place-fits = omega (arith, last, same);
+            line-fits = room-fits;
           })
 
       pub runs-next :
           (m' : List ℕ) → length m' ≡ length m → m' ≡ moved (turned out (at + o) here (many * s) ∷ []) source m →
           RunsGoing (i + many) (here + many * s) m'
-      runs-next m' long told =
-          (omega (arith, few .1, h),
-          row-next out P s x line source m₀ i many here (x + i) (here + many * s) m m' (g .1) refl refl long
-          (told ∙ ap (λ (q : ℕ). moved (turned out (at + q) here (many * s) ∷ []) source m) same ∙
-          sym
-          (one-stretch out P s (x + i) here source m many follows
-          (subst (λ (q : ℕ). P (x + i) + many * s ≤ memoryOf out (length source) q) (sym (g .1 .long)) last)
-          (subst (λ (q : ℕ). here + many * s ≤ roomOf out (length source) q) (sym (g .1 .long)) room-fits))))
+      runs-next m' long told = (
+        omega (arith, few .1, h),
+        row-next out P s x line source m₀ i many here (x + i) (here + many * s) m m' (g .1) refl refl long
+            (told ∙ ap (λ (q : ℕ). moved (turned out (at + q) here (many * s) ∷ []) source m) same ∙
+            sym
+            (one-stretch out P s (x + i) here source m many follows
+            (subst (λ (q : ℕ). P (x + i) + many * s ≤ memoryOf out (length source) q) (sym (g .1 .long)) last)
+            (subst (λ (q : ℕ). here + many * s ≤ roomOf out (length source) q) (sym (g .1 .long)) room-fits))),
+      )

@@ -205,7 +205,9 @@ module _ (start row t : ℕ) where
     pub eight-asked : EightAsked out n placeA placeB placeC placeD line source target
     eight-asked =
         record {
-          few = asked .few; memory-most = asked .memory-most; room-most = asked .room-most;
+          few = asked .few;
+          memory-most = asked .memory-most;
+          room-most = asked .room-most;
           a-fits = fits 1 (placeA + 32) (omega arith) at1;
           b-fits = fits 3 (placeB + 32) (omega arith) at3;
           c-fits = fits 5 (placeC + 32) (omega arith) at5;

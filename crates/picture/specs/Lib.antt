@@ -1,3 +1,4 @@
+pub mod Bulk
 pub mod Example
 pub mod Moves
 pub mod Picture

@@ -53,7 +53,17 @@ fn two_pairs(out: bool, n: usize, a: usize, b: usize, line: usize, from: &[u8], 
 }
 
 // The eight parts of a tile's row: four pairs, in the order of the room. Direction and length are constants in each arm.
-pub fn four_pairs(out: bool, n: usize, a: usize, b: usize, c: usize, d: usize, line: usize, from: &[u8], to: &mut [u8])
+pub fn four_pairs(
+    out: bool,
+    n: usize,
+    a: usize,
+    b: usize,
+    c: usize,
+    d: usize,
+    line: usize,
+    from: &[u8],
+    to: &mut [u8],
+)
     requires { ⌜ EightAsked out n a b c d line (length (now from)) (length (now to)) ⌝ }
     ensures { λ _. ⌜ now (to .exit) ≡ moved (eightOf out n a b c d line) (now (from .entry)) (now (to .entry)) ⌝ }
 {

@@ -31,7 +31,19 @@ fn smaller(a: u32, b: u32) -> u32
 }
 
 // `count` elements of the row y from column x on, in a window whose base is at the place `at` of memory.
-pub fn by_runs(out: bool, tiled: bool, size: u32, stride: u32, at: usize, x: u32, y: u32, count: u32, line: usize, from: &[u8], to: &mut [u8])
+pub fn by_runs(
+    out: bool,
+    tiled: bool,
+    size: u32,
+    stride: u32,
+    at: usize,
+    x: u32,
+    y: u32,
+    count: u32,
+    line: usize,
+    from: &[u8],
+    to: &mut [u8],
+)
     requires { ⌜ RunsAsked out tiled size stride at x y count line (length (now from)) (length (now to)) ⌝ }
     ensures { λ _. ⌜ now (to .exit) ≡ moved (rowMoves out (elementPlace tiled size (stride / size) at y) size x line count) (now (from .entry)) (now (to .entry)) ⌝ }
 {

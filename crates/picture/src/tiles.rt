@@ -7,7 +7,16 @@ ghost use Rattle.picture.specs.Moves.{moved, rowMoves, blockPlace, Tiles
 
 // One tile's row: `n` bytes of each of its blocks. The places are those of the blocks' codes: the columns' bits 2 and 1 stand against bits
 // of the row, so that a set bit of the row swaps the pairs.
-fn tile_row(out: bool, n: usize, start: usize, row: u32, tile: u32, line: usize, from: &[u8], to: &mut [u8])
+fn tile_row(
+    out: bool,
+    n: usize,
+    start: usize,
+    row: u32,
+    tile: u32,
+    line: usize,
+    from: &[u8],
+    to: &mut [u8],
+)
     requires { ⌜ TilesAsked out n start row tile 1 line (length (now from)) (length (now to)) ⌝ }
     ensures { λ _. ⌜ now (to .exit) ≡ moved (rowMoves out (blockPlace start row) n (8 * tile) line 8) (now (from .entry)) (now (to .entry)) ⌝ }
 {
@@ -23,7 +32,17 @@ fn tile_row(out: bool, n: usize, start: usize, row: u32, tile: u32, line: usize,
 }
 
 // The rows of `count` tiles, from the tile `first` on.
-pub fn tiles(out: bool, n: usize, start: usize, row: u32, first: u32, count: u32, line: usize, from: &[u8], to: &mut [u8])
+pub fn tiles(
+    out: bool,
+    n: usize,
+    start: usize,
+    row: u32,
+    first: u32,
+    count: u32,
+    line: usize,
+    from: &[u8],
+    to: &mut [u8],
+)
     requires { ⌜ TilesAsked out n start row first count line (length (now from)) (length (now to)) ⌝ }
     ensures { λ _. ⌜ now (to .exit) ≡ moved (rowMoves out (blockPlace start row) n (8 * first) line (8 * count)) (now (from .entry)) (now (to .entry)) ⌝ }
 {

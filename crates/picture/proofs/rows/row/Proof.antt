@@ -75,7 +75,7 @@ same-length : tie.Need-same-length
 same-length c = search needs
 
 returns : tie.Need-returns
-returns c = 
+returns c =
     let args = c .before .before .before .before .before .before .before .before .before .before .before .before .before .before .before .args in
     told-kind (args .out) (args .tiled) true (args .size) (args .stride / args .size) (args .at) (args .y) (args .x) (args .line) (args .lead + args .inner + args .tail) (args .from .now) (args .to .now) _ (c .before .before .before .before .before .before .before .before .before .before .before .before .if1 .taken)
     (three-parts _ _ _ _ _ _ _ _ _ _ _ _ _ _ (args .from .now) (args .to .now) _ _ _ (of-kind _ _ true _ _ _ _ _ _ _ _ _ _ _ _ _ _ _ (c .before .before .before .before .before .before .before .before .before .before .before .before .before .before .before .pre) (c .before .before .before .before .before .before .before .before .before .before .before .before .if1 .taken)) (c .before .before .before .before .before .before .before .before .before .to .given) (c .before .before .before .before .before .before .before .before .before .before .edge .ensures) (c .before .before .before .before .before .before .tiles .ensures) (c .before .before .edge2 .ensures))
@@ -84,7 +84,7 @@ same-length-2 : tie.Need-same-length-2
 same-length-2 c = search needs
 
 returns-2 : tie.Need-returns-2
-returns-2 c = 
+returns-2 c =
     let args = c .before .before .before .before .before .before .before .args in
     told-kind (args .out) (args .tiled) false (args .size) (args .stride / args .size) (args .at) (args .y) (args .x) (args .line) (args .lead + args .inner + args .tail) (args .from .now) (args .to .now) _ (c .before .before .before .before .if1 .left) (c .before .before .by-runs .ensures)
 

@@ -8,7 +8,7 @@ use Rattle.picture.proofs.rows.rows.Statement.{statement}
 use Rattle.picture.proofs.rows.rows.Tie as tie
 
 abbrev Inv-loop : tie.InvT-loop
-Inv-loop out tiled size n stride columns at x y lead first count inner tail rows from to₀ bytes j₀ line₀ to j line = 
+Inv-loop out tiled size n stride columns at x y lead first count inner tail rows from to₀ bytes j₀ line₀ to j line =
     RectGoing out (elementPlace tiled size (stride / size) at) size x (lead + inner + tail) y rows from to₀ j line to
 
 abbrev μ-loop : tie.MeasureT-loop

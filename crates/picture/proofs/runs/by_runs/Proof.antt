@@ -10,7 +10,7 @@ use Rattle.picture.proofs.runs.by_runs.Statement.{statement}
 use Rattle.picture.proofs.runs.by_runs.Tie as tie
 
 abbrev Inv-loop : tie.InvT-loop
-Inv-loop out tiled size stride at x y count line from to₀ i₀ here₀ to i here = 
+Inv-loop out tiled size stride at x y count line from to₀ i₀ here₀ to i here =
     (i ≤ count) × RowGoing out (elementPlace tiled size (stride / size) at y) size x line from to₀ i here to
 
 abbrev μ-loop : tie.MeasureT-loop
