@@ -168,9 +168,10 @@ uint32_t egretfold_command_write(uint32_t header, const uint32_t fields[4], uint
 /* window: the row step in elements and the span in bytes. 3 or 6. */
 uint32_t egretfold_layout(uint32_t base, uint32_t pitch, uint32_t height, uint32_t size, bool tiled, uint32_t window[2]);
 
-/* address: where the element at (x, y) begins. 3, 6 or 10. */
+/* address: where the element at (x, y) begins, and its run: how many elements of the row, from this one on, lie at consecutive
+ * addresses, so that one copy of run * size bytes takes them all. At least 1. 3, 6 or 10. */
 uint32_t egretfold_translate(uint32_t base, uint32_t pitch, uint32_t height, uint32_t size, bool tiled, uint32_t x,
-                             uint32_t y, uint32_t address[1]);
+                             uint32_t y, uint32_t address[2]);
 
 /* pair: x and y of the pair that owns the byte at the address, and the byte's place in its element. 3, 6 or 12. */
 uint32_t egretfold_locate(uint32_t base, uint32_t pitch, uint32_t height, uint32_t size, bool tiled, uint32_t address,

@@ -7,7 +7,7 @@ use Prim.Native.Nat.{ℕ, _+_, _-_, _*_, _/_, _%_, _<_, _≤_, _^_}
 use native.Mathlib.Nat.{mul-div-cancel, mul-le-mul, le-of-mul-le-mul-right, lt-of-mul-lt-mul-right}
 use native.Mathlib.Omega.{arith}
 use lib.Dec.{leb, ltb, eqb}
-use borrow.Author.Tests.{lt-ltb, le-ltb, eqb-true, eqb-false, leb-true, leb-false}
+use borrow.Author.Tests.{lt-ltb, le-ltb, le-leb, eq-eqb, ne-eqb, eqb-true, eqb-false, leb-true, leb-false}
 use Rattle.laws.specs.Choice.{_and_, pick, placeOf}
 use Rattle.laws.proofs.Choice.{pick-yes, pick-no, and-intro, and-left, and-right, and-no-left, and-no-right, Tested, tested, holds, fails}
 use Rattle.refusal.specs.Told.{Told, gives, refuses}
@@ -130,6 +130,35 @@ formless base pitch s f = go (tested (wellFormed base pitch s))
     go (holds e) = absurd (clash (sym (form-at base pitch s 1 e refl) ∙ f))
     go (fails e) = e
 
+-- one test of base, one of pitch
+pub form-base : (base pitch : ℕ) → (base % 2048 ≡ 0 → ⊥) → false ≡ wellFormed base pitch 1
+unfolding wellFormed
+form-base base pitch h = sym (and-no-left _ (ne-eqb _ _ h))
+
+pub form-pitch : (base pitch : ℕ) → base % 2048 ≡ 0 → eqb (pitch % 8192 / 4 * 4) pitch ≡ wellFormed base pitch 1
+unfolding wellFormed isSize placeOf
+form-pitch base pitch b = go (tested (eqb (pitch % 8192 / 4 * 4) pitch)) (tested (leb pitch 8188)) (tested (eqb (pitch % 4) 0))
+  where
+    go :
+        Tested (eqb (pitch % 8192 / 4 * 4) pitch) → Tested (leb pitch 8188) → Tested (eqb (pitch % 4) 0) →
+        eqb (pitch % 8192 / 4 * 4) pitch ≡ (eqb (base % 2048) 0 and eqb (pitch % 4) 0 and leb pitch 8188 and true)
+    go (holds e) l m =
+        let same : pitch % 8192 / 4 * 4 ≡ pitch = eqb-true _ _ e in
+        e ∙
+        sym
+        (and-intro (eq-eqb _ _ b)
+        (and-intro (eq-eqb (pitch % 4) 0 (omega arith)) (and-intro (le-leb pitch 8188 (omega arith)) refl)))
+    go (fails e) (fails l) m = e ∙ sym (and-no-right _ (and-no-right _ (and-no-left _ l)))
+    go (fails e) (holds l) (fails m) = e ∙ sym (and-no-right _ (and-no-left _ m))
+    go (fails e) (holds l) (holds m) =
+        let small : pitch ≤ 8188 = leb-true _ _ l in
+        let whole : pitch % 4 ≡ 0 = eqb-true _ _ m in
+        absurd (eqb-false (pitch % 8192 / 4 * 4) pitch e (omega arith))
+
+pub sizeless-form : (base pitch s : ℕ) → isSize s ≡ false → wellFormed base pitch s ≡ false
+unfolding wellFormed
+sizeless-form base pitch s z = and-no-right _ (and-no-right _ (and-no-right _ z))
+
 pub sizeless :
     (base pitch height s : ℕ) (tiled : Bool) (x y : ℕ) → NoneOf Unit sizes s →
     toldNumber (refusedAs 3) ≡ translateOf (layoutOf base pitch height s tiled) x y
@@ -153,9 +182,9 @@ module _ (l : Layout) (f : wellFormed (l .base .0) (l .pitch) (l .size) ≡ true
   size-pos : 0 < l .size
   size-pos = blocks (l .size) (form-size (l .base .0) (l .pitch) (l .size) f) .s-pos
 
-  pub bytes-fit : (x : ℕ) → x ≤ 2 ^ 32 → x * l .size ≤ 2 ^ 36
+  pub bytes-fit : (x : ℕ) → x ≤ 4096 → x * l .size ≤ 2 ^ 16
   bytes-fit x h =
-      mul-le-mul {n₂ = 2 ^ 32} {m₂ = 16} h (size-most (l .size) (form-size (l .base .0) (l .pitch) (l .size) f))
+      mul-le-mul {n₂ = 4096} {m₂ = 16} h (size-most (l .size) (form-size (l .base .0) (l .pitch) (l .size) f))
 
   steps : r / l .size ≡ stepOf l
   steps = ap (λ (n : ℕ). n / l .size) (stride-ruled .stride) ∙ mul-div-cancel (stepOf l) size-pos
@@ -165,6 +194,11 @@ module _ (l : Layout) (f : wellFormed (l .base .0) (l .pitch) (l .size) ≡ true
 
   pub whole : r / l .size * l .size ≡ r
   whole = ap (λ (n : ℕ). n * l .size) steps ∙ sym (stride-ruled .stride)
+
+  pub past-all : (x : ℕ) → 4096 < x → r / l .size ≤ x
+  past-all x h =
+      omega
+      (arith, steps, rule-bounds (l .base .0) (l .tiled) (l .size) (stepOf l) (l .height) (stride-ruled .rule) .step-most)
 
   pub past-row : (x : ℕ) → r ≤ x * l .size → r / l .size ≤ x
   past-row x h = le-of-mul-le-mul-right (rw whole h) size-pos

@@ -25,6 +25,16 @@ const WINDOW_RULE: u64 = REFUSED + 6;
 
 const PAIR_OUTSIDE: u64 = REFUSED + 10;
 
+// No row step is above 4,096.
+const STEP_MOST: u32 = 4096;
+
+// Bases are multiples of 2,048, pitches multiples of 4 below 8,192.
+const BASE_UNIT: u32 = 2048;
+
+const PITCH_UNIT: u32 = 4;
+
+const PITCH_END: u32 = 8192;
+
 // Where a pair's element begins and how many elements of its row, from this one on, lie at consecutive addresses; or the refusal.
 pub enum Translated {
     At { address: ByteAddress, run: u32 },
@@ -37,6 +47,17 @@ pub enum Located {
     Refused(Refusal),
 }
 
+// Whether base and pitch are what a layout may have, whatever its size: `layout::well_formed` at size 1, with one test for the
+// pitch's multiple and its bound.
+fn formed(base: u32, pitch: u32) -> bool
+    ensures { λ r. ⌜ r ≡ wellFormed base pitch 1 ⌝ }
+{
+    if base % BASE_UNIT != 0 {
+        return false;
+    }
+    pitch % PITCH_END / PITCH_UNIT * PITCH_UNIT == pitch
+}
+
 // A translation's answer as one number, for a well-formed layout. Where size and kind are constants, every division below is one
 // by a constant.
 fn sized(base: u32, pitch: u32, height: u32, size: u32, tiled: bool, x: u32, y: u32) -> u64
@@ -47,8 +68,11 @@ fn sized(base: u32, pitch: u32, height: u32, size: u32, tiled: bool, x: u32, y: 
     if stride < 1 {
         return WINDOW_RULE;
     }
-    // at 64 bits the product can't wrap
-    if stride as u64 <= x as u64 * size as u64 {
+    // up to the greatest row step the product can't wrap
+    if STEP_MOST < x {
+        return PAIR_OUTSIDE;
+    }
+    if stride <= x * size {
         return PAIR_OUTSIDE;
     }
     if height <= y {
@@ -63,18 +87,20 @@ fn sized(base: u32, pitch: u32, height: u32, size: u32, tiled: bool, x: u32, y: 
 pub fn linear_number(base: u32, pitch: u32, height: u32, size: u32, x: u32, y: u32) -> u64
     ensures { λ r. ⌜ toldNumber r ≡ translateOf (layoutOf base pitch height size false) x y ⌝ }
 {
-    if !layout::well_formed(base, pitch, size) {
+    if !formed(base, pitch) {
+        return MALFORMED;
+    }
+    if !layout::is_size(size) {
         return MALFORMED;
     }
     sized(base, pitch, height, size, false, x, y)
 }
 
-// The answer of a tiled layout, given by its numbers, with one branch on the size. What is asked of base and pitch is the same at
-// every size, and asked once, at size 1.
+// The answer of a tiled layout, given by its numbers, with one branch on the size.
 pub fn tiled_number(base: u32, pitch: u32, height: u32, size: u32, x: u32, y: u32) -> u64
     ensures { λ r. ⌜ toldNumber r ≡ translateOf (layoutOf base pitch height size true) x y ⌝ }
 {
-    if !layout::well_formed(base, pitch, 1) {
+    if !formed(base, pitch) {
         return MALFORMED;
     }
     match size {

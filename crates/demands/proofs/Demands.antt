@@ -18,7 +18,7 @@ use Rattle.layout.specs.Layout.{wellFormed, unitOf, rowStep, tileRows, spanOf, 
 use Rattle.layout.specs.declared.Layout.{Layout}
 use Rattle.layout.proofs.Window.{form-size}
 use Rattle.address.specs.Offset.{blockWidth, blockHeight, codeOf, insideOf, tiledOffset, linearOffset, offsetOf}
-use Rattle.address.specs.Address.{stepOf, ifAccepted, inside, addressOf, breaks, runOf, translateOf, locateOf}
+use Rattle.address.specs.Address.{stepOf as rowStepOf, ifAccepted, inside, addressOf, breaks, runOf, translateOf, locateOf}
 use Rattle.address.specs.Inverse.{Accepted, Inside, Inverse}
 use Rattle.address.specs.Formula.{printedAddress, guideAddress}
 use Rattle.address.specs.Run.{Longest, runNumber}
@@ -560,7 +560,7 @@ run-longest = longest
 
 -- "Linear: E - x." Where tiled it is g - x mod g, with g = 8, 4, 4, 2 and 4 for the five sizes.
 pub run-formula :
-    (l : Layout) → Accepted l → (x y : ℕ) → Inside l x y → runOf l x y ≡ runNumber (l .tiled) (l .size) (stepOf l) x
+    (l : Layout) → Accepted l → (x y : ℕ) → Inside l x y → runOf l x y ≡ runNumber (l .tiled) (l .size) (rowStepOf l) x
 run-formula = run-number
 
 -- "Superfine reads, element writes and the way back keep their answers, restated over the new one." A read and a write answer the

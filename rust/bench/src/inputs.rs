@@ -201,7 +201,7 @@ pub fn addresses(layout: &Layout, seed: u64) -> Vec<u32> {
     let mut random = Random::new(seed);
     let span = judge(layout).expect("an accepted layout").span;
     let address = |(x, y)| match translate(layout, x, y) {
-        Ok(address) => address + random.below(layout.size),
+        Ok(found) => found.address + random.below(layout.size),
         Err(_) => layout.base + span + random.below(1 << 20),
     };
     pairs(layout, seed).into_iter().map(address).collect()

@@ -1,5 +1,5 @@
-//! Layouts and addresses: a layout judged, a pair translated to its address,
-//! and an address located back.
+//! Layouts and addresses: a layout judged, a pair translated to its address
+//! and run, and an address located back.
 
 use crate::{answer, lent, Answer};
 
@@ -35,12 +35,25 @@ pub fn layout(layout: &Layout) -> Answer<Window> {
     })
 }
 
-/// The address where the element at (x, y) begins. 3, 6 or 10.
+/// Where a pair's element stands.
+#[derive(Clone, Copy, Debug, PartialEq, Eq)]
+pub struct Translated {
+    /// Where the element begins.
+    pub address: u32,
+    /// How many elements of the row, from this one on, lie at consecutive
+    /// addresses: at least 1. One copy of so many elements takes them all.
+    pub run: u32,
+}
+
+/// Where the element at (x, y) stands. 3, 6 or 10.
 #[inline]
-pub fn translate(layout: &Layout, x: u32, y: u32) -> Answer<u32> {
-    let mut address = [0];
+pub fn translate(layout: &Layout, x: u32, y: u32) -> Answer<Translated> {
+    let mut address = [0; 2];
     answer(lent::translate(layout, x, y, &mut address))?;
-    Ok(address[0])
+    Ok(Translated {
+        address: address[0],
+        run: address[1],
+    })
 }
 
 /// The pair that owns the byte at the address, and the byte's place in the

@@ -244,9 +244,9 @@ pub fn layout(layout: &Layout, window: &mut [u32; 2]) -> u32 {
     unsafe { raw::egretfold_layout(l.base, l.pitch, l.height, l.size, l.tiled, window) }
 }
 
-/// address: where the element at (x, y) begins. 3, 6 or 10.
+/// address: where the element at (x, y) begins, and its run. 3, 6 or 10.
 #[inline]
-pub fn translate(layout: &Layout, x: u32, y: u32, address: &mut [u32; 1]) -> u32 {
+pub fn translate(layout: &Layout, x: u32, y: u32, address: &mut [u32; 2]) -> u32 {
     let l = layout;
     // SAFETY: one room, of the right length.
     unsafe { raw::egretfold_translate(l.base, l.pitch, l.height, l.size, l.tiled, x, y, address) }

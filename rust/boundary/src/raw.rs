@@ -123,7 +123,7 @@ extern "C" {
         tiled: bool,
         x: u32,
         y: u32,
-        address: &mut [u32; 1],
+        address: &mut [u32; 2],
     ) -> u32;
 
     pub fn egretfold_locate(

@@ -3,6 +3,7 @@
 
 use boundary::headers::{SET_DOMAIN, SET_INST_FMT, SET_OUT_FMT, START_PROGRAM};
 use boundary::{layout, locate, parameters, read, superfine, translate, write, write_command};
+use boundary::{Answer, Translated};
 use boundary::{Command, Fed, Format, Group, Layout, Program, Reply, Session, Window};
 
 #[rustfmt::skip]
@@ -23,25 +24,32 @@ fn shape(size: u32, base: u32, pitch: u32, height: u32, tiled: bool) -> Layout {
     }
 }
 
+/// What a translation answers.
+fn at(address: u32, run: u32) -> Answer<Translated> {
+    Ok(Translated { address, run })
+}
+
 #[test]
 fn c1_and_c2_linear() {
     let c1 = shape(4, 2048, 100, 3, false);
     let (step, span) = (96, 1_152);
     assert_eq!(layout(&c1), Ok(Window { step, span }));
-    assert_eq!(translate(&c1, 5, 2), Ok(2836));
+    assert_eq!(translate(&c1, 5, 2), at(2836, 91));
     assert_eq!(locate(&c1, 2837), Ok((5, 2, 1)));
     assert_eq!(locate(&c1, 2047), Err(12));
-    assert!(translate(&c1, 95, 0).is_ok());
+    assert_eq!(translate(&c1, 95, 0), at(2428, 1));
     assert_eq!(translate(&c1, 96, 0), Err(10));
 }
 
 #[test]
 fn c3_to_c8_tiled_and_refused() {
-    assert_eq!(translate(&shape(4, 0, 100, 20, true), 37, 18), Ok(9828));
+    let c3 = shape(4, 0, 100, 20, true);
+    assert_eq!(translate(&c3, 37, 18), at(9828, 3));
     let c4 = shape(1, 0, 128, 64, true);
-    assert_eq!(translate(&c4, 64, 0), Ok(3072));
-    assert_eq!(translate(&c4, 0, 32), Ok(4608));
-    assert_eq!(translate(&shape(16, 0, 16, 8, true), 15, 7), Ok(1648));
+    assert_eq!(translate(&c4, 64, 0), at(3072, 8));
+    assert_eq!(translate(&c4, 0, 32), at(4608, 8));
+    let c6 = shape(16, 0, 16, 8, true);
+    assert_eq!(translate(&c6, 15, 7), at(1648, 1));
     assert_eq!(layout(&shape(4, 0, 28, 1, true)), Err(6));
     assert!(layout(&shape(4, 4_294_965_248, 8, 64, false)).is_ok());
     assert_eq!(layout(&shape(4, 4_294_965_248, 8, 65, false)), Err(6));

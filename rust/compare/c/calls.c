@@ -344,7 +344,7 @@ static void check_commands(void)
 static void check_addresses(void)
 {
     const uint32_t expected_window[2] = {96, 1152}, expected_pair[3] = {5, 2, 3};
-    uint32_t window[2] = {9, 9}, address[1] = {9}, pair[3] = {9, 9, 9};
+    uint32_t window[2] = {9, 9}, address[2] = {9, 9}, pair[3] = {9, 9, 9};
     agree("layout, pitch 98", egretfold_layout(2048, 98, 3, 4, false, window), 3);
     agree("layout, height 0", egretfold_layout(2048, 100, 0, 4, false, window), 6);
     agree("layout, room after a refusal", window[0], 9);
@@ -352,10 +352,13 @@ static void check_addresses(void)
     agree_words("layout", window, expected_window, 2);
     agree("translate (96, 0)", egretfold_translate(2048, 100, 3, 4, false, 96, 0, address), 10);
     agree("translate, room after a refusal", address[0], 9);
+    agree("translate, the run's room after a refusal", address[1], 9);
     agree("translate (5, 2)", egretfold_translate(2048, 100, 3, 4, false, 5, 2, address), 0);
     agree("translate (5, 2)", address[0], 2836);
+    agree("translate (5, 2), its run", address[1], 91);
     agree("translate, tiled", egretfold_translate(0, 100, 20, 4, true, 37, 18, address), 0);
     agree("translate, tiled", address[0], 9828);
+    agree("translate, tiled, its run", address[1], 3);
     agree("locate 3200", egretfold_locate(2048, 100, 3, 4, false, 3200, pair), 12);
     agree("locate, room after a refusal", pair[0], 9);
     agree("locate 2839", egretfold_locate(2048, 100, 3, 4, false, 2839, pair), 0);

@@ -1,5 +1,5 @@
-//! Cases of the first kind: a layout is judged, a pair of it translated, the
-//! bytes of the pair's element located back, and an address of any kind located.
+//! Cases of the first kind: a layout is judged, a pair of it translated, with its
+//! run, the bytes of the pair's element located back, and an address of any kind located.
 
 use crate::case::{Agreed, Agreement, Case};
 use crate::layouts::{self, for_product};
@@ -40,15 +40,17 @@ fn judged(case: &mut Case, layout: &Layout) -> Agreement {
 /// The pair's address, where both programs accept it.
 fn translated(case: &mut Case, layout: &Layout, x: u32, y: u32) -> Agreed<Option<u32>> {
     let asked = || format!("translate ({x}, {y}) of {layout:?}");
-    let product = boundary::translate(&for_product(layout), x, y);
-    case.agree_answer(asked, &product, &address::translate(layout, x, y))?;
+    let answer = boundary::translate(&for_product(layout), x, y);
+    let product = answer.map(|at| (at.address, at.run));
+    let expected = address::translate_run(layout, x, y).map(|at| (at.address, at.run));
+    case.agree_answer(asked, &product, &expected)?;
     if product.is_err() {
-        let filled = [case.random.word()];
+        let filled = [case.random.word(); 2];
         let mut room = filled;
         lent::translate(&for_product(layout), x, y, &mut room);
         case.untouched(asked, &room, &filled)?;
     }
-    Ok(product.ok())
+    Ok(product.ok().map(|(address, _)| address))
 }
 
 /// The element's bytes lead back to their pair: all of them once in eight cases,

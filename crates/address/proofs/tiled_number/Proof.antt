@@ -11,48 +11,48 @@ use borrow.Author.Needs.{needs}
 use Rattle.address.proofs.tiled_number.Statement.{statement}
 use Rattle.address.proofs.tiled_number.Tie as tie
 
-well-formed-requires : tie.Need-well-formed-requires
-well-formed-requires c κs = search needs
+formed-requires : tie.Need-formed-requires
+formed-requires c κs = search needs
 
 -- base or pitch is malformed
 returns : tie.Need-returns
 unfolding translateOf
 returns c =
-    let at-well-formed = c .before in
-    let args = at-well-formed .before .args in
+    let at-formed = c .before in
+    let args = at-formed .before .args in
     let layout = layoutOf (args .base) (args .pitch) (args .height) (args .size) true in
-    let form-told = sym (at-well-formed .well-formed .ensures) ∙ not-true _ (c .if1 .taken) in
+    let form-told = sym (at-formed .formed .ensures) ∙ not-true _ (c .if1 .taken) in
     told-refused 3 ∙ sym (malformed layout _ (formless _ _ _ form-told))
 
 sized-requires : tie.Need-sized-requires
 unfolding isSize placeOf
 sized-requires c κs =
     let at-if1 = c .before in
-    form-at _ _ 1 _ (sym (at-if1 .before .well-formed .ensures) ∙ not-false _ (at-if1 .if1 .left)) refl
+    form-at _ _ 1 _ (sym (at-if1 .before .formed .ensures) ∙ not-false _ (at-if1 .if1 .left)) refl
 
 sized-requires-2 : tie.Need-sized-requires-2
 unfolding isSize placeOf
 sized-requires-2 c κs =
     let at-if1 = c .before in
-    form-at _ _ 1 _ (sym (at-if1 .before .well-formed .ensures) ∙ not-false _ (at-if1 .if1 .left)) refl
+    form-at _ _ 1 _ (sym (at-if1 .before .formed .ensures) ∙ not-false _ (at-if1 .if1 .left)) refl
 
 sized-requires-3 : tie.Need-sized-requires-3
 unfolding isSize placeOf
 sized-requires-3 c κs =
     let at-if1 = c .before in
-    form-at _ _ 1 _ (sym (at-if1 .before .well-formed .ensures) ∙ not-false _ (at-if1 .if1 .left)) refl
+    form-at _ _ 1 _ (sym (at-if1 .before .formed .ensures) ∙ not-false _ (at-if1 .if1 .left)) refl
 
 sized-requires-4 : tie.Need-sized-requires-4
 unfolding isSize placeOf
 sized-requires-4 c κs =
     let at-if1 = c .before in
-    form-at _ _ 1 _ (sym (at-if1 .before .well-formed .ensures) ∙ not-false _ (at-if1 .if1 .left)) refl
+    form-at _ _ 1 _ (sym (at-if1 .before .formed .ensures) ∙ not-false _ (at-if1 .if1 .left)) refl
 
 sized-requires-5 : tie.Need-sized-requires-5
 unfolding isSize placeOf
 sized-requires-5 c κs =
     let at-if1 = c .before in
-    form-at _ _ 1 _ (sym (at-if1 .before .well-formed .ensures) ∙ not-false _ (at-if1 .if1 .left)) refl
+    form-at _ _ 1 _ (sym (at-if1 .before .formed .ensures) ∙ not-false _ (at-if1 .if1 .left)) refl
 
 returns-2 : tie.Need-returns-2
 returns-2 c =
@@ -102,7 +102,7 @@ pub tiled-number-spec : {M : Type 1} → statement M
 tiled-number-spec =
     tie.close
     (tie.spec
-    well-formed-requires
+    formed-requires
     returns
     sized-requires
     sized-requires-2

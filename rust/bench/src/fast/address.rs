@@ -1,4 +1,4 @@
-//! Addresses of pairs, and the way back.
+//! Addresses of pairs with their runs, and the way back.
 //!
 //! Document 01's five bit tables are one when x is counted in bytes. Let `half` be 0 for sizes 1 and 2, 1 for 4 and 8, and 2
 //! for 16. The lowest 3 + half bits of the byte column and the lowest 2 - half bits of y stand as they are in bits 4 to 0.
@@ -17,9 +17,16 @@ const BY_TABLE: bool = true;
 /// Tiles hold 2,048 bytes.
 const TILE_LOG: u32 = 11;
 
-/// Where the element at (x, y) begins. 3, 6 or 10.
+/// Where an element begins, and how many of its row, from it on, lie at consecutive addresses.
+#[derive(Clone, Copy, Debug, PartialEq, Eq)]
+pub struct Translated {
+    pub address: u32,
+    pub run: u32,
+}
+
+/// Where the element at (x, y) stands. 3, 6 or 10.
 #[inline(never)]
-pub fn translate(layout: &Layout, x: u32, y: u32) -> Answer<u32> {
+pub fn translate(layout: &Layout, x: u32, y: u32) -> Answer<Translated> {
     match layout.size {
         1 => translate_sized::<BY_BITS>(0, layout, x, y),
         2 => translate_sized::<BY_BITS>(1, layout, x, y),
@@ -32,7 +39,7 @@ pub fn translate(layout: &Layout, x: u32, y: u32) -> Answer<u32> {
 
 /// The same answers as [`translate`], with the place within a tile read from a table.
 #[inline(never)]
-pub fn translate_by_table(layout: &Layout, x: u32, y: u32) -> Answer<u32> {
+pub fn translate_by_table(layout: &Layout, x: u32, y: u32) -> Answer<Translated> {
     match layout.size {
         1 => translate_sized::<BY_TABLE>(0, layout, x, y),
         2 => translate_sized::<BY_TABLE>(1, layout, x, y),
@@ -62,7 +69,7 @@ pub(super) fn translate_sized<const HOW: bool>(
     layout: &Layout,
     x: u32,
     y: u32,
-) -> Answer<u32> {
+) -> Answer<Translated> {
     // both ways get a copy of the code below, in which all that depends on the way is constant
     if layout.tiled {
         translate_laid::<HOW>(shift, true, layout, x, y)
@@ -78,13 +85,31 @@ fn translate_laid<const HOW: bool>(
     layout: &Layout,
     x: u32,
     y: u32,
-) -> Answer<u32> {
+) -> Answer<Translated> {
     let shape = shape(shift, tiled);
     let window = window(shape, layout.base, layout.pitch, layout.height)?;
     if x >= window.step || y >= layout.height {
         return Err(OUTSIDE);
     }
-    Ok(layout.base + offset::<HOW>(shift, tiled, window.step, x, y))
+    Ok(Translated {
+        address: layout.base + offset::<HOW>(shift, tiled, window.step, x, y),
+        run: run(shift, tiled, window.step, x),
+    })
+}
+
+/// The rest of the row where linear. Where tiled, the rest of the elements whose offsets differ in their lowest bits alone: x stands
+/// there with 3, 2, 2, 1 and 2 bits for the five sizes.
+#[inline(always)]
+fn run(shift: u32, tiled: bool, step: u32, x: u32) -> u32 {
+    if !tiled {
+        return step - x;
+    }
+    let group = match shift {
+        0 => 8,
+        3 => 2,
+        _ => 4,
+    };
+    group - x % group
 }
 
 /// How far behind the base a pair inside the window stands.

@@ -82,7 +82,7 @@ fn read_sized<const SIZE: usize>(
     memory: &[u8],
     first: u32,
 ) -> Answer<Element> {
-    let address = translate_sized::<BY_BITS>(SIZE.trailing_zeros(), layout, x, y)?;
+    let address = translate_sized::<BY_BITS>(SIZE.trailing_zeros(), layout, x, y)?.address;
     let start = start_of(memory.len(), first, address)?;
     let part: [u8; SIZE] = part_of(memory, start)?;
     let mut bytes = [0; 16];
@@ -102,7 +102,7 @@ fn write_sized<const SIZE: usize>(
     first: u32,
     data: &[u8],
 ) -> Answer<()> {
-    let address = translate_sized::<BY_BITS>(SIZE.trailing_zeros(), layout, x, y)?;
+    let address = translate_sized::<BY_BITS>(SIZE.trailing_zeros(), layout, x, y)?.address;
     let start = start_of(memory.len(), first, address)?;
     let data: &[u8; SIZE] = data.try_into().map_err(|_| ROOM)?;
     let part = memory.get_mut(start..start + SIZE).ok_or(ROOM)?;

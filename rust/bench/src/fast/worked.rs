@@ -1,11 +1,12 @@
 //! Document 01's worked values, and a few refusals beside them.
 
-use super::address::{locate, translate, translate_by_table};
+use super::address::{locate, translate, translate_by_table, Translated};
 use super::command::{write_command, Command, Domain, Format};
 use super::element::{read, superfine, write};
 use super::layout::{judge, Layout};
 use super::log::Replay;
 use super::program::{Program, Stepped};
+use super::refusal::Answer;
 use super::session::{Fed, Reply, Session};
 use super::{planes, processors};
 
@@ -44,17 +45,22 @@ fn tiled(base: u32, pitch: u32, height: u32, size: u32) -> Layout {
     }
 }
 
+/// What a translation answers.
+fn at(address: u32, run: u32) -> Answer<Translated> {
+    Ok(Translated { address, run })
+}
+
 #[test]
 fn worked_addresses_c1_to_c8() {
     let c1 = linear(2048, 100, 3, 4);
     assert_eq!(judge(&c1).unwrap().step, 96);
-    assert_eq!(translate(&c1, 5, 2), Ok(2836));
-    assert!(translate(&c1, 95, 0).is_ok());
+    assert_eq!(translate(&c1, 5, 2), at(2836, 91));
+    assert_eq!(translate(&c1, 95, 0), at(2428, 1));
     assert_eq!(translate(&c1, 96, 0), Err(10));
-    assert_eq!(translate(&tiled(0, 100, 20, 4), 37, 18), Ok(9828));
-    assert_eq!(translate(&tiled(0, 128, 64, 1), 64, 0), Ok(3072));
-    assert_eq!(translate(&tiled(0, 128, 64, 1), 0, 32), Ok(4608));
-    assert_eq!(translate(&tiled(0, 16, 8, 16), 15, 7), Ok(1648));
+    assert_eq!(translate(&tiled(0, 100, 20, 4), 37, 18), at(9828, 3));
+    assert_eq!(translate(&tiled(0, 128, 64, 1), 64, 0), at(3072, 8));
+    assert_eq!(translate(&tiled(0, 128, 64, 1), 0, 32), at(4608, 8));
+    assert_eq!(translate(&tiled(0, 16, 8, 16), 15, 7), at(1648, 1));
     assert_eq!(judge(&tiled(0, 28, 1, 4)), Err(6));
     assert!(judge(&linear(4_294_965_248, 8, 64, 4)).is_ok());
     assert_eq!(judge(&linear(4_294_965_248, 8, 65, 4)), Err(6));
@@ -99,8 +105,9 @@ fn every_pair_of_tiled_windows_is_at_its_printed_place_and_comes_back() {
             for x in 0..layout.pitch {
                 let tile = 3 * (y / height) + x / width;
                 let address = 4096 + 2048 * tile + printed_place(size, x, y);
-                assert_eq!(translate(&layout, x, y), Ok(address), "{size} ({x}, {y})");
-                assert_eq!(translate_by_table(&layout, x, y), Ok(address));
+                let found = translate(&layout, x, y).unwrap();
+                assert_eq!(found.address, address, "{size} ({x}, {y})");
+                assert_eq!(translate_by_table(&layout, x, y), Ok(found));
                 let last = address + size - 1;
                 assert_eq!(locate(&layout, last), Ok((x, y, size - 1)));
             }

@@ -4,7 +4,7 @@
 use super::{kind, lent};
 use crate::inputs::{addresses, pairs};
 use crate::table::Table;
-use bench::fast::address::{locate, translate, translate_by_table};
+use bench::fast::address::{locate, translate, translate_by_table, Translated};
 use bench::fast::layout::Layout;
 
 pub fn add(table: &mut Table) {
@@ -33,7 +33,7 @@ fn translate_line(
     table: &mut Table,
     layout: &Layout,
     how: &str,
-    translate: impl Fn(&Layout, u32, u32) -> Result<u32, u32>,
+    translate: impl Fn(&Layout, u32, u32) -> Result<Translated, u32>,
 ) {
     let (kind, size) = (kind(layout), layout.size);
     let name = format!("translate, {kind}, size {size}{how}, a call");
@@ -44,7 +44,7 @@ fn translate_line(
     let pairs = pairs(layout, 5);
     for &(x, y) in &pairs {
         assert_eq!(
-            boundary::translate(&lent, x, y),
+            asked(&lent, x, y),
             translate(layout, x, y),
             "translate of ({x}, {y}) in {layout:?}"
         );
@@ -53,7 +53,7 @@ fn translate_line(
         &name,
         pairs.len(),
         || {
-            let answers = pairs.iter().map(|&(x, y)| boundary::translate(&lent, x, y));
+            let answers = pairs.iter().map(|&(x, y)| asked(&lent, x, y));
             answers.map(either).sum()
         },
         || {
@@ -91,9 +91,21 @@ fn locate_line(table: &mut Table, layout: &Layout) {
     );
 }
 
+/// The product's answer, as the fast Rust gives it.
 #[inline(always)]
-fn either(answer: Result<u32, u32>) -> u64 {
-    answer.map_or_else(u64::from, u64::from)
+fn asked(layout: &boundary::Layout, x: u32, y: u32) -> Result<Translated, u32> {
+    let at = boundary::translate(layout, x, y)?;
+    Ok(Translated {
+        address: at.address,
+        run: at.run,
+    })
+}
+
+/// What is summed up of an answer. The run is told with it, by a call that isn't inlined, and compared above; the caller looks at
+/// the address alone, as it did before there were runs.
+#[inline(always)]
+fn either(answer: Result<Translated, u32>) -> u64 {
+    answer.map_or_else(u64::from, |at| u64::from(at.address))
 }
 
 #[inline(always)]

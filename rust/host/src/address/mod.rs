@@ -1,4 +1,5 @@
-//! `egretfold address`: a pair of a window to the address of its element.
+//! `egretfold address`: a pair of a window to the address of its element and the run
+//! from there on.
 
 mod layouts;
 pub mod locate;
@@ -15,7 +16,7 @@ use crate::explain::cause;
 use crate::input::lines::Lines;
 use crate::input::numbers;
 use crate::input::source::Source;
-use boundary::Layout;
+use boundary::{Layout, Translated};
 use clap::Args;
 use serde_json::json;
 use std::io::Write;
@@ -71,19 +72,22 @@ fn one(
     out: &mut dyn Write,
 ) -> Outcome<Told> {
     match boundary::translate(layout, x, y) {
-        Ok(address) => {
+        Ok(at) => {
             let work = match options.work {
-                true => Some(working(layout, x, y, address)?),
+                true => Some(working(layout, x, y, at)?),
                 false => None,
             };
+            let Translated { address, run } = at;
             if options.json {
-                let mut value = json!({"x": x, "y": y, "address": Address(address).to_string()});
+                let shown = Address(address).to_string();
+                let mut value = json!({"x": x, "y": y, "address": shown, "run": run});
                 if let Some(work) = work {
                     value["work"] = work.json();
                 }
                 writeln!(out, "{value}")?;
             } else {
-                writeln!(out, "({x}, {y})  {}  {address}", Address(address))?;
+                let shown = Address(address);
+                writeln!(out, "({x}, {y})  {shown}  {address}  run {run}")?;
                 work.map_or(Ok(()), |work| work.show(layout, out))?;
             }
             Ok(None)
@@ -103,15 +107,15 @@ fn one(
 }
 
 /// The working, once it has come to the product's answer.
-fn working(layout: &Layout, x: u32, y: u32, address: u32) -> Outcome<Working> {
+fn working(layout: &Layout, x: u32, y: u32, at: Translated) -> Outcome<Working> {
+    let product = (u64::from(at.address), at.run);
     match work::there(layout, x, y) {
-        Some(there) if there.address == u64::from(address) => Ok(there.lines),
+        Some(there) if (there.address, there.run) == product => Ok(there.lines),
         other => {
-            let worked = other.map(|there| there.address);
-            let at = Address(address);
+            let worked = other.map(|there| (there.address, there.run));
             Err(Failure::Wrong(format!(
-                "a fault of the program: the working of ({x}, {y}) comes to {worked:X?}, \
-                 the product to {at}"
+                "a fault of the program: the working of ({x}, {y}) comes to address and run \
+                 {worked:X?}, the product to {product:X?}"
             )))
         }
     }

@@ -41,7 +41,8 @@ pub fn run(options: &Options, out: &mut dyn Write) -> Outcome {
         tile.width, tile.height
     )?;
     draw_blocks(options, tile, out)?;
-    draw_elements(options, tile, out)
+    draw_elements(options, tile, out)?;
+    draw_runs(options, tile, out)
 }
 
 /// The number of each block: its place in the tile, counted in blocks.
@@ -83,8 +84,32 @@ fn draw_elements(options: &Options, tile: &Tile, out: &mut dyn Write) -> Outcome
     Ok(())
 }
 
-/// A pair's place inside the tile, in bytes, in a window that is just large enough for the tile.
+/// The runs of the tile's first row: elements at consecutive addresses, and the byte at which they begin.
+fn draw_runs(options: &Options, tile: &Tile, out: &mut dyn Write) -> Outcome {
+    let (left, top) = (options.column * tile.width, options.row * tile.height);
+    let (mut columns, mut begins) = (String::new(), String::new());
+    let mut x = left;
+    while x < left + tile.width {
+        let (byte, run) = place(options, tile, x, top)?;
+        columns += &format!(" {:>9}", format!("{x}-{}", x + run - 1));
+        begins += &format!(" {byte:>9}");
+        x += run;
+    }
+    writeln!(
+        out,
+        "\nin row {top} of the window: the runs, and the byte of the tile at which each begins\n"
+    )?;
+    writeln!(out, "        {columns}\n        {begins}")?;
+    Ok(())
+}
+
+/// A pair's place inside the tile, in bytes.
 fn inside(options: &Options, tile: &Tile, x: u32, y: u32) -> Outcome<u32> {
+    Ok(place(options, tile, x, y)?.0)
+}
+
+/// A pair's place inside the tile, in bytes, and its run, in a window that is just large enough for the tile.
+fn place(options: &Options, tile: &Tile, x: u32, y: u32) -> Outcome<(u32, u32)> {
     let columns = options.column.saturating_add(1);
     let rows = options.row.saturating_add(1);
     let layout = Layout {
@@ -97,7 +122,10 @@ fn inside(options: &Options, tile: &Tile, x: u32, y: u32) -> Outcome<u32> {
     let number = u64::from(options.row) * u64::from(columns) + u64::from(options.column);
     match boundary::translate(&layout, x, y) {
         // no wrap: the tile's number is that of the tile which holds the pair
-        Ok(address) => Ok((u64::from(address) - number * u64::from(TILE_BYTES)) as u32),
+        Ok(at) => {
+            let begins = number * u64::from(TILE_BYTES);
+            Ok(((u64::from(at.address) - begins) as u32, at.run))
+        }
         Err(number) => Err(Failure::Refused(format!(
             "tile in column {}, row {}: refused {number}, a window has at most 4096 columns and 4096 rows",
             options.column, options.row

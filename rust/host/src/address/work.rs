@@ -10,9 +10,10 @@ use boundary::Layout;
 use serde_json::{json, Value};
 use std::io::Write;
 
-/// From a pair to its address.
+/// From a pair to its address and its run.
 pub struct There {
     pub address: u64,
+    pub run: u32,
     pub lines: Working,
 }
 
@@ -81,7 +82,60 @@ pub fn there(layout: &Layout, x: u32, y: u32) -> Option<There> {
     let base = Address(layout.base);
     let sum = format!("base {base} + {offset} = {address:08X} = {address}, place 0 of the element");
     put(&mut lines, "address", sum);
-    Some(There { address, lines })
+    let run = match layout.tiled {
+        true => tiled_run(&mut lines, layout, step, (x, y), address)?,
+        false => linear_run(&mut lines, step, x),
+    };
+    Some(There {
+        address,
+        run,
+        lines,
+    })
+}
+
+/// In a linear window a run goes to the row's end.
+fn linear_run(lines: &mut Working, step: u32, x: u32) -> u32 {
+    let run = step.saturating_sub(x);
+    let text = format!("E - x = {step} - {x} = {run}, up to the row's end");
+    put(lines, "run", text);
+    run
+}
+
+/// In a tiled window the offset's lowest bits are x's, up to the first that is one of y's: so many elements follow each other.
+fn tiled_run(
+    lines: &mut Working,
+    layout: &Layout,
+    step: u32,
+    (x, y): (u32, u32),
+    address: u64,
+) -> Option<u32> {
+    let tile = tiles::tile_of(layout.size)?;
+    let from_x = |bit: &&Inside| matches!(bit, Inside::Zero | Inside::One(Bit::X(_)));
+    let low = tile.inside.iter().rev().take_while(from_x).count() as u32;
+    let group = (1 << low) / tile.size;
+    let stands = match group {
+        2 => "x0 stands".to_string(),
+        _ => format!("x{} to x0 stand", group.trailing_zeros() - 1),
+    };
+    put(
+        lines,
+        "run",
+        format!("{stands} below bit {low}, which is y0: elements follow each other in groups of {group}"),
+    );
+    let run = group - x % group;
+    let left = format!("{group} - {x} mod {group} = {run}");
+    let next = x + run;
+    let ends = match next < step {
+        true => {
+            let at = u64::from(layout.base)
+                + tiled_there(&mut Working::default(), layout, step, next, y)?;
+            let due = address + u64::from(run) * u64::from(layout.size);
+            format!("({next}, {y}) is at {at:08X}, not at {due:08X}")
+        }
+        false => "the row ends there".to_string(),
+    };
+    put(lines, "", format!("{left}: {ends}"));
+    Some(run)
 }
 
 fn linear_there(lines: &mut Working, layout: &Layout, step: u32, x: u32, y: u32) -> u64 {
