@@ -13,8 +13,10 @@ use Rattle.rules.specs.Writer.{writeOf, roomAfter}
 use Rattle.memory.specs.Elements.{memoryAfter}
 use Rattle.memory.specs.Elements as elements
 use Rattle.memory.specs.Answers.{countTold}
-use Rattle.group.specs.Group.{Outcome, Steps, Fails, Run, Makes, Breaks, stepTold, runTold, beginTold, isGroupSize, groupStep, groupRun}
+use Rattle.group.specs.Group.{Outcome, Steps, Fails, Run, Makes, Breaks, stepTold, runTold, beginTold, mayBegin, groupStep, groupRun}
 use Rattle.group.specs.Cells.{stepLeaves, runLeaves, beginLeaves}
+use Rattle.kill.specs.Kill as kills
+use Rattle.kill.specs.Kill.{killTold, killLeaves, killOf}
 use Rattle.flow.specs.Store.{isProgram, loadTold, firstsLeft, secondsLeft}
 use Rattle.score.specs.Score.{Score, scored, refused, scoreOf}
 use Rattle.refusal.specs.Crossing.{Crosses, statusOf, roomOf}
@@ -37,6 +39,7 @@ use Rattle.demands.proofs.Numbers.{
   begin-number,
   step-number,
   run-number,
+  kill-number,
   month-number,
 }
 use Rattle.demands.specs.Calls.{
@@ -54,6 +57,7 @@ use Rattle.demands.specs.Calls.{
   begin,
   step,
   run,
+  kill,
   month,
   Untouched,
   layoutIn,
@@ -111,6 +115,10 @@ run-left : (l : List ℕ) (o : Run) (n : ℕ) → runTold o ≡ refuses n → ru
 run-left l (Makes k g) n e = given-refuses e
 run-left l (Breaks why) n e = refl
 
+kill-left : (l : List ℕ) (o : kills.Outcome) (n : ℕ) → killTold o ≡ refuses n → killLeaves l o ≡ l
+kill-left l (kills.Kills now g) n e = given-refuses e
+kill-left l (kills.Fails why) n e = refl
+
 same-refusal : {m n : ℕ} → refuses m ≡ refuses n → m ≡ n
 same-refusal e = cc
 
@@ -162,23 +170,29 @@ refused-call (load words r f f' s s' k k' c) n e =
       not-zero = load-number words n e;
       arrays = three (c .left-firsts ∙ pick-no _ _ no) (c .left-seconds ∙ pick-no _ _ no) (room (c .answer) n e);
     }
-refused-call (begin size r a b c) n e =
+refused-call (begin size mode r a b c) n e =
     record {
       number = c .status ∙ ap statusOf e;
-      not-zero = begin-number size n e;
-      arrays = ap {B = Lists} (λ (l : List ℕ). l ∷ []) (c .left ∙ pick-no _ _ (denied (isGroupSize size) [] 13 n e));
+      not-zero = begin-number size mode n e;
+      arrays = ap {B = Lists} (λ (l : List ℕ). l ∷ []) (c .left ∙ pick-no _ _ (denied (mayBegin size mode) [] 13 n e));
     }
-refused-call (step limit program alu predicate booleans g r a b p q c) n e =
+refused-call (step mode program alu predicate booleans g r a b p q c) n e =
     record {
       number = number (c .answer) n e;
-      not-zero = step-number limit program alu predicate booleans g n e;
-      arrays = two (c .left ∙ step-left a (groupStep limit program alu predicate booleans g) n e) (room (c .answer) n e);
+      not-zero = step-number mode program alu predicate booleans g n e;
+      arrays = two (c .left ∙ step-left a (groupStep mode program alu predicate booleans g) n e) (room (c .answer) n e);
     }
-refused-call (run limit program booleans masks g r a b p q c) n e =
+refused-call (run mode program booleans masks g r a b p q c) n e =
     record {
       number = number (c .answer) n e;
-      not-zero = run-number limit program booleans masks g n e;
-      arrays = two (c .left ∙ run-left a (groupRun limit program booleans masks g) n e) (room (c .answer) n e);
+      not-zero = run-number mode program booleans masks g n e;
+      arrays = two (c .left ∙ run-left a (groupRun mode program booleans masks g) n e) (room (c .answer) n e);
+    }
+refused-call (kill slots registers mask g r a b p q c) n e =
+    record {
+      number = number (c .answer) n e;
+      not-zero = kill-number slots registers mask g n e;
+      arrays = two (c .left ∙ kill-left a (killOf slots registers mask g) n e) (room (c .answer) n e);
     }
 refused-call (month l replay r a b m a' b' m' c) n e =
     record {

@@ -1,13 +1,14 @@
--- The page of top theorems, in the order of the demands: 1, 2, 3, then elements, flow, and the requests 1 to 5, 8 and 13. Each statement has
+-- The page of top theorems, in the order of the demands: 1, 2, 3, then elements, flow, and the requests 1 to 8, 11 and 13. Each statement has
 -- its sentence above it and a proof that only cites the file that has it. What a statement asks for is what its sentence says or what an
 -- entry asks for: a session, a replay or a group's cells that came from the entries (`Reached`, `Handed`), and bytes that are bytes.
 -- Assumes nothing.
 use mathlib.Core.Path.{_≡_, refl, _∙_}
 use mathlib.Core.Bool.{Bool, true, false}
-use mathlib.Core.List.{List, [], _∷_, _++_, List·Permᴰ}
-use Prim.Native.Nat.{ℕ, suc, _+_, _-_, _*_, _<_, _≤_}
+use mathlib.Core.List.{List, [], _∷_, _++_, map, List·Permᴰ}
+use Prim.Native.Nat.{ℕ, suc, _+_, _-_, _*_, _^_, _<_, _≤_}
 use lib.Count.{ones, trailingZeros}
-use lib.ListN.{length, take}
+use lib.Ieee.{Float, lt}
+use lib.ListN.{length, take, getD}
 use Rattle.laws.specs.Bits.{xor}
 use Rattle.laws.specs.Choice.{_and_, pick, placeOf}
 use Rattle.laws.specs.Below.{some, every, sum, least}
@@ -40,6 +41,8 @@ use Rattle.superfine.specs.Superfine.{superfineWord, superfineReadOf, formatLay
 use Rattle.superfine.proofs.FourReads.{four-reads}
 use Rattle.command.specs.declared.commands.Command.the-variants as command
 use Rattle.state.specs.State.{Session, newSession}
+use Rattle.state.specs.Start.{readinessOf}
+use Rattle.state.specs.Readiness.{readinessFor}
 use Rattle.state.specs.Effects.{limit}
 use Rattle.state.specs.Asked.{Given}
 use Rattle.state.specs.Cells.{sessionOf}
@@ -50,10 +53,12 @@ use Rattle.session.specs.Refusals.{RefusedTo}
 use Rattle.session.specs.Again.{Idle, SameSettings}
 use Rattle.session.specs.Reached.{Reached, mostWords, allByWriter, ReadInFull}
 use Rattle.session.specs.Silent.{SilentSettings, startWords, EmptyRun, AsBefore}
+use Rattle.session.specs.Stored.{toldBy, forgotten, SameAnswers}
 use Rattle.session.proofs.Cut.{cut-anywhere}
 use Rattle.session.proofs.Reached.{reached-valid, by-writer, back-by-writer, read-in-full, read-here}
 use Rattle.session.proofs.Refusals.{refused-word, refused-piece, stopped-for-good, stopped-piece}
 use Rattle.session.proofs.Silent.{silent-start, as-before}
+use Rattle.session.proofs.Stored.{stored-kept, stored-number, start-reads, as-before as forgotten-answers}
 use Rattle.session.proofs.Tallies.{Tallied, tallied, counted}
 use Rattle.replay.specs.State.{Replay, newReplay}
 use Rattle.replay.specs.Step.{refused as byteRefused, isKind, afterWord}
@@ -79,12 +84,17 @@ use Rattle.score.proofs.Lines.{bounds}
 use Rattle.score.proofs.Midnights.{midnight-records}
 use Rattle.score.proofs.Promises.{line-first, dark-day, refused-with, scored-as, log-refused, log-scored, in-pieces}
 use Rattle.score.proofs.Verdicts.{full-if, full-only-if, calling}
-use Rattle.group.specs.Proc.{mostProcessors, wants, decided, branched}
+use Rattle.group.specs.Proc.{Absent, mostProcessors, counterLimit, wants, decided, branched}
+use Rattle.group.specs.Modes.{Mode, Full as FullMode, Partial as PartialMode, modeOf}
 use Rattle.group.specs.Group.{
   Program,
   Group,
+  Outcome,
   Steps,
   Fails,
+  Run,
+  Makes,
+  Breaks,
   firstActive,
   numberActive,
   allowed,
@@ -103,8 +113,20 @@ use Rattle.group.specs.Group.{
 }
 use Rattle.group.specs.Cells as cells
 use Rattle.group.specs.Cells.{activeMask}
+use Rattle.group.specs.Causes.{Cause, Met}
 use Rattle.group.proofs.State.{old-answers}
+use Rattle.group.proofs.Modes.{step-shared, step-cause, cause-refuses, run-shared, run-cause}
+use Rattle.group_rooms.specs.Rooms.{BeginCrosses as GroupBegins}
 use Rattle.loops.specs.Loops.{Opened, Looping, Repeating, turnOf, shownAL}
+use Rattle.registers.specs.Registers.{float, lessThanZero, atLeastZero, maximumOf, choiceOf, killedBy, registerAt}
+use Rattle.registers.specs.Pattern.{belowZero, notBelowZero, lessThan, maximumBits, choiceBits, noNumber, killedByBits}
+use Rattle.registers.proofs.Order.{less-than}
+use Rattle.registers.proofs.Patterns.{below-zero, at-least-zero, less-than-zero-cases, maximum-pattern, choice-pattern, killed-pattern}
+use Rattle.kill.specs.Kill as killing
+use Rattle.kill.specs.Kill.{Kills, startSize, killOf}
+use Rattle.kill.specs.Through as kills
+use Rattle.kill.specs.Through.{Leads, withKilled, withKilledAfter}
+use Rattle.kill.proofs.Through as through
 use Rattle.flow.specs.Looping.{opAt, integerAt, LedBy, Turning, Inside as InLoop}
 use Rattle.flow.proofs.Looping.{step-led, rep-times, loop-times, al-shown-up, al-shown-down}
 use Rattle.flow.proofs.Counting.{mask-count, mask-first, mask-none}
@@ -130,7 +152,7 @@ use Rattle.demands.specs.Windows.{Fits, PairOutside, ByteShared}
 use Rattle.demands.proofs.Calls.{refused-call}
 use Rattle.demands.proofs.Days.{day-so-far, day-ended, before-first, days-stand}
 use Rattle.demands.proofs.Elements.{write-done}
-use Rattle.demands.proofs.Flow.{step-made, step-refused, run-walks, same-step, same-run, handed-made}
+use Rattle.demands.proofs.Flow.{step-made, step-refused, run-walks, same-step, same-run, handed-made, begun-mode, step-mode, run-mode}
 use Rattle.demands.proofs.Painting.{every-order}
 use Rattle.demands.proofs.Pieces.{handed-reached, handed-given, word-refused, as-one}
 use Rattle.demands.proofs.Refused.{refused-place}
@@ -295,35 +317,35 @@ start-shared = gets-nine
 -- A step that is made, in the order of document 01 and request 4: what B_ELSE leaves, the wishes, the decision (theirs, or with ops 1
 -- to 4 the loops') and the loops then, what each processor becomes, the return stack, and the position.
 pub flow-step :
-    (limit : ℕ) (p : Program) (alu predicate booleans : ℕ) (g : Group) (jump : Bool) (g' : Group) →
-    flowStep limit p alu predicate booleans g ≡ Steps jump g' → Made limit p alu predicate booleans g jump g'
+    (mode : Mode) (p : Program) (alu predicate booleans : ℕ) (g : Group) (jump : Bool) (g' : Group) →
+    flowStep mode p alu predicate booleans g ≡ Steps jump g' → Made mode p alu predicate booleans g jump g'
 flow-step = step-made
 
 -- A step that is refused has the cause of its number. "Order: 16, 13, 14, 15.": 13 for the words and then for the integer word, 14 for
 -- the loops and then for the counters and the returns.
 pub flow-refused :
-    (limit : ℕ) (p : Program) (alu predicate booleans : ℕ) (g : Group) (n : ℕ) →
-    flowStep limit p alu predicate booleans g ≡ Fails n → Refused limit p alu predicate booleans g n
+    (mode : Mode) (p : Program) (alu predicate booleans : ℕ) (g : Group) (n : ℕ) →
+    flowStep mode p alu predicate booleans g ≡ Fails n → Refused mode p alu predicate booleans g n
 flow-refused = step-refused
 
 -- A run is its steps, up to the list's or the program's end; if one is refused, the whole run is (and by demand 1 leaves the cells as
 -- they were).
 pub flow-run :
-    (limit : ℕ) (p : Program) (booleans : ℕ) (masks : List ℕ) (g : Group) → Ran limit p booleans masks g (groupRun limit p booleans masks g)
+    (mode : Mode) (p : Program) (booleans : ℕ) (masks : List ℕ) (g : Group) → Ran mode p booleans masks g (groupRun mode p booleans masks g)
 flow-run = run-walks
 
 -- "Mask bits above the group are ignored": masks that say the same of every processor in the group give the same step and the same run.
 pub flow-masks :
-    (limit : ℕ) (p : Program) (booleans : ℕ) (g : Group) (alu predicate alu' predicate' : ℕ) → Agree g alu alu' →
-    Agree g predicate predicate' → flowStep limit p alu predicate booleans g ≡ flowStep limit p alu' predicate' booleans g
+    (mode : Mode) (p : Program) (booleans : ℕ) (g : Group) (alu predicate alu' predicate' : ℕ) → Agree g alu alu' →
+    Agree g predicate predicate' → flowStep mode p alu predicate booleans g ≡ flowStep mode p alu' predicate' booleans g
 flow-masks = same-step
 
 pub flow-run-masks :
-    (limit : ℕ) (p : Program) (booleans : ℕ) (ms ms' : List ℕ) (g : Group) → AllAgree g ms ms' →
-    groupRun limit p booleans ms g ≡ groupRun limit p booleans ms' g
+    (mode : Mode) (p : Program) (booleans : ℕ) (ms ms' : List ℕ) (g : Group) → AllAgree g ms ms' →
+    groupRun mode p booleans ms g ≡ groupRun mode p booleans ms' g
 flow-run-masks = same-run
 
--- The cells given out are those taken: what begin, step and run left is what step and run ask for.
+-- The cells given out are those taken: what begin, step, run and kill left is what step, run and kill ask for.
 pub flow-given : {l : List ℕ} → flow.Handed l → cells.GroupGiven l
 flow-given = handed-made
 
@@ -448,43 +470,43 @@ mask-zeros mask g shown = (mask-first mask g shown, mask-none mask g shown)
 
 -- "With op 0 every old answer stays": such a step is document 01's, whatever loops are open and whatever integer words are lent.
 pub loops-op-0 :
-    (limit slots : ℕ) (integers : List ℕ) (first second alu predicate booleans : ℕ) (g : Group) → opOf first ≡ 0 →
-    slotStep limit slots integers first second alu predicate booleans g ≡ jumpStep limit slots first second alu predicate booleans g
+    (slots : ℕ) (integers : List ℕ) (first second alu predicate booleans : ℕ) (g : Group) → opOf first ≡ 0 →
+    slotStep FullMode slots integers first second alu predicate booleans g ≡ jumpStep counterLimit slots first second alu predicate booleans g
 loops-op-0 = old-answers
 
 -- "These decisions override the processors' wishes": a step of another op is refused, or its decision and the loops that it leaves are
 -- those of its turn, whatever the masks. (`flow-step` and `flow-refused` above have the whole step and its order.)
 pub loops-decide :
-    (limit : ℕ) (p : Program) (alu predicate booleans : ℕ) (g : Group) → (opAt p g ≡ 0 → ⊥) →
-    LedBy (turnOf (opAt p g) (integerAt p g) (g .loops)) (flowStep limit p alu predicate booleans g)
+    (mode : Mode) (p : Program) (alu predicate booleans : ℕ) (g : Group) → (opAt p g ≡ 0 → ⊥) →
+    LedBy (turnOf (opAt p g) (integerAt p g) (g .loops)) (flowStep mode p alu predicate booleans g)
 loops-decide = step-led
 
 -- A loop of count n around a body that comes back to the loop's close with the loops as they were runs the body n times: where k closes
 -- have jumped and the next one stays, k + 1 is n, and the loop is gone.
 pub rep-runs :
-    (limit : ℕ) (p : Program) (booleans : ℕ) (Body : Group → Group → Type 0) → InLoop p false Body →
+    (mode : Mode) (p : Program) (booleans : ℕ) (Body : Group → Group → Type 0) → InLoop p false Body →
     (n : ℕ) (loops : List Opened) (k : ℕ) (g s c g' : Group) (alu predicate : ℕ) → 1 ≤ n → g .loops ≡ Repeating n ∷ loops →
-    Turning limit p booleans Body k g s → Body s c → flowStep limit p alu predicate booleans c ≡ Steps false g' →
+    Turning mode p booleans Body k g s → Body s c → flowStep mode p alu predicate booleans c ≡ Steps false g' →
     (suc k ≡ n) × (g' .loops ≡ loops)
 rep-runs = rep-times
 
 pub loop-runs :
-    (limit : ℕ) (p : Program) (booleans : ℕ) (Body : Group → Group → Type 0) → InLoop p true Body →
+    (mode : Mode) (p : Program) (booleans : ℕ) (Body : Group → Group → Type 0) → InLoop p true Body →
     (n al step : ℕ) (loops : List Opened) (k : ℕ) (g s c g' : Group) (alu predicate : ℕ) → 1 ≤ n → g .loops ≡ Looping n al step ∷ loops →
-    Turning limit p booleans Body k g s → Body s c → flowStep limit p alu predicate booleans c ≡ Steps false g' →
+    Turning mode p booleans Body k g s → Body s c → flowStep mode p alu predicate booleans c ≡ Steps false g' →
     (suc k ≡ n) × (g' .loops ≡ loops)
 loop-runs = loop-times
 
 -- After k turns the aL shown is its start and k steps, as long as that is within 0 to 255; a step of 128 or more is itself less 256.
 pub al-rises :
-    (limit : ℕ) (p : Program) (booleans : ℕ) (Body : Group → Group → Type 0) → InLoop p true Body →
-    (n al step : ℕ) (loops : List Opened) (k : ℕ) (g s : Group) → g .loops ≡ Looping n al step ∷ loops → Turning limit p booleans Body k g s →
+    (mode : Mode) (p : Program) (booleans : ℕ) (Body : Group → Group → Type 0) → InLoop p true Body →
+    (n al step : ℕ) (loops : List Opened) (k : ℕ) (g s : Group) → g .loops ≡ Looping n al step ∷ loops → Turning mode p booleans Body k g s →
     step < 128 → k < n → al + k * step ≤ 255 → shownAL (s .loops) ≡ al + k * step
 al-rises = al-shown-up
 
 pub al-falls :
-    (limit : ℕ) (p : Program) (booleans : ℕ) (Body : Group → Group → Type 0) → InLoop p true Body →
-    (n al step : ℕ) (loops : List Opened) (k : ℕ) (g s : Group) → g .loops ≡ Looping n al step ∷ loops → Turning limit p booleans Body k g s →
+    (mode : Mode) (p : Program) (booleans : ℕ) (Body : Group → Group → Type 0) → InLoop p true Body →
+    (n al step : ℕ) (loops : List Opened) (k : ℕ) (g s : Group) → g .loops ≡ Looping n al step ∷ loops → Turning mode p booleans Body k g s →
     128 ≤ step → step ≤ 255 → k < n → k * (256 - step) ≤ al → shownAL (s .loops) ≡ al - k * (256 - step)
 al-falls = al-shown-down
 
@@ -551,6 +573,71 @@ pub score-calls :
     MonthCrosses (scoreOfLog l (uncut ps)) r claimed served month claimed' served' month'
 score-calls = score-from-log
 
+-- REQUEST 6, "Keep readiness instead of asking again"
+
+-- "The stored number must always equal the one worked out from the settings": in every session that the entries give out, stopped or
+-- not, what is stored is what document 01 works out, and so are the gauge and the windows that it is reckoned from.
+pub stored-readiness :
+    (s : Session) → Reached s →
+    s .party .readiness .number ≡ readinessOf (s .party .domain) (s .party .instructions) (s .shared .mask) (s .shared .outputs)
+stored-readiness = stored-number
+
+pub stored-whole : (s : Session) → Reached s → s .party .readiness ≡ readinessFor (s .party) (s .shared)
+stored-whole = stored-kept
+
+-- "start reads it": what document 01 answers a start of the settings is what the stored number tells.
+pub start-by-number : (s : Session) → Reached s → startRuleOf command.Start s ≡ toldBy (s .party .readiness .number)
+start-by-number = start-reads
+
+-- Every answer is as it was: with anything else stored, a piece gets the same answers, and leaves the same but for what is stored.
+pub answers-as-before : (s : Session) (ws : List ℕ) → SameAnswers (feedOf (forgotten s) ws) (feedOf s ws)
+answers-as-before = forgotten-answers
+
+-- REQUEST 7, "Partial flow control"
+
+-- The mode is chosen at the start and never changed: a group begins in the mode that its begin was given, and a step or a run leaves it in
+-- the mode that it had.
+pub mode-chosen :
+    (size mode r : ℕ) (l l' : List ℕ) → GroupBegins size mode r l l' → r ≡ 0 → cells.modeIn l' ≡ modeOf mode
+mode-chosen = begun-mode
+
+pub mode-stays : (l : List ℕ) (o : Outcome) → cells.modeIn (cells.stepLeaves l o) ≡ cells.modeIn l
+mode-stays = step-mode
+
+pub mode-stays-in-runs : (l : List ℕ) (o : Run) → cells.modeIn (cells.runLeaves l o) ≡ cells.modeIn l
+mode-stays-in-runs = run-mode
+
+-- "from flow states that differ only in the mode, whatever partial mode accepts, full mode answers identically, the mode aside": a step, and
+-- a whole run. (The mode is no part of a state, so the same state under both modes is two flow states that differ only in the mode.)
+pub partial-shared :
+    (p : Program) (alu predicate booleans : ℕ) (g : Group) (jump : Bool) (g' : Group) →
+    flowStep PartialMode p alu predicate booleans g ≡ Steps jump g' → flowStep FullMode p alu predicate booleans g ≡ Steps jump g'
+partial-shared = step-shared
+
+pub partial-run-shared :
+    (p : Program) (booleans : ℕ) (masks : List ℕ) (g g' : Group) (n : ℕ) →
+    groupRun PartialMode p booleans masks g ≡ Makes n g' → groupRun FullMode p booleans masks g ≡ Makes n g'
+partial-run-shared = run-shared
+
+-- "Partial mode refuses what full mode accepts for the three causes above and no other.": where full mode makes the step, partial mode refuses it
+-- with a number exactly where there is a cause of that number; and a run, where full mode's run comes to a step with a cause.
+pub partial-causes :
+    (p : Program) (alu predicate booleans : ℕ) (g : Group) (n : ℕ) (jump : Bool) (g' : Group) →
+    flowStep PartialMode p alu predicate booleans g ≡ Fails n → flowStep FullMode p alu predicate booleans g ≡ Steps jump g' →
+    Cause p g alu predicate booleans n
+partial-causes = step-cause
+
+pub partial-refuses :
+    (p : Program) (alu predicate booleans : ℕ) (g : Group) (n : ℕ) (jump : Bool) (g' : Group) →
+    Cause p g alu predicate booleans n → flowStep FullMode p alu predicate booleans g ≡ Steps jump g' →
+    flowStep PartialMode p alu predicate booleans g ≡ Fails n
+partial-refuses = cause-refuses
+
+pub partial-run-causes :
+    (p : Program) (booleans : ℕ) (masks : List ℕ) (g g' : Group) (n k : ℕ) →
+    groupRun PartialMode p booleans masks g ≡ Breaks n → groupRun FullMode p booleans masks g ≡ Makes k g' → Met p booleans masks g n
+partial-run-causes = run-cause
+
 -- REQUEST 8, "How far may a copy run?"
 
 -- "Where translation succeeds, its answer shall also say how many elements from this pair on, in the same row, lie at consecutive
@@ -579,6 +666,73 @@ pub run-back :
     (l : Layout) → Accepted l → (x y : ℕ) → Inside l x y → (k place : ℕ) → k < runOf l x y → place < l .size →
     locateOf l (addressOf l x y + k * l .size + place) ≡ gives ((x + k) ∷ y ∷ place ∷ [])
 run-back = leads-back
+
+-- REQUEST 11, "Kill test on float registers"
+
+-- A kill that is made: an active processor with a channel under the mask less than zero is killed, and no other; the killed are in
+-- the group no longer, and everything else stays.
+pub kill-made :
+    (slots : ℕ) (registers : List Float) (mask : ℕ) (g : Group) (now : ℕ) (g' : Group) → killOf slots registers mask g ≡ Kills now g' →
+    kills.Made registers mask g now g'
+kill-made = through.made
+
+-- A kill that is refused has the cause of its number: 16, 13, 11, in that order.
+pub kill-refused :
+    (slots : ℕ) (registers : List Float) (mask : ℕ) (g : Group) (why : ℕ) → killOf slots registers mask g ≡ killing.Fails why →
+    kills.Refused slots registers mask g why
+kill-refused = through.refused
+
+-- "Killed processors are never active again: B_ELSE, decrement and all else skip them": whoever a kill kills is absent from then on,
+-- through any number of steps, runs and kills, under any programs.
+pub kill-for-good :
+    {mode : Mode} (slots : ℕ) (registers : List Float) (mask now : ℕ) (g h k : Group) → killOf slots registers mask g ≡ Kills now h →
+    Leads mode h k → (i : ℕ) → i < 32 → on i now ≡ true → k .procs i ≡ Absent
+kill-for-good = through.never-again
+
+-- "they count as not in the group": a step doesn't ask who was killed; it is the step of a group that never had them. (`flow-masks`
+-- above has it that their bits of the masks are ignored.)
+pub kill-outside :
+    (mode : Mode) (p : Program) (alu predicate booleans : ℕ) (g : Group) (dead : ℕ) →
+    flowStep mode p alu predicate booleans (withKilled g dead) ≡ withKilledAfter dead (flowStep mode p alu predicate booleans g)
+kill-outside = through.step-blind
+
+-- A kill asks for no mode, so that partial and full mode kill alike, and it leaves the group in the mode that it had.
+pub kill-keeps-mode : (l : List ℕ) (o : killing.Outcome) → cells.modeIn (killing.killLeaves l o) ≡ cells.modeIn l
+kill-keeps-mode = through.kill-mode
+
+-- "the starting group's length": what 11 asks for is the size that the group began with, whoever was killed since.
+pub kill-start : {mode : Mode} (size : ℕ) → size ≤ 32 → (g : Group) → Leads mode (fresh size) g → startSize g ≡ size
+kill-start size h g way = through.start-stays way ∙ through.start-fresh size h
+
+-- Floats by their bits: less than zero is 80000000 < bits ≤ FF800000, at least zero is a number that isn't, and B < A is as signs and
+-- magnitudes say, for every pattern of 32 bits.
+pub float-below-zero : (bits : ℕ) → bits < 2 ^ 32 → lessThanZero (float bits) ≡ belowZero bits
+float-below-zero = below-zero
+
+pub float-at-least-zero : (bits : ℕ) → bits < 2 ^ 32 → atLeastZero (float bits) ≡ notBelowZero bits
+float-at-least-zero = at-least-zero
+
+pub float-order : (a b : ℕ) → lt (float a) (float b) ≡ lessThan a b
+float-order = less-than
+
+-- "Minus zero and NaN are not less than zero; minus infinity is."; nor is a NaN with its sign set, and the least negative number is.
+pub float-cases :
+    (lessThanZero (float 0x80000000) ≡ false) × (lessThanZero (float 0x7FC00000) ≡ false) ×
+    (lessThanZero (float 0xFFC00000) ≡ false) × (lessThanZero (float 0xFF800000) ≡ true) ×
+    (lessThanZero (float 0x80000001) ≡ true)
+float-cases = less-than-zero-cases
+
+-- So who is killed is known by the bits of the registers alone; and the maximum and the choice are the floats of the operands' own bits.
+pub kill-by-bits :
+    (mask : ℕ) (bits : List ℕ) (i : ℕ) → ((k : ℕ) → getD bits k noNumber < 2 ^ 32) →
+    killedBy mask (registerAt (map float bits) i) ≡ killedByBits mask bits i
+kill-by-bits = killed-pattern
+
+pub maximum-by-bits : (a b : ℕ) → maximumOf (float a) (float b) ≡ float (maximumBits a b)
+maximum-by-bits = maximum-pattern
+
+pub choice-by-bits : (a b third : ℕ) → third < 2 ^ 32 → choiceOf (float a) (float b) (float third) ≡ float (choiceBits a b third)
+choice-by-bits = choice-pattern
 
 -- REQUEST 13, "Every order paints the same picture"
 

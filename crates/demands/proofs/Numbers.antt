@@ -5,6 +5,7 @@ use mathlib.Core.List.{List, [], _∷_}
 use Prim.Native.Nat.{ℕ, _≤_}
 use native.Mathlib.Omega.{arith}
 use lib.ListN.{length}
+use lib.Ieee.{Float}
 use borrow.Author.Tests.{eqb-false}
 use Rattle.laws.specs.Choice.{pick}
 use Rattle.laws.proofs.Choice.{by-pick}
@@ -20,6 +21,7 @@ use Rattle.rules.specs.Writer as writer
 use Rattle.command.specs.declared.commands.Command.{Command}
 use Rattle.rules.proofs.Rule.{Ruled, fine, five, six, ruled}
 use Rattle.state.specs.State.{Party, Shared}
+use Rattle.group.specs.Modes.{Mode}
 use Rattle.group.specs.Group.{Program, Group, Outcome, Steps, Fails, Run, Makes, Breaks, onceMore, stepTold, runTold, beginTold, groupStep, groupRun}
 use Rattle.flow.specs.Store.{loadTold}
 use Rattle.replay.specs.State.{Replay}
@@ -50,6 +52,10 @@ use Rattle.demands.specs.Flow.{
   over,
   walked,
 }
+use Rattle.kill.specs.Kill as kill
+use Rattle.kill.specs.Kill.{killTold, killOf}
+use Rattle.kill.specs.Through as kills
+use Rattle.kill.proofs.Through.{refused as kill-refused}
 use Rattle.demands.proofs.Flow.{step-refused, run-walks}
 
 abbrev pub Nonzero : Told → Type 0
@@ -145,12 +151,12 @@ pub load-number : (words : List ℕ) → Nonzero (loadTold words)
 unfolding loadTold
 load-number words = either _ _ _ (given _) (numbered 15 (omega arith))
 
-pub begin-number : (size : ℕ) → Nonzero (beginTold size)
+pub begin-number : (size mode : ℕ) → Nonzero (beginTold size mode)
 unfolding beginTold
-begin-number size = either _ _ _ (given _) (numbered 13 (omega arith))
+begin-number size mode = either _ _ _ (given _) (numbered 13 (omega arith))
 
-module _ (limit : ℕ) (p : Program) where
-  refused-least : {alu predicate booleans : ℕ} {g : Group} {n : ℕ} → Refused limit p alu predicate booleans g n → 1 ≤ n
+module _ (mode : Mode) (p : Program) where
+  refused-least : {alu predicate booleans : ℕ} {g : Group} {n : ℕ} → Refused mode p alu predicate booleans g n → 1 ≤ n
   refused-least (hasEnded h) = omega arith
   refused-least (tooMany h k) = omega arith
   refused-least (badField h k) = omega arith
@@ -160,18 +166,18 @@ module _ (limit : ℕ) (p : Program) where
   refused-least (stackAtLimit h k jump loops d o s) = omega arith
   refused-least (pastEnd h k jump loops d o at returns s l) = omega arith
 
-  pub step-number : (alu predicate booleans : ℕ) (g : Group) → Nonzero (stepTold (groupStep limit p alu predicate booleans g))
-  step-number alu predicate booleans g = go (groupStep limit p alu predicate booleans g) refl
+  pub step-number : (alu predicate booleans : ℕ) (g : Group) → Nonzero (stepTold (groupStep mode p alu predicate booleans g))
+  step-number alu predicate booleans g = go (groupStep mode p alu predicate booleans g) refl
     where
-      go : (o : Outcome) → groupStep limit p alu predicate booleans g ≡ o → Nonzero (stepTold o)
+      go : (o : Outcome) → groupStep mode p alu predicate booleans g ≡ o → Nonzero (stepTold o)
       go (Steps jump g') e = given _
-      go (Fails n) e = numbered n (refused-least (step-refused limit p alu predicate booleans g n e))
+      go (Fails n) e = numbered n (refused-least (step-refused mode p alu predicate booleans g n e))
 
   abbrev Least : Run → Type 0
   Least (Makes n g) = Unit {0}
   Least (Breaks n) = 1 ≤ n
 
-  walk-least : {booleans : ℕ} {masks : List ℕ} {g : Group} {r : Run} → Walk limit p booleans masks g r → Least r
+  walk-least : {booleans : ℕ} {masks : List ℕ} {g : Group} {r : Run} → Walk mode p booleans masks g r → Least r
   walk-least (listOut g) = tt
   walk-least (halfPair alu g) = tt
   walk-least (programOut alu predicate masks g t) = tt
@@ -180,18 +186,30 @@ module _ (limit : ℕ) (p : Program) where
       go : (r : Run) → Least r → Least (onceMore r)
       go (Makes n g) l = tt
       go (Breaks n) l = l
-  walk-least {booleans} (stepFails alu predicate masks g why t e) = refused-least (step-refused limit p alu predicate booleans g why e)
+  walk-least {booleans} (stepFails alu predicate masks g why t e) = refused-least (step-refused mode p alu predicate booleans g why e)
 
-  ran-least : {booleans : ℕ} {masks : List ℕ} {g : Group} {r : Run} → Ran limit p booleans masks g r → Least r
+  ran-least : {booleans : ℕ} {masks : List ℕ} {g : Group} {r : Run} → Ran mode p booleans masks g r → Least r
   ran-least (over t) = omega arith
   ran-least (walked r t w) = walk-least w
 
-  pub run-number : (booleans : ℕ) (masks : List ℕ) (g : Group) → Nonzero (runTold (groupRun limit p booleans masks g))
-  run-number booleans masks g = go (groupRun limit p booleans masks g) (ran-least (run-walks limit p booleans masks g))
+  pub run-number : (booleans : ℕ) (masks : List ℕ) (g : Group) → Nonzero (runTold (groupRun mode p booleans masks g))
+  run-number booleans masks g = go (groupRun mode p booleans masks g) (ran-least (run-walks mode p booleans masks g))
     where
       go : (r : Run) → Least r → Nonzero (runTold r)
       go (Makes n g) l = given _
       go (Breaks n) l = numbered n l
+
+pub kill-number : (slots : ℕ) (registers : List Float) (mask : ℕ) (g : Group) → Nonzero (killTold (killOf slots registers mask g))
+kill-number slots registers mask g = go (killOf slots registers mask g) refl
+  where
+    least : {n : ℕ} → kills.Refused slots registers mask g n → 1 ≤ n
+    least (kills.hasEnded h) = omega arith
+    least (kills.badMask h k) = omega arith
+    least (kills.badLength h k e) = omega arith
+
+    go : (o : kill.Outcome) → killOf slots registers mask g ≡ o → Nonzero (killTold o)
+    go (kill.Kills now g') e = given _
+    go (kill.Fails n) e = numbered n (least (kill-refused slots registers mask g n e))
 
 pub month-number : (l : Lease) (r : Replay) → Nonzero (monthTold (scoreOf l r))
 unfolding scoreOf

@@ -5,13 +5,16 @@ use mathlib.Core.Path.{_≡_}
 use mathlib.Core.Bool.{Bool}
 use mathlib.Core.List.{List, [], _∷_}
 use Prim.Native.Nat.{ℕ, _≤_}
+use lib.Ieee.{Float}
 use Rattle.refusal.specs.Told.{Told}
 use Rattle.layout.specs.Layout.{judgeOf}
 use Rattle.address.specs.Address.{layoutOf, translateOf, locateOf}
 use Rattle.memory.specs.Elements.{readOf, writeOf}
 use Rattle.superfine.specs.Superfine.{superfineReadOf}
 use Rattle.state.specs.State.{Party, Shared}
+use Rattle.group.specs.Modes.{Mode}
 use Rattle.group.specs.Group.{Program, Group, stepTold, runTold, beginTold, groupStep, groupRun}
+use Rattle.kill.specs.Kill.{killTold, killOf}
 use Rattle.flow.specs.Store.{loadTold}
 use Rattle.replay.specs.State.{Replay}
 use Rattle.score.specs.Lease.{Lease}
@@ -20,6 +23,7 @@ use Rattle.refusal.specs.Crossing.{Crosses}
 use Rattle.command_rooms.specs.Rooms.{parametersOf, namedWriteOf, CommandCrosses}
 use Rattle.element_rooms.specs.Rooms.{inSixteen, SuperfineCrosses, WriteCrosses}
 use Rattle.group_rooms.specs.Rooms.{LoadCrosses, BeginCrosses, StepCrosses, RunCrosses}
+use Rattle.register_rooms.specs.Rooms.{KillCrosses}
 use Rattle.score_rooms.specs.Rooms.{monthTold, MonthCrosses}
 use Rattle.setting_rooms.specs.Rooms.{formatOf}
 
@@ -75,16 +79,20 @@ pub data Call : Told → ℕ → List (List ℕ) → List (List ℕ) → Type 0 
       LoadCrosses words r firsts firsts' seconds seconds' slots slots' →
       Call (loadTold words) r (firsts ∷ seconds ∷ slots ∷ []) (firsts' ∷ seconds' ∷ slots' ∷ [])
   -- egretfold_group_begin
-  begin : (size r : ℕ) (cells cells' : List ℕ) →
-      BeginCrosses size r cells cells' → Call (beginTold size) r (cells ∷ []) (cells' ∷ [])
+  begin : (size mode r : ℕ) (cells cells' : List ℕ) →
+      BeginCrosses size mode r cells cells' → Call (beginTold size mode) r (cells ∷ []) (cells' ∷ [])
   -- egretfold_group_step
-  step : (limit : ℕ) (program : Program) (alu predicate booleans : ℕ) (g : Group) (r : ℕ) (cells cells' taken taken' : List ℕ) →
-      StepCrosses (groupStep limit program alu predicate booleans g) r cells cells' taken taken' →
-      Call (stepTold (groupStep limit program alu predicate booleans g)) r (cells ∷ taken ∷ []) (cells' ∷ taken' ∷ [])
+  step : (mode : Mode) (program : Program) (alu predicate booleans : ℕ) (g : Group) (r : ℕ) (cells cells' taken taken' : List ℕ) →
+      StepCrosses (groupStep mode program alu predicate booleans g) r cells cells' taken taken' →
+      Call (stepTold (groupStep mode program alu predicate booleans g)) r (cells ∷ taken ∷ []) (cells' ∷ taken' ∷ [])
   -- egretfold_group_run
-  run : (limit : ℕ) (program : Program) (booleans : ℕ) (masks : List ℕ) (g : Group) (r : ℕ) (cells cells' report report' : List ℕ) →
-      RunCrosses (groupRun limit program booleans masks g) r cells cells' report report' →
-      Call (runTold (groupRun limit program booleans masks g)) r (cells ∷ report ∷ []) (cells' ∷ report' ∷ [])
+  run : (mode : Mode) (program : Program) (booleans : ℕ) (masks : List ℕ) (g : Group) (r : ℕ) (cells cells' report report' : List ℕ) →
+      RunCrosses (groupRun mode program booleans masks g) r cells cells' report report' →
+      Call (runTold (groupRun mode program booleans masks g)) r (cells ∷ report ∷ []) (cells' ∷ report' ∷ [])
+  -- egretfold_group_kill
+  kill : (slots : ℕ) (registers : List Float) (mask : ℕ) (g : Group) (r : ℕ) (cells cells' room room' : List ℕ) →
+      KillCrosses (killOf slots registers mask g) r cells cells' room room' →
+      Call (killTold (killOf slots registers mask g)) r (cells ∷ room ∷ []) (cells' ∷ room' ∷ [])
   -- egretfold_score_month
   month : (l : Lease) (replay : Replay) (r : ℕ) (claimed served month claimed' served' month' : List ℕ) →
       MonthCrosses (scoreOf l replay) r claimed served month claimed' served' month' →

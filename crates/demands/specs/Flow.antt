@@ -1,14 +1,16 @@
--- A step, a run and a group's cells as a host has them, in the order of document 01 and request 4. Assumes nothing.
+-- A step, a run and a group's cells as a host has them, in the order of document 01 and request 4, in either mode of request 7. Assumes nothing.
 use mathlib.Core.Path.{_≡_}
 use mathlib.Core.Bool.{Bool, true, false}
 use mathlib.Core.List.{List, [], _∷_}
 use Prim.Native.Nat.{ℕ, _<_, _≤_}
 use lib.Dec.{eqb}
 use lib.ListN.{getD}
-use Rattle.laws.specs.Choice.{pick}
+use lib.Ieee.{Float}
+use Rattle.laws.specs.Choice.{_and_, pick}
 use Rattle.laws.specs.Masks.{on}
 use Rattle.loops.specs.Loops.{Opened, Turn, Turns, NoRoom, NoWord, turnOf}
-use Rattle.group.specs.Proc.{counterLimit, Proc, isLive, isActive, decided, branched}
+use Rattle.group.specs.Proc.{Proc, isLive, isActive, decided, branched}
+use Rattle.group.specs.Modes.{Mode, limitOf}
 use Rattle.group.specs.Group.{
   Program,
   Group,
@@ -22,6 +24,7 @@ use Rattle.group.specs.Group.{
   Makes,
   Breaks,
   onceMore,
+  permits,
   allowed,
   allowedLoop,
   aOp,
@@ -40,9 +43,11 @@ use Rattle.group.specs.Group.{
   groupStep,
   groupRun,
 }
-use Rattle.group.specs.Cells.{groupOf}
+use Rattle.group.specs.Cells.{modeIn, groupOf}
 use Rattle.flow.specs.Looping.{opAt, integerAt}
+use Rattle.kill.specs.Kill.{killOf}
 use Rattle.group_rooms.specs.Rooms.{BeginCrosses, StepCrosses, RunCrosses}
+use Rattle.register_rooms.specs.Rooms.{KillCrosses}
 
 -- the words of the slot that a group stands at
 abbrev pub firstAt : Program → Group → ℕ
@@ -51,15 +56,18 @@ firstAt p g = getD (p .firsts) (g .position) 0
 abbrev pub secondAt : Program → Group → ℕ
 secondAt p g = getD (p .seconds) (g .position) 0
 
--- the slot's words are allowed: those of op 0 as document 01 says, those of ops 1 to 4 as request 4 does
-abbrev pub fitting : Program → Group → Bool
-fitting p g = pick (eqb (opAt p g) 0) (allowed (firstAt p g) (secondAt p g)) (allowedLoop (firstAt p g) (secondAt p g))
+-- the slot's words are allowed: the first by the mode, as request 7 says, and both: those of op 0 as document 01 says, those of ops 1 to
+-- 4 as request 4 does
+abbrev pub fitting : Mode → Program → Group → Bool
+fitting mode p g =
+    permits mode (firstAt p g) and
+    pick (eqb (opAt p g) 0) (allowed (firstAt p g) (secondAt p g)) (allowedLoop (firstAt p g) (secondAt p g))
 
 -- 1. the processors once B_ELSE has done its work
 abbrev pub elsed : Program → Group → ℕ → Proc
 elsed p g = turnedIf (bElse (firstAt p g)) (g .procs)
 
-module _ (limit : ℕ) (p : Program) (alu predicate booleans : ℕ) (g : Group) where
+module _ (mode : Mode) (p : Program) (alu predicate booleans : ℕ) (g : Group) where
   -- 2. each processor's wish
   abbrev pub wishes : ℕ → Bool
   wishes = wishOf (jumpFunc (firstAt p g)) (on (booleanNumber (secondAt p g)) booleans) alu predicate
@@ -81,11 +89,11 @@ module _ (limit : ℕ) (p : Program) (alu predicate booleans : ℕ) (g : Group) 
   pub record Made (jump : Bool) (g' : Group) : Type 0 where
     -- the program hasn't ended, and the slot's words are allowed
     pub running : g .position < p .slots
-    pub fields : fitting p g ≡ true
+    pub fields : fitting mode p g ≡ true
     -- 2. and 3. the decision is that of the processors' wishes, once 1. is done, or the loops'; and the loops then
     pub decides : decision ≡ Turns jump (g' .loops)
     -- 4. no counter is at its limit where it must gain 1, and each processor does what the operation says
-    pub counters : overLimit limit (branchOp jump (firstAt p g)) (elsed p g) ≡ false
+    pub counters : overLimit (limitOf mode) (branchOp jump (firstAt p g)) (elsed p g) ≡ false
     pub each-processor :
         (i : ℕ) → g' .procs i ≡ branched (branchOp jump (firstAt p g)) (popCount (firstAt p g)) jump (wishes i) (elsed p g i)
     -- 5. the return stack and the place that it leads to
@@ -98,19 +106,19 @@ module _ (limit : ℕ) (p : Program) (alu predicate booleans : ℕ) (g : Group) 
     hasEnded : p .slots ≤ g .position → Refused 16
     -- a store has 512 slots
     tooMany : g .position < p .slots → 512 < p .slots → Refused 15
-    badField : g .position < p .slots → fitting p g ≡ false → Refused 13
-    badInteger : g .position < p .slots → fitting p g ≡ true → decision ≡ NoWord → Refused 13
-    loopsAtLimit : g .position < p .slots → fitting p g ≡ true → decision ≡ NoRoom → Refused 14
-    counterAtLimit : g .position < p .slots → fitting p g ≡ true → (jump : Bool) (loops : List Opened) → decision ≡ Turns jump loops →
-        overLimit limit (branchOp jump (firstAt p g)) (elsed p g) ≡ true → Refused 14
-    stackAtLimit : g .position < p .slots → fitting p g ≡ true → (jump : Bool) (loops : List Opened) → decision ≡ Turns jump loops →
-        overLimit limit (branchOp jump (firstAt p g)) (elsed p g) ≡ false → next jump ≡ Stuck → Refused 14
-    pastEnd : g .position < p .slots → fitting p g ≡ true → (jump : Bool) (loops : List Opened) → decision ≡ Turns jump loops →
-        overLimit limit (branchOp jump (firstAt p g)) (elsed p g) ≡ false →
+    badField : g .position < p .slots → fitting mode p g ≡ false → Refused 13
+    badInteger : g .position < p .slots → fitting mode p g ≡ true → decision ≡ NoWord → Refused 13
+    loopsAtLimit : g .position < p .slots → fitting mode p g ≡ true → decision ≡ NoRoom → Refused 14
+    counterAtLimit : g .position < p .slots → fitting mode p g ≡ true → (jump : Bool) (loops : List Opened) → decision ≡ Turns jump loops →
+        overLimit (limitOf mode) (branchOp jump (firstAt p g)) (elsed p g) ≡ true → Refused 14
+    stackAtLimit : g .position < p .slots → fitting mode p g ≡ true → (jump : Bool) (loops : List Opened) → decision ≡ Turns jump loops →
+        overLimit (limitOf mode) (branchOp jump (firstAt p g)) (elsed p g) ≡ false → next jump ≡ Stuck → Refused 14
+    pastEnd : g .position < p .slots → fitting mode p g ≡ true → (jump : Bool) (loops : List Opened) → decision ≡ Turns jump loops →
+        overLimit (limitOf mode) (branchOp jump (firstAt p g)) (elsed p g) ≡ false →
         (at : ℕ) (returns : List ℕ) → next jump ≡ Goes at returns → p .slots < at → Refused 15
 
 -- a run is its steps: "alu then predicate for each step"
-module _ (limit : ℕ) (p : Program) (booleans : ℕ) where
+module _ (mode : Mode) (p : Program) (booleans : ℕ) where
   pub data Walk : List ℕ → Group → Run → Type 0 where
     -- "It ends with the list"
     listOut : (g : Group) → Walk [] g (Makes 0 g)
@@ -119,10 +127,10 @@ module _ (limit : ℕ) (p : Program) (booleans : ℕ) where
     -- "or with the program; masks left over aren't read"
     programOut : (alu predicate : ℕ) (masks : List ℕ) (g : Group) → ended p g ≡ true → Walk (alu ∷ (predicate ∷ masks)) g (Makes 0 g)
     oneMore : (alu predicate : ℕ) (masks : List ℕ) (g g' : Group) (jump : Bool) (r : Run) → ended p g ≡ false →
-        groupStep limit p alu predicate booleans g ≡ Steps jump g' → Walk masks g' r → Walk (alu ∷ (predicate ∷ masks)) g (onceMore r)
+        groupStep mode p alu predicate booleans g ≡ Steps jump g' → Walk masks g' r → Walk (alu ∷ (predicate ∷ masks)) g (onceMore r)
     -- "If any step is refused, the whole run gets that number"
     stepFails : (alu predicate : ℕ) (masks : List ℕ) (g : Group) (why : ℕ) → ended p g ≡ false →
-        groupStep limit p alu predicate booleans g ≡ Fails why → Walk (alu ∷ (predicate ∷ masks)) g (Breaks why)
+        groupStep mode p alu predicate booleans g ≡ Fails why → Walk (alu ∷ (predicate ∷ masks)) g (Breaks why)
 
   -- "it then gets 16, whatever the list"; else it is its steps
   pub data Ran (masks : List ℕ) (g : Group) : Run → Type 0 where
@@ -140,10 +148,12 @@ AllAgree g [] (m' ∷ ms') = ⊥
 AllAgree g (m ∷ ms) [] = ⊥
 AllAgree g (m ∷ ms) (m' ∷ ms') = Agree g m m' × AllAgree g ms ms'
 
--- a group's cells that came from the calls: a begin that was accepted, and steps and runs, refused or not
+-- a group's cells that came from the calls: a begin that was accepted, and steps, runs and kills, refused or not
 pub data Handed : List ℕ → Type 0 where
-  begun : (size : ℕ) (cells cells' : List ℕ) → BeginCrosses size 0 cells cells' → Handed cells'
+  begun : (size mode : ℕ) (cells cells' : List ℕ) → BeginCrosses size mode 0 cells cells' → Handed cells'
   stepped : {cells : List ℕ} → Handed cells → (p : Program) (alu predicate booleans r : ℕ) (cells' taken taken' : List ℕ) →
-      StepCrosses (groupStep counterLimit p alu predicate booleans (groupOf cells)) r cells cells' taken taken' → Handed cells'
+      StepCrosses (groupStep (modeIn cells) p alu predicate booleans (groupOf cells)) r cells cells' taken taken' → Handed cells'
   ran : {cells : List ℕ} → Handed cells → (p : Program) (booleans : ℕ) (masks : List ℕ) (r : ℕ) (cells' report report' : List ℕ) →
-      RunCrosses (groupRun counterLimit p booleans masks (groupOf cells)) r cells cells' report report' → Handed cells'
+      RunCrosses (groupRun (modeIn cells) p booleans masks (groupOf cells)) r cells cells' report report' → Handed cells'
+  killed : {cells : List ℕ} → Handed cells → (slots : ℕ) (registers : List Float) (mask r : ℕ) (cells' room room' : List ℕ) →
+      KillCrosses (killOf slots registers mask (groupOf cells)) r cells cells' room room' → Handed cells'

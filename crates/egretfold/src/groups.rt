@@ -18,12 +18,16 @@ pub extern "C" fn egretfold_program_load(
     group_rooms::load(words, firsts, seconds, slots)
 }
 
-// A fresh group of 1 to 32 processors; 13.
+// A fresh group of 1 to 32 processors in a mode, 0 full or 1 partial; 13.
 #[no_mangle]
-pub extern "C" fn egretfold_group_begin(size: u32, cells: &mut [u32; group::CELLS]) -> u32
-    ensures { λ r. ⌜ BeginCrosses size r (now (cells .entry)) (now (cells .exit)) ⌝ }
+pub extern "C" fn egretfold_group_begin(
+    size: u32,
+    mode: u32,
+    cells: &mut [u32; group::CELLS],
+) -> u32
+    ensures { λ r. ⌜ BeginCrosses size mode r (now (cells .entry)) (now (cells .exit)) ⌝ }
 {
-    group_rooms::begin(size, cells)
+    group_rooms::begin(size, mode, cells)
 }
 
 // One step, with the integer words of LOOP and REP: 1 for a jump or 0 for a stay, and the next position; 13 to 16.

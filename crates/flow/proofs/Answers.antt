@@ -17,7 +17,6 @@ use Rattle.refusal.specs.Told.{gives, refuses}
 use Rattle.refusal.specs.declared.Refusal.{Refusal}
 use Rattle.loops.specs.Loops.{Opened, shownAL, kindAt, loopsTold, Held}
 use Rattle.loops.proofs.Stack.{told-of}
-use Rattle.group.specs.Proc.{counterLimit}
 use Rattle.group.specs.Group.{Outcome, Steps, Fails, stepTold}
 use Rattle.group.specs.Cells.{positionIn}
 use Rattle.group.proofs.State.{SoundAfter}
@@ -39,31 +38,23 @@ refusal-number n low high =
 module _ {l leaves : List ℕ} where
   -- by the number, with the position that the cells then show
   pub step-told :
-      {n : ℕ} {r : Stepped} (o : Outcome) → SoundAfter counterLimit o → NumberDone l leaves n o →
+      (limit : ℕ) {n : ℕ} {r : Stepped} (o : Outcome) → SoundAfter limit o → NumberDone l leaves n o →
       toldStepped r ≡ numberTold n (positionIn leaves) → StepDone l leaves r o
   unfolding numberTold
-  step-told {n} (Steps jump g) s d e =
+  step-told limit {n} (Steps jump g) s d e =
       let z : n ≡ digit jump = d .number in
       let q : digit jump < 2 = digit-lt jump in
       record {
         told = e ∙ pick-no _ _ (le-ltb 1 n (omega arith)) ∙ ap₂ (λ (m at : ℕ). gives (m ∷ at ∷ [])) z (ap positionIn (d .left));
         left = d .left;
       }
-  step-told {n} (Fails k) s d e =
+  step-told limit {n} (Fails k) s d e =
       let z : n ≡ k = d .number in
       let q : 12 < k = s .0 in
       record {
         told = e ∙ pick-yes _ _ (lt-ltb 1 n (omega arith)) ∙ ap refuses (ap (λ (j : ℕ). numberOf (refusalOf j)) z ∙ refusal-number k (s .0) (s .1));
         left = d .left;
       }
-
-  -- a refusal before the slot is looked at
-  pub step-refused : {why : Refusal} (o : Outcome) → NumberDone l leaves (numberOf why) o → 1 < numberOf why → StepDone l leaves (stepped.Refused why) o
-  step-refused {why} (Steps jump g) d h =
-      let z : numberOf why ≡ digit jump = d .number in
-      let q : digit jump < 2 = digit-lt jump in
-      absurd (omega arith)
-  step-refused (Fails k) d h = record { told = ap refuses (d .number); left = d .left }
 
 -- the number of a step as its answer tells it
 module _ (n position : ℕ) where

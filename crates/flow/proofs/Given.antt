@@ -11,42 +11,44 @@ use Rattle.laws.proofs.Masks.{on-pack}
 use Rattle.flow.specs.declared.Begun.{Begun}
 use Rattle.stepper.specs.declared.Stepped.{Stepped}
 use Rattle.flow.specs.declared.Ran.{Ran}
-use Rattle.group.specs.Proc.{Proc, Active, Idle, Absent, isLive, isActive, counterBit, mostProcessors, counterLimit}
-use Rattle.group.specs.Group.{Program, Run, Makes, Breaks, isGroupSize, groupStep, groupRun, ended}
-use Rattle.group.specs.Cells.{liveIn, activeIn, planeIn, groupOf, GroupGiven, runLeaves, beginLeaves}
-use Rattle.stepper.specs.Answers.{StepDone}
+use Rattle.group.specs.Proc.{Proc, Active, Idle, Absent, isLive, isActive, counterBit, mostProcessors}
+use Rattle.group.specs.Modes.{modeOf, isMode}
+use Rattle.group.specs.Group.{Program, Run, Makes, Breaks, isGroupSize, mayBegin, groupStep, groupRun, ended}
+use Rattle.group.specs.Cells.{liveIn, activeIn, planeIn, modeIn, groupOf, GroupGiven, runLeaves, beginLeaves}
+use Rattle.stepper.specs.Answers.{ownLimit, StepDone}
 use Rattle.flow.specs.Answers.{BeginDone, RunDone}
 use Rattle.group.proofs.State.{given-of, given-masks, left-given, step-sound}
 use Rattle.flow.proofs.Beginning.{begin-given}
 use Rattle.flow.proofs.Running.{SoundRun, steps-sound}
 
 pub begin-gives :
-    {l leaves : List ℕ} {r : Begun} (size : ℕ) → BeginDone l leaves r size → 1 ≤ size → size ≤ mostProcessors → GroupGiven leaves
-unfolding beginLeaves isGroupSize
-begin-gives size d h k =
-    subst GroupGiven (sym (d .left ∙ pick-yes _ _ (and-intro (le-leb 1 size h) (le-leb size 32 k)))) (begin-given size k)
+    {l leaves : List ℕ} {r : Begun} (size mode : ℕ) → BeginDone l leaves r size mode → 1 ≤ size → size ≤ mostProcessors → mode ≤ 1 → GroupGiven leaves
+unfolding beginLeaves mayBegin isGroupSize isMode
+begin-gives size mode d h k e =
+    subst GroupGiven (sym (d .left ∙ pick-yes _ _ (and-intro (and-intro (le-leb 1 size h) (le-leb size 32 k)) (le-leb mode 1 e))))
+    (begin-given size (modeOf mode) k)
 
 pub step-gives :
     {l leaves : List ℕ} {r : Stepped} (program : Program) (alu predicate booleans : ℕ) → GroupGiven l →
-    StepDone l leaves r (groupStep counterLimit program alu predicate booleans (groupOf l)) → GroupGiven leaves
+    StepDone l leaves r (groupStep (modeIn l) program alu predicate booleans (groupOf l)) → GroupGiven leaves
 step-gives {l} program alu predicate booleans m d =
     subst GroupGiven (sym (d .left))
-    (left-given l (groupStep counterLimit program alu predicate booleans (groupOf l)) m
-    (step-sound counterLimit program alu predicate booleans (groupOf l) (m .sound)))
+    (left-given l (groupStep (modeIn l) program alu predicate booleans (groupOf l)) m
+    (step-sound (modeIn l) program alu predicate booleans (groupOf l) (m .sound)))
 
-run-given-left : (l : List ℕ) (o : Run) → GroupGiven l → SoundRun counterLimit o → GroupGiven (runLeaves l o)
-run-given-left l (Makes n g) m s = given-of g s
+run-given-left : (l : List ℕ) (o : Run) → GroupGiven l → SoundRun (ownLimit l) o → GroupGiven (runLeaves l o)
+run-given-left l (Makes n g) m s = given-of (modeIn l) g s
 run-given-left l (Breaks why) m s = m
 
 pub run-gives :
     {l leaves : List ℕ} {r : Ran} (program : Program) (booleans : ℕ) (masks : List ℕ) → GroupGiven l →
-    RunDone l leaves r (groupRun counterLimit program booleans masks (groupOf l)) → GroupGiven leaves
+    RunDone l leaves r (groupRun (modeIn l) program booleans masks (groupOf l)) → GroupGiven leaves
 unfolding groupRun
 run-gives {l} program booleans masks m d =
     subst GroupGiven (sym (d .left))
-    (run-given-left l (groupRun counterLimit program booleans masks (groupOf l)) m
-    (by-pick (SoundRun counterLimit) (ended program (groupOf l)) _ _ (λ e. tt)
-    (λ e. steps-sound counterLimit program booleans masks (groupOf l) (m .sound))))
+    (run-given-left l (groupRun (modeIn l) program booleans masks (groupOf l)) m
+    (by-pick (SoundRun (ownLimit l)) (ended program (groupOf l)) _ _ (λ e. tt)
+    (λ e. steps-sound (modeIn l) program booleans masks (groupOf l) (m .sound))))
 
 -- of the cells: an active processor is in the group; a bit of a counter is an idle processor's, so that an active one's counter
 -- is 0 and nobody outside the group has one

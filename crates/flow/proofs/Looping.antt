@@ -13,8 +13,9 @@ use Rattle.laws.specs.Choice.{pick}
 use Rattle.laws.proofs.Choice.{Tested, holds, fails, tested, pick-yes, pick-no, by-pick}
 use Rattle.loops.specs.Loops.{Opened, Looping, Repeating, Turn, Turns, NoRoom, NoWord, wordAt, stays, movedTo, closing, turnOf, shownAL}
 use Rattle.group.specs.Proc.{Proc}
+use Rattle.group.specs.Modes.{Mode, limitOf}
 use Rattle.group.specs.Group.{Group, Outcome, Steps, Fails, Program, Way, Goes, Stuck, opOf, bElse, aOp, branchOp, jumpFunc, booleanNumber, integerNumber, jumpAddress}
-use Rattle.group.specs.Group.{allowedLoop, turnedIf, overLimit, wayOf, arrived, settled, onTurn, withLoops, loopStep, slotStep, ended, groupStep}
+use Rattle.group.specs.Group.{permits, allowedLoop, turnedIf, overLimit, wayOf, arrived, settled, onTurn, withLoops, loopStep, slotStep, ended, groupStep}
 use Rattle.flow.specs.Looping.{opAt, integerAt, closeOp, LedBy, onJump, closings, Turning, Begun, Again, Inside}
 
 -- a refused step is led by any turn
@@ -24,10 +25,10 @@ fails-led NoRoom why = tt
 fails-led NoWord why = tt
 
 arrived-led :
-    (slots : ℕ) (jump : Bool) (procs : ℕ → Proc) (loops : List Opened) (w : Way) →
-    LedBy (Turns jump loops) (arrived slots jump procs loops w)
-arrived-led slots jump procs loops Stuck = tt
-arrived-led slots jump procs loops (Goes next rs) = by-pick (LedBy (Turns jump loops)) (leb next slots) _ _ (λ e. (refl, refl)) (λ e. tt)
+    (slots : ℕ) (jump : Bool) (procs : ℕ → Proc) (g : Group) (w : Way) →
+    LedBy (Turns jump (g .loops)) (arrived slots jump procs g w)
+arrived-led slots jump procs g Stuck = tt
+arrived-led slots jump procs g (Goes next rs) = by-pick (LedBy (Turns jump (g .loops))) (leb next slots) _ _ (λ e. (refl, refl)) (λ e. tt)
 
 settled-led :
     (limit slots first second : ℕ) (jump : Bool) (wish : ℕ → Bool) (procs : ℕ → Proc) (g : Group) →
@@ -35,7 +36,7 @@ settled-led :
 unfolding settled
 settled-led limit slots first second jump wish procs g =
     by-pick (LedBy (Turns jump (g .loops))) (overLimit limit (branchOp jump first) procs) _ _ (λ e. tt)
-    (λ e. arrived-led slots jump _ (g .loops) (wayOf (aOp first) jump (g .position) (jumpAddress second) (g .returns)))
+    (λ e. arrived-led slots jump _ g (wayOf (aOp first) jump (g .position) (jumpAddress second) (g .returns)))
 
 turn-led :
     (limit slots first second : ℕ) (wish : ℕ → Bool) (procs : ℕ → Proc) (g : Group) (t : Turn) →
@@ -57,20 +58,23 @@ loop-led limit slots word first second alu predicate booleans g =
 -- "These decisions override the processors' wishes": whatever the masks, a step of another op than 0 is refused, or its decision and
 -- its loops are those of its turn
 pub step-led :
-    (limit : ℕ) (program : Program) (alu predicate booleans : ℕ) (g : Group) → (opAt program g ≡ 0 → ⊥) →
-    LedBy (turnOf (opAt program g) (integerAt program g) (g .loops)) (groupStep limit program alu predicate booleans g)
+    (mode : Mode) (program : Program) (alu predicate booleans : ℕ) (g : Group) → (opAt program g ≡ 0 → ⊥) →
+    LedBy (turnOf (opAt program g) (integerAt program g) (g .loops)) (groupStep mode program alu predicate booleans g)
 unfolding groupStep slotStep ended
-step-led limit program alu predicate booleans g n =
+step-led mode program alu predicate booleans g n =
     by-pick (LedBy (turnOf (opAt program g) (integerAt program g) (g .loops))) (leb (program .slots) (g .position)) _ _
     (λ e. fails-led (turnOf (opAt program g) (integerAt program g) (g .loops)) 16)
     (λ e.
     by-pick (LedBy (turnOf (opAt program g) (integerAt program g) (g .loops))) (leb (program .slots) 512) _ _
     (λ h.
+    by-pick (LedBy (turnOf (opAt program g) (integerAt program g) (g .loops))) (permits mode (getD (program .firsts) (g .position) 0)) _ _
+    (λ p.
     by-pick (LedBy (turnOf (opAt program g) (integerAt program g) (g .loops))) (eqb (opAt program g) 0) _ _
     (λ z. absurd (n (eqb-true (opAt program g) 0 z)))
     (λ z.
-    loop-led limit (program .slots) (integerAt program g) (getD (program .firsts) (g .position) 0)
+    loop-led (limitOf mode) (program .slots) (integerAt program g) (getD (program .firsts) (g .position) 0)
     (getD (program .seconds) (g .position) 0) alu predicate booleans g))
+    (λ p. fails-led (turnOf (opAt program g) (integerAt program g) (g .loops)) 13))
     (λ h. fails-led (turnOf (opAt program g) (integerAt program g) (g .loops)) 15))
 
 -- so where the step is made, its turn is known
@@ -207,20 +211,20 @@ loop-left zero n al step ls s =
 loop-left (suc k) n al step ls s = left-next n step ls k _ (loop-left k n al step ls s)
 
 -- a group in a loop
-module _ (limit : ℕ) (program : Program) (booleans : ℕ) (loop : Bool) (Body : Group → Group → Type 0) (inside : Inside program loop Body) where
+module _ (mode : Mode) (program : Program) (booleans : ℕ) (loop : Bool) (Body : Group → Group → Type 0) (inside : Inside program loop Body) where
   -- the close of a body makes its loop's turn
   closed :
-      (s c s' : Group) (jump : Bool) (alu predicate : ℕ) → Body s c → groupStep limit program alu predicate booleans c ≡ Steps jump s' →
+      (s c s' : Group) (jump : Bool) (alu predicate : ℕ) → Body s c → groupStep mode program alu predicate booleans c ≡ Steps jump s' →
       closing loop (s .loops) ≡ Turns jump (s' .loops)
   closed s c s' jump alu predicate b e =
       turn-close loop (integerAt program c) (s .loops) ∙
       (λ i. turnOf (sym (inside .closes s c b) i) (integerAt program c) (sym (inside .keeps s c b) i)) ∙
       led-steps (turnOf (opAt program c) (integerAt program c) (c .loops)) jump s'
       (subst (LedBy (turnOf (opAt program c) (integerAt program c) (c .loops))) e
-      (step-led limit program alu predicate booleans c (λ z. no-op loop (sym (inside .closes s c b) ∙ z))))
+      (step-led mode program alu predicate booleans c (λ z. no-op loop (sym (inside .closes s c b) ∙ z))))
 
   -- after k turns the loops are those of k closes
-  pub turning-closes : {k : ℕ} {g s : Group} → Turning limit program booleans Body k g s → closings loop k (g .loops) ≡ Turns true (s .loops)
+  pub turning-closes : {k : ℕ} {g s : Group} → Turning mode program booleans Body k g s → closings loop k (g .loops) ≡ Turns true (s .loops)
   turning-closes (Begun g) = refl
   turning-closes (Again k g s c s' alu predicate way b e) =
       ap (λ (t : Turn). onJump t (closing loop)) (turning-closes way) ∙ closed s c s' true alu predicate b e
@@ -291,39 +295,39 @@ loop-last k n step ls x y _ (Some al h) e f = by (tested (ltb 1 (n - k))) (teste
 -- a loop of count n around a body that stays inside it runs the body n times: k closes jump, one more stays, and then k + 1 is n and
 -- the loop is gone
 pub rep-times :
-    (limit : ℕ) (program : Program) (booleans : ℕ) (Body : Group → Group → Type 0) → Inside program false Body →
+    (mode : Mode) (program : Program) (booleans : ℕ) (Body : Group → Group → Type 0) → Inside program false Body →
     (n : ℕ) (ls : List Opened) (k : ℕ) (g s c g' : Group) (alu predicate : ℕ) → 1 ≤ n → g .loops ≡ Repeating n ∷ ls →
-    Turning limit program booleans Body k g s → Body s c → groupStep limit program alu predicate booleans c ≡ Steps false g' →
+    Turning mode program booleans Body k g s → Body s c → groupStep mode program alu predicate booleans c ≡ Steps false g' →
     (suc k ≡ n) × (g' .loops ≡ ls)
-rep-times limit program booleans Body inside n ls k g s c g' alu predicate h e way b last =
-    rep-last k n ls (s .loops) (g' .loops) h (ap (closings false k) (sym e) ∙ turning-closes limit program booleans false Body inside way)
-    (closed limit program booleans false Body inside s c g' false alu predicate b last)
+rep-times mode program booleans Body inside n ls k g s c g' alu predicate h e way b last =
+    rep-last k n ls (s .loops) (g' .loops) h (ap (closings false k) (sym e) ∙ turning-closes mode program booleans false Body inside way)
+    (closed mode program booleans false Body inside s c g' false alu predicate b last)
 
 pub loop-times :
-    (limit : ℕ) (program : Program) (booleans : ℕ) (Body : Group → Group → Type 0) → Inside program true Body →
+    (mode : Mode) (program : Program) (booleans : ℕ) (Body : Group → Group → Type 0) → Inside program true Body →
     (n al step : ℕ) (ls : List Opened) (k : ℕ) (g s c g' : Group) (alu predicate : ℕ) → 1 ≤ n → g .loops ≡ Looping n al step ∷ ls →
-    Turning limit program booleans Body k g s → Body s c → groupStep limit program alu predicate booleans c ≡ Steps false g' →
+    Turning mode program booleans Body k g s → Body s c → groupStep mode program alu predicate booleans c ≡ Steps false g' →
     (suc k ≡ n) × (g' .loops ≡ ls)
-loop-times limit program booleans Body inside n al step ls k g s c g' alu predicate h e way b last =
+loop-times mode program booleans Body inside n al step ls k g s c g' alu predicate h e way b last =
     loop-last k n step ls (s .loops) (g' .loops) _ (loop-left k n al step ls h)
-    (ap (closings true k) (sym e) ∙ turning-closes limit program booleans true Body inside way)
-    (closed limit program booleans true Body inside s c g' false alu predicate b last)
+    (ap (closings true k) (sym e) ∙ turning-closes mode program booleans true Body inside way)
+    (closed mode program booleans true Body inside s c g' false alu predicate b last)
 
 -- and after k turns the aL shown is its start and k steps
 pub al-shown-up :
-    (limit : ℕ) (program : Program) (booleans : ℕ) (Body : Group → Group → Type 0) → Inside program true Body →
-    (n al step : ℕ) (ls : List Opened) (k : ℕ) (g s : Group) → g .loops ≡ Looping n al step ∷ ls → Turning limit program booleans Body k g s →
+    (mode : Mode) (program : Program) (booleans : ℕ) (Body : Group → Group → Type 0) → Inside program true Body →
+    (n al step : ℕ) (ls : List Opened) (k : ℕ) (g s : Group) → g .loops ≡ Looping n al step ∷ ls → Turning mode program booleans Body k g s →
     step < 128 → k < n → al + k * step ≤ 255 → shownAL (s .loops) ≡ al + k * step
-al-shown-up limit program booleans Body inside n al step ls k g s e way p h q =
+al-shown-up mode program booleans Body inside n al step ls k g s e way p h q =
     ap shownAL
     (turn-loops (s .loops) (Looping (n - k) (al + k * step) step ∷ ls) true true
-    (sym (ap (closings true k) (sym e) ∙ turning-closes limit program booleans true Body inside way) ∙ al-up k n al step ls p h q))
+    (sym (ap (closings true k) (sym e) ∙ turning-closes mode program booleans true Body inside way) ∙ al-up k n al step ls p h q))
 
 pub al-shown-down :
-    (limit : ℕ) (program : Program) (booleans : ℕ) (Body : Group → Group → Type 0) → Inside program true Body →
-    (n al step : ℕ) (ls : List Opened) (k : ℕ) (g s : Group) → g .loops ≡ Looping n al step ∷ ls → Turning limit program booleans Body k g s →
+    (mode : Mode) (program : Program) (booleans : ℕ) (Body : Group → Group → Type 0) → Inside program true Body →
+    (n al step : ℕ) (ls : List Opened) (k : ℕ) (g s : Group) → g .loops ≡ Looping n al step ∷ ls → Turning mode program booleans Body k g s →
     128 ≤ step → step ≤ 255 → k < n → k * (256 - step) ≤ al → shownAL (s .loops) ≡ al - k * (256 - step)
-al-shown-down limit program booleans Body inside n al step ls k g s e way p r h q =
+al-shown-down mode program booleans Body inside n al step ls k g s e way p r h q =
     ap shownAL
     (turn-loops (s .loops) (Looping (n - k) (al - k * (256 - step)) step ∷ ls) true true
-    (sym (ap (closings true k) (sym e) ∙ turning-closes limit program booleans true Body inside way) ∙ al-down k n al step ls p r h q))
+    (sym (ap (closings true k) (sym e) ∙ turning-closes mode program booleans true Body inside way) ∙ al-down k n al step ls p r h q))

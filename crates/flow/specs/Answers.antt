@@ -9,8 +9,9 @@ use Rattle.refusal.specs.declared.Refusal.{Refusal}
 use Rattle.refusal.specs.declared.Refusal.the-variants.{AtLimit, PastEnd, FlowField, Ended}
 use Rattle.refusal.specs.Number.{numberOf}
 use Rattle.refusal.specs.Told.{Told, gives, refuses}
-use Rattle.group.specs.Group.{Run, Makes, Breaks, runTold, beginTold}
-use Rattle.group.specs.Cells.{groupOf, GroupGiven, runLeaves, beginLeaves}
+use Rattle.group.specs.Group.{Run, Makes, Breaks, groupSteps, runTold, beginTold}
+use Rattle.group.specs.Cells.{modeIn, groupOf, GroupGiven, runLeaves, beginLeaves}
+use Rattle.stepper.specs.Answers.{programOf}
 use Rattle.flow.specs.declared.Begun.{Begun}
 use Rattle.flow.specs.declared.Begun.the-variants as begun
 use Rattle.flow.specs.declared.Loaded.{Loaded}
@@ -37,9 +38,9 @@ abbrev pub toldBegun : Begun → Told
 toldBegun begun.Ready = gives []
 toldBegun (begun.Refused why) = refuses (numberOf why)
 
-pub record BeginDone (entry leaves : List ℕ) (r : Begun) (size : ℕ) : Type 0 where
-  pub told : toldBegun r ≡ beginTold size
-  pub left : leaves ≡ beginLeaves entry size
+pub record BeginDone (entry leaves : List ℕ) (r : Begun) (size mode : ℕ) : Type 0 where
+  pub told : toldBegun r ≡ beginTold size mode
+  pub left : leaves ≡ beginLeaves entry size mode
 
 abbrev pub toldLoaded : Loaded → Told
 toldLoaded (loaded.Slots n) = gives (n ∷ [])
@@ -59,11 +60,17 @@ pub record RunDone (entry leaves : List ℕ) (r : Ran) (o : Run) : Type 0 where
   pub told : toldRan r ≡ runTold o
   pub left : leaves ≡ runLeaves entry o
 
--- steps made one after the other, on cells that end as `leaves`
+-- the steps of a run that the group in these cells, in their mode, makes under the program in these arrays
+abbrev pub stepsIn : List ℕ → List ℕ → ℕ → List ℕ → List ℕ → ℕ → List ℕ → Run
+stepsIn firsts seconds slots cells masks booleans integers =
+    groupSteps (modeIn cells) (programOf firsts seconds slots integers) booleans masks (groupOf cells)
+
+-- steps made one after the other, on cells that end as `leaves`, in the mode that they had
 abbrev pub stepsTold : StepsMade → List ℕ → Run
 stepsTold (stepsMade.Number n) leaves = Makes n (groupOf leaves)
 stepsTold (stepsMade.Refused why) leaves = Breaks (numberOf why)
 
-pub record StepsDone (leaves : List ℕ) (r : StepsMade) (o : Run) : Type 0 where
+pub record StepsDone (entry leaves : List ℕ) (r : StepsMade) (o : Run) : Type 0 where
   pub told : stepsTold r leaves ≡ o
   pub given : GroupGiven leaves
+  pub mode : modeIn leaves ≡ modeIn entry

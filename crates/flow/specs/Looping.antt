@@ -6,6 +6,7 @@ use mathlib.Core.List.{List}
 use Prim.Native.Nat.{ℕ, zero, suc}
 use lib.ListN.{getD}
 use Rattle.loops.specs.Loops.{Opened, Turn, Turns, NoRoom, NoWord, endloopOp, endrepOp, wordAt, closing}
+use Rattle.group.specs.Modes.{Mode}
 use Rattle.group.specs.Group.{Group, Outcome, Steps, Fails, Program, opOf, integerNumber, groupStep}
 
 -- the op of the slot at the position
@@ -44,11 +45,11 @@ closings loop (suc k) loops = onJump (closings loop k loops) (closing loop)
 
 -- a group goes k times through a loop's body and its close, and each time the close jumps; `Body g c` says that the body leads from
 -- g, at its start, to c, at the close
-pub data Turning (limit : ℕ) (program : Program) (booleans : ℕ) (Body : Group → Group → Type 0) : ℕ → Group → Group → Type 0 where
-  Begun : (g : Group) → Turning limit program booleans Body zero g g
+pub data Turning (mode : Mode) (program : Program) (booleans : ℕ) (Body : Group → Group → Type 0) : ℕ → Group → Group → Type 0 where
+  Begun : (g : Group) → Turning mode program booleans Body zero g g
   Again :
-      (k : ℕ) (g s c s' : Group) (alu predicate : ℕ) → Turning limit program booleans Body k g s → Body s c →
-      groupStep limit program alu predicate booleans c ≡ Steps true s' → Turning limit program booleans Body (suc k) g s'
+      (k : ℕ) (g s c s' : Group) (alu predicate : ℕ) → Turning mode program booleans Body k g s → Body s c →
+      groupStep mode program alu predicate booleans c ≡ Steps true s' → Turning mode program booleans Body (suc k) g s'
 
 -- a body inside its loop: it comes back to a close of the loop's kind, with the loops as they were
 pub record Inside (program : Program) (loop : Bool) (Body : Group → Group → Type 0) : Type 1 where

@@ -11,11 +11,11 @@ ghost use lib.ListN.{length};
 ghost use Rattle.laws.specs.Below.{count, least};
 ghost use Rattle.laws.specs.Masks.{on};
 ghost use Rattle.loops.specs.Loops.{loopsTold};
-ghost use Rattle.group.specs.Proc.{mostProcessors, counterLimit};
-ghost use Rattle.group.specs.Group.{Makes, goOn, groupSteps};
+ghost use Rattle.group.specs.Proc.{mostProcessors};
+ghost use Rattle.group.specs.Group.{Makes, goOn};
 ghost use Rattle.group.specs.Cells.{groupOf, GroupGiven};
-ghost use Rattle.stepper.specs.Answers.{StepDone, toldStepped, programOf, stepIn, runIn};
-ghost use Rattle.flow.specs.Answers.{refusalOf, numberTold, madeBy, BeginDone, LoadDone, RunDone, StepsDone};
+ghost use Rattle.stepper.specs.Answers.{NumberDone, StepDone, toldStepped, stepIn, runIn};
+ghost use Rattle.flow.specs.Answers.{refusalOf, numberTold, madeBy, BeginDone, LoadDone, RunDone, StepsDone, stepsIn};
 
 // A fresh group stands in the cells, or its size isn't allowed.
 pub enum Begun {
@@ -82,10 +82,62 @@ fn stepped_of(number: u32, position: u32) -> Stepped
     Stepped::Stayed(next)
 }
 
+// A step in one number: 1 for a jump and 0 for a stay, whose next position is then in the cells, or the refusal's, 13 to 16. A slot of op
+// 0, of which most programs are made, doesn't come near the loops.
+fn step_number(
+    firsts: &[u32; group::SLOTS],
+    seconds: &[u32; group::SLOTS],
+    slots: u32,
+    cells: &mut [u32; group::CELLS],
+    alu: u32,
+    predicate: u32,
+    booleans: u32,
+    integers: &[u32],
+) -> u32
+    requires { ⌜ GroupGiven (now cells) ⌝ }
+    ensures { λ r. ⌜ NumberDone (now (cells .entry)) (now (cells .exit)) r (stepIn (now (firsts .entry)) (now (seconds .entry)) slots (now (cells .entry)) alu predicate booleans (now (integers .entry))) ⌝ }
+{
+    let here = cells[group::POSITION];
+    if slots <= here {
+        return refusal::number(Refusal::Ended);
+    }
+    if STORE_SLOTS < slots {
+        return refusal::number(Refusal::PastEnd);
+    }
+    let at = here as usize;
+    let first = firsts[at];
+    let second = seconds[at];
+    if slot::permitted(cells[group::MODE], first) {
+        if first % slot::OPS == 0 {
+            return stepper::single::jump_slot(
+                first,
+                second,
+                slots,
+                cells,
+                alu,
+                predicate,
+                booleans,
+            );
+        }
+        let word = loops::word_at(second / slot::INTEGER % slot::INTEGERS, integers);
+        return stepper::looping::loop_slot(
+            first,
+            second,
+            slots,
+            cells,
+            word,
+            alu,
+            predicate,
+            booleans,
+        );
+    }
+    refusal::number(Refusal::FlowField)
+}
+
 // A step of the group under a program: the first and second words of its slots, how many slots run, and the integer words that
 // LOOP and REP take. 16 where the program has ended, 13 for a word that isn't allowed (an integer word too), 14 for the open loops,
 // a branch counter or the return stack at its limit, 15 for a jump past the program's end (and where more than 512 slots are to
-// run). A slot of op 0, of which most programs are made, doesn't come near the loops.
+// run).
 pub fn step(
     firsts: &[u32; group::SLOTS],
     seconds: &[u32; group::SLOTS],
@@ -99,22 +151,16 @@ pub fn step(
     requires { ⌜ GroupGiven (now cells) ⌝ }
     ensures { λ r. ⌜ StepDone (now (cells .entry)) (now (cells .exit)) r (stepIn (now (firsts .entry)) (now (seconds .entry)) slots (now (cells .entry)) alu predicate booleans (now (integers .entry))) ⌝ }
 {
-    let here = cells[group::POSITION];
-    if slots <= here {
-        return Stepped::Refused(Refusal::Ended);
-    }
-    if STORE_SLOTS < slots {
-        return Stepped::Refused(Refusal::PastEnd);
-    }
-    let at = here as usize;
-    let first = firsts[at];
-    let second = seconds[at];
-    if first % slot::OPS == 0 {
-        let number = stepper::jump_slot(first, second, slots, cells, alu, predicate, booleans);
-        return stepped_of(number, cells[group::POSITION]);
-    }
-    let word = loops::word_at(second / slot::INTEGER % slot::INTEGERS, integers);
-    let number = stepper::loop_slot(first, second, slots, cells, word, alu, predicate, booleans);
+    let number = step_number(
+        firsts,
+        seconds,
+        slots,
+        cells,
+        alu,
+        predicate,
+        booleans,
+        integers,
+    );
     stepped_of(number, cells[group::POSITION])
 }
 
@@ -145,9 +191,10 @@ pub fn tell_loops(cells: &[u32; group::CELLS], room: &mut [u32; LOOPS_TOLD])
     ];
 }
 
-// A fresh group: all its processors active, position 0, no returns. 13 unless the size is from 1 to 32.
-pub fn begin(size: u32, cells: &mut [u32; group::CELLS]) -> Begun
-    ensures { λ r. ⌜ BeginDone (now (cells .entry)) (now (cells .exit)) r size ⌝ }
+// A fresh group in a mode, 0 full or 1 partial, which it keeps: all its processors active, position 0, no returns. 13 unless the size is
+// from 1 to 32 and the mode is one of the two.
+pub fn begin(size: u32, mode: u32, cells: &mut [u32; group::CELLS]) -> Begun
+    ensures { λ r. ⌜ BeginDone (now (cells .entry)) (now (cells .exit)) r size mode ⌝ }
 {
     if size < 1 {
         return Begun::Refused(Refusal::FlowField);
@@ -155,11 +202,15 @@ pub fn begin(size: u32, cells: &mut [u32; group::CELLS]) -> Begun
     if group::PROCESSORS < size {
         return Begun::Refused(Refusal::FlowField);
     }
+    if group::PARTIAL < mode {
+        return Begun::Refused(Refusal::FlowField);
+    }
     // From the top down, since 1 << 32 would not fit.
     let live = planes::EVERYBODY >> (group::PROCESSORS - size);
     *cells = [0; group::CELLS];
     cells[group::LIVE] = live;
     cells[group::ACTIVE] = live;
+    cells[group::MODE] = mode;
     Begun::Ready
 }
 
@@ -229,7 +280,7 @@ fn one_step(
     integers: &[u32],
 ) -> StepsMade
     requires { ⌜ GroupGiven (now cells) ⌝ }
-    ensures { λ r. ⌜ StepsDone (now (cells .exit)) r (goOn (stepIn (now (firsts .entry)) (now (seconds .entry)) slots (now (cells .entry)) alu predicate booleans (now (integers .entry))) (λ g. Makes 0 g)) ⌝ }
+    ensures { λ r. ⌜ StepsDone (now (cells .entry)) (now (cells .exit)) r (goOn (stepIn (now (firsts .entry)) (now (seconds .entry)) slots (now (cells .entry)) alu predicate booleans (now (integers .entry))) (λ g. Makes 0 g)) ⌝ }
 {
     let here = cells[group::POSITION];
     if slots <= here {
@@ -241,11 +292,33 @@ fn one_step(
     let at = here as usize;
     let first = firsts[at];
     let second = seconds[at];
-    if first % slot::OPS == 0 {
-        return made_of(stepper::jump_slot(first, second, slots, cells, alu, predicate, booleans));
+    if slot::permitted(cells[group::MODE], first) {
+        if first % slot::OPS == 0 {
+            let number = stepper::running::jump_slot(
+                first,
+                second,
+                slots,
+                cells,
+                alu,
+                predicate,
+                booleans,
+            );
+            return made_of(number);
+        }
+        let word = loops::word_at(second / slot::INTEGER % slot::INTEGERS, integers);
+        let number = stepper::looping::loop_slot(
+            first,
+            second,
+            slots,
+            cells,
+            word,
+            alu,
+            predicate,
+            booleans,
+        );
+        return made_of(number);
     }
-    let word = loops::word_at(second / slot::INTEGER % slot::INTEGERS, integers);
-    made_of(stepper::loop_slot(first, second, slots, cells, word, alu, predicate, booleans))
+    StepsMade::Refused(Refusal::FlowField)
 }
 
 // How many steps a list of masks is for, two masks each: a last alu without its predicate counts as the list's end.
@@ -266,7 +339,7 @@ fn make_steps(
     integers: &[u32],
 ) -> StepsMade
     requires { ⌜ GroupGiven (now cells) ⌝ }
-    ensures { λ r. ⌜ StepsDone (now (cells .exit)) r (groupSteps counterLimit (programOf (now (firsts .entry)) (now (seconds .entry)) slots (now (integers .entry))) booleans (now (masks .entry)) (groupOf (now (cells .entry)))) ⌝ }
+    ensures { λ r. ⌜ StepsDone (now (cells .entry)) (now (cells .exit)) r (stepsIn (now (firsts .entry)) (now (seconds .entry)) slots (now (cells .entry)) (now (masks .entry)) booleans (now (integers .entry))) ⌝ }
 {
     let pairs = pairs_of(masks);
     let mut made = 0;

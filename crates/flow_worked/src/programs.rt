@@ -5,10 +5,10 @@ use flow::Ran;
 use worked::tally::Tally;
 ghost use Prim.Native.Nat.{_≤_};
 
-// The mask of a fresh group, or 0 where the size gets 13.
-fn mask_of(size: u32) -> u32 {
+// The mask of a fresh group, or 0 where the size or the mode gets 13.
+fn mask_of(size: u32, mode: u32) -> u32 {
     let mut cells = [0u32; group::CELLS];
-    match flow::begin(size, &mut cells) {
+    match flow::begin(size, mode, &mut cells) {
         Begun::Ready => cells[group::ACTIVE],
         Begun::Refused(_) => 0,
     }
@@ -16,12 +16,21 @@ fn mask_of(size: u32) -> u32 {
 
 fn sizes() {
     Tally::new()
-        .with(mask_of(0) == 0)
-        .with(mask_of(1) == 1)
-        .with(mask_of(31) == 0x7FFFFFFF)
-        .with(mask_of(32) == 0xFFFFFFFF)
-        .with(mask_of(33) == 0)
+        .with(mask_of(0, group::FULL) == 0)
+        .with(mask_of(1, group::FULL) == 1)
+        .with(mask_of(31, group::FULL) == 0x7FFFFFFF)
+        .with(mask_of(32, group::FULL) == 0xFFFFFFFF)
+        .with(mask_of(33, group::FULL) == 0)
         .print(b"sizes of groups");
+}
+
+fn modes() {
+    Tally::new()
+        .with(mask_of(4, group::FULL) == 15)
+        .with(mask_of(4, group::PARTIAL) == 15)
+        .with(mask_of(4, 2) == 0)
+        .with(mask_of(33, group::PARTIAL) == 0)
+        .print(b"modes of groups");
 }
 
 // The slots of a program of these words, or 1000 where it gets 15.
@@ -172,6 +181,7 @@ fn counts() {
 
 pub fn run() {
     sizes();
+    modes();
     lengths();
     branches();
     calls();

@@ -17,12 +17,20 @@ pub fn told(answer: Stepped) -> u32 {
     }
 }
 
-// A fresh group of a size that is allowed.
+// A fresh group of a size and in a mode that are allowed.
+fn fresh_in(size: u32, mode: u32, cells: &mut [u32; group::CELLS])
+    requires { ⌜ (1 ≤ size) × (size ≤ 32) × (mode ≤ 1) ⌝ }
+    ensures { λ r. ⌜ GroupGiven (now (cells .exit)) ⌝ }
+{
+    flow::begin(size, mode, cells);
+}
+
+// The same in full mode.
 pub fn fresh(size: u32, cells: &mut [u32; group::CELLS])
     requires { ⌜ (1 ≤ size) × (size ≤ 32) ⌝ }
     ensures { λ r. ⌜ GroupGiven (now (cells .exit)) ⌝ }
 {
-    flow::begin(size, cells);
+    fresh_in(size, group::FULL, cells)
 }
 
 // One step under a program of four slots, each with these two words.
@@ -128,9 +136,11 @@ fn ends() {
 }
 
 // How often a branch may nest: two processors leave, and then each further branch adds 1 to their counters.
-fn nested() -> u32 {
+fn nested(mode: u32) -> u32
+    requires { ⌜ mode ≤ 1 ⌝ }
+{
     let mut cells = [0u32; group::CELLS];
-    fresh(4, &mut cells);
+    fresh_in(4, mode, &mut cells);
     one(0x02000F00, 0, &mut cells, 3, 0, 0);
     let mut deeper: u32 = 0;
     while deeper < 100 {
@@ -142,6 +152,27 @@ fn nested() -> u32 {
         deeper += 1;
     }
     deeper
+}
+
+// What partial mode forbids: an opening without its integer word and a close with nothing open, which full mode gives 13 and 14 for; a push
+// and a pop, on a jump and on a stay; and what it allows.
+fn partial() {
+    let mut cells = [0u32; group::CELLS];
+    fresh_in(4, group::PARTIAL, &mut cells);
+    let opening = one(0x00000001, 0x00000500, &mut cells, 0, 0, 0);
+    let close = one(0x00000002, 0, &mut cells, 0, 0, 0);
+    let push = one(0x0000FF80, 0, &mut cells, 0, 0, 0);
+    let pop = one(0x0000FF40, 0, &mut cells, 0, 0, 0);
+    let kept = one(0x000000A0, 0, &mut cells, 0, 0, 0);
+    let plain = one(0x0000FF00, 0, &mut cells, 0, 0, 0);
+    Tally::new()
+        .with(opening == 13)
+        .with(close == 13)
+        .with(push == 13)
+        .with(pop == 13)
+        .with(kept == 13)
+        .with(plain == JUMPED)
+        .print(b"partial mode");
 }
 
 // B_ELSE leaves nobody active: JUMP_ANY 0 then jumps whatever JUMP_FUNC is, JUMP_ANY 1 stays.
@@ -251,7 +282,11 @@ pub fn run() {
     calls();
     returns();
     ends();
-    Tally::new().with(nested() == 31).print(b"nested branches");
+    Tally::new()
+        .with(nested(group::FULL) == 31)
+        .with(nested(group::PARTIAL) == 5)
+        .print(b"nested branches");
+    partial();
     nobody();
     idled();
     above();

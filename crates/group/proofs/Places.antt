@@ -5,7 +5,7 @@ use mathlib.Core.Bool.{Bool, true, false, not}
 use Prim.Native.Nat.{ℕ, zero, suc, _-_, _*_, _/_, _%_, _^_, _<_, _≤_}
 use native.Mathlib.Nat.{div-one}
 use native.Mathlib.Omega.{arith}
-use lib.Dec.{eqb}
+use lib.Dec.{eqb, leb}
 use lib.Bits.{bitAnd, bitOr, bitXor}
 use borrow.Author.Tests.{leb-true, ne-eqb}
 use Rattle.laws.proofs.Choice.{pick-yes, pick-no, and-left, and-right}
@@ -17,9 +17,10 @@ use Rattle.laws.proofs.Masks.{pack-same, and-places, or-places, xor-places, not
 use Rattle.group.specs.declared.planes.Branched.{Branched}
 use Rattle.group.specs.Proc.{Proc, Active, Idle, Absent, isLive, isActive, counterBit, within, turned, wants, decided, lowered}
 use Rattle.group.specs.Proc.{raised, atLimit, branched, counterLimit}
+use Rattle.group.specs.Modes.{partialLimit}
 use Rattle.group.specs.Group.{turnedIf, wishOf}
 use Rattle.group.specs.Cells.{activeMask, plane, counterOf}
-use Rattle.group.specs.Masks.{MasksOf, shownAs, someAtLimit}
+use Rattle.group.specs.Masks.{MasksOf, shownAs, someAtLimit, someAtPartial}
 
 -- two tests agree
 abbrev same : Bool → Bool → Bool
@@ -355,6 +356,37 @@ limit-word p0 p1 p2 p3 p4 h0 h1 h2 h3 h4 =
     ap not (none-zero 32 _) ∙ not-not _ ∙
     some-same 32 _ _ (λ i h. full (on i p0) (on i p1) (on i p2) (on i p3) (on i p4))
 
+-- it is 5 or above when bit 3 or 4 is set, or bit 2 and one below it
+five : (b0 b1 b2 b3 b4 : Bool) → ((b3 or b4) or (b2 and (b0 or b1))) ≡ leb partialLimit (counterOf b0 b1 b2 b3 b4)
+unfolding _and_ _or_ digit
+five b0 b1 b2 b3 b4 =
+    same-true _ _
+    (both-at (t5 b0 b1 b2 b3) (both-at (t4 b0 b1 b2) (both-at (t3 b0 b1) (both-at (t2 b0) (both-at t1 refl b0) b1) b2) b3) b4)
+  where
+    t5 : Bool → Bool → Bool → Bool → Bool → Bool
+    t5 b0 b1 b2 b3 b4 = same ((b3 or b4) or (b2 and (b0 or b1))) (leb partialLimit (counterOf b0 b1 b2 b3 b4))
+
+    t4 : Bool → Bool → Bool → Bool → Bool
+    t4 b0 b1 b2 b3 = both (t5 b0 b1 b2 b3)
+
+    t3 : Bool → Bool → Bool → Bool
+    t3 b0 b1 b2 = both (t4 b0 b1 b2)
+
+    t2 : Bool → Bool → Bool
+    t2 b0 b1 = both (t3 b0 b1)
+
+    t1 : Bool → Bool
+    t1 b0 = both (t2 b0)
+
+pub partial-word :
+    (p0 p1 p2 p3 p4 : ℕ) → p0 < 2 ^ 32 → p1 < 2 ^ 32 → p2 < 2 ^ 32 → p3 < 2 ^ 32 → p4 < 2 ^ 32 →
+    not (eqb (bitOr (bitOr p3 p4) (bitAnd p2 (bitOr p0 p1))) 0) ≡ someAtPartial p0 p1 p2 p3 p4
+partial-word p0 p1 p2 p3 p4 h0 h1 h2 h3 h4 =
+    ap (λ (n : ℕ). not (eqb n 0))
+    (or-places (or-places (own p3 h3) (own p4 h4)) (and-places (own p2 h2) (or-places (own p0 h0) (own p1 h1))) .word) ∙
+    ap not (none-zero 32 _) ∙ not-not _ ∙
+    some-same 32 _ _ (λ i h. five (on i p0) (on i p1) (on i p2) (on i p3) (on i p4))
+
 and-no-part : (a b c : Bool) → (b and c) ≡ false → ((a and b) and c) ≡ false
 unfolding _and_
 and-no-part true b c z = z
@@ -609,18 +641,27 @@ module _ (procs : ℕ → Proc) {else : Bool} where
   unfolding turnedIf
   turned-no e = ap activeMask (fun-ext (λ i. sym (pick-no (turned (procs i)) (procs i) e)))
 
--- the limit, processor by processor
-pub limit-shown :
-    {procs : ℕ → Proc} {live active p0 p1 p2 p3 p4 : ℕ} → MasksOf procs live active p0 p1 p2 p3 p4 →
-    someAtLimit p0 p1 p2 p3 p4 ≡ some 32 (λ i. atLimit counterLimit (procs i))
-unfolding _and_ on every digit
-limit-shown {procs} {live} {active} {p0} {p1} {p2} {p3} {p4} m =
-    some-same 32 _ _
-    (λ i h.
-    rw (bit 0 i h (m .word0), bit 1 i h (m .word1), bit 2 i h (m .word2), bit 3 i h (m .word3), bit 4 i h (m .word4))
-    (agree
-    (λ q. eqb (counterOf (counterBit 0 q) (counterBit 1 q) (counterBit 2 q) (counterBit 3 q) (counterBit 4 q)) counterLimit)
-    (atLimit counterLimit) refl (procs i) (m .counters i)))
-  where
-    bit : {w : ℕ} (k i : ℕ) → i < 32 → w ≡ plane k procs → on i w ≡ counterBit k (procs i)
-    bit k i h e = ap (on i) e ∙ on-pack 32 i (λ j. counterBit k (procs j)) h
+-- the limits, processor by processor
+module _ {procs : ℕ → Proc} {live active p0 p1 p2 p3 p4 : ℕ} (m : MasksOf procs live active p0 p1 p2 p3 p4) where
+  bit : {w : ℕ} (k i : ℕ) → i < 32 → w ≡ plane k procs → on i w ≡ counterBit k (procs i)
+  bit k i h e = ap (on i) e ∙ on-pack 32 i (λ j. counterBit k (procs j)) h
+
+  pub limit-shown : someAtLimit p0 p1 p2 p3 p4 ≡ some 32 (λ i. atLimit counterLimit (procs i))
+  unfolding _and_ on every digit
+  limit-shown =
+      some-same 32 _ _
+      (λ i h.
+      rw (bit 0 i h (m .word0), bit 1 i h (m .word1), bit 2 i h (m .word2), bit 3 i h (m .word3), bit 4 i h (m .word4))
+      (agree
+      (λ q. eqb (counterOf (counterBit 0 q) (counterBit 1 q) (counterBit 2 q) (counterBit 3 q) (counterBit 4 q)) counterLimit)
+      (atLimit counterLimit) refl (procs i) (m .counters i)))
+
+  pub partial-shown : someAtPartial p0 p1 p2 p3 p4 ≡ some 32 (λ i. atLimit partialLimit (procs i))
+  unfolding _and_ on every digit
+  partial-shown =
+      some-same 32 _ _
+      (λ i h.
+      rw (bit 0 i h (m .word0), bit 1 i h (m .word1), bit 2 i h (m .word2), bit 3 i h (m .word3), bit 4 i h (m .word4))
+      (agree
+      (λ q. leb partialLimit (counterOf (counterBit 0 q) (counterBit 1 q) (counterBit 2 q) (counterBit 3 q) (counterBit 4 q)))
+      (atLimit partialLimit) refl (procs i) (m .counters i)))

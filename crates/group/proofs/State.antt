@@ -1,9 +1,10 @@
 -- A group and its cells: a sound group is read back from its cells, cells handed in show their processors and their returns,
--- a step leads from a sound group to a sound one, and with op 0 it is document 01's. Assumes nothing.
+-- a step leads from a sound group to a sound one, and with op 0 it is document 01's, in full mode. Assumes nothing.
 use mathlib.Core.Path.{_≡_, refl, sym, ap, _∙_, subst, fun-ext}
-use mathlib.Core.Bool.{Bool, true, false}
+use mathlib.Core.Bool.{Bool, true, false, true≢false}
 use mathlib.Core.List.{List, [], _∷_}
-use Prim.Native.Nat.{ℕ, zero, suc, _+_, _-_, _<_, _≤_, zero-le}
+use Prim.Native.Nat.{ℕ, zero, suc, _+_, _-_, _%_, _^_, _<_, _≤_, zero-le}
+use native.Mathlib.Nat.{zero-div}
 use native.Mathlib.Omega.{arith}
 use lib.Dec.{eqb, leb, ltb}
 use lib.ListN.{length, getD}
@@ -17,9 +18,10 @@ use Rattle.laws.proofs.Masks.{on-pack, on-above}
 use Rattle.loops.specs.Loops.{field, Opened, Turn, Turns, NoRoom, NoWord, wordAt, turnOf, areOpened, Held}
 use Rattle.loops.proofs.Stack.{four-back, TurnSound, turn-of-sound}
 use Rattle.group.specs.Proc.{Proc, Active, Idle, Absent, isLive, isActive, counterBit, within, turned, lowered, raised, atLimit, branched, counterLimit}
+use Rattle.group.specs.Modes.{Mode, Full, Partial, limitOf, modeNumber, modeOf}
 use Rattle.group.specs.Group.{Group, Outcome, Steps, Fails, Program, Way, Goes, Stuck, opOf, bElse, jumpFunc, booleanNumber, integerNumber, turnedIf, wishOf, overLimit, popped, wayOf, arrived, settled}
-use Rattle.group.specs.Group.{allowed, allowedLoop, jumpStep, onTurn, withLoops, loopStep, slotStep, ended, groupStep, fresh}
-use Rattle.group.specs.Cells.{liveIn, activeIn, planeIn, loopIn, liveMask, activeMask, plane, counterOf, procOf, procAt, returnsIn, groupOf, cellsOf, aReturn, areReturns, Sound, GroupGiven, stepLeaves}
+use Rattle.group.specs.Group.{permits, allowed, allowedLoop, jumpStep, onTurn, withLoops, loopStep, slotStep, ended, groupStep, fresh}
+use Rattle.group.specs.Cells.{liveIn, activeIn, planeIn, modeIn, loopIn, liveMask, activeMask, plane, counterOf, procOf, procAt, returnsIn, groupOf, cellsOf, aReturn, areReturns, Sound, GroupGiven, stepLeaves}
 use Rattle.group.specs.Masks.{MasksOf}
 
 -- two equal numbers, as a computed test at each counter
@@ -126,24 +128,67 @@ masks-of g s =
       counters = s .counters;
     }
 
+-- a mode is read back from its number
+pub mode-back : (mode : Mode) → modeOf (modeNumber mode) ≡ mode
+unfolding modeOf pick
+mode-back Full = refl
+mode-back Partial = refl
+
+-- and the number tells it
+pub mode-partial : (n : ℕ) → n ≡ 1 → modeOf n ≡ Partial
+unfolding modeOf
+mode-partial n e = pick-yes _ _ (eq-eqb n 1 e)
+
+pub mode-full : (n : ℕ) → (n ≡ 1 → ⊥) → modeOf n ≡ Full
+unfolding modeOf
+mode-full n e = pick-no _ _ (ne-eqb n 1 e)
+
+-- counters within a mode's limit are within document 01's, the most that five planes hold
+pub within-mode : (mode : Mode) (p : Proc) → within (limitOf mode) p ≡ true → within counterLimit p ≡ true
+within-mode Full p w = w
+within-mode Partial Active w = refl
+within-mode Partial (Idle n) w = let h : n ≤ 5 = leb-true n 5 w in le-leb n 31 (omega arith)
+within-mode Partial Absent w = refl
+
+pub sound-mode : (mode : Mode) {g : Group} → Sound (limitOf mode) g → Sound counterLimit g
+sound-mode mode {g} s =
+    record {
+      outside = s .outside;
+      counters = λ i. within-mode mode (g .procs i) (s .counters i);
+      place = s .place;
+      depth = s .depth;
+      slots = s .slots;
+      nested = s .nested;
+      opened = s .opened;
+      killed-word = s .killed-word;
+      gone = s .gone;
+    }
+
 -- a sound group is read back from its cells
-pub group-back : (g : Group) → Sound counterLimit g → groupOf (cellsOf g) ≡ g
-group-back g s =
+pub group-back : (mode : Mode) (g : Group) → Sound (limitOf mode) g → groupOf (cellsOf mode g) ≡ g
+group-back mode g s =
     λ j. record {
-      procs = shows (masks-of g s) (s .outside) j;
+      procs = shows (masks-of g (sound-mode mode s)) (s .outside) j;
       position = g .position;
       returns = returns-back (g .returns) (s .depth) (s .slots) j;
       loops = four-back (g .loops) (s .nested) (s .opened) j;
+      killed = g .killed;
     }
 
 -- so its cells are such as came from these entries
-pub given-of : (g : Group) → Sound counterLimit g → GroupGiven (cellsOf g)
-given-of g s =
+pub given-of : (mode : Mode) (g : Group) → Sound (limitOf mode) g → GroupGiven (cellsOf mode g)
+given-of mode g s =
     record {
       size = refl;
-      sound = subst (Sound counterLimit) (sym (group-back g s)) s;
-      whole = sym (ap cellsOf (group-back g s));
+      sound =
+          subst (λ (m : Mode). Sound (limitOf m) (groupOf (cellsOf mode g))) (sym (mode-back mode))
+          (subst (Sound (limitOf mode)) (sym (group-back mode g s)) s);
+      whole = λ j. cellsOf (sym (mode-back mode) j) (sym (group-back mode g s) j);
     }
+
+-- and they keep their mode
+pub mode-kept : (mode : Mode) (g : Group) → modeIn (cellsOf mode g) ≡ mode
+mode-kept mode g = mode-back mode
 
 -- cells handed in are the masks of their processors
 pub given-masks :
@@ -158,7 +203,7 @@ given-masks l m =
       word2 = ap (planeIn 2) (m .whole);
       word3 = ap (planeIn 3) (m .whole);
       word4 = ap (planeIn 4) (m .whole);
-      counters = m .sound .counters;
+      counters = λ i. within-mode (modeIn l) (groupOf l .procs i) (m .sound .counters i);
     }
 
 -- and of its open loops
@@ -180,6 +225,27 @@ turned-absent else {p} e = rw e (pick-same else Absent)
 pub branched-absent : (op k : ℕ) (jump wish : Bool) {p : Proc} → p ≡ Absent → branched op k jump wish p ≡ Absent
 unfolding branched
 branched-absent op k jump wish {p} e = rw e (ap (pick (eqb op 1) Absent) (pick-same (eqb op 2) Absent) ∙ pick-same (eqb op 1) Absent)
+
+-- a processor is in the group after a step where it was before
+pub turned-live : (else : Bool) (q : Proc) → isLive (pick else (turned q) q) ≡ isLive q
+unfolding pick
+turned-live true Active = refl
+turned-live true (Idle zero) = refl
+turned-live true (Idle (suc n)) = refl
+turned-live true Absent = refl
+turned-live false q = refl
+
+pick-live : (t : Bool) (a b : Proc) → isLive a ≡ true → isLive b ≡ true → isLive (pick t a b) ≡ true
+pick-live t a b ha hb = by-pick (λ (q : Proc). isLive q ≡ true) t a b (λ e. ha) (λ e. hb)
+
+pub branched-live : (op k : ℕ) (jump wish : Bool) (q : Proc) → isLive (branched op k jump wish q) ≡ isLive q
+unfolding branched
+branched-live op k jump wish Active = pick-live _ _ _ refl (pick-live _ _ _ (pick-live _ _ _ refl refl) refl)
+branched-live op k jump wish (Idle n) = pick-live _ _ _ (pick-live _ _ _ refl refl) (pick-live _ _ _ refl refl)
+branched-live op k jump wish Absent = gone (eqb op 1) (eqb op 2)
+  where
+    gone : (a b : Bool) → isLive (pick a Absent (pick b Absent Absent)) ≡ false
+    gone a b = by-pick (λ (q : Proc). isLive q ≡ false) a _ _ (λ e. refl) (λ e. by-pick (λ (q : Proc). isLive q ≡ false) b _ _ (λ f. refl) (λ f. refl))
 
 pub turned-within : (limit : ℕ) (p : Proc) → within limit p ≡ true → within limit (turned p) ≡ true
 turned-within limit Active w = le-leb 0 limit zero-le
@@ -254,17 +320,33 @@ abbrev pub SoundAfter : ℕ → Outcome → Type 0
 SoundAfter limit (Steps jump g) = Sound limit g
 SoundAfter limit (Fails why) = (12 < why) × (why < 17)
 
+-- what a group keeps whatever its step does: its loops and its killed, of whom nobody is among the processors `procs`
+record SoundBeside (g : Group) (procs : ℕ → Proc) : Type 0 where
+  nested : length (g .loops) ≤ 4
+  opened : areOpened (g .loops) ≡ true
+  killed-word : g .killed < 2 ^ 32
+  gone : (i : ℕ) → on i (g .killed) ≡ true → procs i ≡ Absent
+
 arrived-sound :
-    (limit slots : ℕ) (jump : Bool) (procs : ℕ → Proc) (loops : List Opened) (way : Way) → slots ≤ 512 →
-    length loops ≤ 4 → areOpened loops ≡ true →
+    (limit slots : ℕ) (jump : Bool) (procs : ℕ → Proc) (g : Group) (way : Way) → slots ≤ 512 → SoundBeside g procs →
     ((i : ℕ) → 32 ≤ i → procs i ≡ Absent) → ((i : ℕ) → within limit (procs i) ≡ true) → SoundWay way →
-    SoundAfter limit (arrived slots jump procs loops way)
-arrived-sound limit slots jump procs loops Stuck h k q out low w = (omega arith, omega arith)
-arrived-sound limit slots jump procs loops (Goes next rs) h k q out low w =
+    SoundAfter limit (arrived slots jump procs g way)
+arrived-sound limit slots jump procs g Stuck h b out low w = (omega arith, omega arith)
+arrived-sound limit slots jump procs g (Goes next rs) h b out low w =
     by-pick (SoundAfter limit) (leb next slots) _ _
     (λ e.
     let n : next ≤ slots = leb-true next slots e in
-    record { outside = out; counters = low; place = omega arith; depth = w .0; slots = w .1; nested = k; opened = q })
+    record {
+      outside = out;
+      counters = low;
+      place = omega arith;
+      depth = w .0;
+      slots = w .1;
+      nested = b .nested;
+      opened = b .opened;
+      killed-word = b .killed-word;
+      gone = b .gone;
+    })
     (λ e. (omega arith, omega arith))
 
 -- nobody at the limit, where an increment is made
@@ -283,17 +365,22 @@ none-over limit op procs out e i two = at (tested (ltb i 32))
 
 settled-sound :
     (limit slots first second : ℕ) (jump : Bool) (wish : ℕ → Bool) (procs : ℕ → Proc) (g : Group) →
-    slots ≤ 512 → g .position < 512 → length (g .returns) ≤ 4 → areReturns (g .returns) ≡ true →
-    length (g .loops) ≤ 4 → areOpened (g .loops) ≡ true →
+    slots ≤ 512 → g .position < 512 → length (g .returns) ≤ 4 → areReturns (g .returns) ≡ true → SoundBeside g procs →
     ((i : ℕ) → 32 ≤ i → procs i ≡ Absent) → ((i : ℕ) → within limit (procs i) ≡ true) →
     SoundAfter limit (settled limit slots first second jump wish procs g)
 unfolding settled
-settled-sound limit slots first second jump wish procs g hs hp hr he hn hl out low =
+settled-sound limit slots first second jump wish procs g hs hp hr he beside out low =
     let op = pick jump (field 27 26 first) (field 25 24 first) in
     by-pick (SoundAfter limit) (overLimit limit op procs) _ _ (λ e. (omega arith, omega arith))
     (λ e.
-    arrived-sound limit slots jump (λ i. branched op (field 20 16 first) jump (wish i) (procs i)) (g .loops)
-    (wayOf (field 7 6 first) jump (g .position) (field 24 16 second) (g .returns)) hs hn hl
+    arrived-sound limit slots jump (λ i. branched op (field 20 16 first) jump (wish i) (procs i)) g
+    (wayOf (field 7 6 first) jump (g .position) (field 24 16 second) (g .returns)) hs
+    (record {
+      nested = beside .nested;
+      opened = beside .opened;
+      killed-word = beside .killed-word;
+      gone = λ i h. branched-absent op (field 20 16 first) jump (wish i) (beside .gone i h);
+    })
     (λ i h. branched-absent op (field 20 16 first) jump (wish i) (out i h))
     (λ i. branched-within limit op (field 20 16 first) jump (wish i) (procs i) (low i) (none-over limit op procs out e i))
     (way-sound (field 7 6 first) jump (g .position) (field 24 16 second) (g .returns) hp hr he))
@@ -310,6 +397,16 @@ module _ (limit : ℕ) (g : Group) (s : Sound limit g) (else : Bool) where
       by-pick (λ (p : Proc). within limit p ≡ true) else _ _
       (λ u. turned-within limit (g .procs i) (s .counters i)) (λ u. s .counters i)
 
+  turned-beside : SoundBeside g (turnedIf else (g .procs))
+  unfolding turnedIf
+  turned-beside =
+      record {
+        nested = s .nested;
+        opened = s .opened;
+        killed-word = s .killed-word;
+        gone = λ i h. turned-absent else (s .gone i h);
+      }
+
 -- a step on a slot's words
 module _ (limit slots first second alu predicate booleans : ℕ) (g : Group) (s : Sound limit g) (most : slots ≤ 512) (before : g .position < slots) where
   jump-sound : SoundAfter limit (jumpStep limit slots first second alu predicate booleans g)
@@ -317,7 +414,7 @@ module _ (limit slots first second alu predicate booleans : ℕ) (g : Group) (s 
   jump-sound =
       by-pick (SoundAfter limit) (allowed first second) _ _
       (λ a.
-      settled-sound limit slots first second _ _ _ g most (omega arith) (s .depth) (s .slots) (s .nested) (s .opened)
+      settled-sound limit slots first second _ _ _ g most (omega arith) (s .depth) (s .slots) (turned-beside limit g s (bElse first))
       (turned-out limit g s (bElse first)) (turned-low limit g s (bElse first)))
       (λ a. (omega arith, omega arith))
 
@@ -326,7 +423,9 @@ module _ (limit slots first second alu predicate booleans : ℕ) (g : Group) (s 
       SoundAfter limit
       (onTurn t (λ jump loops. settled limit slots first second jump wish (turnedIf (bElse first) (g .procs)) (withLoops g loops)))
   turn-sound (Turns jump loops) q wish =
-      settled-sound limit slots first second jump wish _ (withLoops g loops) most (omega arith) (s .depth) (s .slots) (q .0) (q .1)
+      let beside = turned-beside limit g s (bElse first) in
+      settled-sound limit slots first second jump wish _ (withLoops g loops) most (omega arith) (s .depth) (s .slots)
+      (record { nested = q .0; opened = q .1; killed-word = beside .killed-word; gone = beside .gone })
       (turned-out limit g s (bElse first)) (turned-low limit g s (bElse first))
   turn-sound NoRoom q wish = (omega arith, omega arith)
   turn-sound NoWord q wish = (omega arith, omega arith)
@@ -341,42 +440,56 @@ module _ (limit slots first second alu predicate booleans : ℕ) (g : Group) (s 
       (wishOf (jumpFunc first) (on (booleanNumber second) booleans) alu predicate))
       (λ a. (omega arith, omega arith))
 
-  slot-sound : (integers : List ℕ) → SoundAfter limit (slotStep limit slots integers first second alu predicate booleans g)
-  unfolding slotStep
-  slot-sound integers =
-      by-pick (SoundAfter limit) (eqb (opOf first) 0) _ _ (λ e. jump-sound) (λ e. loop-sound (wordAt (integerNumber second) integers))
+-- in either mode
+slot-sound :
+    (mode : Mode) (slots : ℕ) (integers : List ℕ) (first second alu predicate booleans : ℕ) (g : Group) → Sound (limitOf mode) g →
+    slots ≤ 512 → g .position < slots → SoundAfter (limitOf mode) (slotStep mode slots integers first second alu predicate booleans g)
+unfolding slotStep
+slot-sound mode slots integers first second alu predicate booleans g s most before =
+    by-pick (SoundAfter (limitOf mode)) (permits mode first) _ _
+    (λ p.
+    by-pick (SoundAfter (limitOf mode)) (eqb (opOf first) 0) _ _
+    (λ e. jump-sound (limitOf mode) slots first second alu predicate booleans g s most before)
+    (λ e. loop-sound (limitOf mode) slots first second alu predicate booleans g s most before (wordAt (integerNumber second) integers)))
+    (λ p. (omega arith, omega arith))
 
 -- a step leads from a sound group to a sound one
 pub step-sound :
-    (limit : ℕ) (program : Program) (alu predicate booleans : ℕ) (g : Group) → Sound limit g →
-    SoundAfter limit (groupStep limit program alu predicate booleans g)
+    (mode : Mode) (program : Program) (alu predicate booleans : ℕ) (g : Group) → Sound (limitOf mode) g →
+    SoundAfter (limitOf mode) (groupStep mode program alu predicate booleans g)
 unfolding groupStep ended
-step-sound limit program alu predicate booleans g s =
-    by-pick (SoundAfter limit) (leb (program .slots) (g .position)) _ _ (λ e. (omega arith, omega arith))
+step-sound mode program alu predicate booleans g s =
+    by-pick (SoundAfter (limitOf mode)) (leb (program .slots) (g .position)) _ _ (λ e. (omega arith, omega arith))
     (λ e.
     let before : g .position < program .slots = leb-false (program .slots) (g .position) e in
-    by-pick (SoundAfter limit) (leb (program .slots) 512) _ _
+    by-pick (SoundAfter (limitOf mode)) (leb (program .slots) 512) _ _
     (λ t.
-    slot-sound limit (program .slots) (getD (program .firsts) (g .position) 0) (getD (program .seconds) (g .position) 0) alu predicate booleans g s
-    (leb-true (program .slots) 512 t) before (program .integers))
+    slot-sound mode (program .slots) (program .integers) (getD (program .firsts) (g .position) 0) (getD (program .seconds) (g .position) 0)
+    alu predicate booleans g s (leb-true (program .slots) 512 t) before)
     (λ t. (omega arith, omega arith)))
+
+-- a slot of op 0 that the mode permits: document 01's step, with the mode's limit
+pub jump-permitted :
+    (mode : Mode) (slots : ℕ) (integers : List ℕ) (first second alu predicate booleans : ℕ) (g : Group) → opOf first ≡ 0 → permits mode first ≡ true →
+    slotStep mode slots integers first second alu predicate booleans g ≡ jumpStep (limitOf mode) slots first second alu predicate booleans g
+unfolding slotStep
+jump-permitted mode slots integers first second alu predicate booleans g e p = pick-yes _ _ p ∙ pick-yes _ _ (eq-eqb (opOf first) 0 e)
 
 -- Request 4: with op 0 every old answer stays, whatever the open loops and the integer words: the step is document 01's
 pub old-answers :
-    (limit slots : ℕ) (integers : List ℕ) (first second alu predicate booleans : ℕ) (g : Group) → opOf first ≡ 0 →
-    slotStep limit slots integers first second alu predicate booleans g ≡ jumpStep limit slots first second alu predicate booleans g
-unfolding slotStep
-old-answers limit slots integers first second alu predicate booleans g e = pick-yes _ _ (eq-eqb (opOf first) 0 e)
+    (slots : ℕ) (integers : List ℕ) (first second alu predicate booleans : ℕ) (g : Group) → opOf first ≡ 0 →
+    slotStep Full slots integers first second alu predicate booleans g ≡ jumpStep counterLimit slots first second alu predicate booleans g
+old-answers slots integers first second alu predicate booleans g e = jump-permitted Full slots integers first second alu predicate booleans g e refl
 
 -- so do the cells that a step leaves
 pub left-given :
-    (l : List ℕ) (o : Outcome) → GroupGiven l → SoundAfter counterLimit o → GroupGiven (stepLeaves l o)
-left-given l (Steps jump g) m s = given-of g s
+    (l : List ℕ) (o : Outcome) → GroupGiven l → SoundAfter (limitOf (modeIn l)) o → GroupGiven (stepLeaves l o)
+left-given l (Steps jump g) m s = given-of (modeIn l) g s
 left-given l (Fails why) m s = m
 
 -- and a fresh group is sound
 pub fresh-sound : (limit size : ℕ) → size ≤ 32 → Sound limit (fresh size)
-unfolding fresh areReturns areOpened
+unfolding fresh areReturns areOpened on
 fresh-sound limit size h =
     record {
       outside = λ i k. pick-no _ _ (le-ltb i size (omega arith));
@@ -386,4 +499,6 @@ fresh-sound limit size h =
       slots = refl;
       nested = zero-le;
       opened = refl;
+      killed-word = omega arith;
+      gone = λ i e. absurd (true≢false (sym e ∙ ap (λ (n : ℕ). eqb (n % 2) 1) (zero-div (2 ^ i))));
     }

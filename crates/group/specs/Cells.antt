@@ -5,22 +5,25 @@
 --     2 to 6   the branch counters as five planes: bit i of cell 2 + k is bit k of processor i's counter
 --     7        the position
 --     8 to 11  the stored returns, the last one first, 0 where there is none
+--     12       the mode: 0 full, 1 partial
+--     13       the processors that were killed, who are in neither mask above
 --     14 to 17 the open loops, the innermost first, 0 where there is none (crates/loops/specs/Loops.antt)
---     12, 13, 18 and 19 room for the mode and the killed processors: 0 so far
+--     18 and 19 are 0
 --
 -- The encoding is canonical: a plane has no bit of a processor that is active or absent, and a return or a loop of 0 has none after
 -- it, so a group has one list of cells, and the cells at a routine's end are stated whole. Assumes nothing.
 use mathlib.Core.Path.{_≡_}
 use mathlib.Core.Bool.{Bool, true, false}
 use mathlib.Core.List.{List, [], _∷_}
-use Prim.Native.Nat.{ℕ, _+_, _*_, _≤_}
+use Prim.Native.Nat.{ℕ, _+_, _*_, _^_, _<_, _≤_}
 use lib.Dec.{eqb, leb}
 use lib.ListN.{length, getD, drop}
 use Rattle.laws.specs.Choice.{_and_, pick}
 use Rattle.laws.specs.Masks.{digit, on, pack}
 use Rattle.loops.specs.Loops.{Opened, mostLoops, loopsOf, cellAt, areOpened}
-use Rattle.group.specs.Proc.{Proc, Active, Idle, Absent, isLive, isActive, counterBit, within, mostProcessors, counterLimit}
-use Rattle.group.specs.Group.{Group, Outcome, Steps, Fails, Run, Makes, Breaks, fresh, isGroupSize, mostReturns, storeSlots}
+use Rattle.group.specs.Proc.{Proc, Active, Idle, Absent, isLive, isActive, counterBit, within, mostProcessors}
+use Rattle.group.specs.Modes.{Mode, limitOf, modeNumber, modeOf}
+use Rattle.group.specs.Group.{Group, Outcome, Steps, Fails, Run, Makes, Breaks, fresh, mayBegin, mostReturns, storeSlots}
 
 -- how many cells there are, and the numbers in them by name
 abbrev pub cellCount : ℕ
@@ -43,9 +46,16 @@ positionIn l = getD l 7 0
 abbrev pub returnIn : ℕ → List ℕ → ℕ
 returnIn k l = getD l (8 + k) 0
 
+abbrev pub modeIn : List ℕ → Mode
+modeIn l = modeOf (getD l 12 0)
+
 -- the cell of a loop, 0 the innermost
 abbrev pub loopIn : ℕ → List ℕ → ℕ
 loopIn k l = getD l (14 + k) 0
+
+-- the processors that were killed, as a mask
+abbrev pub killedIn : List ℕ → ℕ
+killedIn l = getD l 13 0
 
 -- a group of processors as masks
 abbrev pub liveMask : (ℕ → Proc) → ℕ
@@ -87,11 +97,12 @@ groupOf l =
       position = positionIn l;
       returns = returnsIn (returnIn 0 l ∷ returnIn 1 l ∷ returnIn 2 l ∷ returnIn 3 l ∷ []);
       loops = loopsOf (loopIn 0 l) (loopIn 1 l) (loopIn 2 l) (loopIn 3 l);
+      killed = killedIn l;
     }
 
--- cells 12 to 19, which document 01's step neither reads nor writes
-abbrev pub loopCells : List Opened → List ℕ
-loopCells loops = 0 ∷ 0 ∷ cellAt loops 0 ∷ cellAt loops 1 ∷ cellAt loops 2 ∷ cellAt loops 3 ∷ 0 ∷ 0 ∷ []
+-- cells 12 to 19: the mode and the killed, which no step changes, and the open loops, which document 01's step neither reads nor writes
+abbrev pub lastCells : Mode → ℕ → List Opened → List ℕ
+lastCells mode killed loops = modeNumber mode ∷ killed ∷ cellAt loops 0 ∷ cellAt loops 1 ∷ cellAt loops 2 ∷ cellAt loops 3 ∷ 0 ∷ 0 ∷ []
 
 abbrev pub lastIn : List ℕ → List ℕ
 lastIn l = drop 12 l
@@ -100,13 +111,13 @@ abbrev pub cellsWith : ℕ → ℕ → ℕ → ℕ → ℕ → ℕ → ℕ → �
 cellsWith live active p0 p1 p2 p3 p4 position r0 r1 r2 r3 last =
     live ∷ active ∷ p0 ∷ p1 ∷ p2 ∷ p3 ∷ p4 ∷ position ∷ r0 ∷ r1 ∷ r2 ∷ r3 ∷ last
 
-abbrev pub cellsOf : Group → List ℕ
-cellsOf g =
+abbrev pub cellsOf : Mode → Group → List ℕ
+cellsOf mode g =
     cellsWith (liveMask (g .procs)) (activeMask (g .procs))
     (plane 0 (g .procs)) (plane 1 (g .procs)) (plane 2 (g .procs)) (plane 3 (g .procs)) (plane 4 (g .procs))
     (g .position)
     (getD (g .returns) 0 0) (getD (g .returns) 1 0) (getD (g .returns) 2 0) (getD (g .returns) 3 0)
-    (loopCells (g .loops))
+    (lastCells mode (g .killed) (g .loops))
 
 -- a stored return is a slot number from 1 to 512
 abbrev pub aReturn : ℕ → Bool
@@ -117,7 +128,8 @@ areReturns [] = true
 areReturns (r ∷ rs) = aReturn r and areReturns rs
 
 -- what holds of every state given out: nobody is beyond the 32 places, counters are within the limit, the position is at
--- most 512, there are at most 4 returns, each from 1 to 512, and at most 4 open loops, each with a turn left and bytes for numbers
+-- most 512, there are at most 4 returns, each from 1 to 512, and at most 4 open loops, each with a turn left and bytes for numbers;
+-- the killed are places of a mask, and nobody of them is in the group
 pub record Sound (limit : ℕ) (g : Group) : Type 0 where
   pub outside : (i : ℕ) → mostProcessors ≤ i → g .procs i ≡ Absent
   pub counters : (i : ℕ) → within limit (g .procs i) ≡ true
@@ -126,12 +138,14 @@ pub record Sound (limit : ℕ) (g : Group) : Type 0 where
   pub slots : areReturns (g .returns) ≡ true
   pub nested : length (g .loops) ≤ mostLoops
   pub opened : areOpened (g .loops) ≡ true
+  pub killed-word : g .killed < 2 ^ mostProcessors
+  pub gone : (i : ℕ) → on i (g .killed) ≡ true → g .procs i ≡ Absent
 
--- cells that came from these entries: they are just those of a sound group
+-- cells that came from these entries: they are just those of a sound group in its mode
 pub record GroupGiven (l : List ℕ) : Type 0 where
   pub size : length l ≡ cellCount
-  pub sound : Sound counterLimit (groupOf l)
-  pub whole : l ≡ cellsOf (groupOf l)
+  pub sound : Sound (limitOf (modeIn l)) (groupOf l)
+  pub whole : l ≡ cellsOf (modeIn l) (groupOf l)
 
 -- the same processors at another place, with other returns
 abbrev pub placedAt : List ℕ → ℕ → ℕ → ℕ → ℕ → ℕ → List ℕ
@@ -146,14 +160,14 @@ pub record CellsNamed (l : List ℕ) : Type 0 where
   pub size : length l ≡ cellCount
   pub cells : l ≡ placedAt l (positionIn l) (returnIn 0 l) (returnIn 1 l) (returnIn 2 l) (returnIn 3 l)
 
--- the cells after a step: those of the state that it leads to; a refusal leaves them as they were
+-- the cells after a step: those of the state that it leads to, in the same mode; a refusal leaves them as they were
 abbrev pub stepLeaves : List ℕ → Outcome → List ℕ
-stepLeaves l (Steps jump g) = cellsOf g
+stepLeaves l (Steps jump g) = cellsOf (modeIn l) g
 stepLeaves l (Fails why) = l
 
 abbrev pub runLeaves : List ℕ → Run → List ℕ
-runLeaves l (Makes n g) = cellsOf g
+runLeaves l (Makes n g) = cellsOf (modeIn l) g
 runLeaves l (Breaks why) = l
 
-unfoldable pub beginLeaves : List ℕ → ℕ → List ℕ
-beginLeaves l size = pick (isGroupSize size) (cellsOf (fresh size)) l
+unfoldable pub beginLeaves : List ℕ → ℕ → ℕ → List ℕ
+beginLeaves l size mode = pick (mayBegin size mode) (cellsOf (modeOf mode) (fresh size)) l

@@ -1,5 +1,7 @@
--- Document 01, "Stepping a group", and request 4, "Loops in the stepper": the words of a slot, the state of a group, a step and a
--- run. Assumes nothing.
+-- Document 01, "Stepping a group", request 4, "Loops in the stepper", and request 7, "Partial flow control": the words of a slot, the
+-- state of a group, a step and a run. The mode is no part of the state here: a step and a run take it, as they take the program, so that
+-- "flow states that differ only in the mode" are one state under two modes. (Request 11's kill, of which the state has the mask, is
+-- crates/kill's.) Assumes nothing.
 use mathlib.Core.Bool.{Bool, true}
 use mathlib.Core.List.{List, [], _∷_}
 use Prim.Native.Nat.{ℕ, suc, _+_}
@@ -10,6 +12,7 @@ use Rattle.laws.specs.Below.{some, count, least}
 use Rattle.laws.specs.Masks.{digit, on}
 use Rattle.refusal.specs.Told.{Told, gives, refuses}
 use Rattle.loops.specs.Loops.{field, Opened, Turn, Turns, NoRoom, NoWord, wordAt, turnOf}
+use Rattle.group.specs.Modes.{Mode, Full, Partial, limitOf, isMode}
 use Rattle.group.specs.Proc.{Proc, Active, Absent, isActive, turned, wants, decided, atLimit, increment, branched, mostProcessors}
 
 -- "First word: op 3:0 (only 0, JUMP, here), B_ELSE 4, JUMP_ANY 5, A_OP 7:6 (0 none, 1 pop, 2 push), JUMP_FUNC 15:8, B_POP_CNT
@@ -72,21 +75,32 @@ booleanNumber second = field 4 0 second
 abbrev pub jumpAddress : ℕ → ℕ
 jumpAddress second = field 24 16 second
 
+-- Request 7: "ops 1 to 4 and A_OP other than 0 get 13" in partial mode, on a stay too, and before the integer word is looked at
+abbrev pub permits : Mode → ℕ → Bool
+permits Full first = true
+permits Partial first = eqb (opOf first) 0 and eqb (aOp first) 0
+
 -- the state of a group: processor `i`, absent from 32 on; the position; the stored returns, the last one first; and by request 4
--- the open loops, the innermost first ("The flow state gains the loop stack and aL": aL is the loops' `shownAL`)
+-- the open loops, the innermost first ("The flow state gains the loop stack and aL": aL is the loops' `shownAL`); and by request 11
+-- "the mask of the killed", who are absent too
 pub record Group : Type 0 where
   pub procs : ℕ → Proc
   pub position : ℕ
   pub returns : List ℕ
   pub loops : List Opened
+  pub killed : ℕ
 
 -- "A group has 1 to 32 processors (else 13), all active at the start, position 0, empty stack"
 unfoldable pub fresh : ℕ → Group
-fresh size = record { procs = λ i. pick (ltb i size) Active Absent; position = 0; returns = []; loops = [] }
+fresh size = record { procs = λ i. pick (ltb i size) Active Absent; position = 0; returns = []; loops = []; killed = 0 }
 
 -- the size is one that a group may have
 unfoldable pub isGroupSize : ℕ → Bool
 isGroupSize size = leb 1 size and leb size mostProcessors
+
+-- and so is the mode: "Add it as a mode chosen at the start"; what another number gets isn't said, and a group's start knows only 13
+unfoldable pub mayBegin : ℕ → ℕ → Bool
+mayBegin size mode = isGroupSize size and isMode mode
 
 -- the answer of a step: the decision and the state after it, or the refusal
 pub data Outcome : Type 0 where
@@ -140,17 +154,19 @@ wayOf aop jump position address returns =
     (Goes (position + 1) returns)
 
 -- 6. "The next position may equal N, which ends the program; above N is 15."
-abbrev pub arrived : ℕ → Bool → (ℕ → Proc) → List Opened → Way → Outcome
-arrived slots jump procs loops Stuck = Fails 14
-arrived slots jump procs loops (Goes next returns) =
-    pick (leb next slots) (Steps jump (record { procs = procs; position = next; returns = returns; loops = loops })) (Fails 15)
+-- `procs` are the processors then; loops and killed are the group's
+abbrev pub arrived : ℕ → Bool → (ℕ → Proc) → Group → Way → Outcome
+arrived slots jump procs g Stuck = Fails 14
+arrived slots jump procs g (Goes next returns) =
+    pick (leb next slots)
+    (Steps jump (record { procs = procs; position = next; returns = returns; loops = g .loops; killed = g .killed })) (Fails 15)
 
 -- 4. to 6., once the decision is made; `procs` are those after B_ELSE
 unfoldable pub settled : ℕ → ℕ → ℕ → ℕ → Bool → (ℕ → Bool) → (ℕ → Proc) → Group → Outcome
 settled limit slots first second jump wish procs g =
     let op = branchOp jump first in
     pick (overLimit limit op procs) (Fails 14)
-    (arrived slots jump (λ i. branched op (popCount first) jump (wish i) (procs i)) (g .loops)
+    (arrived slots jump (λ i. branched op (popCount first) jump (wish i) (procs i)) g
     (wayOf (aOp first) jump (g .position) (jumpAddress second) (g .returns)))
 
 -- 1. to 3., on the slot's two words: document 01's step, which allows op 0 alone
@@ -169,7 +185,7 @@ onTurn NoRoom next = Fails 14
 onTurn NoWord next = Fails 13
 
 abbrev pub withLoops : Group → List Opened → Group
-withLoops g loops = record { procs = g .procs; position = g .position; returns = g .returns; loops = loops }
+withLoops g loops = record { procs = g .procs; position = g .position; returns = g .returns; loops = loops; killed = g .killed }
 
 -- "These decisions override the processors' wishes; branch and return work stays as in 01.": the loop decides, before the rest
 -- of the step, which an increment measures the wishes against
@@ -181,11 +197,14 @@ loopStep limit slots word first second alu predicate booleans g =
     (onTurn (turnOf (opOf first) word (g .loops)) (λ jump loops. settled limit slots first second jump wish procs (withLoops g loops)))
     (Fails 13)
 
--- a step on a slot's two words: "With op 0 every old answer stays", and the other ops take an integer word "from a lent list"
-unfoldable pub slotStep : ℕ → ℕ → List ℕ → ℕ → ℕ → ℕ → ℕ → ℕ → Group → Outcome
-slotStep limit slots integers first second alu predicate booleans g =
-    pick (eqb (opOf first) 0) (jumpStep limit slots first second alu predicate booleans g)
-    (loopStep limit slots (wordAt (integerNumber second) integers) first second alu predicate booleans g)
+-- a step on a slot's two words: "With op 0 every old answer stays", and the other ops take an integer word "from a lent list"; by
+-- request 7 the mode may forbid the first word, and sets the limit of the counters
+unfoldable pub slotStep : Mode → ℕ → List ℕ → ℕ → ℕ → ℕ → ℕ → ℕ → Group → Outcome
+slotStep mode slots integers first second alu predicate booleans g =
+    pick (permits mode first)
+    (pick (eqb (opOf first) 0) (jumpStep (limitOf mode) slots first second alu predicate booleans g)
+    (loopStep (limitOf mode) slots (wordAt (integerNumber second) integers) first second alu predicate booleans g))
+    (Fails 13)
 
 -- "A program is a store of 512 slots"
 abbrev pub storeSlots : ℕ
@@ -205,11 +224,11 @@ ended program g = leb (program .slots) (g .position)
 -- "Order: 16, 13, 14, 15.": of a loop's word 13 for the words and the integer word, 14 for the loops, then for the counters and the
 -- returns, and 15. A store has 512 slots: where more are to run, that is no program and gets 15 (house; `load`
 -- gives no such number).
-unfoldable pub groupStep : ℕ → Program → ℕ → ℕ → ℕ → Group → Outcome
-groupStep limit program alu predicate booleans g =
+unfoldable pub groupStep : Mode → Program → ℕ → ℕ → ℕ → Group → Outcome
+groupStep mode program alu predicate booleans g =
     pick (ended program g) (Fails 16)
     (pick (leb (program .slots) storeSlots)
-    (slotStep limit (program .slots) (program .integers) (getD (program .firsts) (g .position) 0) (getD (program .seconds) (g .position) 0)
+    (slotStep mode (program .slots) (program .integers) (getD (program .firsts) (g .position) 0) (getD (program .seconds) (g .position) 0)
     alu predicate booleans g)
     (Fails 15))
 
@@ -228,17 +247,17 @@ goOn (Fails why) rest = Breaks why
 
 -- "a list of masks, alu then predicate for each step (a last alu without its predicate counts as the list's end)"; "It ends
 -- with the list or with the program; masks left over aren't read. If any step is refused, the whole run gets that number"
-unfoldable pub groupSteps : ℕ → Program → ℕ → List ℕ → Group → Run
-groupSteps limit program booleans [] g = Makes 0 g
-groupSteps limit program booleans (alu ∷ []) g = Makes 0 g
-groupSteps limit program booleans (alu ∷ (predicate ∷ masks)) g =
+unfoldable pub groupSteps : Mode → Program → ℕ → List ℕ → Group → Run
+groupSteps mode program booleans [] g = Makes 0 g
+groupSteps mode program booleans (alu ∷ []) g = Makes 0 g
+groupSteps mode program booleans (alu ∷ (predicate ∷ masks)) g =
     pick (ended program g) (Makes 0 g)
-    (goOn (groupStep limit program alu predicate booleans g) (λ g'. groupSteps limit program booleans masks g'))
+    (goOn (groupStep mode program alu predicate booleans g) (λ g'. groupSteps mode program booleans masks g'))
 
 -- "it then gets 16, whatever the list"
-unfoldable pub groupRun : ℕ → Program → ℕ → List ℕ → Group → Run
-groupRun limit program booleans masks g =
-    pick (ended program g) (Breaks 16) (groupSteps limit program booleans masks g)
+unfoldable pub groupRun : Mode → Program → ℕ → List ℕ → Group → Run
+groupRun mode program booleans masks g =
+    pick (ended program g) (Breaks 16) (groupSteps mode program booleans masks g)
 
 -- "the first active processor (32 if none) and the number of processors active"
 unfoldable pub firstActive : Group → ℕ
@@ -256,6 +275,6 @@ abbrev pub runTold : Run → Told
 runTold (Makes n g) = gives (n ∷ firstActive g ∷ numberActive g ∷ [])
 runTold (Breaks why) = refuses why
 
--- a fresh group tells nothing, and another size 13
-unfoldable pub beginTold : ℕ → Told
-beginTold size = pick (isGroupSize size) (gives []) (refuses 13)
+-- a fresh group tells nothing, and another size or mode 13
+unfoldable pub beginTold : ℕ → ℕ → Told
+beginTold size mode = pick (mayBegin size mode) (gives []) (refuses 13)

@@ -4,11 +4,12 @@ use mathlib.Core.Path.{_≡_}
 use mathlib.Core.Bool.{Bool, true}
 use mathlib.Core.List.{List}
 use Prim.Native.Nat.{ℕ}
-use lib.Dec.{eqb}
+use lib.Dec.{eqb, leb}
 use Rattle.laws.specs.Below.{some}
 use Rattle.laws.specs.Masks.{on}
 use Rattle.group.specs.declared.planes.Branched.{Branched}
 use Rattle.group.specs.Proc.{Proc, within, mostProcessors, counterLimit}
+use Rattle.group.specs.Modes.{Mode, Full, Partial, partialLimit}
 use Rattle.group.specs.Cells.{counterOf, procAt, liveMask, activeMask, plane, liveIn, planeIn, positionIn, returnIn, lastIn, cellsWith}
 
 -- the seven words are the masks of these processors, whose counters five planes hold
@@ -38,6 +39,19 @@ someAtLimit p0 p1 p2 p3 p4 =
 
 abbrev pub someAtLimitIn : List ℕ → Bool
 someAtLimitIn l = someAtLimit (planeIn 0 l) (planeIn 1 l) (planeIn 2 l) (planeIn 3 l) (planeIn 4 l)
+
+-- the same for the limit of partial mode
+abbrev pub someAtPartial : ℕ → ℕ → ℕ → ℕ → ℕ → Bool
+someAtPartial p0 p1 p2 p3 p4 =
+    some mostProcessors (λ i. leb partialLimit (counterOf (on i p0) (on i p1) (on i p2) (on i p3) (on i p4)))
+
+abbrev pub someAtPartialIn : List ℕ → Bool
+someAtPartialIn l = someAtPartial (planeIn 0 l) (planeIn 1 l) (planeIn 2 l) (planeIn 3 l) (planeIn 4 l)
+
+-- and for the limit of the mode that the cells have
+abbrev pub someAtOwnLimit : Mode → List ℕ → Bool
+someAtOwnLimit Full l = someAtLimitIn l
+someAtOwnLimit Partial l = someAtPartialIn l
 
 -- what an operation leaves, whole: the masks of the processors after it
 abbrev pub shownAs : (ℕ → Proc) → Branched

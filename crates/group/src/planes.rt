@@ -9,8 +9,8 @@ ghost use Rattle.laws.specs.Below.{some};
 ghost use Rattle.laws.specs.Masks.{differ, on, pack};
 ghost use Rattle.group.specs.Proc.{turned, lowered, raised, decided, increment, mostProcessors};
 ghost use Rattle.group.specs.Group.{turnedIf, wishOf};
-ghost use Rattle.group.specs.Cells.{cellCount, procAt, withActive, activeMask};
-ghost use Rattle.group.specs.Masks.{OwnMasks, OwnMasksIn, shownAs, someAtLimit, someAtLimitIn};
+ghost use Rattle.group.specs.Cells.{cellCount, modeIn, procAt, withActive, activeMask};
+ghost use Rattle.group.specs.Masks.{OwnMasks, OwnMasksIn, shownAs, someAtLimit, someAtLimitIn, someAtPartial, someAtPartialIn, someAtOwnLimit};
 
 // The active processors and the five planes that a branch operation leaves.
 pub struct Branched {
@@ -101,6 +101,42 @@ pub fn over_limit(op: u32, cells: &[u32; crate::CELLS]) -> bool
         return false;
     }
     false
+}
+
+// Whether some processor's counter is at the limit of partial mode, 5 or above.
+pub fn at_partial(p0: u32, p1: u32, p2: u32, p3: u32, p4: u32) -> bool
+    ensures { λ r. ⌜ r ≡ someAtPartial p0 p1 p2 p3 p4 ⌝ }
+{
+    p3 | p4 | p2 & (p0 | p1) != 0
+}
+
+// The same as `over_limit` by the limit of partial mode. The operation is asked first here: so a step that isn't an increment reads no plane,
+// and takes no longer than in full mode.
+pub fn over_partial(op: u32, cells: &[u32; crate::CELLS]) -> bool
+    requires { ⌜ length (now cells) ≡ cellCount ⌝ }
+    ensures { λ r. ⌜ r ≡ (eqb op increment and someAtPartialIn (now (cells .entry))) ⌝ }
+{
+    if op == crate::INCREMENT {
+        return at_partial(
+            cells[crate::PLANE_0],
+            cells[crate::PLANE_1],
+            cells[crate::PLANE_2],
+            cells[crate::PLANE_3],
+            cells[crate::PLANE_4],
+        );
+    }
+    false
+}
+
+// The same by the limit of the mode that the cells have. A group's mode never changes, so the processor predicts this test.
+pub fn over_own_limit(op: u32, cells: &[u32; crate::CELLS]) -> bool
+    requires { ⌜ length (now cells) ≡ cellCount ⌝ }
+    ensures { λ r. ⌜ r ≡ (eqb op increment and someAtOwnLimit (modeIn (now (cells .entry))) (now (cells .entry))) ⌝ }
+{
+    if cells[crate::MODE] == crate::PARTIAL {
+        return over_partial(op, cells);
+    }
+    over_limit(op, cells)
 }
 
 // The active processors as the wishes see them: turned by B_ELSE where the slot has it. The planes are read for that alone.

@@ -12,9 +12,9 @@ pub record LoadCrosses (words : List ℕ) (r : ℕ) (firsts firsts' seconds seco
   pub left-firsts : firsts' ≡ firstsLeft firsts words
   pub left-seconds : seconds' ≡ secondsLeft seconds words
 
-pub record BeginCrosses (size r : ℕ) (cells cells' : List ℕ) : Type 0 where
-  pub status : r ≡ statusOf (beginTold size)
-  pub left : cells' ≡ beginLeaves cells size
+pub record BeginCrosses (size mode r : ℕ) (cells cells' : List ℕ) : Type 0 where
+  pub status : r ≡ statusOf (beginTold size mode)
+  pub left : cells' ≡ beginLeaves cells size mode
 
 pub record StepCrosses (o : Outcome) (r : ℕ) (cells cells' taken taken' : List ℕ) : Type 0 where
   pub answer : Crosses (stepTold o) r taken taken'

@@ -34,11 +34,11 @@ pub fn load(
     }
 }
 
-// A fresh group of 1 to 32 processors; 13.
-pub fn begin(size: u32, cells: &mut [u32; group::CELLS]) -> u32
-    ensures { λ r. ⌜ BeginCrosses size r (now (cells .entry)) (now (cells .exit)) ⌝ }
+// A fresh group of 1 to 32 processors in a mode, 0 full or 1 partial; 13.
+pub fn begin(size: u32, mode: u32, cells: &mut [u32; group::CELLS]) -> u32
+    ensures { λ r. ⌜ BeginCrosses size mode r (now (cells .entry)) (now (cells .exit)) ⌝ }
 {
-    match flow::begin(size, cells) {
+    match flow::begin(size, mode, cells) {
         Begun::Refused(why) => refusal::number(why),
         Begun::Ready => 0,
     }

@@ -6,26 +6,27 @@ use Prim.Native.Nat.{ℕ, zero, suc, _/_, _%_, _^_, _<_, _≤_, zero-le}
 use native.Mathlib.Omega.{arith}
 use lib.Dec.{eqb, leb, ltb}
 use lib.ListN.{length, getD, drop}
-use borrow.Author.Tests.{ltb-true, ltb-false, le-leb, lt-leb, eq-eqb, ne-eqb}
+use borrow.Author.Tests.{eqb-true, ltb-true, ltb-false, le-leb, lt-leb, eq-eqb, ne-eqb}
 use Rattle.laws.specs.Choice.{_and_, pick}
 use Rattle.laws.specs.Below.{some}
 use Rattle.laws.specs.Masks.{_or_, differ, digit, on, pack}
-use Rattle.laws.proofs.Choice.{Tested, holds, fails, tested, pick-yes, pick-no, and-no-right, by-pick}
+use Rattle.laws.proofs.Choice.{Tested, holds, fails, tested, pick-yes, pick-no, and-left, and-no-right, by-pick}
 use Rattle.laws.proofs.Below.{some-same, every-same}
 use Rattle.laws.proofs.Masks.{digit-lt, pack-same, on-pack, on-above}
-use Rattle.group.specs.Proc.{Proc, Active, Idle, Absent, isLive, isActive, counterBit, within, turned, lowered, raised, branched, decided, increment, counterLimit}
+use Rattle.group.specs.Proc.{Proc, Active, Idle, Absent, isLive, isActive, counterBit, within, turned, lowered, raised, atLimit, branched, decided, increment, counterLimit}
 use Rattle.loops.specs.declared.Turned.{Turned}
 use Rattle.loops.specs.Loops.{field, Opened, Turn, Turns, NoRoom, NoWord, wordAt, turnOf, turned as turnCells}
+use Rattle.group.specs.Modes.{Mode, Full, Partial, limitOf}
 use Rattle.group.specs.Group.{Group, Outcome, Steps, Fails, Way, Goes, Stuck, opOf, bElse, jumpAny, aOp, jumpFunc, popCount, branchOp, booleanNumber, integerNumber, jumpAddress}
-use Rattle.group.specs.Group.{allowed, allowedLoop, fitsFirst, plainSecond, turnedIf, wishOf, overLimit, wayOf, arrived, settled}
+use Rattle.group.specs.Group.{permits, allowed, allowedLoop, fitsFirst, plainSecond, turnedIf, wishOf, overLimit, wayOf, arrived, settled}
 use Rattle.group.specs.Group.{jumpStep, onTurn, withLoops, loopStep, slotStep, storeSlots, ended, groupStep}
-use Rattle.group.specs.Cells.{cellCount, liveIn, planeIn, positionIn, loopIn, liveMask, activeMask, plane, withActive, groupOf, cellsWith, lastIn, cellsOf, GroupGiven, stepLeaves}
-use Rattle.group.specs.Masks.{MasksOf, OwnMasksIn, withMasks, shownAs, someAtLimitIn}
-use Rattle.stepper.specs.Answers.{stepNumber, NumberDone, GoDone, decisionBy, decidedStep, setLoops, stepIn}
+use Rattle.group.specs.Cells.{cellCount, liveIn, planeIn, positionIn, modeIn, loopIn, liveMask, activeMask, plane, withActive, groupOf, cellsWith, lastIn, cellsOf, GroupGiven, stepLeaves}
+use Rattle.group.specs.Masks.{MasksOf, OwnMasksIn, withMasks, shownAs, someAtLimitIn, someAtOwnLimit}
+use Rattle.stepper.specs.Answers.{stepNumber, NumberDone, GoDone, ownLimit, settledIn, decisionBy, decidedStep, setLoops, stepIn}
 use Rattle.stepper.proofs.Words.{low-field, and-last, allowed-parts, loop-fits}
 use Rattle.stepper.proofs.Going.{Gone, went-on}
-use Rattle.group.proofs.Places.{limit-shown}
-use Rattle.group.proofs.State.{SoundAfter, given-masks, shows, turned-absent, turned-within, branched-absent}
+use Rattle.group.proofs.Places.{limit-shown, partial-shown}
+use Rattle.group.proofs.State.{SoundAfter, jump-permitted, given-masks, shows, turned-absent, turned-within, branched-absent}
 
 -- a refusal: its number, and the cells are as they were
 pub refused : {l : List ℕ} {o : Outcome} {n : ℕ} (why : ℕ) → n ≡ why → o ≡ Fails why → NumberDone l l n o
@@ -48,18 +49,30 @@ live-branched op k jump wish p =
     high (Idle n) = refl
     high Absent = refl
 
+-- a counter at its limit under an increment, as the code finds it: document 01's limit, and that of the cells' mode
+module _ (l : List ℕ) {active op : ℕ} (k : OwnMasksIn l active) (first : ℕ) (jump : Bool) (eop : op ≡ branchOp jump first) {over : Bool} where
+  pub over-full :
+      over ≡ (eqb op increment and someAtLimitIn l) → over ≡ overLimit counterLimit (branchOp jump first) (withActive l active)
+  unfolding overLimit
+  over-full e = e ∙ ap₂ (λ (n : ℕ) (b : Bool). eqb n increment and b) eop (limit-shown k)
+
+  pub over-own :
+      over ≡ (eqb op increment and someAtOwnLimit (modeIn l) l) → over ≡ overLimit (ownLimit l) (branchOp jump first) (withActive l active)
+  unfolding overLimit
+  over-own e = e ∙ ap₂ (λ (n : ℕ) (b : Bool). eqb n increment and b) eop (by (modeIn l))
+    where
+      by : (mode : Mode) → someAtOwnLimit mode l ≡ some 32 (λ i. atLimit (limitOf mode) (withActive l active i))
+      by Full = limit-shown k
+      by Partial = partial-shown k
+
 -- the second half of a step, on given cells with the active processors after B_ELSE
-module _ (l : List ℕ) (first second slots active wish : ℕ) (jump : Bool) (m : GroupGiven l) (k : OwnMasksIn l active)
+module _ (limit : ℕ) (l : List ℕ) (first second slots active wish : ℕ) (jump : Bool) (m : GroupGiven l) (k : OwnMasksIn l active)
     {op : ℕ} (eop : op ≡ branchOp jump first)
     {over : Bool}
-    (eover : over ≡ (eqb op increment and someAtLimitIn l))
+    (over-is : over ≡ overLimit limit (branchOp jump first) (withActive l active))
   where
     abbrev outcome : Outcome
-    outcome = settled counterLimit slots first second jump (λ i. on i wish) (withActive l active) (groupOf l)
-
-    over-is : over ≡ overLimit counterLimit (branchOp jump first) (withActive l active)
-    unfolding overLimit
-    over-is = eover ∙ ap₂ (λ (n : ℕ) (b : Bool). eqb n increment and b) eop (limit-shown k)
+    outcome = settledIn limit slots first second jump wish active l
 
     pub settle-over : {n : ℕ} → n ≡ 14 → over ≡ true → NumberDone l l n outcome
     unfolding settled
@@ -73,13 +86,13 @@ module _ (l : List ℕ) (first second slots active wish : ℕ) (jump : Bool) (m 
       procsHere i =
           branched (branchOp jump first) (popCount first) jump (on i wish) (withActive l active i)
 
-      on-way : outcome ≡ arrived slots jump procsHere (groupOf l .loops) wayHere
+      on-way : outcome ≡ arrived slots jump procsHere (groupOf l) wayHere
       unfolding settled
       on-way = pick-no _ _ (sym over-is ∙ free)
 
       -- the way is refused
       settle-by :
-          (w : Way) → outcome ≡ arrived slots jump procsHere (groupOf l .loops) w → (n : ℕ) (l' : List ℕ) →
+          (w : Way) → outcome ≡ arrived slots jump procsHere (groupOf l) w → (n : ℕ) (l' : List ℕ) →
           GoDone l l' n slots jump w → 1 < n → NumberDone l l' n outcome
       settle-by Stuck e n l' d h =
           subst (λ (x : List ℕ). NumberDone l x n outcome) (sym (d .left)) (refused 14 (d .number) e)
@@ -116,12 +129,12 @@ module _ (l : List ℕ) (first second slots active wish : ℕ) (jump : Bool) (m 
           g = went-on wayHere d h
 
           groupThen : Group
-          groupThen = record { procs = procsHere; position = g .at; returns = g .rest; loops = groupOf l .loops }
+          groupThen = record { procs = procsHere; position = g .at; returns = g .rest; loops = groupOf l .loops; killed = groupOf l .killed }
 
           steps : outcome ≡ Steps jump groupThen
-          steps = on-way ∙ ap (arrived slots jump procsHere (groupOf l .loops)) (g .goes) ∙ pick-yes _ _ (g .near)
+          steps = on-way ∙ ap (arrived slots jump procsHere (groupOf l)) (g .goes) ∙ pick-yes _ _ (g .near)
 
-          there : leaves ≡ cellsOf groupThen
+          there : leaves ≡ cellsOf (modeIn l) groupThen
           there =
               written ∙
               (λ j. withMasks (g .left j) (shownAs (λ i. branched (eop j) (popCount first) jump (on i wish) (withActive (g .left j) active i)))) ∙
@@ -194,7 +207,7 @@ settled-same limit slots first second jump v w procs g out h =
     ap
     (λ (f : ℕ → Proc).
     pick (overLimit limit op procs) (Fails 14)
-    (arrived slots jump f (g .loops) (wayOf (aOp first) jump (g .position) (jumpAddress second) (g .returns))))
+    (arrived slots jump f g (wayOf (aOp first) jump (g .position) (jumpAddress second) (g .returns))))
     (fun-ext (λ i. at i (tested (ltb i 32))))
   where
     at :
@@ -222,7 +235,7 @@ wantedOf l first second alu predicate booleans =
     decided (jumpAny first) (λ i. isActive (turnedOf l first i)) (wishesOf first second alu predicate booleans)
 
 -- the first half of a step: the processors after B_ELSE, the wishes and what they come to, as the code has them
-module _ (l : List ℕ) (first second alu predicate booleans : ℕ) (m : GroupGiven l)
+module _ (limit : ℕ) (l : List ℕ) (first second alu predicate booleans : ℕ) (m : GroupGiven l)
     {active : ℕ} (ea : active ≡ activeMask (turnedIf (eqb (first / 16 % 2) 1) (groupOf l .procs))) where
   procs-turned : withActive l active ≡ turnedIf (eqb (first / 16 % 2) 1) (groupOf l .procs)
   unfolding turnedIf
@@ -262,12 +275,12 @@ module _ (l : List ℕ) (first second alu predicate booleans : ℕ) (m : GroupGi
 
     settled-is :
         (slots : ℕ) (jump : Bool) →
-        settled counterLimit slots first second jump (λ i. on i wish) (withActive l active) (groupOf l) ≡
-        settled counterLimit slots first second jump wishHere procsThere (groupOf l)
+        settled limit slots first second jump (λ i. on i wish) (withActive l active) (groupOf l) ≡
+        settled limit slots first second jump wishHere procsThere (groupOf l)
     unfolding on turnedIf
     settled-is slots jump =
-        ap (λ (f : ℕ → Proc). settled counterLimit slots first second jump (λ i. on i wish) f (groupOf l)) procs-turned ∙
-        settled-same counterLimit slots first second jump (λ i. on i wish) wishHere procsThere (groupOf l) outside wish-is
+        ap (λ (f : ℕ → Proc). settled limit slots first second jump (λ i. on i wish) f (groupOf l)) procs-turned ∙
+        settled-same limit slots first second jump (λ i. on i wish) wishHere procsThere (groupOf l) outside wish-is
       where
         outside : (i : ℕ) → 32 ≤ i → procsThere i ≡ Absent
         outside i h = turned-absent (bElse first) (m .sound .outside i h)
@@ -277,10 +290,10 @@ step-as : {l leaves : List ℕ} {n : ℕ} {o o' : Outcome} → o ≡ o' → Numb
 step-as {l} {leaves} {n} e d = subst (NumberDone l leaves n) e d
 
 -- a step with its decision
-module _ (l : List ℕ) (first second slots decision alu predicate booleans : ℕ) (m : GroupGiven l)
+module _ (limit : ℕ) (l : List ℕ) (first second slots decision alu predicate booleans : ℕ) (m : GroupGiven l)
     {ok : Bool} (eok : ok ≡ fitsFirst first) where
   pub slot-refused :
-      {n : ℕ} → n ≡ 13 → ok ≡ false → NumberDone l l n (decidedStep counterLimit slots first second decision alu predicate booleans (groupOf l))
+      {n : ℕ} → n ≡ 13 → ok ≡ false → NumberDone l l n (decidedStep limit slots first second decision alu predicate booleans (groupOf l))
   unfolding decidedStep
   slot-refused en f = refused 13 en (pick-no _ _ (sym eok ∙ f))
 
@@ -290,21 +303,21 @@ module _ (l : List ℕ) (first second slots decision alu predicate booleans : �
       {jump : Bool} (ed : jump ≡ decisionBy decision wanted) where
     pub slot-done :
         {leaves : List ℕ} {n : ℕ} →
-        NumberDone l leaves n (settled counterLimit slots first second jump (λ i. on i wish) (withActive l active) (groupOf l)) →
-        NumberDone l leaves n (decidedStep counterLimit slots first second decision alu predicate booleans (groupOf l))
+        NumberDone l leaves n (settledIn limit slots first second jump wish active l) →
+        NumberDone l leaves n (decidedStep limit slots first second decision alu predicate booleans (groupOf l))
     unfolding decidedStep
     slot-done d =
         step-as
-        (settled-is l first second alu predicate booleans m ea ew slots jump ∙
-        ap (λ (j : Bool). settled counterLimit slots first second j (wishesOf first second alu predicate booleans) (turnedOf l first) (groupOf l))
-        (ed ∙ ap (decisionBy decision) (wanted-is l first second alu predicate booleans m ea ew ej)) ∙
+        (settled-is limit l first second alu predicate booleans m ea ew slots jump ∙
+        ap (λ (j : Bool). settled limit slots first second j (wishesOf first second alu predicate booleans) (turnedOf l first) (groupOf l))
+        (ed ∙ ap (decisionBy decision) (wanted-is limit l first second alu predicate booleans m ea ew ej)) ∙
         sym (pick-yes _ (Fails 13) (sym eok ∙ good)))
         d
 
 -- a step of op 0
-module _ (l : List ℕ) (first second slots alu predicate booleans : ℕ) (op : opOf first ≡ 0) {ok : Bool} (eok : ok ≡ plainSecond second) where
+module _ (limit : ℕ) (l : List ℕ) (first second slots alu predicate booleans : ℕ) (op : opOf first ≡ 0) {ok : Bool} (eok : ok ≡ plainSecond second) where
   pub jump-refused :
-      {n : ℕ} → n ≡ 13 → ok ≡ false → NumberDone l l n (jumpStep counterLimit slots first second alu predicate booleans (groupOf l))
+      {n : ℕ} → n ≡ 13 → ok ≡ false → NumberDone l l n (jumpStep limit slots first second alu predicate booleans (groupOf l))
   unfolding jumpStep
   jump-refused en f =
       refused 13 en
@@ -312,14 +325,14 @@ module _ (l : List ℕ) (first second slots alu predicate booleans : ℕ) (op : 
 
   pub jump-done :
       {leaves : List ℕ} {n : ℕ} → ok ≡ true →
-      NumberDone l leaves n (decidedStep counterLimit slots first second 2 alu predicate booleans (groupOf l)) →
-      NumberDone l leaves n (jumpStep counterLimit slots first second alu predicate booleans (groupOf l))
+      NumberDone l leaves n (decidedStep limit slots first second 2 alu predicate booleans (groupOf l)) →
+      NumberDone l leaves n (jumpStep limit slots first second alu predicate booleans (groupOf l))
   unfolding jumpStep decidedStep decisionBy
   jump-done good d =
       step-as
       (ap₂
       (λ (b j : Bool).
-      pick b (settled counterLimit slots first second j (wishesOf first second alu predicate booleans) (turnedOf l first) (groupOf l)) (Fails 13))
+      pick b (settled limit slots first second j (wishesOf first second alu predicate booleans) (turnedOf l first) (groupOf l)) (Fails 13))
       (sym (allowed-parts first second op ∙ and-last (fitsFirst first) (sym eok ∙ good)))
       (pick-yes (wantedOf l first second alu predicate booleans) (eqb 2 1) refl))
       d
@@ -330,12 +343,14 @@ reloop loops (Steps jump g) = Steps jump (withLoops g loops)
 reloop loops (Fails why) = Fails why
 
 arrived-reloop :
-    (slots : ℕ) (jump : Bool) (procs : ℕ → Proc) (old loops : List Opened) (w : Way) →
-    arrived slots jump procs loops w ≡ reloop loops (arrived slots jump procs old w)
-arrived-reloop slots jump procs old loops Stuck = refl
-arrived-reloop slots jump procs old loops (Goes next rs) = by (tested (leb next slots))
+    (slots : ℕ) (jump : Bool) (procs : ℕ → Proc) (g : Group) (loops : List Opened) (w : Way) →
+    arrived slots jump procs (withLoops g loops) w ≡ reloop loops (arrived slots jump procs g w)
+arrived-reloop slots jump procs g loops Stuck = refl
+arrived-reloop slots jump procs g loops (Goes next rs) = by (tested (leb next slots))
   where
-    by : Tested (leb next slots) → arrived slots jump procs loops (Goes next rs) ≡ reloop loops (arrived slots jump procs old (Goes next rs))
+    by :
+        Tested (leb next slots) →
+        arrived slots jump procs (withLoops g loops) (Goes next rs) ≡ reloop loops (arrived slots jump procs g (Goes next rs))
     by (holds e) = pick-yes _ _ e ∙ sym (ap (reloop loops) (pick-yes _ _ e))
     by (fails e) = pick-no _ _ e ∙ sym (ap (reloop loops) (pick-no _ _ e))
 
@@ -352,7 +367,7 @@ settled-reloop limit slots first second jump wish procs g loops = by (tested (ov
     by (holds e) = pick-yes _ _ e ∙ sym (ap (reloop loops) (pick-yes _ _ e))
     by (fails e) =
         pick-no _ _ e ∙
-        arrived-reloop slots jump _ (g .loops) loops (wayOf (aOp first) jump (g .position) (jumpAddress second) (g .returns)) ∙
+        arrived-reloop slots jump _ g loops (wayOf (aOp first) jump (g .position) (jumpAddress second) (g .returns)) ∙
         sym (ap (reloop loops) (pick-no _ _ e))
 
 -- a loop's decision is its own
@@ -452,7 +467,7 @@ module _ (l : List ℕ) (first second slots word alu predicate booleans : ℕ) {
                 number = x .number;
                 left =
                     written ∙ ap (λ (y : List ℕ). setLoops y (t .l0) (t .l1) (t .l2) (t .l3)) (x .left) ∙
-                    ap (λ (y : Turned). setLoops (cellsOf g) (y .l0) (y .l1) (y .l2) (y .l3)) (cells-of jump loops e);
+                    ap (λ (y : Turned). setLoops (cellsOf (modeIn l) g) (y .l0) (y .l1) (y .l2) (y .l3)) (cells-of jump loops e);
               }
           stored jump loops e (Fails why) q x =
               let z : n ≡ why = x .number in
@@ -475,6 +490,11 @@ left-size {l} {leaves} {n} {o} h d = ap length (d .left) ∙ by o
     by (Steps jump g) = refl
     by (Fails why) = h
 
+-- a mode that permits another op than 0 has document 01's limit
+full-alone : (mode : Mode) (first : ℕ) → permits mode first ≡ true → (opOf first ≡ 0 → ⊥) → limitOf mode ≡ counterLimit
+full-alone Full first p z = refl
+full-alone Partial first p z = absurd (z (eqb-true (opOf first) 0 (and-left _ _ p)))
+
 -- a word of the slot at the position
 abbrev pub wordHere : List ℕ → List ℕ → ℕ
 wordHere words l = getD words (positionIn l) 0
@@ -483,6 +503,9 @@ wordHere words l = getD words (positionIn l) 0
 module _ (l firsts seconds : List ℕ) (slots alu predicate booleans : ℕ) (integers : List ℕ) where
   abbrev wholeStep : Outcome
   wholeStep = stepIn firsts seconds slots l alu predicate booleans integers
+
+  abbrev slotHere : Outcome
+  slotHere = slotStep (modeIn l) slots integers (wordHere firsts l) (wordHere seconds l) alu predicate booleans (groupOf l)
 
   pub step-ended : {n : ℕ} → n ≡ 16 → slots ≤ positionIn l → NumberDone l l n wholeStep
   unfolding groupStep ended
@@ -495,30 +518,43 @@ module _ (l firsts seconds : List ℕ) (slots alu predicate booleans : ℕ) (int
         refused 15 en (pick-no _ _ (lt-leb slots (positionIn l) goes) ∙ pick-no _ _ (lt-leb slots storeSlots k))
 
     module _ (most : slots ≤ storeSlots) {leaves : List ℕ} {n : ℕ} where
-      step-slot :
-          NumberDone l leaves n
-          (slotStep counterLimit slots integers (wordHere firsts l) (wordHere seconds l) alu predicate booleans (groupOf l)) →
-          NumberDone l leaves n wholeStep
+      step-slot : NumberDone l leaves n slotHere → NumberDone l leaves n wholeStep
       unfolding groupStep ended
       step-slot d = step-as (sym (pick-no _ _ (lt-leb slots (positionIn l) goes) ∙ pick-yes _ _ (le-leb slots storeSlots most))) d
 
-      -- of op 0
-      pub step-jump :
-          wordHere firsts l % 16 ≡ 0 →
-          NumberDone l leaves n (jumpStep counterLimit slots (wordHere firsts l) (wordHere seconds l) alu predicate booleans (groupOf l)) →
-          NumberDone l leaves n wholeStep
-      unfolding slotStep
-      step-jump z d = step-slot (step-as (sym (pick-yes _ _ (eq-eqb (opOf (wordHere firsts l)) 0 (sym (low-field (wordHere firsts l)) ∙ z)))) d)
+      -- of a first word that the mode may permit
+      module _ {may : Bool} (emay : may ≡ permits (modeIn l) (wordHere firsts l)) where
+        pub step-forbidden : n ≡ 13 → may ≡ false → leaves ≡ l → NumberDone l leaves n wholeStep
+        unfolding slotStep
+        step-forbidden en f e =
+            step-slot (subst (λ (x : List ℕ). NumberDone l x n slotHere) (sym e) (refused 13 en (pick-no _ _ (sym emay ∙ f))))
 
-      -- of another op, with the integer word that the list has
-      pub step-loop :
-          {word : ℕ} → (wordHere firsts l % 16 ≡ 0 → ⊥) → word ≡ wordAt (wordHere seconds l / 256 % 32) integers →
-          NumberDone l leaves n (loopStep counterLimit slots word (wordHere firsts l) (wordHere seconds l) alu predicate booleans (groupOf l)) →
-          NumberDone l leaves n wholeStep
-      unfolding slotStep
-      step-loop z e d =
-          step-slot
-          (step-as
-          (ap (λ (w : ℕ). loopStep counterLimit slots w (wordHere firsts l) (wordHere seconds l) alu predicate booleans (groupOf l)) e ∙
-          sym (pick-no _ _ (ne-eqb (opOf (wordHere firsts l)) 0 (λ q. z (low-field (wordHere firsts l) ∙ q)))))
-          d)
+        -- of op 0
+        pub step-jump :
+            may ≡ true → wordHere firsts l % 16 ≡ 0 →
+            NumberDone l leaves n (jumpStep (ownLimit l) slots (wordHere firsts l) (wordHere seconds l) alu predicate booleans (groupOf l)) →
+            NumberDone l leaves n wholeStep
+        step-jump p z d =
+            step-slot
+            (step-as
+            (sym
+            (jump-permitted (modeIn l) slots integers (wordHere firsts l) (wordHere seconds l) alu predicate booleans (groupOf l)
+            (sym (low-field (wordHere firsts l)) ∙ z) (sym emay ∙ p)))
+            d)
+
+        -- of another op, which full mode alone permits, with the integer word that the list has
+        pub step-loop :
+            {word : ℕ} → may ≡ true → (wordHere firsts l % 16 ≡ 0 → ⊥) → word ≡ wordAt (wordHere seconds l / 256 % 32) integers →
+            NumberDone l leaves n (loopStep counterLimit slots word (wordHere firsts l) (wordHere seconds l) alu predicate booleans (groupOf l)) →
+            NumberDone l leaves n wholeStep
+        unfolding slotStep
+        step-loop p z e d =
+            step-slot
+            (step-as
+            (ap₂ (λ (w limit : ℕ). loopStep limit slots w (wordHere firsts l) (wordHere seconds l) alu predicate booleans (groupOf l)) e
+            (sym (full-alone (modeIn l) (wordHere firsts l) (sym emay ∙ p) other)) ∙
+            sym (pick-yes _ _ (sym emay ∙ p) ∙ pick-no _ _ (ne-eqb (opOf (wordHere firsts l)) 0 other)))
+            d)
+          where
+            other : opOf (wordHere firsts l) ≡ 0 → ⊥
+            other q = z (low-field (wordHere firsts l) ∙ q)

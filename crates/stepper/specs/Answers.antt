@@ -9,10 +9,11 @@ use Rattle.laws.specs.Choice.{pick}
 use Rattle.laws.specs.Masks.{digit, on}
 use Rattle.refusal.specs.Number.{numberOf}
 use Rattle.refusal.specs.Told.{Told, gives, refuses}
-use Rattle.group.specs.Proc.{isActive, decided, counterLimit}
+use Rattle.group.specs.Proc.{isActive, decided}
 use Rattle.group.specs.Group.{Group, Outcome, Steps, Fails, Program, Way, Goes, Stuck, Run, mostReturns, groupStep, groupRun, stepTold}
 use Rattle.group.specs.Group.{bElse, jumpAny, jumpFunc, booleanNumber, fitsFirst, turnedIf, wishOf, settled}
-use Rattle.group.specs.Cells.{groupOf, areReturns, withPlace, stepLeaves}
+use Rattle.group.specs.Modes.{limitOf}
+use Rattle.group.specs.Cells.{modeIn, withActive, groupOf, areReturns, withPlace, stepLeaves}
 use Rattle.stepper.specs.declared.Stepped.{Stepped}
 use Rattle.stepper.specs.declared.Stepped.the-variants as stepped
 
@@ -58,6 +59,15 @@ pub record GoDone (entry leaves : List ℕ) (r slots : ℕ) (jump : Bool) (w : W
   pub number : r ≡ goneNumber slots jump w
   pub left : leaves ≡ goneCells slots entry w
 
+-- the limit of the counters in these cells: their mode's
+abbrev pub ownLimit : List ℕ → ℕ
+ownLimit l = limitOf (modeIn l)
+
+-- the rest of a step on the group in these cells, with the active processors after B_ELSE and the wishes as words
+abbrev pub settledIn : ℕ → ℕ → ℕ → ℕ → Bool → ℕ → ℕ → List ℕ → Outcome
+settledIn limit slots first second jump wish active l =
+    settled limit slots first second jump (λ i. on i wish) (withActive l active) (groupOf l)
+
 -- a decision in a number: a loop's, 0 to stay and 1 to jump; with 2 the processors' wishes decide
 abbrev pub byWishes : ℕ
 byWishes = 2
@@ -82,11 +92,11 @@ setLoops l l0 l1 l2 l3 = set (set (set (set l 14 l0) 15 l1) 16 l2) 17 l3
 abbrev pub programOf : List ℕ → List ℕ → ℕ → List ℕ → Program
 programOf firsts seconds slots integers = record { firsts = firsts; seconds = seconds; slots = slots; integers = integers }
 
--- the step, and the run, of the group in these cells under the program in these arrays, with the limit of its counters
+-- the step, and the run, of the group in these cells, in their mode, under the program in these arrays
 abbrev pub stepIn : List ℕ → List ℕ → ℕ → List ℕ → ℕ → ℕ → ℕ → List ℕ → Outcome
 stepIn firsts seconds slots cells alu predicate booleans integers =
-    groupStep counterLimit (programOf firsts seconds slots integers) alu predicate booleans (groupOf cells)
+    groupStep (modeIn cells) (programOf firsts seconds slots integers) alu predicate booleans (groupOf cells)
 
 abbrev pub runIn : List ℕ → List ℕ → ℕ → List ℕ → List ℕ → ℕ → List ℕ → Run
 runIn firsts seconds slots cells masks booleans integers =
-    groupRun counterLimit (programOf firsts seconds slots integers) booleans masks (groupOf cells)
+    groupRun (modeIn cells) (programOf firsts seconds slots integers) booleans masks (groupOf cells)

@@ -1,6 +1,7 @@
 // The two words of a slot, and their fields by name.
 ghost use mathlib.Core.Path.{_≡_};
-ghost use Rattle.group.specs.Group.{fitsFirst, plainSecond, fitsSecond, allowedLoop, branchOp};
+ghost use Rattle.group.specs.Modes.{modeOf};
+ghost use Rattle.group.specs.Group.{permits, fitsFirst, plainSecond, fitsSecond, allowedLoop, branchOp};
 
 // A field is its word divided by the field's lowest bit, and of that what is left of the number of the field's values. First
 // word: op, B_ELSE, JUMP_ANY, A_OP, JUMP_FUNC, B_POP_CNT, bits that must be 0, B_OP0, B_OP1, bits that must be 0.
@@ -67,6 +68,19 @@ pub const ADDRESSES: u32 = 512;
 const TOP_GAP: u32 = 0x2000000;
 
 const TOP_GAPS: u32 = 128;
+
+// Whether the mode permits the first word: partial mode has op 0 and A_OP 0 alone.
+pub fn permitted(mode: u32, first: u32) -> bool
+    ensures { λ r. ⌜ r ≡ permits (modeOf mode) first ⌝ }
+{
+    if mode == group::PARTIAL {
+        if first % OPS != 0 {
+            return false;
+        }
+        return first / A_OP % CODES == 0;
+    }
+    true
+}
 
 // Whether every field of the first word but its op has an allowed value and every other bit is 0, used or not.
 pub fn fits_first(first: u32) -> bool

@@ -61,6 +61,22 @@ impl Way {
         way.with_lists(size, &mut random)
     }
 
+    /// A way over branches one after the other, each with one side: what both modes go alike.
+    pub fn branching(size: u32, seed: u64) -> Way {
+        let mut random = Random::new(seed);
+        let branch = |number: u32| {
+            let end = 3 * number + 2;
+            [0x0200_F000, end << 16, 0x0000_0020, 0, 0x0101_0020, 0]
+        };
+        let way = Way {
+            words: (0..SLOTS / 3).flat_map(branch).collect(),
+            lists: Vec::new(),
+            booleans: random.word(),
+            integers: Vec::new(),
+        };
+        way.with_lists(size, &mut random)
+    }
+
     fn with_lists(mut self, size: u32, random: &mut Random) -> Way {
         self.lists = (0..LISTS).map(|_| self.new_list(size, random)).collect();
         self

@@ -1,4 +1,4 @@
-//! Flow words for one group: programs, groups, steps and runs.
+//! Flow words for one group: programs, groups, steps, runs and kills.
 
 use crate::lengths::{CELLS, SLOTS};
 use crate::{answer, lent, Answer};
@@ -86,6 +86,25 @@ pub struct Loops {
     pub al: u32,
 }
 
+/// A group's mode, chosen when it begins and never changed. In partial mode ops 1 to
+/// 4 and A_OP other than 0 get 13, and branch counters run to 5 instead of 31.
+#[derive(Clone, Copy, Debug, PartialEq, Eq)]
+pub enum Mode {
+    Full,
+    Partial,
+}
+
+impl Mode {
+    /// The mode's number at the boundary and in the cells.
+    #[inline]
+    pub fn number(self) -> u32 {
+        match self {
+            Mode::Full => 0,
+            Mode::Partial => 1,
+        }
+    }
+}
+
 /// A group's state. Its cells are private, so that it is always one that the
 /// library gave out. It may be copied and both copies used, also under another
 /// program than the one it came from.
@@ -95,11 +114,17 @@ pub struct Group {
 }
 
 impl Group {
-    /// A fresh group of 1 to 32 processors. 13.
+    /// A fresh group of 1 to 32 processors in full mode, document 01's. 13.
     #[inline]
     pub fn begin(size: u32) -> Answer<Group> {
+        Group::begin_in(size, Mode::Full)
+    }
+
+    /// A fresh group of 1 to 32 processors in a mode. 13.
+    #[inline]
+    pub fn begin_in(size: u32, mode: Mode) -> Answer<Group> {
         let mut cells = [0; CELLS];
-        answer(lent::group_begin(size, &mut cells))?;
+        answer(lent::group_begin(size, mode.number(), &mut cells))?;
         Ok(Group { cells })
     }
 
@@ -145,10 +170,36 @@ impl Group {
         })
     }
 
-    /// The number of processors in the group.
+    /// The kill test: every active processor that has a channel under the write mask
+    /// (bit c for channel c) less than zero is killed and leaves the group. The
+    /// registers are four floats for each processor of the group as it began,
+    /// processor 0 first. Answers those who were killed now, bit i for processor i.
+    /// 16 where the program has ended, 13 for a mask over 15, 11 for another number
+    /// of floats, in that order; a refusal changes nothing.
+    #[inline]
+    pub fn kill(&mut self, program: &Program, registers: &[f32], mask: u32) -> Answer<u32> {
+        let mut killed = [0];
+        answer(lent::group_kill(
+            self,
+            program,
+            mask,
+            registers,
+            &mut killed,
+        ))?;
+        Ok(killed[0])
+    }
+
+    /// The number of processors in the group; the killed aren't.
     #[inline]
     pub fn size(&self) -> u32 {
         self.mask().count_ones()
+    }
+
+    /// The number of processors of the group as it began: those in it and the
+    /// killed.
+    #[inline]
+    pub fn started(&self) -> u32 {
+        (self.mask() | self.killed()).count_ones()
     }
 
     /// The processors in the group, bit i for processor i.
@@ -161,6 +212,12 @@ impl Group {
     #[inline]
     pub fn active(&self) -> u32 {
         self.cells[1]
+    }
+
+    /// Those who were killed so far, bit i for processor i.
+    #[inline]
+    pub fn killed(&self) -> u32 {
+        self.cells[13]
     }
 
     /// The branch counter of a processor, 0 for an active one.
@@ -179,6 +236,15 @@ impl Group {
     #[inline]
     pub fn position(&self) -> u32 {
         self.cells[7]
+    }
+
+    /// The mode that the group began in.
+    #[inline]
+    pub fn mode(&self) -> Mode {
+        match self.cells[12] {
+            0 => Mode::Full,
+            _ => Mode::Partial,
+        }
     }
 
     /// The stored returns, oldest first.

@@ -9,7 +9,7 @@ use crate::programs;
 use crate::random::Random;
 use crate::turns::Turn;
 use boundary::lengths::{CELLS, SLOTS};
-use boundary::lent;
+use boundary::{lent, Mode};
 use second::flow::{Group, Processor, Program, Report, Stepped};
 use second::Answer;
 
@@ -17,18 +17,18 @@ use second::Answer;
 const MOST_REFUSALS: u32 = 3;
 
 /// A flow program as both programs have loaded it.
-struct Loaded {
-    product: boundary::Program,
-    second: Program,
+pub struct Loaded {
+    pub product: boundary::Program,
+    pub second: Program,
     words: Vec<u32>,
 }
 
 /// Two masks for each step, alu then predicate; one boolean word and one list of
 /// integer words for all.
-struct Masks {
-    list: Vec<u32>,
-    booleans: u32,
-    integers: Vec<u32>,
+pub struct Masks {
+    pub list: Vec<u32>,
+    pub booleans: u32,
+    pub integers: Vec<u32>,
 }
 
 pub fn run(case: &mut Case) -> Agreement {
@@ -49,7 +49,7 @@ pub fn run(case: &mut Case) -> Agreement {
 }
 
 /// A program loaded by both: its slots, or the refusal.
-fn loaded(case: &mut Case, words: Vec<u32>) -> Agreed<Option<Loaded>> {
+pub fn loaded(case: &mut Case, words: Vec<u32>) -> Agreed<Option<Loaded>> {
     let asked = || format!("load {words:X?}");
     let product = boundary::Program::load(&words);
     let second = Program::load(&words);
@@ -105,7 +105,7 @@ fn store_untouched(case: &mut Case, words: &[u32]) -> Agreement {
 }
 
 /// A group begun by both, or the refusal.
-fn begun(case: &mut Case) -> Agreed<Option<Both>> {
+pub fn begun(case: &mut Case) -> Agreed<Option<Both>> {
     let size = match case.random.below(64) {
         0 => 0,
         1 => 33,
@@ -122,7 +122,7 @@ fn begun(case: &mut Case) -> Agreed<Option<Both>> {
     if product.is_err() {
         let filled = [case.random.word(); CELLS];
         let mut cells = filled;
-        lent::group_begin(size, &mut cells);
+        lent::group_begin(size, Mode::Full.number(), &mut cells);
         case.untouched(asked, &cells, &filled)?;
     }
     Ok(product
@@ -131,7 +131,7 @@ fn begun(case: &mut Case) -> Agreed<Option<Both>> {
         .map(|(product, second)| Both { product, second }))
 }
 
-fn any_masks(random: &mut Random) -> Masks {
+pub fn any_masks(random: &mut Random) -> Masks {
     let most = random.one_of(&[8, 48, 96, 160]);
     // An odd list ends with an alu without its predicate.
     let count = random.between(0, most);
@@ -142,7 +142,7 @@ fn any_masks(random: &mut Random) -> Masks {
     }
 }
 
-fn about(program: &Loaded, masks: &Masks) -> String {
+pub fn about(program: &Loaded, masks: &Masks) -> String {
     let (words, Masks { list, booleans, .. }) = (&program.words, masks);
     let integers = &masks.integers;
     format!(
@@ -192,7 +192,7 @@ fn step_by_step(
 /// Once in eight cases, another program for some of the steps: a group may be
 /// stepped under any. Half of these are the same program cut short, under which a
 /// position or a stored return may lie past the end.
-fn other_program(case: &mut Case, program: &Loaded) -> Agreed<Option<Loaded>> {
+pub fn other_program(case: &mut Case, program: &Loaded) -> Agreed<Option<Loaded>> {
     if !case.random.once_in(8) {
         return Ok(None);
     }
@@ -206,15 +206,15 @@ fn other_program(case: &mut Case, program: &Loaded) -> Agreed<Option<Loaded>> {
 }
 
 /// What a step is given besides the group.
-struct Given<'a> {
-    program: &'a Loaded,
-    masks: (u32, u32, u32),
-    integers: &'a [u32],
+pub struct Given<'a> {
+    pub program: &'a Loaded,
+    pub masks: (u32, u32, u32),
+    pub integers: &'a [u32],
 }
 
 /// One step of both groups; answers its refusal, if it was refused, and whether it
 /// was one of a loop's slot.
-fn step(
+pub fn step(
     case: &mut Case,
     asked: impl Fn() -> String,
     given: &Given,
@@ -321,7 +321,7 @@ fn in_portions(case: &mut Case, program: &Loaded, fresh: &Both, masks: &Masks) -
 }
 
 /// One run of both groups; answers its refusal, if it was refused.
-fn run_portion(
+pub fn run_portion(
     case: &mut Case,
     asked: impl Fn() -> String,
     program: &Loaded,

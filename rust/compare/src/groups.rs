@@ -4,12 +4,14 @@ use crate::case::{Agreement, Case};
 use crate::loops::{LOOP, REP};
 use boundary::lengths::CELLS;
 use boundary::lent;
-use second::flow::{Group, Loop, Processor};
+use second::flow::{Group, Loop, Mode, Processor};
 
 /// The first of the product's cells past its returns.
 const REST: usize = 12;
 
-/// The cell of the innermost loop, counted from there.
+/// The cells of the mode, of the killed and of the innermost loop, counted from there.
+const MODE: usize = 0;
+const KILLED: usize = 1;
 const LOOPS: usize = 2;
 
 /// One group of each program, which take the same steps.
@@ -32,7 +34,7 @@ pub struct Seen {
     /// What is told of the loops: the aL shown, then kind, count and aL of each of
     /// four, innermost first.
     loops: [u32; 13],
-    /// The product's cells past its returns: the open loops, and zeros.
+    /// The product's cells past its returns: the mode, the killed, the open loops, and zeros.
     rest: [u32; CELLS - REST],
 }
 
@@ -75,13 +77,21 @@ pub fn seen_in_second(group: &Group) -> Seen {
         loops: [0; 13],
         rest: [0; CELLS - REST],
     };
+    seen.rest[MODE] = match group.mode {
+        Mode::Full => 0,
+        Mode::Partial => 1,
+    };
     seen.loops[0] = group.al();
     for (place, open) in group.loops.iter().rev().enumerate() {
         let (told, cell) = loop_seen(open);
         seen.loops[3 * place + 1..][..3].copy_from_slice(&told);
         seen.rest[LOOPS + place] = cell;
     }
+    seen.rest[KILLED] = group.killed;
     for (number, processor) in group.processors.iter().enumerate() {
+        if group.killed >> number & 1 == 1 {
+            continue;
+        }
         seen.members |= 1 << number;
         match processor {
             Processor::Active => seen.active |= 1 << number,

@@ -2,7 +2,7 @@
 //! made apart from it, on millions of made-up inputs: good ones, ones at the
 //! edges of the rules, damaged ones and noise.
 //!
-//! There are seven kinds of cases, one module each:
+//! There are nine kinds of cases, one module each:
 //!
 //! * [`addresses`]: layouts judged, pairs translated, addresses located back;
 //! * [`memory`]: elements read and written in lent memory, superfine reads;
@@ -10,7 +10,9 @@
 //! * [`writer`]: commands written to words;
 //! * [`flow`]: programs loaded, with and without loops, groups stepped and run;
 //! * [`logs`]: logs of a station over midnight, cut anywhere;
-//! * [`scores`]: months of such logs scored against lease lines.
+//! * [`scores`]: months of such logs scored against lease lines;
+//! * [`modes`]: groups in full and in partial mode, side by side;
+//! * [`kills`]: groups killed in part between steps and runs, registers of floats.
 //!
 //! Every case is made from its kind, a seed and its number alone, so that any
 //! case can be run again by itself. The tests run fixed cases; the program
@@ -21,12 +23,15 @@
 pub mod addresses;
 pub mod case;
 pub mod commands;
+pub mod floats;
 pub mod flow;
 pub mod groups;
+pub mod kills;
 pub mod layouts;
 pub mod logs;
 pub mod loops;
 pub mod memory;
+pub mod modes;
 pub mod options;
 pub mod programs;
 pub mod random;
@@ -57,10 +62,12 @@ pub enum Kind {
     Flow,
     Logs,
     Scores,
+    Modes,
+    Kills,
 }
 
 impl Kind {
-    pub const ALL: [Kind; 7] = [
+    pub const ALL: [Kind; 9] = [
         Kind::Addresses,
         Kind::Memory,
         Kind::Streams,
@@ -68,6 +75,8 @@ impl Kind {
         Kind::Flow,
         Kind::Logs,
         Kind::Scores,
+        Kind::Modes,
+        Kind::Kills,
     ];
 
     pub fn name(self) -> &'static str {
@@ -79,6 +88,8 @@ impl Kind {
             Kind::Flow => "flow",
             Kind::Logs => "logs",
             Kind::Scores => "scores",
+            Kind::Modes => "modes",
+            Kind::Kills => "kills",
         }
     }
 
@@ -95,6 +106,8 @@ impl Kind {
             Kind::Flow => flow::run(case),
             Kind::Logs => logs::run(case),
             Kind::Scores => scores::run(case),
+            Kind::Modes => modes::run(case),
+            Kind::Kills => kills::run(case),
         }
     }
 }

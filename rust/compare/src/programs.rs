@@ -197,6 +197,40 @@ fn deep(random: &mut Random) -> Vec<[u32; 2]> {
     (0..count).map(|_| slot(random).words()).collect()
 }
 
+/// So many branches in one another, with no loops and no subroutines: in partial
+/// mode six may be. Each is entered with those that don't leave, where some stay.
+pub fn nest(random: &mut Random, depth: u32) -> Vec<u32> {
+    let mut slots = Vec::new();
+    let level = |random: &mut Random| Slot {
+        jump_func: random.one_of(&[0xF0, 0xF0, 0x0F, 0xCC]),
+        b_op0: INCREMENT,
+        b_op1: random.one_of(&[0, INCREMENT]),
+        boolean: random.below(32),
+        ..Slot::default()
+    };
+    for _ in 0..depth {
+        slots.push(level(random));
+        if random.once_in(4) {
+            slots.push(Slot::plain());
+        }
+    }
+    for _ in 0..depth {
+        if random.once_in(4) {
+            slots.push(Slot {
+                b_else: 1,
+                jump_any: 1,
+                ..Slot::default()
+            });
+        }
+        slots.push(Slot::endif());
+    }
+    // Where all wish to jump they go to the next slot, so that the nest goes on.
+    for (number, slot) in (1..).zip(&mut slots) {
+        slot.address = number;
+    }
+    slots.iter().flat_map(Slot::words).collect()
+}
+
 /// A main part that calls, and subroutines that call one another and return:
 /// deeper than the return stack now and then.
 fn subroutines(random: &mut Random) -> Vec<[u32; 2]> {

@@ -1,13 +1,13 @@
 -- `flow::make_steps` meets its contract. Loop: the whole is the steps made so far, and then the steps of the masks left. Assumes nothing.
 use denote.Ref.{now}
-use mathlib.Core.Path.{_≡_}
+use mathlib.Core.Path.{_≡_, refl, _∙_}
 use Prim.Native.Nat.{_*_, _/_, _-_, _≤_}
 use native.Mathlib.Omega.{arith}
 use lib.ListN.{length, drop}
-use Rattle.group.specs.Proc.{counterLimit}
 use Rattle.group.specs.Group.{groupSteps}
-use Rattle.group.specs.Cells.{groupOf, GroupGiven}
+use Rattle.group.specs.Cells.{modeIn, groupOf, GroupGiven}
 use Rattle.stepper.specs.Answers.{programOf}
+use Rattle.flow.specs.Answers.{stepsIn}
 use Rattle.flow.proofs.Running.{plus, plus-zero, turns-ended, turns-out, turns-refused, turns-again}
 use borrow.Author.Needs.{needs}
 use Rattle.flow.proofs.make_steps.Statement.{statement}
@@ -15,9 +15,9 @@ use Rattle.flow.proofs.make_steps.Tie as tie
 
 abbrev Inv-loop : tie.InvT-loop
 Inv-loop firsts seconds slots cells₀ masks booleans integers pairs made₀ cells made =
-    (GroupGiven cells) × (made ≤ pairs) × (pairs ≡ length masks / 2) ×
-    (groupSteps counterLimit (programOf firsts seconds slots integers) booleans masks (groupOf cells₀) ≡
-    plus made (groupSteps counterLimit (programOf firsts seconds slots integers) booleans (drop (made * 2) masks) (groupOf cells)))
+    (GroupGiven cells) × (made ≤ pairs) × (pairs ≡ length masks / 2) × (modeIn cells ≡ modeIn cells₀) ×
+    (stepsIn firsts seconds slots cells₀ masks booleans integers ≡
+    plus made (groupSteps (modeIn cells₀) (programOf firsts seconds slots integers) booleans (drop (made * 2) masks) (groupOf cells)))
 
 abbrev μ-loop : tie.MeasureT-loop
 μ-loop firsts seconds slots cells₀ masks booleans integers pairs made₀ cells made = pairs - made
@@ -31,10 +31,10 @@ loop-holds c =
       (entry .pre),
       omega arith,
       c .pairs-of .ensures,
+      refl,
       plus-zero
-          (groupSteps counterLimit (programOf (now (entry .args .firsts)) (now (entry .args .seconds)) (entry .args .slots) (now (entry .args .integers)))
-          (entry .args .booleans)
-          (now (entry .args .masks)) (groupOf (now (entry .args .cells)))),
+          (stepsIn (now (entry .args .firsts)) (now (entry .args .seconds)) (entry .args .slots) (now (entry .args .cells)) (now (entry .args .masks))
+          (entry .args .booleans) (now (entry .args .integers))),
     )
 
 element-copy-out-if1 : tie.Need-element-copy-out-if1 Inv-loop μ-loop
@@ -47,7 +47,7 @@ returns c =
     let at-loop = c .before .before .before in
     let entry = at-loop .before .before .before .before in
     turns-ended (now (entry .args .firsts)) (now (entry .args .seconds)) (entry .args .slots) (entry .args .booleans) (now (entry .args .masks)) (now (entry .args .integers))
-    (groupOf (now (entry .args .cells))) (at-loop .loop .made) (at-loop .loop .cells) (at-loop .loop .inv .3)
+    (now (entry .args .cells)) (at-loop .loop .made) (at-loop .loop .cells) (at-loop .loop .inv .3) (at-loop .loop .inv .4)
     (c .if1 .taken) (at-loop .loop .inv .0)
 
 mul-one-step : tie.Need-mul-one-step Inv-loop μ-loop
@@ -88,7 +88,7 @@ returns-2 c =
     let at-loop = at-if1 .before .before .before in
     let entry = at-loop .before .before .before .before in
     turns-refused (now (entry .args .firsts)) (now (entry .args .seconds)) (entry .args .slots) (entry .args .booleans) (now (entry .args .masks)) (now (entry .args .integers))
-    (groupOf (now (entry .args .cells))) (at-loop .loop .made) (at-loop .loop .cells) (at-loop .loop .inv .3)
+    (now (entry .args .cells)) (at-loop .loop .made) (at-loop .loop .cells) (at-loop .loop .inv .3) (at-loop .loop .inv .4)
     (omega arith) (at-if1 .if1 .left) (at-one-step .one-step .ensures) (at-next .next .given .1)
 
 enum-told : tie.Need-enum-told Inv-loop μ-loop
@@ -109,8 +109,9 @@ loop-again c =
       at-one-step .one-step .ensures .given,
       omega arith,
       at-loop .loop .inv .2,
+      at-one-step .one-step .ensures .mode ∙ at-loop .loop .inv .3,
       turns-again (now (entry .args .firsts)) (now (entry .args .seconds)) (entry .args .slots) (entry .args .booleans) (now (entry .args .masks)) (now (entry .args .integers))
-          (groupOf (now (entry .args .cells))) (at-loop .loop .made) (at-loop .loop .cells) (at-loop .loop .inv .3)
+          (now (entry .args .cells)) (at-loop .loop .made) (at-loop .loop .cells) (at-loop .loop .inv .3) (at-loop .loop .inv .4)
           (omega arith) (at-if1 .if1 .left) (at-one-step .one-step .ensures) (c .enum-told .given .1),
     )
 
@@ -119,7 +120,7 @@ returns-3 c =
     let at-loop = c .before in
     let entry = at-loop .before .before .before .before in
     turns-out (now (entry .args .firsts)) (now (entry .args .seconds)) (entry .args .slots) (entry .args .booleans) (now (entry .args .masks)) (now (entry .args .integers))
-    (groupOf (now (entry .args .cells))) (at-loop .loop .made) (at-loop .loop .cells) (at-loop .loop .inv .3)
+    (now (entry .args .cells)) (at-loop .loop .made) (at-loop .loop .cells) (at-loop .loop .inv .3) (at-loop .loop .inv .4)
     (omega arith) (at-loop .loop .inv .0)
 
 pub make-steps-spec : {M : Type 1} → statement M

@@ -3,7 +3,7 @@ use denote.Ref.{now}
 use mathlib.Core.Path.{refl, sym, _∙_}
 use native.Mathlib.Omega.{arith}
 use Rattle.stepper.proofs.Words.{low-field}
-use Rattle.stepper.proofs.Stepping.{wordHere, step-ended, step-many, step-jump, step-loop}
+use Rattle.stepper.proofs.Stepping.{wordHere, step-ended, step-many, step-forbidden, step-jump, step-loop}
 use Rattle.flow.proofs.Running.{one-made, one-refused}
 use borrow.Author.Needs.{needs}
 use Rattle.flow.proofs.one_step.Statement.{statement}
@@ -42,13 +42,20 @@ mul-second c = search needs
 element-copy-out-second : tie.Need-element-copy-out-second
 element-copy-out-second c = search needs
 
+element-copy-out-permitted : tie.Need-element-copy-out-permitted
+element-copy-out-permitted c = search needs
+
+permitted-requires : tie.Need-permitted-requires
+permitted-requires c κs = search needs
+
 jump-slot-requires : tie.Need-jump-slot-requires
 jump-slot-requires c κs =
-    let at-if3 = c .before in
-    let at-if2 = at-if3 .before .before .before in
+    let at-if4 = c .before in
+    let at-permitted = at-if4 .before .before in
+    let at-if2 = at-permitted .before .before .before .before in
     let at-if1 = at-if2 .before in
     let entry = at-if1 .before .before .before in
-    (entry .pre, at-if1 .if1 .left, at-if2 .if2 .left, sym (low-field (wordHere (now (entry .args .firsts)) (now (entry .args .cells)))) ∙ at-if3 .if3 .taken)
+    (entry .pre, at-if1 .if1 .left, at-if2 .if2 .left, sym (low-field (wordHere (now (entry .args .firsts)) (now (entry .args .cells)))) ∙ at-if4 .if4 .taken)
 
 made-of-requires : tie.Need-made-of-requires
 made-of-requires c κs = search needs
@@ -57,13 +64,16 @@ made-of-requires c κs = search needs
 returns-3 : tie.Need-returns-3
 returns-3 c =
     let at-jump-slot = c .before in
-    let at-if3 = at-jump-slot .before .before in
-    let at-if2 = at-if3 .before .before .before in
+    let at-if4 = at-jump-slot .before .before in
+    let at-if3 = at-if4 .before in
+    let at-permitted = at-if3 .before in
+    let at-if2 = at-permitted .before .before .before .before in
     let at-if1 = at-if2 .before in
     let entry = at-if1 .before .before .before in
     let done = step-jump (now (entry .args .cells)) (now (entry .args .firsts)) (now (entry .args .seconds)) (entry .args .slots) (entry .args .alu)
     (entry .args .predicate) (entry .args .booleans) (now (entry .args .integers))
-    (at-if1 .if1 .left) (at-if2 .if2 .left) (at-if3 .if3 .taken) (at-jump-slot .jump-slot .ensures) in
+    (at-if1 .if1 .left) (at-if2 .if2 .left) (at-permitted .permitted .ensures) (at-if3 .if3 .taken) (at-if4 .if4 .taken)
+    (at-jump-slot .jump-slot .ensures) in
     one-made (now (entry .args .cells)) (now (entry .args .firsts)) (now (entry .args .seconds)) (entry .args .slots) (entry .args .alu)
     (entry .args .predicate) (entry .args .booleans) (now (entry .args .integers)) (entry .pre) done (c .made-of .ensures)
 
@@ -81,15 +91,29 @@ returns-4 : tie.Need-returns-4
 returns-4 c =
     let at-loop-slot = c .before in
     let at-word-at = at-loop-slot .before .before in
-    let at-if3 = at-word-at .before in
-    let at-if2 = at-if3 .before .before .before in
+    let at-if4 = at-word-at .before in
+    let at-if3 = at-if4 .before in
+    let at-permitted = at-if3 .before in
+    let at-if2 = at-permitted .before .before .before .before in
     let at-if1 = at-if2 .before in
     let entry = at-if1 .before .before .before in
     let done = step-loop (now (entry .args .cells)) (now (entry .args .firsts)) (now (entry .args .seconds)) (entry .args .slots) (entry .args .alu)
     (entry .args .predicate) (entry .args .booleans) (now (entry .args .integers))
-    (at-if1 .if1 .left) (at-if2 .if2 .left) (at-if3 .if3 .left) (at-word-at .word-at .ensures) (at-loop-slot .loop-slot .ensures) in
+    (at-if1 .if1 .left) (at-if2 .if2 .left) (at-permitted .permitted .ensures) (at-if3 .if3 .taken) (at-if4 .if4 .left)
+    (at-word-at .word-at .ensures) (at-loop-slot .loop-slot .ensures) in
     one-made (now (entry .args .cells)) (now (entry .args .firsts)) (now (entry .args .seconds)) (entry .args .slots) (entry .args .alu)
     (entry .args .predicate) (entry .args .booleans) (now (entry .args .integers)) (entry .pre) done (c .made-of2 .ensures)
+
+-- the mode forbids the first word
+returns-5 : tie.Need-returns-5
+returns-5 c =
+    let at-permitted = c .before in
+    let at-if2 = at-permitted .before .before .before .before in
+    let at-if1 = at-if2 .before in
+    let entry = at-if1 .before .before .before in
+    one-refused (entry .pre) (step-forbidden (now (entry .args .cells)) (now (entry .args .firsts)) (now (entry .args .seconds)) (entry .args .slots)
+    (entry .args .alu) (entry .args .predicate) (entry .args .booleans) (now (entry .args .integers))
+    (at-if1 .if1 .left) (at-if2 .if2 .left) (at-permitted .permitted .ensures) refl (c .if3 .left) refl) (omega arith)
 
 pub one-step-spec : {M : Type 1} → statement M
 one-step-spec =
@@ -103,10 +127,13 @@ one-step-spec =
     element-copy-out-first
     mul-second
     element-copy-out-second
+    element-copy-out-permitted
+    permitted-requires
     jump-slot-requires
     made-of-requires
     returns-3
     word-at-requires
     loop-slot-requires
     made-of-requires-2
-    returns-4)
+    returns-4
+    returns-5)

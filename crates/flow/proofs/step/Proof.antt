@@ -1,129 +1,32 @@
--- `flow::step` meets its contract: the program's end, then the slot at the position by its op. Assumes nothing.
+-- `flow::step` meets its contract: the step's number, told with the position that the cells then show. Assumes nothing.
 use denote.Ref.{now}
-use mathlib.Core.Path.{refl, sym, _∙_}
 use native.Mathlib.Omega.{arith}
-use Rattle.stepper.proofs.Words.{low-field}
-use Rattle.stepper.proofs.Stepping.{wordHere, left-size, step-ended, step-many, step-jump, step-loop}
-use Rattle.flow.proofs.Answers.{step-told, step-refused}
+use Rattle.stepper.specs.Answers.{ownLimit}
+use Rattle.stepper.proofs.Stepping.{left-size}
+use Rattle.flow.proofs.Answers.{step-told}
 use Rattle.flow.proofs.Running.{sound-here}
 use borrow.Author.Needs.{needs}
 use Rattle.flow.proofs.step.Statement.{statement}
 use Rattle.flow.proofs.step.Tie as tie
 
-element-copy-out-here : tie.Need-element-copy-out-here
-element-copy-out-here c = search needs
-
--- the program has ended
-returns : tie.Need-returns
-returns c =
-    let entry = c .before .before .before in
-    step-refused _ (step-ended (now (entry .args .cells)) (now (entry .args .firsts)) (now (entry .args .seconds)) (entry .args .slots) (entry .args .alu)
-    (entry .args .predicate) (entry .args .booleans) (now (entry .args .integers)) refl (c .if1 .taken)) (omega arith)
-
--- more slots than a store has
-returns-2 : tie.Need-returns-2
-returns-2 c =
-    let at-if1 = c .before in
-    let entry = at-if1 .before .before .before in
-    step-refused _ (step-many (now (entry .args .cells)) (now (entry .args .firsts)) (now (entry .args .seconds)) (entry .args .slots) (entry .args .alu)
-    (entry .args .predicate) (entry .args .booleans) (now (entry .args .integers)) (at-if1 .if1 .left) refl (c .if2 .taken)) (omega arith)
-
-cast-at : tie.Need-cast-at
-cast-at c = search needs
-
-mul-first : tie.Need-mul-first
-mul-first c = search needs
-
-element-copy-out-first : tie.Need-element-copy-out-first
-element-copy-out-first c = search needs
-
-mul-second : tie.Need-mul-second
-mul-second c = search needs
-
-element-copy-out-second : tie.Need-element-copy-out-second
-element-copy-out-second c = search needs
-
-jump-slot-requires : tie.Need-jump-slot-requires
-jump-slot-requires c κs =
-    let at-if3 = c .before in
-    let at-if2 = at-if3 .before .before .before in
-    let at-if1 = at-if2 .before in
-    let entry = at-if1 .before .before .before in
-    (entry .pre, at-if1 .if1 .left, at-if2 .if2 .left, sym (low-field (wordHere (now (entry .args .firsts)) (now (entry .args .cells)))) ∙ at-if3 .if3 .taken)
+step-number-requires : tie.Need-step-number-requires
+step-number-requires c κs = search needs
 
 element-copy-out-stepped-of : tie.Need-element-copy-out-stepped-of
 element-copy-out-stepped-of c =
-    let at-if3 = c .before .before in
-    let at-if1 = at-if3 .before .before .before .before in
-    let entry = at-if1 .before .before .before in
-    omega (arith, left-size (entry .pre .size) (c .jump-slot .ensures))
+    let entry = c .before .before .before in
+    omega (arith, left-size (entry .pre .size) (c .step-number .ensures))
 
 stepped-of-requires : tie.Need-stepped-of-requires
 stepped-of-requires c κs = search needs
 
--- op 0
-returns-3 : tie.Need-returns-3
-returns-3 c =
-    let at-jump-slot = c .before .before in
-    let at-if3 = at-jump-slot .before .before in
-    let at-if2 = at-if3 .before .before .before in
-    let at-if1 = at-if2 .before in
-    let entry = at-if1 .before .before .before in
-    let done = step-jump (now (entry .args .cells)) (now (entry .args .firsts)) (now (entry .args .seconds)) (entry .args .slots) (entry .args .alu)
-    (entry .args .predicate) (entry .args .booleans) (now (entry .args .integers))
-    (at-if1 .if1 .left) (at-if2 .if2 .left) (at-if3 .if3 .taken) (at-jump-slot .jump-slot .ensures) in
-    step-told _ (sound-here (now (entry .args .cells)) (now (entry .args .firsts)) (now (entry .args .seconds)) (entry .args .slots) (entry .args .alu)
+returns : tie.Need-returns
+returns c =
+    let at-step-number = c .before .before in
+    let entry = at-step-number .before .before .before in
+    let done = at-step-number .step-number .ensures in
+    step-told (ownLimit (now (entry .args .cells))) _ (sound-here (now (entry .args .cells)) (now (entry .args .firsts)) (now (entry .args .seconds)) (entry .args .slots) (entry .args .alu)
     (entry .args .predicate) (entry .args .booleans) (now (entry .args .integers)) (entry .pre) done) done (c .stepped-of .ensures)
 
-word-at-requires : tie.Need-word-at-requires
-word-at-requires c κs = search needs
-
-loop-slot-requires : tie.Need-loop-slot-requires
-loop-slot-requires c κs = search needs
-
-element-copy-out-stepped-of-2 : tie.Need-element-copy-out-stepped-of-2
-element-copy-out-stepped-of-2 c =
-    let at-if3 = c .before .before .before in
-    let at-if1 = at-if3 .before .before .before .before in
-    let entry = at-if1 .before .before .before in
-    omega (arith, left-size (entry .pre .size) (c .loop-slot .ensures))
-
-stepped-of-requires-2 : tie.Need-stepped-of-requires-2
-stepped-of-requires-2 c κs = search needs
-
--- another op
-returns-4 : tie.Need-returns-4
-returns-4 c =
-    let at-loop-slot = c .before .before in
-    let at-word-at = at-loop-slot .before .before in
-    let at-if3 = at-word-at .before in
-    let at-if2 = at-if3 .before .before .before in
-    let at-if1 = at-if2 .before in
-    let entry = at-if1 .before .before .before in
-    let done = step-loop (now (entry .args .cells)) (now (entry .args .firsts)) (now (entry .args .seconds)) (entry .args .slots) (entry .args .alu)
-    (entry .args .predicate) (entry .args .booleans) (now (entry .args .integers))
-    (at-if1 .if1 .left) (at-if2 .if2 .left) (at-if3 .if3 .left) (at-word-at .word-at .ensures) (at-loop-slot .loop-slot .ensures) in
-    step-told _ (sound-here (now (entry .args .cells)) (now (entry .args .firsts)) (now (entry .args .seconds)) (entry .args .slots) (entry .args .alu)
-    (entry .args .predicate) (entry .args .booleans) (now (entry .args .integers)) (entry .pre) done) done (c .stepped-of2 .ensures)
-
 pub step-spec : {M : Type 1} → statement M
-step-spec =
-    tie.close
-    (tie.spec
-    element-copy-out-here
-    returns
-    returns-2
-    cast-at
-    mul-first
-    element-copy-out-first
-    mul-second
-    element-copy-out-second
-    jump-slot-requires
-    element-copy-out-stepped-of
-    stepped-of-requires
-    returns-3
-    word-at-requires
-    loop-slot-requires
-    element-copy-out-stepped-of-2
-    stepped-of-requires-2
-    returns-4)
+step-spec = tie.close (tie.spec step-number-requires element-copy-out-stepped-of stepped-of-requires returns)

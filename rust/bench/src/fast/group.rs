@@ -2,7 +2,7 @@
 
 use super::loops::Loops;
 use super::program::{Place, Program, Report, Slot, Stepped, DECREMENT, INCREMENT};
-use super::refusal::{Answer, ENDED, FLOW_WORD};
+use super::refusal::{Answer, AT_LIMIT, ENDED, FLOW_WORD};
 
 /// The branch counters of up to 32 processors. Those of active processors are 0.
 pub trait Counters: Copy {
@@ -17,26 +17,36 @@ pub trait Counters: Copy {
     /// Adds 1 to the counters of these processors. 14 where one is at 31.
     fn raise(&mut self, processors: u32) -> Answer<()>;
 
+    /// Whether a counter is at the limit of partial mode, 5, or above.
+    fn at_partial(&self) -> bool;
+
     fn counter(&self, processor: u32) -> u32;
 }
 
 /// A group's state.
 #[derive(Clone, Copy, Debug, PartialEq, Eq)]
 pub struct Group<C> {
-    members: u32,
-    active: u32,
+    pub(super) members: u32,
+    pub(super) active: u32,
+    pub(super) killed: u32,
     counters: C,
-    place: Place,
+    pub(super) place: Place,
     loops: Loops,
+    partial: bool,
 }
 
 /// A step's masks: alu, predicate and booleans.
 type Masks = (u32, u32, u32);
 
 impl<C: Counters> Group<C> {
-    /// A fresh group of 1 to 32 processors. 13.
-    #[inline(never)]
+    /// A fresh group of 1 to 32 processors in full mode. 13.
     pub fn begin(size: u32) -> Answer<Group<C>> {
+        Group::begin_in(size, false)
+    }
+
+    /// A fresh group of 1 to 32 processors, in partial mode or in full. 13.
+    #[inline(never)]
+    pub fn begin_in(size: u32, partial: bool) -> Answer<Group<C>> {
         if size.wrapping_sub(1) >= 32 {
             return Err(FLOW_WORD);
         }
@@ -44,9 +54,11 @@ impl<C: Counters> Group<C> {
         Ok(Group {
             members,
             active: members,
+            killed: 0,
             counters: C::ZEROS,
             place: Place::default(),
             loops: Loops::default(),
+            partial,
         })
     }
 
@@ -98,6 +110,9 @@ impl<C: Counters> Group<C> {
             return Err(ENDED);
         }
         let slot = program.slot(self.place.position);
+        if self.partial {
+            slot.judge_partial()?;
+        }
         if slot.op() == 0 {
             slot.judge()?;
             return self.settle(program, slot, masks, None);
@@ -130,6 +145,9 @@ impl<C: Counters> Group<C> {
         match slot.counter_code(jumps) {
             DECREMENT => active |= counters.lower(inactive, slot.pop_count()),
             INCREMENT => {
+                if self.partial && counters.at_partial() {
+                    return Err(AT_LIMIT);
+                }
                 counters.raise(inactive)?;
                 active &= if jumps { wishes } else { !wishes };
             }

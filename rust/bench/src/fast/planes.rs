@@ -48,6 +48,12 @@ impl Counters for Planes {
         Ok(())
     }
 
+    #[inline(always)]
+    fn at_partial(&self) -> bool {
+        let [p0, p1, p2, p3, p4] = self.0;
+        p3 | p4 | p2 & (p0 | p1) != 0
+    }
+
     fn counter(&self, processor: u32) -> u32 {
         let bits = self.0.iter().rev();
         bits.fold(0, |counter, plane| counter << 1 | plane >> processor & 1)

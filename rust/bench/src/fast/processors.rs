@@ -5,8 +5,9 @@
 use super::group::{self, Counters};
 use super::refusal::{Answer, AT_LIMIT};
 
-/// The greatest branch counter.
+/// The greatest branch counter, and that of partial mode.
 const GREATEST: u8 = 31;
+const GREATEST_PARTIAL: u8 = 5;
 
 pub type Group = group::Group<[u8; 32]>;
 
@@ -41,6 +42,12 @@ impl Counters for [u8; 32] {
             return Err(AT_LIMIT);
         }
         Ok(())
+    }
+
+    #[inline(always)]
+    fn at_partial(&self) -> bool {
+        let over = |all, &counter: &u8| all | (counter >= GREATEST_PARTIAL);
+        self.iter().fold(false, over)
     }
 
     fn counter(&self, processor: u32) -> u32 {

@@ -113,6 +113,15 @@ impl Slot {
         (self.second >> 8 & 31) as usize
     }
 
+    /// Judges what partial mode forbids, an op and an A_OP other than 0. 13.
+    #[inline(always)]
+    pub fn judge_partial(&self) -> Answer<()> {
+        if self.first & 0xCF != 0 {
+            return Err(FLOW_WORD);
+        }
+        Ok(())
+    }
+
     /// Judges a slot of op 0. 13.
     #[inline(always)]
     pub fn judge(&self) -> Answer<()> {

@@ -4,6 +4,7 @@ use crate::table::Table;
 use crate::way::Way;
 use bench::fast::program::Program;
 use bench::fast::{planes, processors};
+use boundary::Mode;
 
 /// A run's masks: 64 steps, two masks each.
 const RUN_MASKS: usize = 128;
@@ -14,6 +15,7 @@ struct Loaded {
     program: Program,
     way: Way,
     size: u32,
+    mode: Mode,
 }
 
 impl Loaded {
@@ -23,7 +25,12 @@ impl Loaded {
             program: Program::load(&way.words).expect("a program"),
             way,
             size,
+            mode: Mode::Full,
         }
+    }
+
+    fn is_partial(&self) -> bool {
+        self.mode == Mode::Partial
     }
 }
 
@@ -50,11 +57,11 @@ fn loops(group: &boundary::Group) -> (u32, Vec<u32>) {
 }
 
 macro_rules! group {
-    ($group:ty, $program:ident, $loops:expr) => {
+    ($group:ty, $program:ident, $mode:expr, $loops:expr) => {
         impl Group for $group {
             #[inline(always)]
             fn fresh(loaded: &Loaded) -> Self {
-                <$group>::begin(loaded.size).expect("a group")
+                <$group>::begin_in(loaded.size, $mode(loaded)).expect("a group")
             }
 
             #[inline(always)]
@@ -87,9 +94,19 @@ macro_rules! group {
     };
 }
 
-group!(boundary::Group, lent, loops);
-group!(planes::Group, program, planes::Group::loops);
-group!(processors::Group, program, processors::Group::loops);
+group!(boundary::Group, lent, |loaded: &Loaded| loaded.mode, loops);
+group!(
+    planes::Group,
+    program,
+    Loaded::is_partial,
+    planes::Group::loops
+);
+group!(
+    processors::Group,
+    program,
+    Loaded::is_partial,
+    processors::Group::loops
+);
 
 pub fn add(table: &mut Table) {
     for size in [4, 32] {
@@ -106,6 +123,29 @@ pub fn add(table: &mut Table) {
     let ways: Vec<Loaded> = (15..19).map(way).collect();
     loop_line::<processors::Group>(table, "processors", &ways);
     loop_line::<planes::Group>(table, "planes", &ways);
+    for mode in [Mode::Full, Mode::Partial] {
+        mode_line::<processors::Group>(table, "processors", mode);
+        mode_line::<planes::Group>(table, "planes", mode);
+    }
+}
+
+/// The same steps over branches in either mode.
+fn mode_line<Rust: Group>(table: &mut Table, by: &str, mode: Mode) {
+    let told = match mode {
+        Mode::Full => "full",
+        Mode::Partial => "partial",
+    };
+    let name = format!("step over branches, {told} mode, Rust by {by}, a step");
+    if table.wants(&name) {
+        let way = |seed| Loaded {
+            mode,
+            ..Loaded::new(32, Way::branching(32, seed))
+        };
+        let ways: Vec<Loaded> = (19..23).map(way).collect();
+        check::<Rust>(&ways);
+        let (product, rust) = (|| steps::<boundary::Group>(&ways), || steps::<Rust>(&ways));
+        table.line(&name, count(&ways), product, rust);
+    }
 }
 
 fn loop_line<Rust: Group>(table: &mut Table, by: &str, ways: &[Loaded]) {

@@ -3,16 +3,17 @@
 
 use crate::common::kinds::{SlotNumber, Word};
 use crate::flow::loops::{self, Integer, ENDREP, LOOP, REP};
-use boundary::{Group, Program};
+use boundary::{Group, Mode, Program};
 
 /// The bits of the two words that document 01 names, and in the second those that
 /// request 4 names for openings.
 const NAMED: [u32; 2] = [0x0F1F_FFFF, 0x01FF_001F];
 const INTEGER: u32 = 0x1F00;
 
-/// The longest stack of returns, and the highest branch counter.
+/// The longest stack of returns, and the highest branch counter of each mode.
 const RETURNS: usize = 4;
 const COUNTER: u32 = 31;
+const PARTIAL_COUNTER: u32 = 5;
 
 #[derive(Clone, Copy)]
 pub struct Slot {
@@ -150,20 +151,26 @@ fn code(code: u32, names: [&str; 3]) -> String {
     }
 }
 
+/// Why a program that has ended refuses.
+pub fn ended(program: &Program, group: &Group) -> String {
+    let (position, slots) = (group.position(), program.slots());
+    format!("the program has already ended: position {position} of {slots} slots")
+}
+
 /// Why the group's next step was refused.
 pub fn cause(number: u32, program: &Program, group: &Group, integers: &[u32]) -> Option<String> {
     let (position, slots) = (group.position(), program.slots());
     if number == 16 {
-        return Some(format!(
-            "the program has already ended: position {position} of {slots} slots"
-        ));
+        return Some(ended(program, group));
     }
     if position >= slots {
         return None;
     }
     let slot = Slot::of(program, SlotNumber(position), integers);
     match number {
-        13 => not_allowed(slot).or_else(|| loops::not_allowed(slot, integers.len())),
+        13 => in_full_mode_only(group.mode(), slot)
+            .or_else(|| not_allowed(slot))
+            .or_else(|| loops::not_allowed(slot, integers.len())),
         14 => loops::at_limit(slot, group).or_else(|| at_limit(slot, group)),
         15 => {
             let to = match slot.a_op() {
@@ -175,6 +182,23 @@ pub fn cause(number: u32, program: &Program, group: &Group, integers: &[u32]) ->
             ))
         }
         _ => None,
+    }
+}
+
+/// What of a slot's first word the mode forbids, if anything.
+pub fn in_full_mode_only(mode: Mode, slot: Slot) -> Option<String> {
+    match mode {
+        Mode::Full => None,
+        Mode::Partial if slot.op() != 0 => {
+            let name = loops::name(slot.op()).map(|name| format!(" {name}"));
+            let name = name.unwrap_or_default();
+            Some(format!("partial mode has no op {}{name}", slot.op()))
+        }
+        Mode::Partial if slot.a_op() != 0 => Some(format!(
+            "partial mode has no A_OP {}",
+            code(slot.a_op(), ["none", "pop", "push"])
+        )),
+        Mode::Partial => None,
     }
 }
 
@@ -211,14 +235,18 @@ fn not_allowed(slot: Slot) -> Option<String> {
 /// limits are named where both are reached.
 fn at_limit(slot: Slot, group: &Group) -> Option<String> {
     let mut causes = Vec::new();
+    let (most, in_mode) = match group.mode() {
+        Mode::Full => (COUNTER, ""),
+        Mode::Partial => (PARTIAL_COUNTER, " in partial mode"),
+    };
     let increments = slot.b_op0() == INCREMENT || slot.b_op1() == INCREMENT;
     let idle = |processor: &u32| (group.mask() & !group.active()) >> processor & 1 == 1;
     let full = (0..32)
         .filter(idle)
-        .find(|processor| group.counter(*processor) == COUNTER);
+        .find(|processor| group.counter(*processor) == most);
     if let (true, Some(processor)) = (increments, full) {
         causes.push(format!(
-            "processor {processor}'s branch counter {COUNTER} can't gain 1"
+            "processor {processor}'s branch counter {most} can't gain 1{in_mode}"
         ));
     }
     let stored = group.returns().len();

@@ -1,7 +1,7 @@
 //! Refusals told with their place, their number and both quantities.
 
 use crate::common::{complained, egretfold, Folder};
-use boundary::{Group, Program, Session};
+use boundary::{Group, Mode, Program, Session};
 use compare::random::Random;
 use compare::{loops, programs, words};
 
@@ -161,20 +161,45 @@ fn masks(random: &mut Random) -> (String, Vec<u32>) {
 /// one that the product gives to the whole run.
 #[test]
 fn refused_runs_get_more_than_the_bare_cause() {
+    let seen = refused_runs(92, Mode::Full, programs::any);
+    assert!(seen[13..=15].iter().all(|count| *count > 0), "{seen:?}");
+}
+
+/// The same in partial mode, where a hint stands behind the cause exactly where full
+/// mode makes the run.
+#[test]
+fn refused_runs_in_partial_mode_get_more_than_the_bare_cause() {
+    let seen = refused_runs(93, Mode::Partial, |random| match random.below(2) {
+        0 => programs::any(random),
+        _ => programs::nest(random, 7),
+    });
+    assert!(seen[13..=15].iter().all(|count| *count > 0), "{seen:?}");
+}
+
+fn refused_runs(kind: u64, mode: Mode, any: fn(&mut Random) -> Vec<u32>) -> [u32; 18] {
     let mut seen = [0; 18];
-    let folder = Folder::new("integer-words");
+    let folder = Folder::new(&format!("integer-words-{mode:?}"));
     for case in 0..2_000 {
-        let mut random = Random::of_case(92, 4, case);
-        let words = programs::any(&mut random);
+        let mut random = Random::of_case(kind, 4, case);
+        let words = any(&mut random);
         let integers = loops::integers(&mut random);
         let (arguments, list) = masks(&mut random);
         let repeated = list.repeat(8);
-        let run = |program| Group::begin(8)?.run(&program, &repeated, 0xF0F0, &integers);
-        let answer = Program::load(&words).and_then(run);
+        let run = |mode, program: &Program| {
+            Group::begin_in(8, mode)?.run(program, &repeated, 0xF0F0, &integers)
+        };
+        let program = Program::load(&words);
+        let answer = program.as_ref().map_err(|n| *n);
+        let answer = answer.and_then(|program| run(mode, program));
+        let full = program.and_then(|program| run(Mode::Full, &program));
         let stream: Vec<u8> = words.iter().flat_map(|word| word.to_le_bytes()).collect();
         let text: String = integers.iter().map(|word| format!("{word:X}\n")).collect();
         let file = folder.write("integers", text.as_bytes());
-        let options = format!("--booleans F0F0 --integers {file} --repeat 8");
+        let partial = match mode {
+            Mode::Full => "",
+            Mode::Partial => "--partial ",
+        };
+        let options = format!("{partial}--booleans F0F0 --integers {file} --repeat 8");
         let line = format!("flow --processors 8 {options} -{arguments}");
         let output = egretfold(&line, &stream);
         let told = complained(&output);
@@ -183,11 +208,15 @@ fn refused_runs_get_more_than_the_bare_cause() {
             Err(number) => {
                 assert_eq!(output.status.code(), Some(1), "{told}");
                 assert!(told.contains(&format!(": refused {number}, ")), "{told}");
-                let is_bare = BARE_FLOW.iter().any(|bare| told.trim_end().ends_with(bare));
+                let cause = told.split("; in full mode").next().unwrap_or_default();
+                let is_bare = BARE_FLOW
+                    .iter()
+                    .any(|bare| cause.trim_end().ends_with(bare));
                 assert!(!is_bare, "{told}");
+                assert_eq!(cause != told, full.is_ok(), "{told}");
                 seen[number as usize] += 1;
             }
         }
     }
-    assert!(seen[13..=15].iter().all(|count| *count > 0), "{seen:?}");
+    seen
 }

@@ -7,14 +7,14 @@ use Rattle.flow_worked.proofs.steps.nested.Statement.{statement}
 use Rattle.flow_worked.proofs.steps.nested.Tie as tie
 
 abbrev Inv-loop : tie.InvT-loop
-Inv-loop cells₀ deeper₀ cells deeper =
+Inv-loop mode cells₀ deeper₀ cells deeper =
     (GroupGiven cells) × (deeper ≤ 100)
 
 abbrev μ-loop : tie.MeasureT-loop
-μ-loop cells₀ deeper₀ cells deeper = 100 - deeper
+μ-loop mode cells₀ deeper₀ cells deeper = 100 - deeper
 
-fresh-requires : tie.Need-fresh-requires Inv-loop μ-loop
-fresh-requires c κs = omega arith
+fresh-in-requires : tie.Need-fresh-in-requires Inv-loop μ-loop
+fresh-in-requires c κs = omega arith
 
 one-requires : tie.Need-one-requires Inv-loop μ-loop
 one-requires c κs = search needs
@@ -46,7 +46,7 @@ nested-spec =
     (tie.spec
     Inv-loop
     μ-loop
-    fresh-requires
+    fresh-in-requires
     one-requires
     loop-holds
     one-requires-2
