@@ -1,9 +1,9 @@
 // Addresses: a pair of a window to the address of its element and the run from there on, and any byte address back to the pair
 // that owns the byte and the byte's place in the element. `translate` answers address and run or 3, 6, 10; `locate` the pair or
 // 3, 6, 12.
-mod block;
-mod offset;
-mod run;
+pub mod block;
+pub mod offset;
+pub mod run;
 
 use layout::ByteAddress;
 use layout::Layout;

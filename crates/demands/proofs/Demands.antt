@@ -1,10 +1,10 @@
--- The page of top theorems, in the order of the demands: 1, 2, 3, then elements, flow, and the requests 1 to 8 and 11. Each statement has
+-- The page of top theorems, in the order of the demands: 1, 2, 3, then elements, flow, and the requests 1 to 8, 11 and 13. Each statement has
 -- its sentence above it and a proof that only cites the file that has it. What a statement asks for is what its sentence says or what an
 -- entry asks for: a session, a replay or a group's cells that came from the entries (`Reached`, `Handed`), and bytes that are bytes.
 -- Assumes nothing.
 use mathlib.Core.Path.{_≡_, refl, _∙_}
 use mathlib.Core.Bool.{Bool, true, false}
-use mathlib.Core.List.{List, [], _∷_, _++_, map}
+use mathlib.Core.List.{List, [], _∷_, _++_, map, List·Permᴰ}
 use Prim.Native.Nat.{ℕ, suc, _+_, _-_, _*_, _^_, _<_, _≤_}
 use lib.Count.{ones, trailingZeros}
 use lib.Ieee.{Float, lt}
@@ -33,6 +33,9 @@ use Rattle.memory.specs.Restated.{fromAddress, readAt, writeAt}
 use Rattle.memory.proofs.Bytes.{touched}
 use Rattle.memory.proofs.ReadBack.{read-back}
 use Rattle.memory.proofs.Restated.{read-restated, write-restated}
+use Rattle.picture.specs.Picture.{Spot, Scene, Domain, Lent, spotsOf}
+use Rattle.picture.specs.Example.{example, exampleDomain}
+use Rattle.picture.proofs.Example.{example-lent}
 use Rattle.superfine.specs.InLine.{joined}
 use Rattle.superfine.specs.Superfine.{superfineWord, superfineReadOf, formatLayout}
 use Rattle.superfine.proofs.FourReads.{four-reads}
@@ -142,6 +145,7 @@ use Rattle.demands.specs.Cases.{Agree as Cases, cases}
 use Rattle.demands.specs.Days.{added, replayed, goneOn, AtMidnight, withDay, begun}
 use Rattle.demands.specs.Flow.{Agree, AllAgree, Made, Ran, Refused}
 use Rattle.demands.specs.Flow as flow
+use Rattle.demands.specs.Painting.{Painting, Painted}
 use Rattle.demands.specs.Pieces.{Handed, WordRefused, InTurn, AsOne}
 use Rattle.demands.specs.Refused.{FirstRefused, Reported}
 use Rattle.demands.specs.Windows.{Fits, PairOutside, ByteShared}
@@ -149,6 +153,7 @@ use Rattle.demands.proofs.Calls.{refused-call}
 use Rattle.demands.proofs.Days.{day-so-far, day-ended, before-first, days-stand}
 use Rattle.demands.proofs.Elements.{write-done}
 use Rattle.demands.proofs.Flow.{step-made, step-refused, run-walks, same-step, same-run, handed-made, begun-mode, step-mode, run-mode}
+use Rattle.demands.proofs.Painting.{every-order}
 use Rattle.demands.proofs.Pieces.{handed-reached, handed-given, word-refused, as-one}
 use Rattle.demands.proofs.Refused.{refused-place}
 use Rattle.demands.proofs.Windows.{passes, gets-eight, gets-nine}
@@ -728,6 +733,20 @@ maximum-by-bits = maximum-pattern
 
 pub choice-by-bits : (a b third : ℕ) → third < 2 ^ 32 → choiceOf (float a) (float b) (float third) ≡ float (choiceBits a b third)
 choice-by-bits = choice-pattern
+
+-- REQUEST 13, "Every order paints the same picture"
+
+-- "Take one accepted output window, a domain inside it and lent memory covering its span. Write each pair's given element once. Prove that
+-- every order of these writes gives the same memory, that each pair reads back its own element, and that bytes no pair of the domain owns
+-- are unchanged. For outputs whose spans are disjoint the same holds together."
+pub picture-orders :
+    (c : Scene) (outputs : ℕ) (d : Domain) (first : ℕ) (m : List ℕ) → Lent c outputs d first (length m) → (order : List Spot) →
+    List·Permᴰ order (spotsOf d outputs) → (m' : List ℕ) → Painting c first order m m' → Painted c outputs d first m m'
+picture-orders = every-order
+
+-- There are such scenes: two outputs, one tiled and one linear, in 4,096 bytes of memory.
+pub picture-example : Lent example 2 exampleDomain 0 4096
+picture-example = example-lent
 
 -- THE WORKED CASES
 

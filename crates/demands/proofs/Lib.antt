@@ -4,6 +4,7 @@ pub mod Demands
 pub mod Elements
 pub mod Flow
 pub mod Numbers
+pub mod Painting
 pub mod Pieces
 pub mod Refused
 pub mod Windows

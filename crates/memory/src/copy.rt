@@ -11,7 +11,7 @@ ghost use Rattle.memory.specs.Answers.{Answered, PutAsked};
 ghost use Rattle.memory.specs.Elements.{overwritten};
 
 // The given bytes, which are `n`, into a part of memory that is as long. Where `n` is a constant, no loop is left.
-fn store_all(part: &mut [u8], given: &[u8], n: usize)
+pub fn store_all(part: &mut [u8], given: &[u8], n: usize)
     requires { ⌜ (length (now part) ≡ length (now given)) × (n ≡ length (now given)) ⌝ }
     ensures { λ _. ⌜ now (part .exit) ≡ now (given .entry) ⌝ }
 {

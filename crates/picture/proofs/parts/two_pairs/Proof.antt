@@ -1,0 +1,63 @@
+-- `picture::parts::two_pairs` meets its contract: four parts, one after the other. Assumes nothing.
+use mathlib.Core.Path.{_∙_}
+use Rattle.picture.proofs.Moves.{second-asked, third-asked, fourth-asked, four-moved}
+use borrow.Author.Needs.{needs}
+use Rattle.picture.proofs.parts.two_pairs.Statement.{statement}
+use Rattle.picture.proofs.parts.two_pairs.Tie as tie
+
+turn-requires : tie.Need-turn-requires
+turn-requires c κs = search needs
+
+add-turn : tie.Need-add-turn
+add-turn c = search needs
+
+add-turn-2 : tie.Need-add-turn-2
+add-turn-2 c = search needs
+
+turn-requires-2 : tie.Need-turn-requires-2
+turn-requires-2 c κs = second-asked _ _ _ _ _ _ _ _ (c .before .before .before .before .before .before .before .pre) (c .before .before .to .given)
+
+mul-turn : tie.Need-mul-turn
+mul-turn c = search needs
+
+add-turn-3 : tie.Need-add-turn-3
+add-turn-3 c = search needs
+
+turn-requires-3 : tie.Need-turn-requires-3
+turn-requires-3 c κs = third-asked _ _ _ _ _ _ _ _ (c .before .before .before .before .before .before .before .before .before .before .before .pre) (c .before .before .to2 .given ∙ c .before .before .before .before .before .before .to .given)
+
+add-turn-4 : tie.Need-add-turn-4
+add-turn-4 c = search needs
+
+mul-turn-2 : tie.Need-mul-turn-2
+mul-turn-2 c = search needs
+
+add-turn-5 : tie.Need-add-turn-5
+add-turn-5 c = search needs
+
+turn-requires-4 : tie.Need-turn-requires-4
+turn-requires-4 c κs = fourth-asked _ _ _ _ _ _ _ _ (c .before .before .before .before .before .before .before .before .before .before .before .before .before .before .before .pre) (c .before .before .to3 .given ∙ c .before .before .before .before .before .before .to2 .given ∙ c .before .before .before .before .before .before .before .before .before .before .to .given)
+
+same-length : tie.Need-same-length
+same-length c = search needs
+
+returns : tie.Need-returns
+returns c = four-moved _ _ _ _ _ _ _ _ _ _ (c .before .before .before .before .before .before .before .before .before .before .before .before .before .before .turn .ensures) (c .before .before .before .before .before .before .before .before .before .before .turn2 .ensures) (c .before .before .before .before .before .before .turn3 .ensures) (c .before .before .turn4 .ensures)
+
+pub two-pairs-spec : {M : Type 1} → statement M
+two-pairs-spec =
+    tie.close
+    (tie.spec
+    turn-requires
+    add-turn
+    add-turn-2
+    turn-requires-2
+    mul-turn
+    add-turn-3
+    turn-requires-3
+    add-turn-4
+    mul-turn-2
+    add-turn-5
+    turn-requires-4
+    same-length
+    returns)

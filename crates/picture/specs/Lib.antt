@@ -1,0 +1,5 @@
+pub mod Bulk
+pub mod Example
+pub mod Moves
+pub mod Picture
+pub mod Rows
