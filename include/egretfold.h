@@ -1,9 +1,9 @@
 /* Egretfold: CTM command streams, logs of them over midnight, their monthly score, tile addresses, elements in lent memory, and
  * flow words for one group.
  *
- * Every function returns 0, or the number of a refusal of document 01 (egretfold_group_loops alone returns nothing); a refusal
- * touches no room and no state except where its function says so. Nothing is allocated and nothing is kept between calls: all
- * state lies in arrays that the caller lends. Arguments may be any numbers. Arrays have just the lengths shown, except where a
+ * Every function returns 0, or the number of a refusal of document 01 (egretfold_group_loops and the two functions on
+ * registers return nothing, since they refuse nothing); a refusal touches no room and no state except where its function says
+ * so. Nothing is allocated and nothing is kept between calls: all state lies in arrays that the caller lends. Arguments may be any numbers. Arrays have just the lengths shown, except where a
  * length is an argument of its own.
  *
  *      1  the session is stopped
@@ -16,10 +16,10 @@
  *      8  the domain is not inside every set output's window; silent outputs are passed over
  *      9  spans of two set outputs share a byte; silent outputs are passed over
  *     10  a pair is outside its window
- *     11  room, element data or memory of a wrong length or place
+ *     11  room, element data, memory or registers of a wrong length or place
  *     12  no pair of the window owns the address
- *     13  flow word field, group size or mode not allowed; no such integer word, or one with reserved bits; in partial mode an
- *         op other than 0 or an A_OP
+ *     13  flow word field, group size, mode or write mask not allowed; no such integer word, or one with reserved bits; in
+ *         partial mode an op other than 0 or an A_OP
  *     14  branch counter, return stack, open loops or aL at their limit, or a close that fits no open loop
  *     15  a jump past the program's end, or a program of a wrong length
  *     16  the program has already ended
@@ -57,10 +57,14 @@ enum { EGRETFOLD_LOG = 10, EGRETFOLD_MARKS = 800 };
  *   7        the position
  *   8 to 11  the stored returns, the last one first, 0 where there is none
  *   12       the mode, 0 full or 1 partial
+ *   13       the processors that were killed, who are in neither of the first two cells
  *   14 to 17 the open loops, the innermost first, 0 where there is none: a LOOP as its count in bits 7:0, its aL in 15:8, its
  *            step in 23:16 and bit 24 set; a REP as its count
  *   the rest zeros */
 enum { EGRETFOLD_SLOTS = 512, EGRETFOLD_CELLS = 20 };
+
+/* The channels of a register. */
+enum { EGRETFOLD_CHANNELS = 4 };
 
 /* The most days of a lease line. */
 enum { EGRETFOLD_DAYS = 31 };
@@ -82,8 +86,9 @@ uint32_t egretfold_session_feed(uint32_t own[EGRETFOLD_OWN], uint64_t tallies[EG
                                 uint32_t shared[EGRETFOLD_SHARED], const uint32_t *words, size_t length, uint64_t fed[2]);
 
 /* status: the words taken since the session began; 1 if it is stopped, else 0; the open command's header, 0 if none is open;
- * and how many of its parameters were taken. Returns 0. */
-uint32_t egretfold_session_status(const uint32_t own[EGRETFOLD_OWN], uint32_t status[4]);
+ * how many of its parameters were taken; and what the settings alone give a start, 0, 7, 8 or 9, which the session keeps: a
+ * stop, the words taken and the open command don't change it. Returns 0. */
+uint32_t egretfold_session_status(const uint32_t own[EGRETFOLD_OWN], uint32_t status[5]);
 
 /* counts: runs (starts that passed) and the elements that they claimed: the pairs of the domain, times the set outputs that
  * are not silent at the start. An output is silent when no mask bit is set for a channel that its format has: bit 4n + c is
@@ -224,6 +229,26 @@ uint32_t egretfold_group_run(const uint32_t firsts[EGRETFOLD_SLOTS], const uint3
  * innermost first: its kind (0 none, 1 LOOP, 3 REP), its count, which is that of the turns left with the present one among
  * them, and its aL (0 for a REP). Returns nothing. */
 void egretfold_group_loops(const uint32_t cells[EGRETFOLD_CELLS], uint32_t loops[13]);
+
+/* ---- Registers of four float channels ---- */
+
+/* Kills every active processor that has a channel under the write mask (bit c for channel c) less than zero: minus zero and a NaN
+ * aren't, minus infinity is. registers: four floats for each processor of the group as it began, processor 0 first, `floats` of them
+ * in all. `slots` are those of the program that run, which is asked only whether it has ended. killed: those who were killed now, bit
+ * i for processor i; cell 13 has all so far. They are in the group no longer. 16, 13 for a mask over 15, or 11 for another
+ * number of floats, in that order. */
+uint32_t egretfold_group_kill(uint32_t slots, uint32_t cells[EGRETFOLD_CELLS], uint32_t mask, const float *registers,
+                              size_t floats, uint32_t killed[1]);
+
+/* The maximum of two registers, channel by channel: a's where b's is less than a's, otherwise b's, with the bits as they are, a
+ * NaN's too. Returns nothing. */
+void egretfold_register_maximum(const float a[EGRETFOLD_CHANNELS], const float b[EGRETFOLD_CHANNELS],
+                                float maximum[EGRETFOLD_CHANNELS]);
+
+/* The choice between two registers by a third one, channel by channel: a's where the third's is at least zero, as minus zero is and a
+ * NaN isn't, otherwise b's, with the bits as they are. Returns nothing. */
+void egretfold_register_choice(const float a[EGRETFOLD_CHANNELS], const float b[EGRETFOLD_CHANNELS],
+                               const float third[EGRETFOLD_CHANNELS], float choice[EGRETFOLD_CHANNELS]);
 
 #ifdef __cplusplus
 }

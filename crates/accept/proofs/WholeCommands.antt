@@ -26,31 +26,32 @@ use Rattle.command.specs.declared.commands.Command.the-variants as command
 use Rattle.rules.proofs.Fitting.{start-fits, effectless-fits, store-decided, mask-decided, conditional-mask-decided, test-decided, given-fine}
 use Rattle.command.proofs.Headers.{accepted-listed}
 use Rattle.rules.proofs.Readable.{readable}
-use Rattle.state.specs.State.{Open, Party, Shared, Session}
+use Rattle.state.specs.State.{Open, Tally, Readiness, Party, Shared, Session, mostExtent}
 use Rattle.state.specs.Start.{readyOf, readinessOf}
-use Rattle.state.specs.Effects.{limit, buffer, domainFrom, withDomain, withInstructions, ownAfter, sharedAfter, after}
+use Rattle.state.specs.Readiness.{readinessFor, workedOut}
+use Rattle.state.specs.Effects.{limit, buffer, domainFrom, withDomain, withInstructions, withReadiness, renewed, ownAfter, sharedAfter, after}
+use Rattle.state.specs.Valid.{DomainValid}
+use Rattle.start.specs.Gauge.{settled, RenewAsked}
+use Rattle.start.proofs.Gauge.{settled-kept}
 use Rattle.start.specs.Rules.{startRuleOf}
 use Rattle.start.proofs.Readiness.{number-given, number-refused}
 use Rattle.accept.specs.AtWord.{atWord}
 use Rattle.state.specs.Asked.{Given, Held, HeldOwn, OwnAsked}
-use Rattle.state.specs.Cells.{Sized, partyOf, partyCells, tallyCells, sharedOf, sharedCells, sessionOf, setBuffer, ownLength, sharedLength}
+use Rattle.state.specs.Cells.{Sized, partyOf, partyCells, tallyCells, sharedOf, sharedCells, sessionOf, setBuffer, ownLength, sharedLength, talliesLength}
+use Rattle.state.proofs.Cells.{own-canon, tally-canon}
 use Rattle.state.specs.Effects.{tookWords}
 use Rattle.accept.specs.Whole.{Ready, RoomFor, Denied, byWords, byFields, bySettings, Tried, untaken, accepted, Begun, begun, unbegun}
 use Rattle.accept.specs.Whole.{OwnTried, SharedTried, KeptAt, everyWord}
 use Rattle.state.proofs.OwnPuts.{
   stored-cells,
-  own-instructions,
   own-floats,
   own-integers,
   own-booleans,
-  domain-own,
   start-own,
   store-own,
   effectless-own,
   input-own,
-  output-own,
   conditional-own,
-  mask-own,
   conditional-mask-own,
   test-own,
 }
@@ -69,11 +70,13 @@ use Rattle.state.proofs.SharedPuts.{
   conditional-mask-shared,
   test-shared,
 }
-use Rattle.accept.proofs.Numbers.{numbered}
+use Rattle.accept.proofs.Numbers.{numbered, last-pair}
+use Rattle.accept.proofs.Outputs.{output-set, mask-set, renewed-own, renew-asked}
 
--- what a command does to the party's own settings, the words counted before or after it
+-- what a command does to the party's own settings and to what is kept of readiness, the words counted before or after it
 own-at-word : (c : Command) (n : ℕ) (h : Shared) (p : Party) →
-    ownAfter c h (tookWords n p) ≡ atWord (after c (record { party = p; shared = h })) (p .taken + n) (p .opened) .party
+    renewed (sharedAfter c h) (ownAfter c h (tookWords n p)) ≡
+    atWord (after c (record { party = p; shared = h })) (p .taken + n) (p .opened) .party
 unfolding after ownAfter sharedAfter
 own-at-word (command.Domain i0 j0 i1 j1) n h p = refl
 own-at-word command.Start n h p = refl
@@ -89,6 +92,40 @@ own-at-word (command.OutputMask mask) n h p = refl
 own-at-word (command.ConditionalMask mask) n h p = refl
 own-at-word (command.Test test) n h p = refl
 
+-- a command that sets nothing that readiness is worked out from
+unfoldable pub Unmoving : Command → Type 0
+Unmoving (command.Domain i0 j0 i1 j1) = ⊥
+Unmoving command.Start = Unit
+Unmoving (command.Effectless what) = Unit
+Unmoving (command.Store stored.Instructions base format) = ⊥
+Unmoving (command.Store stored.Floats base format) = Unit
+Unmoving (command.Store stored.Integers base format) = Unit
+Unmoving (command.Store stored.Booleans base format) = Unit
+Unmoving (command.Input number base format height) = Unit
+Unmoving (command.Output number base format height) = ⊥
+Unmoving (command.Conditional base format height) = Unit
+Unmoving (command.OutputMask mask) = ⊥
+Unmoving (command.ConditionalMask mask) = Unit
+Unmoving (command.Test test) = Unit
+
+-- such a command leaves what is kept as it is worked out
+unmoved : (c : Command) → Unmoving c → (h : Shared) (p : Party) → p .readiness ≡ readinessFor p h →
+    ownAfter c h p ≡ renewed (sharedAfter c h) (ownAfter c h p)
+unfolding Unmoving ownAfter sharedAfter
+unmoved (command.Domain i0 j0 i1 j1) u h p e = absurd u
+unmoved command.Start u h p e = λ k. withReadiness (e k) (ownAfter command.Start h p)
+unmoved (command.Effectless what) u h p e = λ k. withReadiness (e k) p
+unmoved (command.Store stored.Instructions base format) u h p e = absurd u
+unmoved (command.Store stored.Floats base format) u h p e = λ k. withReadiness (e k) p
+unmoved (command.Store stored.Integers base format) u h p e = λ k. withReadiness (e k) p
+unmoved (command.Store stored.Booleans base format) u h p e = λ k. withReadiness (e k) p
+unmoved (command.Input number base format height) u h p e = λ k. withReadiness (e k) p
+unmoved (command.Output number base format height) u h p e = absurd u
+unmoved (command.Conditional base format height) u h p e = λ k. withReadiness (e k) p
+unmoved (command.OutputMask mask) u h p e = absurd u
+unmoved (command.ConditionalMask mask) u h p e = λ k. withReadiness (e k) p
+unmoved (command.Test test) u h p e = λ k. withReadiness (e k) p
+
 module _ (c : Command) (n : ℕ) (l t h l1 : List ℕ) (e1 : l1 ≡ partyCells (tookWords n (partyOf l []))) where
   is-party : partyOf l1 t ≡ tookWords n (partyOf l t)
   unfolding partyOf partyCells
@@ -97,27 +134,49 @@ module _ (c : Command) (n : ℕ) (l t h l1 : List ℕ) (e1 : l1 ≡ partyCells (
   abbrev left : Session
   left = atWord (after c (sessionOf l t h)) (partyOf l t .taken + n) (partyOf l t .opened)
 
-  own-after : ownAfter c (sharedOf h) (partyOf l1 t) ≡ left .party
-  own-after = ap (ownAfter c (sharedOf h)) is-party ∙ own-at-word c n (sharedOf h) (partyOf l t)
+  abbrev then : Party → Party
+  then p = renewed (sharedAfter c (sharedOf h)) (ownAfter c (sharedOf h) p)
 
   module _ (rest ws : List ℕ) (begins : ws ≡ wordsOf c ++ rest) (fine : judgeCommandOf c ≡ gives []) (rule : startRuleOf c (sessionOf l t h) ≡ gives []) where
-    pub tried : (l2 t2 h2 : List ℕ) → HeldOwn (ownAfter c (sharedOf h) (partyOf l1 t)) l2 t2 →
+    pub tried : (l2 t2 h2 : List ℕ) → HeldOwn (then (partyOf l1 t)) l2 t2 →
         h2 ≡ sharedCells (sharedAfter c (sharedOf h)) → Tried c ws n l t h n l2 t2 h2
     unfolding after
     tried l2 t2 h2 held e = accepted rest l2 t2 h2 begins fine rule kept
       where
         own-held : HeldOwn (left .party) l2 t2
-        own-held = subst (λ (p : Party). HeldOwn p l2 t2) own-after held
+        own-held =
+            subst (λ (p : Party). HeldOwn p l2 t2) (ap then is-party ∙ own-at-word c n (sharedOf h) (partyOf l t)) held
 
         kept : Held left l2 t2 h2
         kept = record { own-cells = own-held .own-cells; tally-cells = own-held .tally-cells; shared-cells = e }
+
+    -- the same of a command that sets nothing that readiness is worked out from
+    pub unmoving-tried : Unmoving c → OwnAsked l t h → (l2 t2 h2 : List ℕ) → HeldOwn (ownAfter c (sharedOf h) (partyOf l1 t)) l2 t2 →
+        h2 ≡ sharedCells (sharedAfter c (sharedOf h)) → Tried c ws n l t h n l2 t2 h2
+    unmoving-tried u a l2 t2 h2 held =
+        tried l2 t2 h2
+        (subst (λ (p : Party). HeldOwn p l2 t2)
+        (ap (ownAfter c (sharedOf h)) is-party ∙ unmoved c u (sharedOf h) (tookWords n (partyOf l t)) (a .kept) ∙ ap then (sym is-party))
+        held)
+
+-- "start reads it": the stored number is the one worked out from the settings
+stored-number : (l t h : List ℕ) → OwnAsked l t h →
+    getD l 19 0 ≡ readinessOf (partyOf l t .domain) (partyOf l t .instructions) (sharedOf h .mask) (sharedOf h .outputs)
+unfolding partyOf workedOut
+stored-number l t h a = ap (λ (r : Readiness). r .number) (a .kept)
+
+last-column : (i0 j0 i1 j1 : ℕ) → judgeCommandOf (command.Domain i0 j0 i1 j1) ≡ gives [] → i1 < mostExtent
+last-column i0 j0 i1 j1 e = last-pair i0 j0 i1 j1 (readable (command.Domain i0 j0 i1 j1) e .fields-allowed) .0
+
+last-row : (i0 j0 i1 j1 : ℕ) → judgeCommandOf (command.Domain i0 j0 i1 j1) ≡ gives [] → j1 < mostExtent
+last-row i0 j0 i1 j1 e = last-pair i0 j0 i1 j1 (readable (command.Domain i0 j0 i1 j1) e .fields-allowed) .1
 
 pub counted-length : (l l1 : List ℕ) (n : ℕ) → l1 ≡ partyCells (tookWords n (partyOf l [])) → length l1 ≡ ownLength
 unfolding partyCells
 counted-length l l1 n e = ap length e
 
 -- a command that the writer accepts has its number in range
-output-most : (n b f k : ℕ) → judgeCommandOf (command.Output n b f k) ≡ gives [] → n < 4
+pub output-most : (n b f k : ℕ) → judgeCommandOf (command.Output n b f k) ≡ gives [] → n < 4
 output-most n b f k e = numbered (command.Output n b f k) (readable (command.Output n b f k) e .fields-allowed)
 
 input-most : (n b f k : ℕ) → judgeCommandOf (command.Input n b f k) ≡ gives [] → n < 16
@@ -134,32 +193,75 @@ module _ (l l1 : List ℕ) (m : ℕ) (e : l1 ≡ partyCells (tookWords m (partyO
   abbrev sized : length l1 ≡ ownLength
   sized = counted-length l l1 m e
 
-  pub domain-tried : (i0 j0 i1 j1 : ℕ) → judgeCommandOf (command.Domain i0 j0 i1 j1) ≡ gives [] →
-      (l2 : List ℕ) → l2 ≡ partyCells (withDomain (domainFrom i0 j0 i1 j1) (partyOf l1 [])) →
-      OwnTried (command.Domain i0 j0 i1 j1) (headerOf 0 ∷ i0 ∷ j0 ∷ i1 ∷ j1 ∷ []) m m l l2
-  unfolding wordsOf lineOf fieldsOf startRuleOf
-  domain-tried i0 j0 i1 j1 fine l2 e2 t h rest z =
-      tried (command.Domain i0 j0 i1 j1) m l t h l1 e rest _ refl fine refl l2 t h
-      (domain-own l1 sized t (z .tallies-length) (sharedOf h) i0 j0 i1 j1 e2)
-      (domain-shared h (z .shared-length) i0 j0 i1 j1)
+  -- what is kept after the words were counted
+  kept-counted : (t h : List ℕ) → OwnAsked l t h → partyOf l1 t .readiness ≡ readinessFor (partyOf l t) (sharedOf h)
+  unfolding partyOf partyCells
+  kept-counted t h a = ap (λ (x : List ℕ). partyOf x t .readiness) e ∙ a .kept
+
+  domain-counted : (t h : List ℕ) → OwnAsked l t h → DomainValid (partyOf l1 t .domain)
+  unfolding partyOf partyCells
+  domain-counted t h a = subst (λ (x : List ℕ). DomainValid (partyOf x t .domain)) (sym e) (a .domain)
+
+  -- own cells that were settled after the domain or the instruction format was set
+  settled-own : (q : Party) (t l2 l3 : List ℕ) → length t ≡ talliesLength → q .tally ≡ partyOf l1 t .tally → l2 ≡ partyCells q →
+      l3 ≡ partyCells (settled (partyOf l2 [])) → HeldOwn (settled q) l3 t
+  unfolding partyOf partyCells tallyCells
+  settled-own q t l2 l3 z same e2 e3 =
+      record {
+        own-cells = e3 ∙ ap (λ (x : List ℕ). partyCells (settled (partyOf x []))) e2;
+        tally-cells = sym (tally-canon l1 t z) ∙ ap {B = List ℕ} (λ (x : Tally). x .runs ∷ x .claims ∷ []) (sym same);
+      }
+
+  module _ (i0 j0 i1 j1 : ℕ) (fine : judgeCommandOf (command.Domain i0 j0 i1 j1) ≡ gives []) where
+    abbrev domainSet : List ℕ → Party
+    domainSet t = withDomain (domainFrom i0 j0 i1 j1) (partyOf l1 t)
+
+    domain-held : (t h : List ℕ) → OwnAsked l t h → (l2 l3 : List ℕ) → l2 ≡ partyCells (domainSet []) →
+        l3 ≡ partyCells (settled (partyOf l2 [])) →
+        HeldOwn (renewed (sharedAfter (command.Domain i0 j0 i1 j1) (sharedOf h)) (ownAfter (command.Domain i0 j0 i1 j1) (sharedOf h) (partyOf l1 t))) l3 t
+    unfolding ownAfter sharedAfter
+    domain-held t h z l2 l3 e2 e3 =
+        subst (λ (p : Party). HeldOwn p l3 t)
+        (settled-kept (domainSet t) (sharedOf h) (partyOf l t .domain) (partyOf l t .instructions) (last-column i0 j0 i1 j1 fine)
+        (last-row i0 j0 i1 j1 fine) (kept-counted t h z))
+        (settled-own (domainSet t) t l2 l3 (z .sized .tallies-length) refl (e2 ∙ unfold partyOf partyCells in refl) e3)
+
+    pub domain-tried : (l2 : List ℕ) → l2 ≡ partyCells (domainSet []) → (l3 : List ℕ) → l3 ≡ partyCells (settled (partyOf l2 [])) →
+        OwnTried (command.Domain i0 j0 i1 j1) (headerOf 0 ∷ i0 ∷ j0 ∷ i1 ∷ j1 ∷ []) m m l l3
+    unfolding wordsOf lineOf fieldsOf startRuleOf
+    domain-tried l2 e2 l3 e3 t h rest z =
+        tried (command.Domain i0 j0 i1 j1) m l t h l1 e rest _ refl fine refl l3 t h (domain-held t h z l2 l3 e2 e3)
+        (domain-shared h (z .sized .shared-length) i0 j0 i1 j1)
 
   pub effectless-tried : (n : ℕ) → n ≡ 0 → (what : NoEffect) →
       OwnTried (command.Effectless what) (headerOf (noEffectLine what) ∷ n ∷ []) m m l l1
   unfolding wordsOf lineOf fieldsOf startRuleOf
   effectless-tried n none what t h rest z =
-      tried (command.Effectless what) m l t h l1 e rest _
-      (ap {B = List ℕ} (λ (x : ℕ). headerOf (noEffectLine what) ∷ x ∷ rest) none) (effectless-fits what) refl l1 t h
-      (effectless-own l1 sized t (z .tallies-length) (sharedOf h) what)
-      (effectless-shared h (z .shared-length) what)
+      unmoving-tried (command.Effectless what) m l t h l1 e rest _
+      (ap {B = List ℕ} (λ (x : ℕ). headerOf (noEffectLine what) ∷ x ∷ rest) none) (effectless-fits what) refl (unfold Unmoving in tt) z l1 t h
+      (effectless-own l1 sized t (z .sized .tallies-length) (sharedOf h) what)
+      (effectless-shared h (z .sized .shared-length) what)
 
-  pub instructions-tried : (b f : ℕ) → judgeCommandOf (command.Store stored.Instructions b f) ≡ gives [] → (l2 : List ℕ) →
-      l2 ≡ partyCells (withInstructions (buffer b f 1) (partyOf l1 [])) →
-      OwnTried (command.Store stored.Instructions b f) (headerOf 3 ∷ b ∷ f ∷ []) m m l l2
-  unfolding wordsOf lineOf storedLine fieldsOf startRuleOf
-  instructions-tried b f fine l2 e2 t h rest z =
-      tried (command.Store stored.Instructions b f) m l t h l1 e rest _ refl fine refl l2 t h
-      (store-own l1 sized t (z .tallies-length) (sharedOf h) stored.Instructions b f (e2 ∙ own-instructions l1 sized b f))
-      (instructions-shared h (z .shared-length) b f)
+  module _ (b f : ℕ) (fine : judgeCommandOf (command.Store stored.Instructions b f) ≡ gives []) where
+    abbrev formatSet : List ℕ → Party
+    formatSet t = withInstructions (buffer b f 1) (partyOf l1 t)
+
+    instructions-held : (t h : List ℕ) → OwnAsked l t h → (l2 l3 : List ℕ) → l2 ≡ partyCells (formatSet []) →
+        l3 ≡ partyCells (settled (partyOf l2 [])) →
+        HeldOwn (renewed (sharedAfter (command.Store stored.Instructions b f) (sharedOf h)) (ownAfter (command.Store stored.Instructions b f) (sharedOf h) (partyOf l1 t))) l3 t
+    unfolding ownAfter sharedAfter
+    instructions-held t h z l2 l3 e2 e3 =
+        subst (λ (p : Party). HeldOwn p l3 t)
+        (settled-kept (formatSet t) (sharedOf h) (partyOf l t .domain) (partyOf l t .instructions) (domain-counted t h z .column-most)
+        (domain-counted t h z .row-most) (kept-counted t h z))
+        (settled-own (formatSet t) t l2 l3 (z .sized .tallies-length) refl (e2 ∙ unfold partyOf partyCells in refl) e3)
+
+    pub instructions-tried : (l2 : List ℕ) → l2 ≡ partyCells (formatSet []) → (l3 : List ℕ) → l3 ≡ partyCells (settled (partyOf l2 [])) →
+        OwnTried (command.Store stored.Instructions b f) (headerOf 3 ∷ b ∷ f ∷ []) m m l l3
+    unfolding wordsOf lineOf storedLine fieldsOf startRuleOf
+    instructions-tried l2 e2 l3 e3 t h rest z =
+        tried (command.Store stored.Instructions b f) m l t h l1 e rest _ refl fine refl l3 t h (instructions-held t h z l2 l3 e2 e3)
+        (instructions-shared h (z .sized .shared-length) b f)
 
   -- commands that change shared cells, `h` to `h1`
   module _ (h h1 : List ℕ) where
@@ -167,27 +269,31 @@ module _ (l l1 : List ℕ) (m : ℕ) (e : l1 ≡ partyCells (tookWords m (partyO
         SharedTried (command.Conditional b f k) (headerOf 6 ∷ b ∷ f ∷ k ∷ []) m m l h l1 h1
     unfolding wordsOf lineOf fieldsOf startRuleOf
     conditional-tried b f k fine p t rest z =
-        tried (command.Conditional b f k) m l t h l1 e rest _ refl fine refl l1 t h1
-        (conditional-own l1 sized t (z .tallies-length) (sharedOf h) b f k)
-        (p ∙ conditional-shared h (z .shared-length) b f k)
+        unmoving-tried (command.Conditional b f k) m l t h l1 e rest _ refl fine refl (unfold Unmoving in tt) z l1 t h1
+        (conditional-own l1 sized t (z .sized .tallies-length) (sharedOf h) b f k)
+        (p ∙ conditional-shared h (z .sized .shared-length) b f k)
 
     pub output-tried : (n b f k : ℕ) → judgeCommandOf (command.Output n b f k) ≡ gives [] →
-        h1 ≡ setBuffer h (21 + 4 * n) (buffer b f k) →
-        SharedTried (command.Output n b f k) (headerOf 5 ∷ n ∷ b ∷ f ∷ k ∷ []) m m l h l1 h1
+        h1 ≡ setBuffer h (21 + 4 * n) (buffer b f k) → (r : Readiness) (l2 : List ℕ) →
+        l2 ≡ partyCells (withReadiness r (partyOf l1 [])) → (l3 : List ℕ) → l3 ≡ partyCells (renewed (sharedOf h1) (partyOf l2 [])) →
+        SharedTried (command.Output n b f k) (headerOf 5 ∷ n ∷ b ∷ f ∷ k ∷ []) m m l h l3 h1
     unfolding wordsOf lineOf fieldsOf startRuleOf
-    output-tried n b f k fine p t rest z =
-        tried (command.Output n b f k) m l t h l1 e rest _ refl fine refl l1 t h1
-        (output-own l1 sized t (z .tallies-length) (sharedOf h) n b f k)
-        (p ∙ output-shared h (z .shared-length) n b f k (output-most n b f k fine))
+    output-tried n b f k fine p r l2 e2 l3 e3 t rest z =
+        let less = output-most n b f k fine in
+        tried (command.Output n b f k) m l t h l1 e rest _ refl fine refl l3 t h1
+        (unfold ownAfter in
+        renewed-own l1 l2 t h1 (sharedAfter (command.Output n b f k) (sharedOf h)) r (output-set h h1 (z .sized .shared-length) n b f k less p)
+        (z .sized .tallies-length) e2 l3 e3)
+        (p ∙ output-shared h (z .sized .shared-length) n b f k less)
 
     pub input-tried : (n b f k : ℕ) → judgeCommandOf (command.Input n b f k) ≡ gives [] →
         h1 ≡ setBuffer h (37 + 4 * n) (buffer b f k) →
         SharedTried (command.Input n b f k) (headerOf 4 ∷ n ∷ b ∷ f ∷ k ∷ []) m m l h l1 h1
     unfolding wordsOf lineOf fieldsOf startRuleOf
     input-tried n b f k fine p t rest z =
-        tried (command.Input n b f k) m l t h l1 e rest _ refl fine refl l1 t h1
-        (input-own l1 sized t (z .tallies-length) (sharedOf h) n b f k)
-        (p ∙ input-shared h (z .shared-length) n b f k (input-most n b f k fine))
+        unmoving-tried (command.Input n b f k) m l t h l1 e rest _ refl fine refl (unfold Unmoving in tt) z l1 t h1
+        (input-own l1 sized t (z .sized .tallies-length) (sharedOf h) n b f k)
+        (p ∙ input-shared h (z .sized .shared-length) n b f k (input-most n b f k fine))
 
     -- a constants' format, whichever it is
     constants-shared : (what : Stored) (at b f : ℕ) → KeptAt what at → length h ≡ sharedLength →
@@ -203,35 +309,46 @@ module _ (l l1 : List ℕ) (m : ℕ) (e : l1 ≡ partyCells (tookWords m (partyO
     constants-own stored.Integers at b f a = own-integers l1 sized b f
     constants-own stored.Booleans at b f a = own-booleans l1 sized b f
 
+    constants-unmoving : (what : Stored) (at b f : ℕ) → KeptAt what at → Unmoving (command.Store what b f)
+    unfolding Unmoving
+    constants-unmoving stored.Instructions at b f a = absurd a
+    constants-unmoving stored.Floats at b f a = tt
+    constants-unmoving stored.Integers at b f a = tt
+    constants-unmoving stored.Booleans at b f a = tt
+
     pub constants-tried : (at b f : ℕ) → ((what : Stored) → judgeCommandOf (command.Store what b f) ≡ gives []) →
         h1 ≡ setBuffer h at (buffer b f 1) → (what : Stored) → KeptAt what at →
         SharedTried (command.Store what b f) (headerOf (storedLine what) ∷ b ∷ f ∷ []) m m l h l1 h1
     unfolding wordsOf lineOf fieldsOf startRuleOf
     constants-tried at b f fine p what a t rest z =
-        tried (command.Store what b f) m l t h l1 e rest _ refl (fine what) refl l1 t h1
-        (store-own l1 sized t (z .tallies-length) (sharedOf h) what b f (constants-own what at b f a))
-        (p ∙ constants-shared what at b f a (z .shared-length))
+        unmoving-tried (command.Store what b f) m l t h l1 e rest _ refl (fine what) refl (constants-unmoving what at b f a) z l1 t h1
+        (store-own l1 sized t (z .sized .tallies-length) (sharedOf h) what b f (constants-own what at b f a))
+        (p ∙ constants-shared what at b f a (z .sized .shared-length))
 
-    pub mask-tried : (n : ℕ) → judgeCommandOf (command.OutputMask n) ≡ gives [] → h1 ≡ set h 0 n
-        → SharedTried (command.OutputMask n) (headerOf 18 ∷ n ∷ []) m m l h l1 h1
+    pub mask-tried : (n : ℕ) → judgeCommandOf (command.OutputMask n) ≡ gives [] → h1 ≡ set h 0 n → (l3 : List ℕ) →
+        l3 ≡ partyCells (renewed (sharedOf h1) (partyOf l1 [])) →
+        SharedTried (command.OutputMask n) (headerOf 18 ∷ n ∷ []) m m l h l3 h1
     unfolding wordsOf lineOf fieldsOf startRuleOf
-    mask-tried n fine p t rest z =
-        tried (command.OutputMask n) m l t h l1 e rest _ refl fine refl l1 t h1
-        (mask-own l1 sized t (z .tallies-length) (sharedOf h) n) (p ∙ mask-shared h (z .shared-length) n)
+    mask-tried n fine p l3 e3 t rest z =
+        tried (command.OutputMask n) m l t h l1 e rest _ refl fine refl l3 t h1
+        (unfold ownAfter in
+        renewed-own l1 l1 t h1 (sharedAfter (command.OutputMask n) (sharedOf h)) (partyOf l1 [] .readiness)
+        (mask-set h h1 (z .sized .shared-length) n p) (z .sized .tallies-length) (sym (own-canon l1 [] sized)) l3 e3)
+        (p ∙ mask-shared h (z .sized .shared-length) n)
 
     pub conditional-mask-tried : (n : ℕ) → judgeCommandOf (command.ConditionalMask n) ≡ gives [] → h1 ≡ set (set h 1 1) 2 n →
         SharedTried (command.ConditionalMask n) (headerOf 19 ∷ n ∷ []) m m l h l1 h1
     unfolding wordsOf lineOf fieldsOf startRuleOf
     conditional-mask-tried n fine p t rest z =
-        tried (command.ConditionalMask n) m l t h l1 e rest _ refl fine refl l1 t h1
-        (conditional-mask-own l1 sized t (z .tallies-length) (sharedOf h) n) (p ∙ conditional-mask-shared h (z .shared-length) n)
+        unmoving-tried (command.ConditionalMask n) m l t h l1 e rest _ refl fine refl (unfold Unmoving in tt) z l1 t h1
+        (conditional-mask-own l1 sized t (z .sized .tallies-length) (sharedOf h) n) (p ∙ conditional-mask-shared h (z .sized .shared-length) n)
 
     pub test-tried : (n : ℕ) → judgeCommandOf (command.Test n) ≡ gives [] → h1 ≡ set (set h 3 1) 4 n
         → SharedTried (command.Test n) (headerOf 20 ∷ n ∷ []) m m l h l1 h1
     unfolding wordsOf lineOf fieldsOf startRuleOf
     test-tried n fine p t rest z =
-        tried (command.Test n) m l t h l1 e rest _ refl fine refl l1 t h1
-        (test-own l1 sized t (z .tallies-length) (sharedOf h) n) (p ∙ test-shared h (z .shared-length) n)
+        unmoving-tried (command.Test n) m l t h l1 e rest _ refl fine refl (unfold Unmoving in tt) z l1 t h1
+        (test-own l1 sized t (z .sized .tallies-length) (sharedOf h) n) (p ∙ test-shared h (z .sized .shared-length) n)
 
   -- a start, where the settings let it pass
   module _ (t h : List ℕ) (a : OwnAsked l t h) where
@@ -247,17 +364,17 @@ module _ (l l1 : List ℕ) (m : ℕ) (e : l1 ≡ partyCells (tookWords m (partyO
                 shared-length = a .sized .shared-length;
               };
           domain = a .domain;
+          kept = a .kept;
           runs = a .runs;
           claims = a .claims;
         })
 
-    pub start-tried : (n : ℕ) → n ≡ 0 → (r : ℕ) → r ≡ readinessOf (partyOf l [] .domain) (partyOf l [] .instructions) (sharedOf h .mask) (sharedOf h .outputs) →
-        r ≡ 0 → (t1 : List ℕ) → t1 ≡ tallyCells (ownAfter command.Start (sharedOf h) (partyOf l1 t)) →
+    pub start-tried : (n : ℕ) → n ≡ 0 → getD l 19 0 ≡ 0 → (t1 : List ℕ) → t1 ≡ tallyCells (ownAfter command.Start (sharedOf h) (partyOf l1 t)) →
         (rest : List ℕ) → Tried command.Start (headerOf 1 ∷ n ∷ rest) m l t h m l1 t1 h
     unfolding wordsOf lineOf fieldsOf startRuleOf partyOf
-    start-tried n none r told fine t1 e1 rest =
-        tried command.Start m l t h l1 e rest _ (ap {B = List ℕ} (λ (x : ℕ). headerOf 1 ∷ x ∷ rest) none) start-fits
-        (number-given _ _ _ _ (sym told ∙ fine)) l1 t1 h
+    start-tried n none fine t1 e1 rest =
+        unmoving-tried command.Start m l t h l1 e rest _ (ap {B = List ℕ} (λ (x : ℕ). headerOf 1 ∷ x ∷ rest) none) start-fits
+        (number-given _ _ _ _ (sym (stored-number l t h a) ∙ fine)) (unfold Unmoving in tt) a l1 t1 h
         (start-own l1 sized t (a .sized .tallies-length) (sharedOf h) e1)
         (start-shared h (a .sized .shared-length))
 
@@ -313,11 +430,10 @@ module _ {l t h : List ℕ} {m : ℕ} (n : ℕ) (ne : n ≡ 0 → ⊥) where
   effectless-denied what rest = untaken (byWords (other-words (command.Effectless what) n rest refl ne))
 
 -- a start that the settings refuse
-pub start-unready : (l t h ws : List ℕ) {m : ℕ} (r : ℕ) →
-    r ≡ readinessOf (partyOf l [] .domain) (partyOf l [] .instructions) (sharedOf h .mask) (sharedOf h .outputs) → (r ≡ 0 → ⊥) →
-    Tried command.Start ws m l t h 0 l t h
+pub start-unready : (l t h ws : List ℕ) {m : ℕ} → OwnAsked l t h → (getD l 19 0 ≡ 0 → ⊥) → Tried command.Start ws m l t h 0 l t h
 unfolding startRuleOf partyOf isGiven
-start-unready l t h ws r e n = untaken (bySettings (ap isGiven (number-refused _ _ _ _ (λ z. n (e ∙ z)))))
+start-unready l t h ws a n =
+    untaken (bySettings (ap isGiven (number-refused _ _ _ _ (λ z. n (stored-number l t h a ∙ z)))))
 
 -- what the commands by their lines ask, from what is asked of both dispatches: room for so many words, and room in the tallies
 module _ {l t h : List ℕ} {m : ℕ} (a : RoomFor m l × OwnAsked l t h) where
@@ -326,6 +442,9 @@ module _ {l t h : List ℕ} {m : ℕ} (a : RoomFor m l × OwnAsked l t h) where
 
   pub room-shared : (n : ℕ) → n ≤ m → RoomFor n l × (length h ≡ sharedLength)
   room-shared n k = (room-for n k, a .1 .sized .shared-length)
+
+  pub room-renew : (n : ℕ) → n ≤ m → RoomFor n l × RenewAsked l h
+  room-renew n k = (room-for n k, renew-asked l t h (a .1))
 
   pub room-constants : (n at : ℕ) → n ≤ m → at < 98 → RoomFor n l × ((length h ≡ sharedLength) × (at < 98))
   room-constants n at k j = (room-for n k, (a .1 .sized .shared-length, j))
@@ -340,6 +459,7 @@ own-asked y = (
   record {
     sized = y .given .sized;
     domain = y .given .valid .domain;
+    kept = y .given .valid .readiness;
     runs = omega (arith, y .given .valid .tally, y .given .valid .full);
     claims = omega (arith, y .given .valid .tally, y .given .valid .full);
   },

@@ -15,8 +15,8 @@ use Rattle.state.specs.Effects.{limit, after}
 use Rattle.state.specs.State.{Session}
 use Rattle.start.specs.Rules.{startRuleOf}
 use Rattle.accept.specs.AtWord.{Idle, atWord}
-use Rattle.state.specs.Asked.{Given, Held}
-use Rattle.state.specs.Cells.{Sized, partyOf, sessionOf, ownLength}
+use Rattle.state.specs.Asked.{Given, Held, OwnAsked}
+use Rattle.state.specs.Cells.{partyOf, sessionOf, ownLength}
 
 -- the most words that a command has
 abbrev pub mostWords : ℕ
@@ -52,11 +52,11 @@ pub data Tried (c : Command) (ws : List ℕ) (words : ℕ) (own tallies shared :
 -- the same of a command that changes own cells alone, and of one that changes own and shared cells
 abbrev pub OwnTried : Command → List ℕ → ℕ → ℕ → List ℕ → List ℕ → Type 0
 OwnTried c ws words n own own1 =
-    (tallies shared rest : List ℕ) → Sized own tallies shared → Tried c (ws ++ rest) words own tallies shared n own1 tallies shared
+    (tallies shared rest : List ℕ) → OwnAsked own tallies shared → Tried c (ws ++ rest) words own tallies shared n own1 tallies shared
 
 abbrev pub SharedTried : Command → List ℕ → ℕ → ℕ → List ℕ → List ℕ → List ℕ → List ℕ → Type 0
 SharedTried c ws words n own shared own1 shared1 =
-    (tallies rest : List ℕ) → Sized own tallies shared → Tried c (ws ++ rest) words own tallies shared n own1 tallies shared1
+    (tallies rest : List ℕ) → OwnAsked own tallies shared → Tried c (ws ++ rest) words own tallies shared n own1 tallies shared1
 
 -- an attempt at the command of a line with these parameters; `words` tells how many words of it are counted
 abbrev pub LineTried :

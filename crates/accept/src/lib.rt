@@ -1,6 +1,7 @@
 // Commands judged by the tests of their lines alone and taken at once: all the words of one that lies whole inside a piece,
 // or the last word of an open one. A command that isn't accepted changes nothing here. Each routine is told how many words to
 // count, and answers them where it took the command, and 0 where it can't be accepted.
+use command::format;
 use command::table;
 use command::table::Line;
 use rules::fits;
@@ -20,6 +21,7 @@ ghost use Rattle.command.specs.declared.commands.NoEffect.{NoEffect};
 ghost use Rattle.command.specs.declared.commands.Stored.{Stored};
 ghost use Rattle.command.specs.declared.commands.Command.{Command};
 ghost use Rattle.state.specs.Asked.{Given, OwnAsked};
+ghost use Rattle.start.specs.Gauge.{RenewAsked};
 ghost use Rattle.accept.specs.Whole.{Begun, KeptAt, LineTried, OwnTried, RoomFor, SharedTried, Tried, everyWord, lastWord, mostWords};
 
 // The most words that a command has, and the words taken at which there is room for so many.
@@ -41,6 +43,7 @@ fn take_domain(
     if fits::domain(i0, j0, i1, j1) {
         own::count_words(own, words);
         own::set_domain(own, i0, j0, i1, j1);
+        ready::settle(own);
         words
     } else {
         0
@@ -60,7 +63,7 @@ fn take_start(
     if reserved != 0 {
         return 0;
     }
-    if ready::readiness(own, shared) != 0 {
+    if own[own::READINESS] != 0 {
         return 0;
     }
     own::count_words(own, words);
@@ -87,6 +90,7 @@ fn take_instructions(own: &mut [u32; state::OWN_CELLS], words: u32, base: u32, f
     if fits::window(base, format, 1) {
         own::count_words(own, words);
         own::set_instructions(own, base, format);
+        ready::settle(own); // a start asks for the format
         words
     } else {
         0
@@ -150,7 +154,7 @@ fn take_output(
     format: u32,
     height: u32,
 ) -> u32
-    requires { ⌜ RoomFor words (now own) × (length (now shared) ≡ sharedLength) ⌝ }
+    requires { ⌜ RoomFor words (now own) × RenewAsked (now own) (now shared) ⌝ }
     ensures { λ r. ⌜ SharedTried (Command.Output number base format height) (headerOf 5 ∷ number ∷ base ∷ format ∷ height ∷ []) words r (now (own .entry)) (now (shared .entry)) (now (own .exit)) (now (shared .exit)) ⌝ }
 {
     if fits::output(number, base, format, height) {
@@ -162,6 +166,9 @@ fn take_output(
             format,
             height,
         );
+        let window = format::window_of(base, format, height);
+        own::set_window(own, number, window.step, window.span);
+        ready::renew(own, shared);
         words
     } else {
         0
@@ -194,12 +201,13 @@ fn take_mask(
     words: u32,
     mask: u32,
 ) -> u32
-    requires { ⌜ RoomFor words (now own) × (length (now shared) ≡ sharedLength) ⌝ }
+    requires { ⌜ RoomFor words (now own) × RenewAsked (now own) (now shared) ⌝ }
     ensures { λ r. ⌜ SharedTried (Command.OutputMask mask) (headerOf 18 ∷ mask ∷ []) words r (now (own .entry)) (now (shared .entry)) (now (own .exit)) (now (shared .exit)) ⌝ }
 {
     if mask < 65536 {
         own::count_words(own, words);
         shared[settings::MASK] = mask;
+        ready::renew(own, shared); // the mask tells which outputs count
         words
     } else {
         0

@@ -15,6 +15,8 @@ use Rattle.memory.specs.Elements as elements
 use Rattle.memory.specs.Answers.{countTold}
 use Rattle.group.specs.Group.{Outcome, Steps, Fails, Run, Makes, Breaks, stepTold, runTold, beginTold, mayBegin, groupStep, groupRun}
 use Rattle.group.specs.Cells.{stepLeaves, runLeaves, beginLeaves}
+use Rattle.kill.specs.Kill as kills
+use Rattle.kill.specs.Kill.{killTold, killLeaves, killOf}
 use Rattle.flow.specs.Store.{isProgram, loadTold, firstsLeft, secondsLeft}
 use Rattle.score.specs.Score.{Score, scored, refused, scoreOf}
 use Rattle.refusal.specs.Crossing.{Crosses, statusOf, roomOf}
@@ -37,6 +39,7 @@ use Rattle.demands.proofs.Numbers.{
   begin-number,
   step-number,
   run-number,
+  kill-number,
   month-number,
 }
 use Rattle.demands.specs.Calls.{
@@ -54,6 +57,7 @@ use Rattle.demands.specs.Calls.{
   begin,
   step,
   run,
+  kill,
   month,
   Untouched,
   layoutIn,
@@ -110,6 +114,10 @@ step-left l (Fails why) n e = refl
 run-left : (l : List ℕ) (o : Run) (n : ℕ) → runTold o ≡ refuses n → runLeaves l o ≡ l
 run-left l (Makes k g) n e = given-refuses e
 run-left l (Breaks why) n e = refl
+
+kill-left : (l : List ℕ) (o : kills.Outcome) (n : ℕ) → killTold o ≡ refuses n → killLeaves l o ≡ l
+kill-left l (kills.Kills now g) n e = given-refuses e
+kill-left l (kills.Fails why) n e = refl
 
 same-refusal : {m n : ℕ} → refuses m ≡ refuses n → m ≡ n
 same-refusal e = cc
@@ -179,6 +187,12 @@ refused-call (run mode program booleans masks g r a b p q c) n e =
       number = number (c .answer) n e;
       not-zero = run-number mode program booleans masks g n e;
       arrays = two (c .left ∙ run-left a (groupRun mode program booleans masks g) n e) (room (c .answer) n e);
+    }
+refused-call (kill slots registers mask g r a b p q c) n e =
+    record {
+      number = number (c .answer) n e;
+      not-zero = kill-number slots registers mask g n e;
+      arrays = two (c .left ∙ kill-left a (killOf slots registers mask g) n e) (room (c .answer) n e);
     }
 refused-call (month l replay r a b m a' b' m' c) n e =
     record {

@@ -1,13 +1,14 @@
--- The page of top theorems, in the order of the demands: 1, 2, 3, then elements, flow, and the requests 1 to 5, 7 and 8. Each statement has
+-- The page of top theorems, in the order of the demands: 1, 2, 3, then elements, flow, and the requests 1 to 8 and 11. Each statement has
 -- its sentence above it and a proof that only cites the file that has it. What a statement asks for is what its sentence says or what an
 -- entry asks for: a session, a replay or a group's cells that came from the entries (`Reached`, `Handed`), and bytes that are bytes.
 -- Assumes nothing.
 use mathlib.Core.Path.{_≡_, refl, _∙_}
 use mathlib.Core.Bool.{Bool, true, false}
-use mathlib.Core.List.{List, [], _∷_, _++_}
-use Prim.Native.Nat.{ℕ, suc, _+_, _-_, _*_, _<_, _≤_}
+use mathlib.Core.List.{List, [], _∷_, _++_, map}
+use Prim.Native.Nat.{ℕ, suc, _+_, _-_, _*_, _^_, _<_, _≤_}
 use lib.Count.{ones, trailingZeros}
-use lib.ListN.{length, take}
+use lib.Ieee.{Float, lt}
+use lib.ListN.{length, take, getD}
 use Rattle.laws.specs.Bits.{xor}
 use Rattle.laws.specs.Choice.{_and_, pick, placeOf}
 use Rattle.laws.specs.Below.{some, every, sum, least}
@@ -37,6 +38,8 @@ use Rattle.superfine.specs.Superfine.{superfineWord, superfineReadOf, formatLay
 use Rattle.superfine.proofs.FourReads.{four-reads}
 use Rattle.command.specs.declared.commands.Command.the-variants as command
 use Rattle.state.specs.State.{Session, newSession}
+use Rattle.state.specs.Start.{readinessOf}
+use Rattle.state.specs.Readiness.{readinessFor}
 use Rattle.state.specs.Effects.{limit}
 use Rattle.state.specs.Asked.{Given}
 use Rattle.state.specs.Cells.{sessionOf}
@@ -47,10 +50,12 @@ use Rattle.session.specs.Refusals.{RefusedTo}
 use Rattle.session.specs.Again.{Idle, SameSettings}
 use Rattle.session.specs.Reached.{Reached, mostWords, allByWriter, ReadInFull}
 use Rattle.session.specs.Silent.{SilentSettings, startWords, EmptyRun, AsBefore}
+use Rattle.session.specs.Stored.{toldBy, forgotten, SameAnswers}
 use Rattle.session.proofs.Cut.{cut-anywhere}
 use Rattle.session.proofs.Reached.{reached-valid, by-writer, back-by-writer, read-in-full, read-here}
 use Rattle.session.proofs.Refusals.{refused-word, refused-piece, stopped-for-good, stopped-piece}
 use Rattle.session.proofs.Silent.{silent-start, as-before}
+use Rattle.session.proofs.Stored.{stored-kept, stored-number, start-reads, as-before as forgotten-answers}
 use Rattle.session.proofs.Tallies.{Tallied, tallied, counted}
 use Rattle.replay.specs.State.{Replay, newReplay}
 use Rattle.replay.specs.Step.{refused as byteRefused, isKind, afterWord}
@@ -76,7 +81,7 @@ use Rattle.score.proofs.Lines.{bounds}
 use Rattle.score.proofs.Midnights.{midnight-records}
 use Rattle.score.proofs.Promises.{line-first, dark-day, refused-with, scored-as, log-refused, log-scored, in-pieces}
 use Rattle.score.proofs.Verdicts.{full-if, full-only-if, calling}
-use Rattle.group.specs.Proc.{mostProcessors, counterLimit, wants, decided, branched}
+use Rattle.group.specs.Proc.{Absent, mostProcessors, counterLimit, wants, decided, branched}
 use Rattle.group.specs.Modes.{Mode, Full as FullMode, Partial as PartialMode, modeOf}
 use Rattle.group.specs.Group.{
   Program,
@@ -110,6 +115,15 @@ use Rattle.group.proofs.State.{old-answers}
 use Rattle.group.proofs.Modes.{step-shared, step-cause, cause-refuses, run-shared, run-cause}
 use Rattle.group_rooms.specs.Rooms.{BeginCrosses as GroupBegins}
 use Rattle.loops.specs.Loops.{Opened, Looping, Repeating, turnOf, shownAL}
+use Rattle.registers.specs.Registers.{float, lessThanZero, atLeastZero, maximumOf, choiceOf, killedBy, registerAt}
+use Rattle.registers.specs.Pattern.{belowZero, notBelowZero, lessThan, maximumBits, choiceBits, noNumber, killedByBits}
+use Rattle.registers.proofs.Order.{less-than}
+use Rattle.registers.proofs.Patterns.{below-zero, at-least-zero, less-than-zero-cases, maximum-pattern, choice-pattern, killed-pattern}
+use Rattle.kill.specs.Kill as killing
+use Rattle.kill.specs.Kill.{Kills, startSize, killOf}
+use Rattle.kill.specs.Through as kills
+use Rattle.kill.specs.Through.{Leads, withKilled, withKilledAfter}
+use Rattle.kill.proofs.Through as through
 use Rattle.flow.specs.Looping.{opAt, integerAt, LedBy, Turning, Inside as InLoop}
 use Rattle.flow.proofs.Looping.{step-led, rep-times, loop-times, al-shown-up, al-shown-down}
 use Rattle.flow.proofs.Counting.{mask-count, mask-first, mask-none}
@@ -326,7 +340,7 @@ pub flow-run-masks :
     groupRun mode p booleans ms g ≡ groupRun mode p booleans ms' g
 flow-run-masks = same-run
 
--- The cells given out are those taken: what begin, step and run left is what step and run ask for.
+-- The cells given out are those taken: what begin, step, run and kill left is what step, run and kill ask for.
 pub flow-given : {l : List ℕ} → flow.Handed l → cells.GroupGiven l
 flow-given = handed-made
 
@@ -554,6 +568,26 @@ pub score-calls :
     MonthCrosses (scoreOfLog l (uncut ps)) r claimed served month claimed' served' month'
 score-calls = score-from-log
 
+-- REQUEST 6, "Keep readiness instead of asking again"
+
+-- "The stored number must always equal the one worked out from the settings": in every session that the entries give out, stopped or
+-- not, what is stored is what document 01 works out, and so are the gauge and the windows that it is reckoned from.
+pub stored-readiness :
+    (s : Session) → Reached s →
+    s .party .readiness .number ≡ readinessOf (s .party .domain) (s .party .instructions) (s .shared .mask) (s .shared .outputs)
+stored-readiness = stored-number
+
+pub stored-whole : (s : Session) → Reached s → s .party .readiness ≡ readinessFor (s .party) (s .shared)
+stored-whole = stored-kept
+
+-- "start reads it": what document 01 answers a start of the settings is what the stored number tells.
+pub start-by-number : (s : Session) → Reached s → startRuleOf command.Start s ≡ toldBy (s .party .readiness .number)
+start-by-number = start-reads
+
+-- Every answer is as it was: with anything else stored, a piece gets the same answers, and leaves the same but for what is stored.
+pub answers-as-before : (s : Session) (ws : List ℕ) → SameAnswers (feedOf (forgotten s) ws) (feedOf s ws)
+answers-as-before = forgotten-answers
+
 -- REQUEST 7, "Partial flow control"
 
 -- The mode is chosen at the start and never changed: a group begins in the mode that its begin was given, and a step or a run leaves it in
@@ -627,6 +661,73 @@ pub run-back :
     (l : Layout) → Accepted l → (x y : ℕ) → Inside l x y → (k place : ℕ) → k < runOf l x y → place < l .size →
     locateOf l (addressOf l x y + k * l .size + place) ≡ gives ((x + k) ∷ y ∷ place ∷ [])
 run-back = leads-back
+
+-- REQUEST 11, "Kill test on float registers"
+
+-- A kill that is made: an active processor with a channel under the mask less than zero is killed, and no other; the killed are in
+-- the group no longer, and everything else stays.
+pub kill-made :
+    (slots : ℕ) (registers : List Float) (mask : ℕ) (g : Group) (now : ℕ) (g' : Group) → killOf slots registers mask g ≡ Kills now g' →
+    kills.Made registers mask g now g'
+kill-made = through.made
+
+-- A kill that is refused has the cause of its number: 16, 13, 11, in that order.
+pub kill-refused :
+    (slots : ℕ) (registers : List Float) (mask : ℕ) (g : Group) (why : ℕ) → killOf slots registers mask g ≡ killing.Fails why →
+    kills.Refused slots registers mask g why
+kill-refused = through.refused
+
+-- "Killed processors are never active again: B_ELSE, decrement and all else skip them": whoever a kill kills is absent from then on,
+-- through any number of steps, runs and kills, under any programs.
+pub kill-for-good :
+    {mode : Mode} (slots : ℕ) (registers : List Float) (mask now : ℕ) (g h k : Group) → killOf slots registers mask g ≡ Kills now h →
+    Leads mode h k → (i : ℕ) → i < 32 → on i now ≡ true → k .procs i ≡ Absent
+kill-for-good = through.never-again
+
+-- "they count as not in the group": a step doesn't ask who was killed; it is the step of a group that never had them. (`flow-masks`
+-- above has it that their bits of the masks are ignored.)
+pub kill-outside :
+    (mode : Mode) (p : Program) (alu predicate booleans : ℕ) (g : Group) (dead : ℕ) →
+    flowStep mode p alu predicate booleans (withKilled g dead) ≡ withKilledAfter dead (flowStep mode p alu predicate booleans g)
+kill-outside = through.step-blind
+
+-- A kill asks for no mode, so that partial and full mode kill alike, and it leaves the group in the mode that it had.
+pub kill-keeps-mode : (l : List ℕ) (o : killing.Outcome) → cells.modeIn (killing.killLeaves l o) ≡ cells.modeIn l
+kill-keeps-mode = through.kill-mode
+
+-- "the starting group's length": what 11 asks for is the size that the group began with, whoever was killed since.
+pub kill-start : {mode : Mode} (size : ℕ) → size ≤ 32 → (g : Group) → Leads mode (fresh size) g → startSize g ≡ size
+kill-start size h g way = through.start-stays way ∙ through.start-fresh size h
+
+-- Floats by their bits: less than zero is 80000000 < bits ≤ FF800000, at least zero is a number that isn't, and B < A is as signs and
+-- magnitudes say, for every pattern of 32 bits.
+pub float-below-zero : (bits : ℕ) → bits < 2 ^ 32 → lessThanZero (float bits) ≡ belowZero bits
+float-below-zero = below-zero
+
+pub float-at-least-zero : (bits : ℕ) → bits < 2 ^ 32 → atLeastZero (float bits) ≡ notBelowZero bits
+float-at-least-zero = at-least-zero
+
+pub float-order : (a b : ℕ) → lt (float a) (float b) ≡ lessThan a b
+float-order = less-than
+
+-- "Minus zero and NaN are not less than zero; minus infinity is."; nor is a NaN with its sign set, and the least negative number is.
+pub float-cases :
+    (lessThanZero (float 0x80000000) ≡ false) × (lessThanZero (float 0x7FC00000) ≡ false) ×
+    (lessThanZero (float 0xFFC00000) ≡ false) × (lessThanZero (float 0xFF800000) ≡ true) ×
+    (lessThanZero (float 0x80000001) ≡ true)
+float-cases = less-than-zero-cases
+
+-- So who is killed is known by the bits of the registers alone; and the maximum and the choice are the floats of the operands' own bits.
+pub kill-by-bits :
+    (mask : ℕ) (bits : List ℕ) (i : ℕ) → ((k : ℕ) → getD bits k noNumber < 2 ^ 32) →
+    killedBy mask (registerAt (map float bits) i) ≡ killedByBits mask bits i
+kill-by-bits = killed-pattern
+
+pub maximum-by-bits : (a b : ℕ) → maximumOf (float a) (float b) ≡ float (maximumBits a b)
+maximum-by-bits = maximum-pattern
+
+pub choice-by-bits : (a b third : ℕ) → third < 2 ^ 32 → choiceOf (float a) (float b) (float third) ≡ float (choiceBits a b third)
+choice-by-bits = choice-pattern
 
 -- THE WORKED CASES
 

@@ -62,7 +62,8 @@ use Rattle.group.specs.Group.{
 }
 use Rattle.group.specs.Cells.{groupOf, runLeaves, beginLeaves}
 use Rattle.group.specs.Cells as cells
-use Rattle.group.proofs.State.{given-of, left-given, mode-kept, step-sound}
+use Rattle.group.proofs.State.{given-of, left-given, mode-kept, step-sound, turned-live, branched-live}
+use Rattle.kill.proofs.Through.{kill-leaves-given}
 use Rattle.flow.proofs.Beginning.{begin-given}
 use Rattle.flow.proofs.Running.{SoundRun, steps-sound}
 use Rattle.flow.specs.Looping.{opAt, integerAt}
@@ -102,6 +103,7 @@ use Rattle.demands.specs.Flow.{
   begun,
   stepped,
   ran,
+  killed,
 }
 use Rattle.demands.specs.Flow as flow
 
@@ -156,7 +158,7 @@ module _ (mode : Mode) (p : Program) (alu predicate booleans : ℕ) (g : Group) 
     shown-way :
         (jump : Bool) (loops : List Opened) → decision mode p alu predicate booleans g ≡ Turns jump loops →
         overLimit (limitOf mode) (branchOp jump (firstAt p g)) (elsed p g) ≡ false →
-        (w : Way) → next mode p alu predicate booleans g jump ≡ w → Shown (arrived (p .slots) jump (procs jump) loops w)
+        (w : Way) → next mode p alu predicate booleans g jump ≡ w → Shown (arrived (p .slots) jump (procs jump) (withLoops g loops) w)
     shown-way jump loops d counters Stuck e = stackAtLimit running fields jump loops d counters e
     shown-way jump loops d counters (Goes at returns) e =
         by-pick Shown (leb at (p .slots)) _ _
@@ -251,6 +253,8 @@ handed-made (ran {cells = l} h p booleans masks r c' a a' k) =
     subst cells.GroupGiven (sym (k .left))
     (run-left l (groupRun (cells.modeIn l) p booleans masks (groupOf l)) (handed-made h)
     (by-pick (SoundRun (limitOf (cells.modeIn l))) (ended p (groupOf l)) _ _ (λ e. tt) (λ e. steps-sound (cells.modeIn l) p booleans masks (groupOf l) (handed-made h .sound))))
+handed-made (killed {cells = l} h slots registers mask r c' a a' k) =
+    subst cells.GroupGiven (sym (k .left)) (kill-leaves-given l slots registers mask (handed-made h))
 
 -- the mode that a begin was given, and that a step or a run leaves
 pub begun-mode : (size mode r : ℕ) (l l' : List ℕ) → BeginCrosses size mode r l l' → r ≡ 0 → cells.modeIn l' ≡ modeOf mode
@@ -265,27 +269,6 @@ step-mode l (Fails why) = refl
 pub run-mode : (l : List ℕ) (o : Run) → cells.modeIn (cells.runLeaves l o) ≡ cells.modeIn l
 run-mode l (Makes n g) = mode-kept (cells.modeIn l) g
 run-mode l (Breaks why) = refl
-
--- a processor is in the group after a step where it was before
-turned-live : (else : Bool) (q : Proc) → isLive (pick else (turned q) q) ≡ isLive q
-unfolding pick
-turned-live true Active = refl
-turned-live true (Idle zero) = refl
-turned-live true (Idle (suc n)) = refl
-turned-live true Absent = refl
-turned-live false q = refl
-
-pick-live : (t : Bool) (a b : Proc) → isLive a ≡ true → isLive b ≡ true → isLive (pick t a b) ≡ true
-pick-live t a b ha hb = by-pick (λ (q : Proc). isLive q ≡ true) t a b (λ e. ha) (λ e. hb)
-
-worked-live : (op k : ℕ) (jump wish : Bool) (q : Proc) → isLive (branched op k jump wish q) ≡ isLive q
-unfolding branched
-worked-live op k jump wish Active = pick-live _ _ _ refl (pick-live _ _ _ (pick-live _ _ _ refl refl) refl)
-worked-live op k jump wish (Idle n) = pick-live _ _ _ (pick-live _ _ _ refl refl) (pick-live _ _ _ refl refl)
-worked-live op k jump wish Absent = gone (eqb op 1) (eqb op 2)
-  where
-    gone : (a b : Bool) → isLive (pick a Absent (pick b Absent Absent)) ≡ false
-    gone a b = by-pick (λ (q : Proc). isLive q ≡ false) a _ _ (λ e. refl) (λ e. by-pick (λ (q : Proc). isLive q ≡ false) b _ _ (λ f. refl) (λ f. refl))
 
 -- wishes that are the same for every processor in the group
 module _ (q : Proc) (w w' : Bool) (h : isLive q ≡ true → w ≡ w') where
@@ -351,7 +334,7 @@ module _ (mode : Mode) (p : Program) (booleans : ℕ) (g : Group) (alu predicate
     same-settled j loops =
         ap (λ (f : ℕ → Proc).
         pick (overLimit (limitOf mode) (branchOp j (firstAt p g)) (elsed p g)) (Fails 14)
-        (arrived (p .slots) j f loops (wayOf (aOp (firstAt p g)) j (g .position) (jumpAddress (secondAt p g)) (g .returns))))
+        (arrived (p .slots) j f (withLoops g loops) (wayOf (aOp (firstAt p g)) j (g .position) (jumpAddress (secondAt p g)) (g .returns))))
         (λ k i. worked-same (elsed p g i) (w i) (w' i) (same-wish i) (branchOp j (firstAt p g)) (popCount (firstAt p g)) j k)
 
     abbrev rest : (ℕ → Bool) → Bool → List Opened → Outcome
@@ -382,7 +365,7 @@ module _ (mode : Mode) (p : Program) (booleans : ℕ) where
   unfolding turnedIf
   live-after alu predicate g g' jump e i =
       ap isLive (step-made mode p alu predicate booleans g jump g' e .each-processor i) ∙
-      worked-live _ _ _ _ (elsed p g i) ∙ turned-live (bElse (firstAt p g)) (g .procs i)
+      branched-live _ _ _ _ (elsed p g i) ∙ turned-live (bElse (firstAt p g)) (g .procs i)
 
   agree-after : (g g' : Group) → ((i : ℕ) → isLive (g' .procs i) ≡ isLive (g .procs i)) → (ms ms' : List ℕ) → AllAgree g ms ms' → AllAgree g' ms ms'
   agree-after g g' l [] [] h = tt

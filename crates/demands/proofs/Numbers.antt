@@ -5,6 +5,7 @@ use mathlib.Core.List.{List, [], _∷_}
 use Prim.Native.Nat.{ℕ, _≤_}
 use native.Mathlib.Omega.{arith}
 use lib.ListN.{length}
+use lib.Ieee.{Float}
 use borrow.Author.Tests.{eqb-false}
 use Rattle.laws.specs.Choice.{pick}
 use Rattle.laws.proofs.Choice.{by-pick}
@@ -51,6 +52,10 @@ use Rattle.demands.specs.Flow.{
   over,
   walked,
 }
+use Rattle.kill.specs.Kill as kill
+use Rattle.kill.specs.Kill.{killTold, killOf}
+use Rattle.kill.specs.Through as kills
+use Rattle.kill.proofs.Through.{refused as kill-refused}
 use Rattle.demands.proofs.Flow.{step-refused, run-walks}
 
 abbrev pub Nonzero : Told → Type 0
@@ -193,6 +198,18 @@ module _ (mode : Mode) (p : Program) where
       go : (r : Run) → Least r → Nonzero (runTold r)
       go (Makes n g) l = given _
       go (Breaks n) l = numbered n l
+
+pub kill-number : (slots : ℕ) (registers : List Float) (mask : ℕ) (g : Group) → Nonzero (killTold (killOf slots registers mask g))
+kill-number slots registers mask g = go (killOf slots registers mask g) refl
+  where
+    least : {n : ℕ} → kills.Refused slots registers mask g n → 1 ≤ n
+    least (kills.hasEnded h) = omega arith
+    least (kills.badMask h k) = omega arith
+    least (kills.badLength h k e) = omega arith
+
+    go : (o : kill.Outcome) → killOf slots registers mask g ≡ o → Nonzero (killTold o)
+    go (kill.Kills now g') e = given _
+    go (kill.Fails n) e = numbered n (least (kill-refused slots registers mask g n e))
 
 pub month-number : (l : Lease) (r : Replay) → Nonzero (monthTold (scoreOf l r))
 unfolding scoreOf

@@ -5,6 +5,7 @@ use mathlib.Core.Path.{_≡_}
 use mathlib.Core.Bool.{Bool}
 use mathlib.Core.List.{List, [], _∷_}
 use Prim.Native.Nat.{ℕ, _≤_}
+use lib.Ieee.{Float}
 use Rattle.refusal.specs.Told.{Told}
 use Rattle.layout.specs.Layout.{judgeOf}
 use Rattle.address.specs.Address.{layoutOf, translateOf, locateOf}
@@ -13,6 +14,7 @@ use Rattle.superfine.specs.Superfine.{superfineReadOf}
 use Rattle.state.specs.State.{Party, Shared}
 use Rattle.group.specs.Modes.{Mode}
 use Rattle.group.specs.Group.{Program, Group, stepTold, runTold, beginTold, groupStep, groupRun}
+use Rattle.kill.specs.Kill.{killTold, killOf}
 use Rattle.flow.specs.Store.{loadTold}
 use Rattle.replay.specs.State.{Replay}
 use Rattle.score.specs.Lease.{Lease}
@@ -21,6 +23,7 @@ use Rattle.refusal.specs.Crossing.{Crosses}
 use Rattle.command_rooms.specs.Rooms.{parametersOf, namedWriteOf, CommandCrosses}
 use Rattle.element_rooms.specs.Rooms.{inSixteen, SuperfineCrosses, WriteCrosses}
 use Rattle.group_rooms.specs.Rooms.{LoadCrosses, BeginCrosses, StepCrosses, RunCrosses}
+use Rattle.register_rooms.specs.Rooms.{KillCrosses}
 use Rattle.score_rooms.specs.Rooms.{monthTold, MonthCrosses}
 use Rattle.setting_rooms.specs.Rooms.{formatOf}
 
@@ -86,6 +89,10 @@ pub data Call : Told → ℕ → List (List ℕ) → List (List ℕ) → Type 0 
   run : (mode : Mode) (program : Program) (booleans : ℕ) (masks : List ℕ) (g : Group) (r : ℕ) (cells cells' report report' : List ℕ) →
       RunCrosses (groupRun mode program booleans masks g) r cells cells' report report' →
       Call (runTold (groupRun mode program booleans masks g)) r (cells ∷ report ∷ []) (cells' ∷ report' ∷ [])
+  -- egretfold_group_kill
+  kill : (slots : ℕ) (registers : List Float) (mask : ℕ) (g : Group) (r : ℕ) (cells cells' room room' : List ℕ) →
+      KillCrosses (killOf slots registers mask g) r cells cells' room room' →
+      Call (killTold (killOf slots registers mask g)) r (cells ∷ room ∷ []) (cells' ∷ room' ∷ [])
   -- egretfold_score_month
   month : (l : Lease) (replay : Replay) (r : ℕ) (claimed served month claimed' served' month' : List ℕ) →
       MonthCrosses (scoreOf l replay) r claimed served month claimed' served' month' →

@@ -5,6 +5,7 @@ use mathlib.Core.List.{List, [], _∷_}
 use Prim.Native.Nat.{ℕ, _<_, _≤_}
 use lib.Dec.{eqb}
 use lib.ListN.{getD}
+use lib.Ieee.{Float}
 use Rattle.laws.specs.Choice.{_and_, pick}
 use Rattle.laws.specs.Masks.{on}
 use Rattle.loops.specs.Loops.{Opened, Turn, Turns, NoRoom, NoWord, turnOf}
@@ -44,7 +45,9 @@ use Rattle.group.specs.Group.{
 }
 use Rattle.group.specs.Cells.{modeIn, groupOf}
 use Rattle.flow.specs.Looping.{opAt, integerAt}
+use Rattle.kill.specs.Kill.{killOf}
 use Rattle.group_rooms.specs.Rooms.{BeginCrosses, StepCrosses, RunCrosses}
+use Rattle.register_rooms.specs.Rooms.{KillCrosses}
 
 -- the words of the slot that a group stands at
 abbrev pub firstAt : Program → Group → ℕ
@@ -145,10 +148,12 @@ AllAgree g [] (m' ∷ ms') = ⊥
 AllAgree g (m ∷ ms) [] = ⊥
 AllAgree g (m ∷ ms) (m' ∷ ms') = Agree g m m' × AllAgree g ms ms'
 
--- a group's cells that came from the calls: a begin that was accepted, and steps and runs, refused or not
+-- a group's cells that came from the calls: a begin that was accepted, and steps, runs and kills, refused or not
 pub data Handed : List ℕ → Type 0 where
   begun : (size mode : ℕ) (cells cells' : List ℕ) → BeginCrosses size mode 0 cells cells' → Handed cells'
   stepped : {cells : List ℕ} → Handed cells → (p : Program) (alu predicate booleans r : ℕ) (cells' taken taken' : List ℕ) →
       StepCrosses (groupStep (modeIn cells) p alu predicate booleans (groupOf cells)) r cells cells' taken taken' → Handed cells'
   ran : {cells : List ℕ} → Handed cells → (p : Program) (booleans : ℕ) (masks : List ℕ) (r : ℕ) (cells' report report' : List ℕ) →
       RunCrosses (groupRun (modeIn cells) p booleans masks (groupOf cells)) r cells cells' report report' → Handed cells'
+  killed : {cells : List ℕ} → Handed cells → (slots : ℕ) (registers : List Float) (mask r : ℕ) (cells' room room' : List ℕ) →
+      KillCrosses (killOf slots registers mask (groupOf cells)) r cells cells' room room' → Handed cells'

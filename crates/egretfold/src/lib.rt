@@ -4,6 +4,7 @@
 pub mod addresses;
 pub mod commands;
 pub mod elements;
+pub mod floats;
 pub mod groups;
 pub mod logs;
 pub mod scores;

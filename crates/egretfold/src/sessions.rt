@@ -53,7 +53,8 @@ pub extern "C" fn egretfold_session_feed(
     session_rooms::feed(own, tallies, shared, words, fed)
 }
 
-// Words taken, stopped or not, the open command's header and how many of its parameters were taken.
+// Words taken, stopped or not, the open command's header and how many of its parameters were taken, and which of 0, 7, 8 and 9 the
+// settings alone give a start.
 #[no_mangle]
 pub extern "C" fn egretfold_session_status(
     own: &[u32; state::OWN_CELLS],

@@ -57,12 +57,12 @@ module _ (size : ℕ) where
 
   fresh-cells :
       (mode : Mode) → size ≤ 32 →
-      cellsWith (4294967295 / 2 ^ (32 - size)) (4294967295 / 2 ^ (32 - size)) 0 0 0 0 0 0 0 0 0 0 (lastCells mode []) ≡ cellsOf mode (fresh size)
+      cellsWith (4294967295 / 2 ^ (32 - size)) (4294967295 / 2 ^ (32 - size)) 0 0 0 0 0 0 0 0 0 0 (lastCells mode 0 []) ≡ cellsOf mode (fresh size)
   unfolding fresh
   fresh-cells mode h =
       λ j.
       cellsWith ((full-mask size h ∙ in-size isLive refl refl) j) ((full-mask size h ∙ in-size isActive refl refl) j)
-      (none-set 0 j) (none-set 1 j) (none-set 2 j) (none-set 3 j) (none-set 4 j) 0 0 0 0 0 (lastCells mode [])
+      (none-set 0 j) (none-set 1 j) (none-set 2 j) (none-set 3 j) (none-set 4 j) 0 0 0 0 0 (lastCells mode 0 [])
 
   module _ (mode : ℕ) (l : List ℕ) where
     refused-begin : mayBegin size mode ≡ false → BeginDone l l (begun.Refused FlowField) size mode

@@ -25,10 +25,10 @@ fails-led NoRoom why = tt
 fails-led NoWord why = tt
 
 arrived-led :
-    (slots : ℕ) (jump : Bool) (procs : ℕ → Proc) (loops : List Opened) (w : Way) →
-    LedBy (Turns jump loops) (arrived slots jump procs loops w)
-arrived-led slots jump procs loops Stuck = tt
-arrived-led slots jump procs loops (Goes next rs) = by-pick (LedBy (Turns jump loops)) (leb next slots) _ _ (λ e. (refl, refl)) (λ e. tt)
+    (slots : ℕ) (jump : Bool) (procs : ℕ → Proc) (g : Group) (w : Way) →
+    LedBy (Turns jump (g .loops)) (arrived slots jump procs g w)
+arrived-led slots jump procs g Stuck = tt
+arrived-led slots jump procs g (Goes next rs) = by-pick (LedBy (Turns jump (g .loops))) (leb next slots) _ _ (λ e. (refl, refl)) (λ e. tt)
 
 settled-led :
     (limit slots first second : ℕ) (jump : Bool) (wish : ℕ → Bool) (procs : ℕ → Proc) (g : Group) →
@@ -36,7 +36,7 @@ settled-led :
 unfolding settled
 settled-led limit slots first second jump wish procs g =
     by-pick (LedBy (Turns jump (g .loops))) (overLimit limit (branchOp jump first) procs) _ _ (λ e. tt)
-    (λ e. arrived-led slots jump _ (g .loops) (wayOf (aOp first) jump (g .position) (jumpAddress second) (g .returns)))
+    (λ e. arrived-led slots jump _ g (wayOf (aOp first) jump (g .position) (jumpAddress second) (g .returns)))
 
 turn-led :
     (limit slots first second : ℕ) (wish : ℕ → Bool) (procs : ℕ → Proc) (g : Group) (t : Turn) →

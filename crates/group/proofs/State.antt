@@ -1,9 +1,10 @@
 -- A group and its cells: a sound group is read back from its cells, cells handed in show their processors and their returns,
 -- a step leads from a sound group to a sound one, and with op 0 it is document 01's, in full mode. Assumes nothing.
 use mathlib.Core.Path.{_≡_, refl, sym, ap, _∙_, subst, fun-ext}
-use mathlib.Core.Bool.{Bool, true, false}
+use mathlib.Core.Bool.{Bool, true, false, true≢false}
 use mathlib.Core.List.{List, [], _∷_}
-use Prim.Native.Nat.{ℕ, zero, suc, _+_, _-_, _<_, _≤_, zero-le}
+use Prim.Native.Nat.{ℕ, zero, suc, _+_, _-_, _%_, _^_, _<_, _≤_, zero-le}
+use native.Mathlib.Nat.{zero-div}
 use native.Mathlib.Omega.{arith}
 use lib.Dec.{eqb, leb, ltb}
 use lib.ListN.{length, getD}
@@ -159,6 +160,8 @@ sound-mode mode {g} s =
       slots = s .slots;
       nested = s .nested;
       opened = s .opened;
+      killed-word = s .killed-word;
+      gone = s .gone;
     }
 
 -- a sound group is read back from its cells
@@ -169,6 +172,7 @@ group-back mode g s =
       position = g .position;
       returns = returns-back (g .returns) (s .depth) (s .slots) j;
       loops = four-back (g .loops) (s .nested) (s .opened) j;
+      killed = g .killed;
     }
 
 -- so its cells are such as came from these entries
@@ -221,6 +225,27 @@ turned-absent else {p} e = rw e (pick-same else Absent)
 pub branched-absent : (op k : ℕ) (jump wish : Bool) {p : Proc} → p ≡ Absent → branched op k jump wish p ≡ Absent
 unfolding branched
 branched-absent op k jump wish {p} e = rw e (ap (pick (eqb op 1) Absent) (pick-same (eqb op 2) Absent) ∙ pick-same (eqb op 1) Absent)
+
+-- a processor is in the group after a step where it was before
+pub turned-live : (else : Bool) (q : Proc) → isLive (pick else (turned q) q) ≡ isLive q
+unfolding pick
+turned-live true Active = refl
+turned-live true (Idle zero) = refl
+turned-live true (Idle (suc n)) = refl
+turned-live true Absent = refl
+turned-live false q = refl
+
+pick-live : (t : Bool) (a b : Proc) → isLive a ≡ true → isLive b ≡ true → isLive (pick t a b) ≡ true
+pick-live t a b ha hb = by-pick (λ (q : Proc). isLive q ≡ true) t a b (λ e. ha) (λ e. hb)
+
+pub branched-live : (op k : ℕ) (jump wish : Bool) (q : Proc) → isLive (branched op k jump wish q) ≡ isLive q
+unfolding branched
+branched-live op k jump wish Active = pick-live _ _ _ refl (pick-live _ _ _ (pick-live _ _ _ refl refl) refl)
+branched-live op k jump wish (Idle n) = pick-live _ _ _ (pick-live _ _ _ refl refl) (pick-live _ _ _ refl refl)
+branched-live op k jump wish Absent = gone (eqb op 1) (eqb op 2)
+  where
+    gone : (a b : Bool) → isLive (pick a Absent (pick b Absent Absent)) ≡ false
+    gone a b = by-pick (λ (q : Proc). isLive q ≡ false) a _ _ (λ e. refl) (λ e. by-pick (λ (q : Proc). isLive q ≡ false) b _ _ (λ f. refl) (λ f. refl))
 
 pub turned-within : (limit : ℕ) (p : Proc) → within limit p ≡ true → within limit (turned p) ≡ true
 turned-within limit Active w = le-leb 0 limit zero-le
@@ -295,17 +320,33 @@ abbrev pub SoundAfter : ℕ → Outcome → Type 0
 SoundAfter limit (Steps jump g) = Sound limit g
 SoundAfter limit (Fails why) = (12 < why) × (why < 17)
 
+-- what a group keeps whatever its step does: its loops and its killed, of whom nobody is among the processors `procs`
+record SoundBeside (g : Group) (procs : ℕ → Proc) : Type 0 where
+  nested : length (g .loops) ≤ 4
+  opened : areOpened (g .loops) ≡ true
+  killed-word : g .killed < 2 ^ 32
+  gone : (i : ℕ) → on i (g .killed) ≡ true → procs i ≡ Absent
+
 arrived-sound :
-    (limit slots : ℕ) (jump : Bool) (procs : ℕ → Proc) (loops : List Opened) (way : Way) → slots ≤ 512 →
-    length loops ≤ 4 → areOpened loops ≡ true →
+    (limit slots : ℕ) (jump : Bool) (procs : ℕ → Proc) (g : Group) (way : Way) → slots ≤ 512 → SoundBeside g procs →
     ((i : ℕ) → 32 ≤ i → procs i ≡ Absent) → ((i : ℕ) → within limit (procs i) ≡ true) → SoundWay way →
-    SoundAfter limit (arrived slots jump procs loops way)
-arrived-sound limit slots jump procs loops Stuck h k q out low w = (omega arith, omega arith)
-arrived-sound limit slots jump procs loops (Goes next rs) h k q out low w =
+    SoundAfter limit (arrived slots jump procs g way)
+arrived-sound limit slots jump procs g Stuck h b out low w = (omega arith, omega arith)
+arrived-sound limit slots jump procs g (Goes next rs) h b out low w =
     by-pick (SoundAfter limit) (leb next slots) _ _
     (λ e.
     let n : next ≤ slots = leb-true next slots e in
-    record { outside = out; counters = low; place = omega arith; depth = w .0; slots = w .1; nested = k; opened = q })
+    record {
+      outside = out;
+      counters = low;
+      place = omega arith;
+      depth = w .0;
+      slots = w .1;
+      nested = b .nested;
+      opened = b .opened;
+      killed-word = b .killed-word;
+      gone = b .gone;
+    })
     (λ e. (omega arith, omega arith))
 
 -- nobody at the limit, where an increment is made
@@ -324,17 +365,22 @@ none-over limit op procs out e i two = at (tested (ltb i 32))
 
 settled-sound :
     (limit slots first second : ℕ) (jump : Bool) (wish : ℕ → Bool) (procs : ℕ → Proc) (g : Group) →
-    slots ≤ 512 → g .position < 512 → length (g .returns) ≤ 4 → areReturns (g .returns) ≡ true →
-    length (g .loops) ≤ 4 → areOpened (g .loops) ≡ true →
+    slots ≤ 512 → g .position < 512 → length (g .returns) ≤ 4 → areReturns (g .returns) ≡ true → SoundBeside g procs →
     ((i : ℕ) → 32 ≤ i → procs i ≡ Absent) → ((i : ℕ) → within limit (procs i) ≡ true) →
     SoundAfter limit (settled limit slots first second jump wish procs g)
 unfolding settled
-settled-sound limit slots first second jump wish procs g hs hp hr he hn hl out low =
+settled-sound limit slots first second jump wish procs g hs hp hr he beside out low =
     let op = pick jump (field 27 26 first) (field 25 24 first) in
     by-pick (SoundAfter limit) (overLimit limit op procs) _ _ (λ e. (omega arith, omega arith))
     (λ e.
-    arrived-sound limit slots jump (λ i. branched op (field 20 16 first) jump (wish i) (procs i)) (g .loops)
-    (wayOf (field 7 6 first) jump (g .position) (field 24 16 second) (g .returns)) hs hn hl
+    arrived-sound limit slots jump (λ i. branched op (field 20 16 first) jump (wish i) (procs i)) g
+    (wayOf (field 7 6 first) jump (g .position) (field 24 16 second) (g .returns)) hs
+    (record {
+      nested = beside .nested;
+      opened = beside .opened;
+      killed-word = beside .killed-word;
+      gone = λ i h. branched-absent op (field 20 16 first) jump (wish i) (beside .gone i h);
+    })
     (λ i h. branched-absent op (field 20 16 first) jump (wish i) (out i h))
     (λ i. branched-within limit op (field 20 16 first) jump (wish i) (procs i) (low i) (none-over limit op procs out e i))
     (way-sound (field 7 6 first) jump (g .position) (field 24 16 second) (g .returns) hp hr he))
@@ -351,6 +397,16 @@ module _ (limit : ℕ) (g : Group) (s : Sound limit g) (else : Bool) where
       by-pick (λ (p : Proc). within limit p ≡ true) else _ _
       (λ u. turned-within limit (g .procs i) (s .counters i)) (λ u. s .counters i)
 
+  turned-beside : SoundBeside g (turnedIf else (g .procs))
+  unfolding turnedIf
+  turned-beside =
+      record {
+        nested = s .nested;
+        opened = s .opened;
+        killed-word = s .killed-word;
+        gone = λ i h. turned-absent else (s .gone i h);
+      }
+
 -- a step on a slot's words
 module _ (limit slots first second alu predicate booleans : ℕ) (g : Group) (s : Sound limit g) (most : slots ≤ 512) (before : g .position < slots) where
   jump-sound : SoundAfter limit (jumpStep limit slots first second alu predicate booleans g)
@@ -358,7 +414,7 @@ module _ (limit slots first second alu predicate booleans : ℕ) (g : Group) (s 
   jump-sound =
       by-pick (SoundAfter limit) (allowed first second) _ _
       (λ a.
-      settled-sound limit slots first second _ _ _ g most (omega arith) (s .depth) (s .slots) (s .nested) (s .opened)
+      settled-sound limit slots first second _ _ _ g most (omega arith) (s .depth) (s .slots) (turned-beside limit g s (bElse first))
       (turned-out limit g s (bElse first)) (turned-low limit g s (bElse first)))
       (λ a. (omega arith, omega arith))
 
@@ -367,7 +423,9 @@ module _ (limit slots first second alu predicate booleans : ℕ) (g : Group) (s 
       SoundAfter limit
       (onTurn t (λ jump loops. settled limit slots first second jump wish (turnedIf (bElse first) (g .procs)) (withLoops g loops)))
   turn-sound (Turns jump loops) q wish =
-      settled-sound limit slots first second jump wish _ (withLoops g loops) most (omega arith) (s .depth) (s .slots) (q .0) (q .1)
+      let beside = turned-beside limit g s (bElse first) in
+      settled-sound limit slots first second jump wish _ (withLoops g loops) most (omega arith) (s .depth) (s .slots)
+      (record { nested = q .0; opened = q .1; killed-word = beside .killed-word; gone = beside .gone })
       (turned-out limit g s (bElse first)) (turned-low limit g s (bElse first))
   turn-sound NoRoom q wish = (omega arith, omega arith)
   turn-sound NoWord q wish = (omega arith, omega arith)
@@ -431,7 +489,7 @@ left-given l (Fails why) m s = m
 
 -- and a fresh group is sound
 pub fresh-sound : (limit size : ℕ) → size ≤ 32 → Sound limit (fresh size)
-unfolding fresh areReturns areOpened
+unfolding fresh areReturns areOpened on
 fresh-sound limit size h =
     record {
       outside = λ i k. pick-no _ _ (le-ltb i size (omega arith));
@@ -441,4 +499,6 @@ fresh-sound limit size h =
       slots = refl;
       nested = zero-le;
       opened = refl;
+      killed-word = omega arith;
+      gone = λ i e. absurd (true≢false (sym e ∙ ap (λ (n : ℕ). eqb (n % 2) 1) (zero-div (2 ^ i))));
     }

@@ -6,15 +6,16 @@
 --     7        the position
 --     8 to 11  the stored returns, the last one first, 0 where there is none
 --     12       the mode: 0 full, 1 partial
+--     13       the processors that were killed, who are in neither mask above
 --     14 to 17 the open loops, the innermost first, 0 where there is none (crates/loops/specs/Loops.antt)
---     13, 18 and 19 room for the killed processors: 0 so far
+--     18 and 19 are 0
 --
 -- The encoding is canonical: a plane has no bit of a processor that is active or absent, and a return or a loop of 0 has none after
 -- it, so a group has one list of cells, and the cells at a routine's end are stated whole. Assumes nothing.
 use mathlib.Core.Path.{_≡_}
 use mathlib.Core.Bool.{Bool, true, false}
 use mathlib.Core.List.{List, [], _∷_}
-use Prim.Native.Nat.{ℕ, _+_, _*_, _≤_}
+use Prim.Native.Nat.{ℕ, _+_, _*_, _^_, _<_, _≤_}
 use lib.Dec.{eqb, leb}
 use lib.ListN.{length, getD, drop}
 use Rattle.laws.specs.Choice.{_and_, pick}
@@ -51,6 +52,10 @@ modeIn l = modeOf (getD l 12 0)
 -- the cell of a loop, 0 the innermost
 abbrev pub loopIn : ℕ → List ℕ → ℕ
 loopIn k l = getD l (14 + k) 0
+
+-- the processors that were killed, as a mask
+abbrev pub killedIn : List ℕ → ℕ
+killedIn l = getD l 13 0
 
 -- a group of processors as masks
 abbrev pub liveMask : (ℕ → Proc) → ℕ
@@ -92,11 +97,12 @@ groupOf l =
       position = positionIn l;
       returns = returnsIn (returnIn 0 l ∷ returnIn 1 l ∷ returnIn 2 l ∷ returnIn 3 l ∷ []);
       loops = loopsOf (loopIn 0 l) (loopIn 1 l) (loopIn 2 l) (loopIn 3 l);
+      killed = killedIn l;
     }
 
--- cells 12 to 19: the mode, which no step changes, and the open loops, which document 01's step neither reads nor writes
-abbrev pub lastCells : Mode → List Opened → List ℕ
-lastCells mode loops = modeNumber mode ∷ 0 ∷ cellAt loops 0 ∷ cellAt loops 1 ∷ cellAt loops 2 ∷ cellAt loops 3 ∷ 0 ∷ 0 ∷ []
+-- cells 12 to 19: the mode and the killed, which no step changes, and the open loops, which document 01's step neither reads nor writes
+abbrev pub lastCells : Mode → ℕ → List Opened → List ℕ
+lastCells mode killed loops = modeNumber mode ∷ killed ∷ cellAt loops 0 ∷ cellAt loops 1 ∷ cellAt loops 2 ∷ cellAt loops 3 ∷ 0 ∷ 0 ∷ []
 
 abbrev pub lastIn : List ℕ → List ℕ
 lastIn l = drop 12 l
@@ -111,7 +117,7 @@ cellsOf mode g =
     (plane 0 (g .procs)) (plane 1 (g .procs)) (plane 2 (g .procs)) (plane 3 (g .procs)) (plane 4 (g .procs))
     (g .position)
     (getD (g .returns) 0 0) (getD (g .returns) 1 0) (getD (g .returns) 2 0) (getD (g .returns) 3 0)
-    (lastCells mode (g .loops))
+    (lastCells mode (g .killed) (g .loops))
 
 -- a stored return is a slot number from 1 to 512
 abbrev pub aReturn : ℕ → Bool
@@ -122,7 +128,8 @@ areReturns [] = true
 areReturns (r ∷ rs) = aReturn r and areReturns rs
 
 -- what holds of every state given out: nobody is beyond the 32 places, counters are within the limit, the position is at
--- most 512, there are at most 4 returns, each from 1 to 512, and at most 4 open loops, each with a turn left and bytes for numbers
+-- most 512, there are at most 4 returns, each from 1 to 512, and at most 4 open loops, each with a turn left and bytes for numbers;
+-- the killed are places of a mask, and nobody of them is in the group
 pub record Sound (limit : ℕ) (g : Group) : Type 0 where
   pub outside : (i : ℕ) → mostProcessors ≤ i → g .procs i ≡ Absent
   pub counters : (i : ℕ) → within limit (g .procs i) ≡ true
@@ -131,6 +138,8 @@ pub record Sound (limit : ℕ) (g : Group) : Type 0 where
   pub slots : areReturns (g .returns) ≡ true
   pub nested : length (g .loops) ≤ mostLoops
   pub opened : areOpened (g .loops) ≡ true
+  pub killed-word : g .killed < 2 ^ mostProcessors
+  pub gone : (i : ℕ) → on i (g .killed) ≡ true → g .procs i ≡ Absent
 
 -- cells that came from these entries: they are just those of a sound group in its mode
 pub record GroupGiven (l : List ℕ) : Type 0 where

@@ -1,6 +1,7 @@
 -- Document 01, "Stepping a group", request 4, "Loops in the stepper", and request 7, "Partial flow control": the words of a slot, the
 -- state of a group, a step and a run. The mode is no part of the state here: a step and a run take it, as they take the program, so that
--- "flow states that differ only in the mode" are one state under two modes. Assumes nothing.
+-- "flow states that differ only in the mode" are one state under two modes. (Request 11's kill, of which the state has the mask, is
+-- crates/kill's.) Assumes nothing.
 use mathlib.Core.Bool.{Bool, true}
 use mathlib.Core.List.{List, [], _∷_}
 use Prim.Native.Nat.{ℕ, suc, _+_}
@@ -80,16 +81,18 @@ permits Full first = true
 permits Partial first = eqb (opOf first) 0 and eqb (aOp first) 0
 
 -- the state of a group: processor `i`, absent from 32 on; the position; the stored returns, the last one first; and by request 4
--- the open loops, the innermost first ("The flow state gains the loop stack and aL": aL is the loops' `shownAL`)
+-- the open loops, the innermost first ("The flow state gains the loop stack and aL": aL is the loops' `shownAL`); and by request 11
+-- "the mask of the killed", who are absent too
 pub record Group : Type 0 where
   pub procs : ℕ → Proc
   pub position : ℕ
   pub returns : List ℕ
   pub loops : List Opened
+  pub killed : ℕ
 
 -- "A group has 1 to 32 processors (else 13), all active at the start, position 0, empty stack"
 unfoldable pub fresh : ℕ → Group
-fresh size = record { procs = λ i. pick (ltb i size) Active Absent; position = 0; returns = []; loops = [] }
+fresh size = record { procs = λ i. pick (ltb i size) Active Absent; position = 0; returns = []; loops = []; killed = 0 }
 
 -- the size is one that a group may have
 unfoldable pub isGroupSize : ℕ → Bool
@@ -151,17 +154,19 @@ wayOf aop jump position address returns =
     (Goes (position + 1) returns)
 
 -- 6. "The next position may equal N, which ends the program; above N is 15."
-abbrev pub arrived : ℕ → Bool → (ℕ → Proc) → List Opened → Way → Outcome
-arrived slots jump procs loops Stuck = Fails 14
-arrived slots jump procs loops (Goes next returns) =
-    pick (leb next slots) (Steps jump (record { procs = procs; position = next; returns = returns; loops = loops })) (Fails 15)
+-- `procs` are the processors then; loops and killed are the group's
+abbrev pub arrived : ℕ → Bool → (ℕ → Proc) → Group → Way → Outcome
+arrived slots jump procs g Stuck = Fails 14
+arrived slots jump procs g (Goes next returns) =
+    pick (leb next slots)
+    (Steps jump (record { procs = procs; position = next; returns = returns; loops = g .loops; killed = g .killed })) (Fails 15)
 
 -- 4. to 6., once the decision is made; `procs` are those after B_ELSE
 unfoldable pub settled : ℕ → ℕ → ℕ → ℕ → Bool → (ℕ → Bool) → (ℕ → Proc) → Group → Outcome
 settled limit slots first second jump wish procs g =
     let op = branchOp jump first in
     pick (overLimit limit op procs) (Fails 14)
-    (arrived slots jump (λ i. branched op (popCount first) jump (wish i) (procs i)) (g .loops)
+    (arrived slots jump (λ i. branched op (popCount first) jump (wish i) (procs i)) g
     (wayOf (aOp first) jump (g .position) (jumpAddress second) (g .returns)))
 
 -- 1. to 3., on the slot's two words: document 01's step, which allows op 0 alone
@@ -180,7 +185,7 @@ onTurn NoRoom next = Fails 14
 onTurn NoWord next = Fails 13
 
 abbrev pub withLoops : Group → List Opened → Group
-withLoops g loops = record { procs = g .procs; position = g .position; returns = g .returns; loops = loops }
+withLoops g loops = record { procs = g .procs; position = g .position; returns = g .returns; loops = loops; killed = g .killed }
 
 -- "These decisions override the processors' wishes; branch and return work stays as in 01.": the loop decides, before the rest
 -- of the step, which an increment measures the wishes against

@@ -3,8 +3,8 @@
 //
 // The state of a group is 20 cells: 0 the processors in the group and 1 the active ones, bit i for processor i; 2 to 6 the
 // branch counters, bit i of cell 2 + k being bit k of processor i's counter; 7 the position; 8 to 11 the stored returns, the
-// last one first, 0 for none; 12 the mode; 14 to 17 the open loops, the innermost first, 0 for none (crates/loops). 13, 18 and 19 are 0:
-// room for the killed processors.
+// last one first, 0 for none; 12 the mode; 13 the killed processors, who are no longer in cells 0 and 1 (request 11, crates/kill); 14 to 17
+// the open loops, the innermost first, 0 for none (crates/loops). 18 and 19 are 0.
 pub mod planes;
 
 // How many numbers a group lies in, and how many slots a program store has.
@@ -41,6 +41,8 @@ pub const RETURN_2: usize = 10;
 pub const RETURN_3: usize = 11;
 
 pub const MODE: usize = 12;
+
+pub const KILLED: usize = 13;
 
 pub const LOOP_0: usize = 14;
 

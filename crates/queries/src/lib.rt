@@ -46,6 +46,13 @@ pub fn open_count(own: &[u32; state::OWN_CELLS]) -> u32
     own[own::COUNT]
 }
 
+// Which of 0, 7, 8 and 9 the settings alone give a start, as it is stored.
+pub fn readiness(own: &[u32; state::OWN_CELLS]) -> u32
+    ensures { λ r. ⌜ r ≡ partyOf (now (own .entry)) [] .readiness .number ⌝ }
+{
+    own[own::READINESS]
+}
+
 pub fn domain(own: &[u32; state::OWN_CELLS]) -> Bounds
     ensures { λ r. ⌜ r ≡ boundsOf (partyOf (now (own .entry)) [] .domain) ⌝ }
 {

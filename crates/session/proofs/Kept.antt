@@ -26,6 +26,7 @@ use Rattle.command.proofs.Headers.{count-least, count-most}
 use Rattle.rules.proofs.Rule.{rule-five}
 use Rattle.command.proofs.WriteBack.{made}
 use Rattle.state.specs.State.{Buffer, Open, Domain, Tally, Party, Shared, Session, none, newSession}
+use Rattle.start.proofs.New.{new-kept}
 use Rattle.state.specs.Start.{counts, pairsOf, claimOf, mostClaim, mostPairs}
 use Rattle.state.specs.Effects.{limit, opening, took, stop, withParameter, buffer, ownAfter, sharedAfter, after}
 use Rattle.session.specs.Step.{Reply, stillOpen, completed, refused, Stepped, refusing, startRuleOf, stepOf}
@@ -44,7 +45,7 @@ new-valid =
       domain = omega arith;
       tally = omega arith;
       birth = refl;
-      readiness = refl;
+      readiness = new-kept;
       outputs = refl;
       inputs = refl;
     }
@@ -114,7 +115,6 @@ pub record Effects (c : Command) (h : Shared) (p : Party) (n : ℕ) : Type 0 whe
   pub domain : DomainValid (ownAfter c h p .domain)
   pub tally : TallyValid (ownAfter c h p .tally) (n + 1)
   pub same-birth : ownAfter c h p .birth ≡ p .birth
-  pub same-readiness : ownAfter c h p .readiness ≡ p .readiness
   pub outputs : length (sharedAfter c h .outputs) ≡ length (h .outputs)
   pub inputs : length (sharedAfter c h .inputs) ≡ length (h .inputs)
 
@@ -125,10 +125,10 @@ module _ (h : Shared) (p : Party) (n : ℕ) (d : DomainValid (p .domain)) (t : T
   -- a command that changes neither domain nor tallies
   plain : (c : Command) → ownAfter c h p .stopped ≡ p .stopped → ownAfter c h p .taken ≡ p .taken →
       ownAfter c h p .opened ≡ p .opened → ownAfter c h p .domain ≡ p .domain → ownAfter c h p .tally ≡ p .tally →
-      ownAfter c h p .birth ≡ p .birth → ownAfter c h p .readiness ≡ p .readiness →
+      ownAfter c h p .birth ≡ p .birth →
       length (sharedAfter c h .outputs) ≡ length (h .outputs) → length (sharedAfter c h .inputs) ≡ length (h .inputs) →
       Effects c h p n
-  plain c a b e f g i r k l =
+  plain c a b e f g i k l =
       record {
         same-flag = a;
         same-count = b;
@@ -136,7 +136,6 @@ module _ (h : Shared) (p : Party) (n : ℕ) (d : DomainValid (p .domain)) (t : T
         domain = rw f d;
         tally = rw g still;
         same-birth = i;
-        same-readiness = r;
         outputs = k;
         inputs = l;
       }
@@ -151,7 +150,6 @@ module _ (h : Shared) (p : Party) (n : ℕ) (d : DomainValid (p .domain)) (t : T
         domain = set-domain i0 j0 i1 j1 a (ordered _ u r);
         tally = still;
         same-birth = refl;
-        same-readiness = refl;
         outputs = refl;
         inputs = refl;
       }
@@ -163,30 +161,29 @@ module _ (h : Shared) (p : Party) (n : ℕ) (d : DomainValid (p .domain)) (t : T
         domain = d;
         tally = omega (arith, t, claim-most (p .domain) (h .mask) (h .outputs) d);
         same-birth = refl;
-        same-readiness = refl;
         outputs = refl;
         inputs = refl;
       }
-  effects (command.Effectless what) a u r = plain (command.Effectless what) refl refl refl refl refl refl refl refl refl
+  effects (command.Effectless what) a u r = plain (command.Effectless what) refl refl refl refl refl refl refl refl
   effects (command.Store stored.Instructions base format) a u r =
-      plain (command.Store stored.Instructions base format) refl refl refl refl refl refl refl refl refl
+      plain (command.Store stored.Instructions base format) refl refl refl refl refl refl refl refl
   effects (command.Store stored.Floats base format) a u r =
-      plain (command.Store stored.Floats base format) refl refl refl refl refl refl refl refl refl
+      plain (command.Store stored.Floats base format) refl refl refl refl refl refl refl refl
   effects (command.Store stored.Integers base format) a u r =
-      plain (command.Store stored.Integers base format) refl refl refl refl refl refl refl refl refl
+      plain (command.Store stored.Integers base format) refl refl refl refl refl refl refl refl
   effects (command.Store stored.Booleans base format) a u r =
-      plain (command.Store stored.Booleans base format) refl refl refl refl refl refl refl refl refl
+      plain (command.Store stored.Booleans base format) refl refl refl refl refl refl refl refl
   effects (command.Input number base format height) a u r =
-      plain (command.Input number base format height) refl refl refl refl refl refl refl refl
+      plain (command.Input number base format height) refl refl refl refl refl refl refl
       (length-set (h .inputs) number (buffer base format height))
   effects (command.Output number base format height) a u r =
-      plain (command.Output number base format height) refl refl refl refl refl refl refl
+      plain (command.Output number base format height) refl refl refl refl refl refl
       (length-set (h .outputs) number (buffer base format height)) refl
   effects (command.Conditional base format height) a u r =
-      plain (command.Conditional base format height) refl refl refl refl refl refl refl refl refl
-  effects (command.OutputMask mask) a u r = plain (command.OutputMask mask) refl refl refl refl refl refl refl refl refl
-  effects (command.ConditionalMask mask) a u r = plain (command.ConditionalMask mask) refl refl refl refl refl refl refl refl refl
-  effects (command.Test test) a u r = plain (command.Test test) refl refl refl refl refl refl refl refl refl
+      plain (command.Conditional base format height) refl refl refl refl refl refl refl refl
+  effects (command.OutputMask mask) a u r = plain (command.OutputMask mask) refl refl refl refl refl refl refl refl
+  effects (command.ConditionalMask mask) a u r = plain (command.ConditionalMask mask) refl refl refl refl refl refl refl refl
+  effects (command.Test test) a u r = plain (command.Test test) refl refl refl refl refl refl refl refl
 
 -- the fields of the command that an open command with all its parameters is
 module _ (o : Open) (line : o .line < 21) (a : EachAllowed (o .line) (parametersOf o)) where
@@ -304,7 +301,7 @@ module _ (s : Session) (w : ℕ) (v : Valid s) where
             domain = f .domain;
             tally = rw (f .same-count) (f .tally);
             birth = f .same-birth ∙ v .birth;
-            readiness = f .same-readiness ∙ v .readiness;
+            readiness = refl;
             outputs = f .outputs ∙ v .outputs;
             inputs = f .inputs ∙ v .inputs;
           }

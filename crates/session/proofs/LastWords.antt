@@ -25,8 +25,9 @@ use Rattle.rules.specs.Writer.{judgeCommandOf}
 use Rattle.rules.proofs.Judging.{then-given}
 use Rattle.rules.proofs.Readable.{readable, writable}
 use Rattle.rules.proofs.Rule.{Ruled, fine, five, six, ruled}
-use Rattle.state.specs.State.{Buffer, Domain, Open, Session, none}
+use Rattle.state.specs.State.{Buffer, Domain, Readiness, Open, Session, none}
 use Rattle.state.specs.Start.{readyOf, readinessOf}
+use Rattle.state.specs.Readiness.{workedOut}
 use Rattle.state.specs.Effects.{limit, opening, stop, after}
 use Rattle.state.specs.Asked.{Held, OwnAsked}
 use Rattle.state.specs.Cells.{partyOf, partyCells, tallyCells, sharedOf, sessionOf, ownLength}
@@ -35,7 +36,7 @@ use Rattle.start.proofs.Readiness.{number-given, number-refused, readiness-numb
 use Rattle.accept.specs.Whole.{RoomFor, Denied, byWords, byFields, bySettings, Tried, untaken, accepted, LineTried, lastWord}
 use Rattle.session.specs.Step.{Reply, completed, refused, startRuleOf, completing}
 use Rattle.session.specs.Again.{atWord}
-use Rattle.session.specs.Asked.{Left, CompleteAsked, RefusalAsked, readinessIn, refusalAt}
+use Rattle.session.specs.Asked.{Left, CompleteAsked, RefusalAsked, refusalAt, storedIn}
 use Rattle.session.proofs.Kept.{whole-words, whole-allowed}
 use Rattle.session.proofs.ReadBack.{after-at-word}
 use Rattle.session.proofs.Stepping.{whole-refused, whole-accepted}
@@ -58,8 +59,13 @@ module _ (line readiness : ℕ) where
   unfolding refusalAt
   refusal-window n m = sym (pick-no _ _ (ne-eqb line 0 n) ∙ pick-no _ _ (ne-eqb line 1 m))
 
-pub start-number : (l s : List ℕ) (line : ℕ) → RefusalAsked l s line → line ≡ 1 → (n : ℕ) → n ≡ readinessIn l s → IsNumber n
-start-number l s line a e n k = subst IsNumber (sym k) (readiness-number _ _ _ _ (a .unready e))
+pub start-number : (l : List ℕ) (line : ℕ) → RefusalAsked l line → line ≡ 1 → IsNumber (getD l 19 0)
+unfolding partyOf
+start-number l line a e = a .unready e
+
+pub refusal-stored : (l : List ℕ) (line : ℕ) → line ≡ 1 → getD l 19 0 ≡ refusalAt line (storedIn l)
+unfolding partyOf
+refusal-stored l line e = refusal-start line (getD l 19 0) e
 
 -- what the rules on a whole command tell where it isn't accepted
 abbrev rules : Command → Session → Told
@@ -160,23 +166,28 @@ module _ (l t s : List ℕ) (a : CompleteAsked l t s) where
       fields = unfold partyOf in whole-allowed o line-lt passed
   denied-told (bySettings e) = by-settings (ruled c) (startRuleOf c ss) e
 
-  denied-refused : Denied c here ss → rules c ss ≡ refuses (refusalAt (getD l 2 0) (readiness ss))
+  -- the stored number is the one worked out from the settings
+  stored-ready : storedIn l ≡ readiness ss
+  unfolding partyOf workedOut
+  stored-ready = ap (λ (r : Readiness). r .number) (a .asked .kept)
+
+  denied-refused : Denied c here ss → rules c ss ≡ refuses (refusalAt (getD l 2 0) (storedIn l))
   denied-refused d =
       refused-by-line c ss (denied-told d) ∙
-      ap (λ (n : ℕ). refuses (refusalAt n (readiness ss))) (made _ _ _ _ (getD l 2 0) line-lt .line-back)
+      ap (λ (n : ℕ). refuses (refusalAt n (readiness ss))) (made _ _ _ _ (getD l 2 0) line-lt .line-back) ∙
+      ap (λ (n : ℕ). refuses (refusalAt (getD l 2 0) n)) (sym stored-ready)
 
-  denied-asked : Denied c here ss → RefusalAsked l s (getD l 2 0)
+  denied-asked : Denied c here ss → RefusalAsked l (getD l 2 0)
   denied-asked d =
       record {
         own-length = a .asked .sized .own-length;
-        shared-length = a .asked .sized .shared-length;
-        unready = λ e. unready-at (getD l 2 0) e (denied-told d);
+        unready = λ e. subst IsNumber (sym stored-ready) (readiness-number _ _ _ _ (unready-at (getD l 2 0) e (denied-told d)));
       }
     where
       unready-at : (n : ℕ) → n ≡ 1 →
-          isGiven (rules (commandOf n (getD l 4 0) (getD l 5 0) (getD l 6 0) (getD l 7 0)) ss) ≡ false → readinessIn l s ≡ 0 → ⊥
+          isGiven (rules (commandOf n (getD l 4 0) (getD l 5 0) (getD l 6 0) (getD l 7 0)) ss) ≡ false → readiness ss ≡ 0 → ⊥
       unready-at n e k =
-          unfold partyOf commandOf in
+          unfold commandOf in
           unready ss (subst (λ (m : ℕ). isGiven (rules (commandOf m (getD l 4 0) (getD l 5 0) (getD l 6 0) (getD l 7 0)) ss) ≡ false) e k)
 
   -- nothing was changed
@@ -186,15 +197,15 @@ module _ (l t s : List ℕ) (a : CompleteAsked l t s) where
   unchanged P p m l1 t1 s1 k (accepted rest l2 t2 s2 begins judged rule held) = absurd (omega arith)
 
   module _ (m : ℕ) (l1 t1 s1 : List ℕ) (tried : Last m l1 t1 s1) (k : m ≤ 0) where
-    pub refusal-asked : RefusalAsked l1 s1 (getD l 2 0)
-    refusal-asked = unchanged (λ x y z. RefusalAsked x z (getD l 2 0)) denied-asked m l1 t1 s1 k (tried [])
+    pub refusal-asked : RefusalAsked l1 (getD l 2 0)
+    refusal-asked = unchanged (λ x y z. RefusalAsked x (getD l 2 0)) denied-asked m l1 t1 s1 k (tried [])
 
-    pub last-refused : (n : ℕ) → n ≡ refusalAt (getD l 2 0) (readinessIn l1 s1) → (l2 : List ℕ) →
+    pub last-refused : (n : ℕ) → n ≡ refusalAt (getD l 2 0) (storedIn l1) → (l2 : List ℕ) →
         l2 ≡ partyCells (stop (partyOf l1 [])) → Left (completing o ss) (refused n) l2 t1 s1
     last-refused n e l2 f =
         unchanged
         (λ x y z.
-        n ≡ refusalAt (getD l 2 0) (readinessIn x z) → l2 ≡ partyCells (stop (partyOf x [])) →
+        n ≡ refusalAt (getD l 2 0) (storedIn x) → l2 ≡ partyCells (stop (partyOf x [])) →
         Left (completing o ss) (refused n) l2 y z)
         (λ d q g.
         whole-refused l t s a n

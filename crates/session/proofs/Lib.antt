@@ -10,6 +10,7 @@ pub mod Reached
 pub mod Refusals
 pub mod Silent
 pub mod Stepping
+pub mod Stored
 pub mod Taking
 pub mod Tallies
 pub mod Ways

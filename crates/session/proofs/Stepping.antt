@@ -165,6 +165,7 @@ module _ (l t s : List ℕ) (w : ℕ) (a : ParameterAsked l t s w) where
                       shared-length = a .given .sized .shared-length;
                     };
                 domain = rw is-next (a .given .valid .domain);
+                kept = rw is-next (a .given .valid .readiness);
                 runs = rw is-next (omega (arith, a .given .valid .tally, a .given .valid .full));
                 claims = rw is-next (omega (arith, a .given .valid .tally, a .given .valid .full));
               };

@@ -150,6 +150,8 @@ module _ (l t s : List ℕ) (w : ℕ) (g : Given l t s) where
             known (fails x) = absurd (told-apart (sym r ∙ pick-no _ _ x))
 
 -- a new session's cells
-pub begun : Held newSession (set (replicate ownLength 0) 2 21) (replicate 2 0) (set (replicate 101 0) 0 65535)
+pub begun :
+    Held newSession (set (set (set (set (set (replicate ownLength 0) 2 21) 19 7) 21 4096) 22 4096) 23 1) (replicate 2 0)
+    (set (replicate 101 0) 0 65535)
 unfolding partyCells tallyCells sharedCells
 begun = record { own-cells = refl; tally-cells = refl; shared-cells = refl }

@@ -11,8 +11,8 @@ use Rattle.command.specs.Commands.{EachAllowed}
 use Rattle.state.specs.Effects.{limit}
 use Rattle.session.specs.Step.{Reply, Stepped}
 use Rattle.state.specs.Valid.{parametersOf}
-use Rattle.state.specs.Start.{readinessOf}
-use Rattle.state.specs.Cells.{partyOf, sharedOf, ownLength, sharedLength}
+use Rattle.refusal.specs.Number.{IsNumber}
+use Rattle.state.specs.Cells.{partyOf, ownLength}
 use Rattle.state.specs.Asked.{Held, Given, OwnAsked}
 
 -- a step's reply, and cells that hold the session after it
@@ -25,16 +25,14 @@ pub record Left (t : Stepped) (r : Reply) (own tallies shared : List ℕ) : Type
 unfoldable pub refusalAt : ℕ → ℕ → ℕ
 refusalAt line readiness = pick (eqb line 0) 5 (pick (eqb line 1) readiness 6)
 
--- what the settings in these cells give a start
-abbrev pub readinessIn : List ℕ → List ℕ → ℕ
-readinessIn own shared =
-    readinessOf (partyOf own [] .domain) (partyOf own [] .instructions) (sharedOf shared .mask) (sharedOf shared .outputs)
+-- the number that is kept in these cells of what the settings give a start
+abbrev pub storedIn : List ℕ → ℕ
+storedIn own = partyOf own [] .readiness .number
 
--- the line of a command that isn't accepted: where it is a start, the settings refuse it
-pub record RefusalAsked (own shared : List ℕ) (line : ℕ) : Type 0 where
+-- the line of a command that isn't accepted: where it is a start, the stored number is a refusal's
+pub record RefusalAsked (own : List ℕ) (line : ℕ) : Type 0 where
   pub own-length : length own ≡ ownLength
-  pub shared-length : length shared ≡ sharedLength
-  pub unready : line ≡ 1 → readinessIn own shared ≡ 0 → ⊥
+  pub unready : line ≡ 1 → IsNumber (storedIn own)
 
 -- an open command with all its parameters, in a session that takes words
 pub record CompleteAsked (own tallies shared : List ℕ) : Type 0 where

@@ -6,4 +6,5 @@ pub mod Reached
 pub mod Refusals
 pub mod Silent
 pub mod Step
+pub mod Stored
 pub mod Tallies

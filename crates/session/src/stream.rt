@@ -18,7 +18,7 @@ ghost use Rattle.state.specs.Effects.{withParameter};
 ghost use Rattle.session.specs.Step.{completing, parameterStep, placing, stepOf};
 ghost use Rattle.state.specs.Cells.{Sized, partyOf, sessionOf};
 ghost use Rattle.state.specs.Asked.{Given, Held};
-ghost use Rattle.session.specs.Asked.{CompleteAsked, Left, OpenAsked, ParameterAsked, RefusalAsked, readinessIn, refusalAt};
+ghost use Rattle.session.specs.Asked.{CompleteAsked, Left, OpenAsked, ParameterAsked, RefusalAsked, refusalAt, storedIn};
 ghost use Rattle.session.specs.Answers.{PieceLeft, completedBy, replyOf};
 ghost use Rattle.session.specs.Feed.{feedOf};
 
@@ -33,18 +33,14 @@ pub enum Answer {
 }
 
 // The refusal of a command that isn't accepted though each of its parameters is allowed: of a domain 5, of a start the number that
-// the settings give it, and 6 of a command that describes a window.
-fn refusal_of(
-    own: &[u32; state::OWN_CELLS],
-    shared: &[u32; state::SHARED_CELLS],
-    line: u32,
-) -> Refusal
-    requires { ⌜ RefusalAsked (now own) (now shared) line ⌝ }
-    ensures { λ r. ⌜ numberOf r ≡ refusalAt line (readinessIn (now (own .entry)) (now (shared .entry))) ⌝ }
+// is stored of the settings, and 6 of a command that describes a window.
+fn refusal_of(own: &[u32; state::OWN_CELLS], line: u32) -> Refusal
+    requires { ⌜ RefusalAsked (now own) line ⌝ }
+    ensures { λ r. ⌜ numberOf r ≡ refusalAt line (storedIn (now (own .entry))) ⌝ }
 {
     match line {
         table::SET_DOMAIN => Refusal::DomainCrossed,
-        table::START_PROGRAM => refusal::with_number(ready::readiness(own, shared)),
+        table::START_PROGRAM => refusal::with_number(own[own::READINESS]),
         _ => Refusal::WindowRule,
     }
 }
@@ -67,7 +63,7 @@ fn complete(
         own::close(own);
         return Answer::Done(commands::build(line, p0, p1, p2, p3));
     }
-    let why = refusal_of(own, shared, line);
+    let why = refusal_of(own, line);
     own::stop(own);
     Answer::Refused(why)
 }
@@ -144,7 +140,7 @@ pub fn word(
     }
 }
 
-// A new session: nothing set, mask 65535.
+// A new session: nothing set, mask 65535; a start would get 7, and no output asks anything of a domain.
 pub fn begin(
     own: &mut [u32; state::OWN_CELLS],
     tallies: &mut [u64; state::TALLIES],
@@ -154,6 +150,10 @@ pub fn begin(
 {
     *own = [0; state::OWN_CELLS];
     own[own::LINE] = own::NO_LINE;
+    own[own::READINESS] = ready::UNSET;
+    own[own::COLUMNS] = ready::MOST_EXTENT;
+    own[own::ROWS] = ready::MOST_EXTENT;
+    own[own::APART] = 1;
     *tallies = [0; state::TALLIES];
     *shared = [0; state::SHARED_CELLS];
     shared[settings::MASK] = 65535;

@@ -11,9 +11,10 @@ ghost use Rattle.state.specs.Cells.{partyOf, sharedOf};
 ghost use Rattle.refusal.specs.Crossing.{Crosses, Shows, flag};
 ghost use Rattle.setting_rooms.specs.Rooms.{domainNumbers, formatAt, formatOf, maskNumbers, openHeader, standingNumbers, tallyNumbers, toldFound};
 
-// Lengths of rooms: words taken, stopped or not, the open command's header and parameters so far; runs and claims; set or not and
-// four bounds; the output mask, then the conditional mask and the test behind a flag each; set or not, base, format word and height.
-pub const STANDING_NUMBERS: usize = 4;
+// Lengths of rooms: words taken, stopped or not, the open command's header and parameters so far, what a start would get of the
+// settings; runs and claims; set or not and four bounds; the output mask, then the conditional mask and the test behind a flag each;
+// set or not, base, format word and height.
+pub const STANDING_NUMBERS: usize = 5;
 
 pub const TALLY_NUMBERS: usize = 2;
 
@@ -38,16 +39,27 @@ fn flag_of(present: bool) -> u32
 fn open_header(line: u32) -> u32
     ensures { λ r. ⌜ r ≡ openHeader line ⌝ }
 {
-    if line < 21 { table::header(line) } else { 0 }
+    if line < own::NO_LINE {
+        table::header(line)
+    } else {
+        0
+    }
 }
 
-// Words taken, stopped or not, the open command's header and how many of its parameters were taken.
+// Words taken, stopped or not, the open command's header and how many of its parameters were taken, and which of 0, 7, 8 and 9 the
+// settings alone give a start.
 pub fn standing(own: &[u32; state::OWN_CELLS], status: &mut [u32; STANDING_NUMBERS]) -> u32
     ensures { λ r. ⌜ Shows (standingNumbers (partyOf (now (own .entry)) [])) r (now (status .exit)) ⌝ }
 {
     let stopped = flag_of(queries::is_stopped(own));
     let header = open_header(queries::open_line(own));
-    *status = [own[own::TAKEN], stopped, header, queries::open_count(own)];
+    *status = [
+        own[own::TAKEN],
+        stopped,
+        header,
+        queries::open_count(own),
+        queries::readiness(own),
+    ];
     0
 }
 
@@ -101,25 +113,25 @@ fn at_line(
     ensures { λ r. ⌜ toldFound r ≡ formatAt (partyOf (now (own .entry)) []) (sharedOf (now (shared .entry))) line number ⌝ }
 {
     match line {
-        3 => Found::Is(queries::instructions(own)),
-        4 => {
+        table::SET_INST_FMT => Found::Is(queries::instructions(own)),
+        table::SET_INP_FMT => {
             if number < INPUTS {
                 Found::Is(queries::input(shared, number))
             } else {
                 Found::Refused(Refusal::NumberTooHigh)
             }
         }
-        5 => {
+        table::SET_OUT_FMT => {
             if number < OUTPUTS {
                 Found::Is(queries::output(shared, number))
             } else {
                 Found::Refused(Refusal::NumberTooHigh)
             }
         }
-        6 => Found::Is(queries::conditional(shared)),
-        7 => Found::Is(queries::floats(shared)),
-        8 => Found::Is(queries::integers(shared)),
-        9 => Found::Is(queries::booleans(shared)),
+        table::SET_COND_OUT_FMT => Found::Is(queries::conditional(shared)),
+        table::SET_CONSTF_FMT => Found::Is(queries::floats(shared)),
+        table::SET_CONSTI_FMT => Found::Is(queries::integers(shared)),
+        table::SET_CONSTB_FMT => Found::Is(queries::booleans(shared)),
         _ => Found::Refused(Refusal::UnknownHeader),
     }
 }

@@ -3,18 +3,20 @@
 use mathlib.Core.Path.{_≡_, refl, sym, ap, _∙_}
 use mathlib.Core.Bool.{Bool, true, false, not}
 use mathlib.Core.List.{[], _∷_}
-use Prim.Native.Nat.{ℕ, _+_, _-_, _*_, _/_, _%_, _^_, _<_}
+use Prim.Native.Nat.{ℕ, _+_, _-_, _*_, _/_, _%_, _^_, _<_, _≤_}
 use native.Mathlib.Nat.{zero-add, mod-lt, mod-one}
 use native.Mathlib.Omega.{arith}
+use lib.Bits.{bitAnd, and-mask}
 use lib.Dec.{eqb}
+use lib.ListN.{List·getD-eq-default}
 use lib.Pow.{pow-pos, shr-shr, field, mod-mod-pow}
-use Rattle.laws.specs.Below.{some}
+use borrow.Author.Tests.{eqb-true}
+use Rattle.laws.specs.Below.{some, every}
+use Rattle.laws.specs.Choice.{_and_}
 use Rattle.laws.specs.Masks.{on}
-use Rattle.laws.proofs.Below.{some-same}
+use Rattle.laws.proofs.Below.{some-same, every-at}
 use Rattle.laws.proofs.Masks.{pack-on, none-zero}
-use Rattle.laws.proofs.Table.{NoneOf}
 use Rattle.command.specs.Format.{channelsOf, codeOf}
-use Rattle.command.proofs.Windows.{channels-past}
 use Rattle.state.specs.Start.{unmasked}
 
 -- the bits below `k` of a word are those of its remainder
@@ -55,10 +57,19 @@ pub unmasked-told : (bits format : ℕ) {code low : ℕ} → code ≡ codeOf for
 unmasked-told bits format e h =
     ap not (ap (λ (x : ℕ). eqb x 0) (h ∙ ap (λ (x : ℕ). bits % 2 ^ channelsOf x) e) ∙ unmasked-low bits format) ∙ not-not _
 
--- the code's remainder at each format code; the last for a code that is none of the five
-module _ (bits code : ℕ) where
-  pub bits-at : (k r : ℕ) → code ≡ k → bits % 2 ^ channelsOf k ≡ r → r ≡ bits % 2 ^ channelsOf code
-  bits-at k r e h = sym h ∙ ap (λ (x : ℕ). bits % 2 ^ channelsOf x) (sym e)
+-- the bits that the code has for each format code: as many ones as it has channels
+channelsRight : ℕ → Bool
+channelsRight code = eqb (995825 / 2 ^ (4 * code) % 16) (2 ^ channelsOf code - 1)
 
-  pub bits-past : NoneOf Unit (0 ∷ 1 ∷ 2 ∷ 3 ∷ 4 ∷ []) code → 0 ≡ bits % 2 ^ channelsOf code
-  bits-past n = sym (ap (λ (x : ℕ). bits % 2 ^ x) (channels-past code n) ∙ mod-one bits)
+channels-right : (code : ℕ) → code < 8 → channelsRight code ≡ true
+unfolding channelsRight channelsOf every _and_
+channels-right = every-at 8 channelsRight refl
+
+pub bits-read : (bits code : ℕ) → code ≤ 7 → bitAnd bits (995825 / 2 ^ (4 * code) % 16) ≡ bits % 2 ^ channelsOf code
+unfolding channelsRight
+bits-read bits code h = ap (bitAnd bits) (eqb-true _ _ (channels-right code (omega arith))) ∙ and-mask bits (channelsOf code)
+
+pub bits-past : (bits code : ℕ) → 7 < code → 0 ≡ bits % 2 ^ channelsOf code
+unfolding channelsOf
+bits-past bits code h =
+    sym (ap (λ (x : ℕ). bits % 2 ^ x) (List·getD-eq-default (1 ∷ 4 ∷ 1 ∷ 2 ∷ 4 ∷ []) 0 {n = code} (omega arith)) ∙ mod-one bits)

@@ -1,2 +1,4 @@
 pub mod Channels
+pub mod Gauge
+pub mod New
 pub mod Readiness

@@ -1,37 +1,33 @@
 -- What a start asks of the settings and what it claims: each answer of the code, from what its tests found.
 -- Assumes nothing.
-use mathlib.Core.Path.{_≡_, refl, sym, ap, _∙_}
+use mathlib.Core.Path.{_≡_, refl, sym, ap, ap₂, _∙_}
 use mathlib.Core.Bool.{Bool, true, false}
 use mathlib.Core.List.{List, [], _∷_}
-use Prim.Native.Nat.{ℕ, _+_, _-_, _*_, _/_, _<_, _≤_}
+use Prim.Native.Nat.{ℕ, _+_, _-_, _*_, _/_, _<_, _≤_, _^_}
 use native.Mathlib.Nat.{mul-le-mul}
 use native.Mathlib.Omega.{arith}
 use lib.Dec.{eqb, ltb}
-use lib.ListN.{getD}
-use borrow.Author.Tests.{eq-eqb, ne-eqb}
+use lib.ListN.{length, getD}
+use borrow.Author.Tests.{eq-eqb, ne-eqb, lt-ltb, le-ltb}
 use Rattle.laws.specs.Below.{some, every, sum, count}
 use Rattle.laws.specs.Choice.{_and_, pick}
 use Rattle.laws.specs.Masks.{_or_, digit}
-use Rattle.laws.proofs.Choice.{pick-yes, pick-no, and-left, and-yes, and-no-left}
+use Rattle.laws.proofs.Below.{count-bounded}
+use Rattle.laws.proofs.Choice.{pick-yes, pick-no, and-yes, and-no-left}
 use Rattle.refusal.specs.Number.{IsNumber}
 use Rattle.refusal.specs.Told.{Told, gives, refuses}
 use Rattle.refusal.specs.declared.Refusal.the-variants.{StartUnset, DomainOutside, SpansShared}
-use Rattle.command.specs.Format.{valueOf, windowOf, windowSeen}
-use Rattle.command.specs.declared.format.Window.{Window}
 use Rattle.start.specs.declared.ready.Output.{Output}
-use Rattle.state.specs.State.{Buffer, Domain}
-use Rattle.state.specs.Cells.{bufferAt, partyOf, sharedOf}
+use Rattle.state.specs.State.{Buffer, Domain, Gauge, Readiness, Party, Shared}
+use Rattle.state.specs.Asked.{OwnAsked}
+use Rattle.state.specs.Cells.{bufferAt, windowAt, partyOf, partyCells, sharedOf, ownLength}
 use Rattle.state.specs.Start.{
-  stepOfBuffer,
   spanOfBuffer,
   output,
   isSet,
   unmasked,
   counts,
-  containsDomain,
   apart,
-  complete,
-  covered,
   disjoint,
   readyOf,
   numberTold,
@@ -41,20 +37,25 @@ use Rattle.state.specs.Start.{
   mostClaim,
   mostPairs,
 }
+use Rattle.state.specs.Readiness.{lesser, leastExtent, windowFor, columnsLeft, rowsLeft, gaugeOf, workedOut}
+use Rattle.state.specs.Effects.{gaugeFrom, windowFrom, withGauge, withNumber, withReadiness, renewed}
 use Rattle.state.specs.Valid.{DomainValid}
+use Rattle.start.specs.Gauge.{readyBy, settled, WindowsKept, RenewAsked}
 use Rattle.start.specs.Windows.{
-  cellsBuffer,
   countsBy,
-  outputOf,
-  holdsPair,
+  outputBy,
   spansApart,
   keepsApart,
+  extentLeft,
   someSet,
-  eachHolds,
   eachApart,
+  columnsBy,
+  rowsBy,
+  creditBy,
   firstOf,
 }
 use Rattle.start.proofs.Channels.{from-own}
+use Rattle.start.proofs.Gauge.{readiness-gauged}
 
 -- four tests, taken as the code takes them
 some-of-four : (p q r s : Bool) → pick (pick (pick p true q) true r) true s ≡ (p or (q or (r or (s or false))))
@@ -64,14 +65,6 @@ some-of-four false true r s = refl
 some-of-four false false true s = refl
 some-of-four false false false true = refl
 some-of-four false false false false = refl
-
-each-of-four : (p q r s : Bool) → (((p and q) and r) and s) ≡ (p and (q and (r and (s and true))))
-unfolding _and_
-each-of-four false q r s = refl
-each-of-four true false r s = refl
-each-of-four true true false s = refl
-each-of-four true true true false = refl
-each-of-four true true true true = refl
 
 pairs-of-four : (p q r s t u : Bool) →
     ((p and (q and r)) and ((s and t) and u)) ≡
@@ -85,18 +78,6 @@ pairs-of-four true true true true false u = refl
 pairs-of-four true true true true true false = refl
 pairs-of-four true true true true true true = refl
 
-digit-picked : (t : Bool) → pick t 1 0 ≡ digit t
-unfolding pick digit
-digit-picked true = refl
-digit-picked false = refl
-
--- an output by the judgement of its window
-abbrev judged : Bool → ℕ → ℕ → Told → Output
-judged set base height t = record { set = set; counts = true; base = base; step = valueOf t 0; height = height; span = valueOf t 1 }
-
-abbrev uncounted : Bool → Output
-uncounted set = record { set = set; counts = false; base = 0; step = 0; height = 0; span = 0 }
-
 module _ (bits flag format : ℕ) where
   pub counts-set : {r : Bool} → flag ≡ 1 → r ≡ unmasked bits 0 format → r ≡ countsBy bits flag format
   unfolding countsBy
@@ -106,70 +87,7 @@ module _ (bits flag format : ℕ) where
   unfolding countsBy
   counts-unset n = sym (and-no-left _ (ne-eqb flag 1 n))
 
-  module _ (base height : ℕ) {t : Bool} (c : t ≡ countsBy bits flag format) where
-    pub output-uncounted : t ≡ false → uncounted (eqb flag 1) ≡ outputOf bits (cellsBuffer flag base format height)
-    unfolding outputOf
-    output-uncounted e = sym (pick-no _ _ (sym c ∙ e))
-
-    module _ (e : t ≡ true) where
-      is-set : true ≡ eqb flag 1
-      unfolding countsBy
-      is-set = sym (and-left (eqb flag 1) (unmasked bits 0 format) (sym c ∙ e))
-
-      pub output-counted : {w : Window} → w ≡ windowSeen (windowOf base format height) →
-          record { set = true; counts = true; base = base; step = w .step; height = height; span = w .span } ≡
-          outputOf bits (cellsBuffer flag base format height)
-      unfolding outputOf stepOfBuffer spanOfBuffer
-      output-counted w =
-          ap (λ (x : Window). record { set = true; counts = true; base = base; step = x .step; height = height; span = x .span }) w ∙
-          ap (λ (x : Bool). judged x base height (windowOf base format height)) is-set ∙ sym (pick-yes _ _ (sym c ∙ e))
-
--- what a start asks of an output that it sees, said of the buffer
-module _ (bits : ℕ) (b : Buffer) where
-  abbrev counted : Output
-  counted = judged (eqb (b .isSet) 1) (b .base) (b .height) (windowOf (b .base) (b .format) (b .height))
-
-  abbrev left : Output
-  left = uncounted (eqb (b .isSet) 1)
-
-  abbrev test : Bool
-  test = countsBy bits (b .isSet) (b .format)
-
-  set-of : outputOf bits b .set ≡ eqb (b .isSet) 1
-  unfolding outputOf pick stepOfBuffer spanOfBuffer
-  set-of = go test
-    where
-      go : (t : Bool) → pick t counted left .set ≡ eqb (b .isSet) 1
-      go true = refl
-      go false = refl
-
-  holds-of : (i j : ℕ) → holdsPair i j (outputOf bits b) ≡ pick test (ltb i (stepOfBuffer b) and ltb j (b .height)) true
-  unfolding outputOf holdsPair pick stepOfBuffer spanOfBuffer
-  holds-of i j = go test
-    where
-      go : (t : Bool) → holdsPair i j (pick t counted left) ≡ pick t (ltb i (stepOfBuffer b) and ltb j (b .height)) true
-      go true = refl
-      go false = refl
-
-apart-of : (m n : ℕ) (b c : Buffer) → keepsApart (outputOf m b) (outputOf n c) ≡ pick (test m b and test n c) (apart b c) true
-unfolding outputOf keepsApart spansApart apart pick _and_ stepOfBuffer spanOfBuffer
-apart-of m n b c = go (test m b) (test n c)
-  where
-    go : (t u : Bool) → keepsApart (pick t (counted m b) (left m b)) (pick u (counted n c) (left n c)) ≡ pick (t and u) (apart b c) true
-    go true true = refl
-    go true false = refl
-    go false u = refl
-
--- one output, and two
-pub holds-counted : (i j : ℕ) (a : Output) {r : Bool} → a .counts ≡ true → r ≡ (ltb i (a .step) and ltb j (a .height)) →
-    r ≡ holdsPair i j a
-unfolding holdsPair
-holds-counted i j a e h = h ∙ sym (pick-yes _ true e)
-
-pub holds-uncounted : (i j : ℕ) (a : Output) → a .counts ≡ false → true ≡ holdsPair i j a
-unfolding holdsPair
-holds-uncounted i j a e = sym (pick-no _ true e)
-
+-- two outputs
 pub apart-counted : (a b : Output) {t r : Bool} → t ≡ (a .counts and b .counts) → t ≡ true →
     r ≡ spansApart (a .base) (a .span) (b .base) (b .span) → r ≡ keepsApart a b
 unfolding keepsApart
@@ -185,12 +103,6 @@ module _ (a b c d : Output) where
       r ≡ pick q true (d .set) → r ≡ someSet a b c d
   unfolding someSet
   some-set e f g = g ∙ ap (λ (t : Bool). pick t true (d .set)) (f ∙ ap (λ (t : Bool). pick t true (c .set)) e)
-
-  pub each-holds : (i j : ℕ) {ha hb hc hd p q r : Bool} → ha ≡ holdsPair i j a → hb ≡ holdsPair i j b →
-      p ≡ (ha and hb) → hc ≡ holdsPair i j c → q ≡ (p and hc) → hd ≡ holdsPair i j d → r ≡ (q and hd) →
-      r ≡ eachHolds a b c d i j
-  unfolding eachHolds
-  each-holds i j e f g h k l m = cc
 
   pub each-apart : {ba ca cb da db dc third p fourth q r : Bool} → ba ≡ keepsApart b a → ca ≡ keepsApart c a →
       cb ≡ keepsApart c b → third ≡ (ca and cb) → da ≡ keepsApart d a → db ≡ keepsApart d b → p ≡ (da and db) →
@@ -226,7 +138,27 @@ told-first true true false = refl
 told-first true false z = refl
 told-first false y z = refl
 
--- the four outputs that the shared cells hold, each with the mask's bits from its own on, and the tests on them as a start has them
+-- the columns and the rows that four outputs leave, as the code finds them from the last output on
+module _ (a b c d : Output) where
+  pub columns-told : {z y x w q p o n : ℕ} → z ≡ extentLeft (d .counts) (d .step) → y ≡ lesser z 4096 →
+      x ≡ extentLeft (c .counts) (c .step) → w ≡ lesser x y → q ≡ extentLeft (b .counts) (b .step) → p ≡ lesser q w →
+      o ≡ extentLeft (a .counts) (a .step) → n ≡ lesser o p → n ≡ columnsBy a b c d
+  unfolding columnsBy
+  columns-told e f g h i j k l = cc
+
+  pub rows-told : {z y x w q p o n : ℕ} → z ≡ extentLeft (d .counts) (d .height) → y ≡ lesser z 4096 →
+      x ≡ extentLeft (c .counts) (c .height) → w ≡ lesser x y → q ≡ extentLeft (b .counts) (b .height) → p ≡ lesser q w →
+      o ≡ extentLeft (a .counts) (a .height) → n ≡ lesser o p → n ≡ rowsBy a b c d
+  unfolding rowsBy
+  rows-told e f g h i j k l = cc
+
+  pub credit-told : {w x y z : ℕ} → (w ≡ digit (a .counts)) × (w ≤ 1) → (x ≡ digit (b .counts)) × (x ≤ 1) →
+      (y ≡ digit (c .counts)) × (y ≤ 1) → (z ≡ digit (d .counts)) × (z ≤ 1) → w + x + y + z ≡ creditBy a b c d
+  unfolding creditBy
+  credit-told e f g h = omega (arith, e .0, f .0, g .0, h .0)
+
+-- the four outputs that the shared cells hold, each with the mask's bits from its own on and with the window that is kept of it, and
+-- what they ask of a domain and give for a pair
 module _ (shared : List ℕ) where
   abbrev mask : ℕ
   mask = sharedOf shared .mask
@@ -250,93 +182,173 @@ module _ (shared : List ℕ) where
   m3 = getD shared 0 0 / 4096
 
   abbrev a : Output
-  a = outputOf m0 (at 21)
+  a = outputBy m0 (at 21) (windowFor (at 21))
 
   abbrev b : Output
-  b = outputOf m1 (at 25)
+  b = outputBy m1 (at 25) (windowFor (at 25))
 
   abbrev c : Output
-  c = outputOf m2 (at 29)
+  c = outputBy m2 (at 29) (windowFor (at 29))
 
   abbrev d : Output
-  d = outputOf m3 (at 33)
+  d = outputBy m3 (at 33) (windowFor (at 33))
 
-  counts-0 : test m0 (at 21) ≡ counts mask outputs 0
+  counts-0 : a .counts ≡ counts mask outputs 0
   unfolding countsBy counts isSet output sharedOf
   counts-0 = refl
 
-  counts-1 : test m1 (at 25) ≡ counts mask outputs 1
+  counts-1 : b .counts ≡ counts mask outputs 1
   unfolding countsBy counts isSet output sharedOf
   counts-1 = ap (λ (t : Bool). eqb (getD shared 25 0) 1 and t) (from-own m0 1 (getD shared 27 0))
 
-  counts-2 : test m2 (at 29) ≡ counts mask outputs 2
+  counts-2 : c .counts ≡ counts mask outputs 2
   unfolding countsBy counts isSet output sharedOf
   counts-2 = ap (λ (t : Bool). eqb (getD shared 29 0) 1 and t) (from-own m0 2 (getD shared 31 0))
 
-  counts-3 : test m3 (at 33) ≡ counts mask outputs 3
+  counts-3 : d .counts ≡ counts mask outputs 3
   unfolding countsBy counts isSet output sharedOf
   counts-3 = ap (λ (t : Bool). eqb (getD shared 33 0) 1 and t) (from-own m0 3 (getD shared 35 0))
 
+  some-seen : someSet a b c d ≡ some 4 (isSet outputs)
+  unfolding someSet some isSet output sharedOf
+  some-seen = some-of-four _ _ _ _
+
   disjoint-seen : eachApart a b c d ≡ disjoint mask outputs
-  unfolding eachApart disjoint every output sharedOf _and_
+  unfolding eachApart keepsApart spansApart windowFor disjoint every apart output sharedOf _and_
   disjoint-seen =
       let keep : ℕ → ℕ → Bool = λ n m. pick (counts mask outputs n and counts mask outputs m) (apart (output outputs n) (output outputs m)) true in
-      rw (
-        apart-of m1 m0 (at 25) (at 21),
-        apart-of m2 m0 (at 29) (at 21),
-        apart-of m2 m1 (at 29) (at 25),
-        apart-of m3 m0 (at 33) (at 21),
-        apart-of m3 m1 (at 33) (at 25),
-        apart-of m3 m2 (at 33) (at 29),
-        counts-0,
-        counts-1,
-        counts-2,
-        counts-3,
-      )
+      rw (counts-0, counts-1, counts-2, counts-3)
       (pairs-of-four (keep 1 0) (keep 2 0) (keep 2 1) (keep 3 0) (keep 3 1) (keep 3 2))
 
-  pub counted-outputs : {w x y z : ℕ} →
-      (w ≡ pick (test m0 (at 21)) 1 0) × (w ≤ 1) → (x ≡ pick (test m1 (at 25)) 1 0) × (x ≤ 1) →
-      (y ≡ pick (test m2 (at 29)) 1 0) × (y ≤ 1) → (z ≡ pick (test m3 (at 33)) 1 0) × (z ≤ 1) →
-      (w + x + y + z ≡ count 4 (counts mask outputs)) × (w + x + y + z ≤ 4)
-  unfolding count sum
-  counted-outputs e f g h =
-      let one = e .0 ∙ digit-picked _ ∙ ap digit counts-0 in
-      let two = f .0 ∙ digit-picked _ ∙ ap digit counts-1 in
-      let three = g .0 ∙ digit-picked _ ∙ ap digit counts-2 in
-      let four = h .0 ∙ digit-picked _ ∙ ap digit counts-3 in
-      (omega (arith, one, two, three, four), omega arith)
+  columns-seen : columnsBy a b c d ≡ leastExtent 4 (columnsLeft mask outputs)
+  unfolding columnsBy extentLeft windowFor leastExtent columnsLeft output sharedOf
+  columns-seen = rw (counts-0, counts-1, counts-2, counts-3) refl
 
-  module _ (own : List ℕ) where
-    abbrev domain : Domain
-    domain = partyOf own [] .domain
+  rows-seen : rowsBy a b c d ≡ leastExtent 4 (rowsLeft mask outputs)
+  unfolding rowsBy extentLeft leastExtent rowsLeft output sharedOf
+  rows-seen = rw (counts-0, counts-1, counts-2, counts-3) refl
 
-    abbrev instructions : Buffer
-    instructions = partyOf own [] .instructions
+  credit-seen : creditBy a b c d ≡ count 4 (counts mask outputs)
+  unfolding creditBy count sum
+  credit-seen = rw (counts-0, counts-1, counts-2, counts-3) refl
 
-    complete-seen : (eqb (getD own 8 0) 1 and (eqb (getD own 13 0) 1 and someSet a b c d)) ≡ complete domain instructions outputs
-    unfolding someSet complete some isSet output partyOf sharedOf
-    complete-seen =
-        rw (set-of m0 (at 21), set-of m1 (at 25), set-of m2 (at 29), set-of m3 (at 33))
-        (ap (λ (t : Bool). eqb (getD own 8 0) 1 and (eqb (getD own 13 0) 1 and t)) (some-of-four _ _ _ _))
+  module _ (own : List ℕ) (asked : RenewAsked own shared) where
+    abbrev party : Party
+    party = partyOf own []
 
-    covered-seen : eachHolds a b c d (getD own 11 0) (getD own 12 0) ≡ covered mask outputs domain
-    unfolding eachHolds covered every output containsDomain partyOf sharedOf
-    covered-seen =
-        let i = getD own 11 0 in
-        let j = getD own 12 0 in
-        let has : ℕ → Bool = λ n. pick (counts mask outputs n) (containsDomain domain (output outputs n)) true in
-        rw
-        (holds-of m0 (at 21) i j, holds-of m1 (at 25) i j, holds-of m2 (at 29) i j, holds-of m3 (at 33) i j, counts-0, counts-1, counts-2, counts-3)
-        (each-of-four (has 0) (has 1) (has 2) (has 3))
+    -- an output with the window that is kept of it is the output with the window that it has
+    window-0 : {e : Output} → e ≡ outputBy m0 (at 21) (windowAt own 25) → e ≡ a
+    unfolding partyOf sharedOf output
+    window-0 h = h ∙ ap (outputBy m0 (at 21)) (asked .windows .first)
 
-    pub ready-told : {e f g h : Output} {t : ℕ} {some p x y z : Bool} → e ≡ a → f ≡ b → g ≡ c → h ≡ d →
-        some ≡ someSet e f g h → p ≡ (eqb (getD own 13 0) 1 and some) → x ≡ (eqb (getD own 8 0) 1 and p) →
-        y ≡ eachHolds e f g h (getD own 11 0) (getD own 12 0) → z ≡ eachApart e f g h → t ≡ firstOf x y z →
-        t ≡ readinessOf domain instructions mask outputs
-    unfolding readinessOf readyOf
-    ready-told {x = x} {y = y} {z = z} ea eb ec ed es ep ex ey ez et =
-        cc (complete-seen, covered-seen, disjoint-seen, told-first x y z)
+    window-1 : {e : Output} → e ≡ outputBy m1 (at 25) (windowAt own 27) → e ≡ b
+    unfolding partyOf sharedOf output
+    window-1 h = h ∙ ap (outputBy m1 (at 25)) (asked .windows .second)
+
+    window-2 : {e : Output} → e ≡ outputBy m2 (at 29) (windowAt own 29) → e ≡ c
+    unfolding partyOf sharedOf output
+    window-2 h = h ∙ ap (outputBy m2 (at 29)) (asked .windows .third)
+
+    window-3 : {e : Output} → e ≡ outputBy m3 (at 33) (windowAt own 31) → e ≡ d
+    unfolding partyOf sharedOf output
+    window-3 h = h ∙ ap (outputBy m3 (at 33)) (asked .windows .fourth)
+
+    -- the gauge that is stored is the outputs'
+    pub gauge-told : {e f g h : Output} {some apart : Bool} {s x y z w : ℕ} →
+        e ≡ outputBy m0 (at 21) (windowAt own 25) → f ≡ outputBy m1 (at 25) (windowAt own 27) →
+        g ≡ outputBy m2 (at 29) (windowAt own 29) → h ≡ outputBy m3 (at 33) (windowAt own 31) →
+        some ≡ someSet e f g h → s ≡ digit some → x ≡ columnsBy e f g h → y ≡ rowsBy e f g h →
+        apart ≡ eachApart e f g h → z ≡ digit apart → w ≡ creditBy e f g h →
+        gaugeFrom s x y z w ≡ gaugeOf mask outputs
+    unfolding gaugeOf
+    gauge-told ea eb ec ed es e1 e2 e3 ep e4 e5 =
+        let ka = window-0 ea in
+        let kb = window-1 eb in
+        let kc = window-2 ec in
+        let kd = window-3 ed in
+        λ k.
+        gaugeFrom
+        ((e1 ∙ ap digit (es ∙ (λ j. someSet (ka j) (kb j) (kc j) (kd j)) ∙ some-seen)) k)
+        ((e2 ∙ (λ j. columnsBy (ka j) (kb j) (kc j) (kd j)) ∙ columns-seen) k)
+        ((e3 ∙ (λ j. rowsBy (ka j) (kb j) (kc j) (kd j)) ∙ rows-seen) k)
+        ((e4 ∙ ap digit (ep ∙ (λ j. eachApart (ka j) (kb j) (kc j) (kd j)) ∙ disjoint-seen)) k)
+        ((e5 ∙ (λ j. creditBy (ka j) (kb j) (kc j) (kd j)) ∙ credit-seen) k)
+
+    abbrev gauging : Gauge → Readiness
+    gauging g = withNumber (readyBy (party .domain) (party .instructions) g) (withGauge g (party .readiness))
+
+    -- so what is kept is what the settings give
+    gauged-kept : gauging (gaugeOf mask outputs) ≡ workedOut (party .domain) (party .instructions) mask outputs
+    unfolding workedOut
+    gauged-kept =
+        λ k.
+        record {
+          number = readiness-gauged mask outputs (party .domain) (party .instructions) (asked .domain .column-most) (asked .domain .row-most) k;
+          gauge = gaugeOf mask outputs;
+          window0 = asked .windows .first k;
+          window1 = asked .windows .second k;
+          window2 = asked .windows .third k;
+          window3 = asked .windows .fourth k;
+        }
+
+    pub renew-told : {g : Gauge} → g ≡ gaugeOf mask outputs → (l1 : List ℕ) →
+        l1 ≡ partyCells (withReadiness (withGauge g (party .readiness)) party) → (l2 : List ℕ) →
+        l2 ≡ partyCells (settled (partyOf l1 [])) → l2 ≡ partyCells (renewed (sharedOf shared) party)
+    renew-told e l1 e1 l2 e2 =
+        e2 ∙ ap (λ (x : List ℕ). partyCells (settled (partyOf x []))) e1 ∙
+        unfold partyOf partyCells in
+        (ap (λ (x : Gauge). partyCells (withReadiness (gauging x) party)) e ∙
+        ap (λ (r : Readiness). partyCells (withReadiness r party)) gauged-kept)
+
+-- the number by compares, with what the code's tests found
+pub settled-told : (own : List ℕ) {p x y : Bool} {n : ℕ} → p ≡ (eqb (getD own 13 0) 1 and eqb (getD own 20 0) 1) →
+    x ≡ (eqb (getD own 8 0) 1 and p) → y ≡ (ltb (getD own 11 0) (getD own 21 0) and ltb (getD own 12 0) (getD own 22 0)) →
+    n ≡ firstOf x y (eqb (getD own 23 0) 1) → (l1 : List ℕ) →
+    l1 ≡ partyCells (withReadiness (withNumber n (partyOf own [] .readiness)) (partyOf own [])) →
+    l1 ≡ partyCells (settled (partyOf own []))
+unfolding readyBy partyOf
+settled-told own ep ex ey en l1 e =
+    e ∙
+    ap (λ (m : ℕ). partyCells (withReadiness (withNumber m (partyOf own [] .readiness)) (partyOf own [])))
+    (en ∙ (λ k. firstOf ((ex ∙ ap (λ (t : Bool). eqb (getD own 8 0) 1 and t) ep) k) (ey k) (eqb (getD own 23 0) 1)))
+
+pub kept-length : (p : Party) {l : List ℕ} → l ≡ partyCells p → length l ≡ ownLength
+unfolding partyCells
+kept-length p e = ap length e
+
+-- an answer as a digit
+pub digit-yes : {t : Bool} → t ≡ true → (1 ≡ digit t) × (1 ≤ 1)
+unfolding digit
+digit-yes e = (ap digit (sym e), omega arith)
+
+pub digit-no : {t : Bool} → t ≡ false → (0 ≡ digit t) × (0 ≤ 1)
+unfolding digit
+digit-no e = (ap digit (sym e), omega arith)
+
+-- what an output leaves a domain
+pub extent-counted : {t : Bool} (e : ℕ) → t ≡ true → e ≡ extentLeft t e
+unfolding extentLeft
+extent-counted e h = sym (pick-yes _ _ h)
+
+pub extent-uncounted : {t : Bool} (e : ℕ) → t ≡ false → 4096 ≡ extentLeft t e
+unfolding extentLeft
+extent-uncounted e h = sym (pick-no _ _ h)
+
+-- an output by its cells
+pub output-told : (bits flag base format height step span : ℕ) {t : Bool} → t ≡ countsBy bits flag format →
+    record { set = eqb flag 1; counts = t; base = base; step = step; height = height; span = span } ≡
+    outputBy bits (record { isSet = flag; base = base; format = format; height = height }) (windowFrom step span)
+output-told bits flag base format height step span e =
+    λ k. record { set = eqb flag 1; counts = e k; base = base; step = step; height = height; span = span }
+
+-- the lesser of two numbers
+pub lesser-first : {a b : ℕ} → a < b → a ≡ lesser a b
+unfolding lesser
+lesser-first {a} {b} h = sym (pick-yes a b (lt-ltb a b h))
+
+pub lesser-second : {a b : ℕ} → b ≤ a → b ≡ lesser a b
+unfolding lesser
+lesser-second {a} {b} h = sym (pick-no a b (le-ltb a b h))
 
 -- the number and the answer tell the same
 first-given : (x y z : Bool) → numberTold (toldFirst x y z) ≡ 0 → toldFirst x y z ≡ gives []
@@ -375,16 +387,6 @@ module _ (d : Domain) (i : Buffer) (m : ℕ) (o : List Buffer) where
   readiness-number n = first-number _ _ _ n
 
 -- what a start claims
-module _ (bits flag format : ℕ) {t : Bool} (c : t ≡ countsBy bits flag format) where
-  abbrev One : ℕ → Type 0
-  One r = (r ≡ pick (countsBy bits flag format) 1 0) × (r ≤ 1)
-
-  pub one-counted : t ≡ true → One 1
-  one-counted e = (sym (pick-yes 1 0 (sym c ∙ e)), omega arith)
-
-  pub one-uncounted : t ≡ false → One 0
-  one-uncounted e = (sym (pick-no 1 0 (sym c ∙ e)), omega arith)
-
 pub pairs-most : (i0 j0 i1 j1 : ℕ) → ((i0 ≤ i1) × (i1 < 4096)) × ((j0 ≤ j1) × (j1 < 4096)) →
     (i1 - i0 + 1) * (j1 - j0 + 1) ≤ mostPairs
 pairs-most i0 j0 i1 j1 h = mul-le-mul {n₂ = 4096} {m₂ = 4096} (omega (arith, h)) (omega (arith, h))
@@ -392,12 +394,48 @@ pairs-most i0 j0 i1 j1 h = mul-le-mul {n₂ = 4096} {m₂ = 4096} (omega (arith,
 pub claim-fits : {p n : ℕ} → p ≤ mostPairs → n ≤ 4 → p * n ≤ mostClaim
 claim-fits h k = mul-le-mul {n₂ = mostPairs} {m₂ = 4} h k
 
-pub claim-told : (own shared : List ℕ) {p n : ℕ} →
+pub claim-told : (own : List ℕ) {p : ℕ} → partyOf own [] .readiness .gauge .credit ≤ 4 →
     (p ≡ (getD own 11 0 - getD own 9 0 + 1) * (getD own 12 0 - getD own 10 0 + 1)) × (p ≤ mostPairs) →
-    (n ≡ count 4 (counts (sharedOf shared .mask) (sharedOf shared .outputs))) × (n ≤ 4) →
-    (p * n ≡ claimOf (partyOf own [] .domain) (sharedOf shared .mask) (sharedOf shared .outputs)) × (p * n ≤ mostClaim)
-unfolding claimOf pairsOf partyOf
-claim-told own shared e f = (cc, claim-fits (e .1) (f .1))
+    (p * getD own 24 0 ≡ pairsOf (partyOf own [] .domain) * partyOf own [] .readiness .gauge .credit) × (p * getD own 24 0 ≤ mostClaim)
+unfolding pairsOf partyOf
+claim-told own k e = (ap (λ (x : ℕ). x * getD own 24 0) (e .0), claim-fits (e .1) k)
+
+-- the answer is the one that its number tells
+first-answer : (x y z : Bool) →
+    toldFirst x y z ≡ pick (eqb (numberTold (toldFirst x y z)) 0) (gives []) (refuses (numberTold (toldFirst x y z)))
+unfolding numberTold pick
+first-answer true true true = refl
+first-answer true true false = refl
+first-answer true false z = refl
+first-answer false y z = refl
+
+pub readiness-answer : (d : Domain) (i : Buffer) (m : ℕ) (o : List Buffer) →
+    readyOf d i m o ≡ pick (eqb (readinessOf d i m o) 0) (gives []) (refuses (readinessOf d i m o))
+unfolding readinessOf readyOf
+readiness-answer d i m o = first-answer _ _ _
+
+-- the credit that is kept is the number of outputs that count, so that the claim is the settings'
+module _ (own tallies shared : List ℕ) (asked : OwnAsked own tallies shared) where
+  abbrev counted : ℕ
+  counted = count 4 (counts (sharedOf shared .mask) (sharedOf shared .outputs))
+
+  credit-kept : partyOf own [] .readiness .gauge .credit ≡ counted
+  unfolding partyOf workedOut gaugeOf
+  credit-kept = ap (λ (r : Readiness). r .gauge .credit) (asked .kept)
+
+  pub claim-asked :
+      (length own ≡ ownLength) × ((partyOf own [] .readiness .gauge .credit ≤ 4) × DomainValid (partyOf own [] .domain))
+  claim-asked =
+      (asked .sized .own-length, (rw credit-kept (count-bounded 4 (counts (sharedOf shared .mask) (sharedOf shared .outputs))), unfold partyOf in asked .domain))
+
+  pub claim-kept : {n : ℕ} → n ≡ pairsOf (partyOf own [] .domain) * partyOf own [] .readiness .gauge .credit →
+      n ≡ claimOf (partyOf own [] .domain) (sharedOf shared .mask) (sharedOf shared .outputs)
+  unfolding claimOf
+  claim-kept e = e ∙ ap (λ (x : ℕ). pairsOf (partyOf own [] .domain) * x) credit-kept
+
+pub credit-most : (own : List ℕ) → partyOf own [] .readiness .gauge .credit ≤ 4 → getD own 24 0 ≤ 4
+unfolding partyOf
+credit-most own k = k
 
 pub domain-places : (own : List ℕ) → DomainValid (partyOf own [] .domain) →
     ((getD own 9 0 ≤ getD own 11 0) × (getD own 11 0 < 4096)) × ((getD own 10 0 ≤ getD own 12 0) × (getD own 12 0 < 4096))

@@ -1,2 +1,3 @@
+pub mod Gauge
 pub mod Rules
 pub mod Windows

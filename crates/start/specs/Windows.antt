@@ -1,30 +1,29 @@
--- An output as a start sees it, and what a start asks of one output and of two, said of what it sees. Assumes nothing.
+-- An output as a start sees it, and what a start asks of one output, of two and of all four, said of what it sees. Assumes nothing.
 use mathlib.Core.Bool.{Bool, true, false}
 use Prim.Native.Nat.{ℕ, _+_}
-use lib.Dec.{eqb, leb, ltb}
+use lib.Dec.{eqb, leb}
 use Rattle.laws.specs.Choice.{_and_, pick}
+use Rattle.laws.specs.Masks.{digit}
 use Rattle.start.specs.declared.ready.Output.{Output}
-use Rattle.state.specs.State.{Buffer}
-use Rattle.state.specs.Start.{stepOfBuffer, spanOfBuffer, unmasked}
-
--- four cells as the buffer that they hold
-abbrev pub cellsBuffer : ℕ → ℕ → ℕ → ℕ → Buffer
-cellsBuffer isSet base format height = record { isSet = isSet; base = base; format = format; height = height }
+use Rattle.state.specs.State.{Buffer, Window, Gauge, mostExtent}
+use Rattle.state.specs.Start.{unmasked}
+use Rattle.state.specs.Readiness.{lesser}
 
 -- an output counts, by its flag and format and the mask's bits from the output's own on: these are a mask in which it is output 0
 unfoldable pub countsBy : ℕ → ℕ → ℕ → Bool
 countsBy bits flag format = eqb flag 1 and unmasked bits 0 format
 
--- of one that isn't set or is silent, nothing but that is looked at
-unfoldable pub outputOf : ℕ → Buffer → Output
-outputOf bits b =
-    pick (countsBy bits (b .isSet) (b .format))
-    (record { set = eqb (b .isSet) 1; counts = true; base = b .base; step = stepOfBuffer b; height = b .height; span = spanOfBuffer b })
-    (record { set = eqb (b .isSet) 1; counts = false; base = 0; step = 0; height = 0; span = 0 })
-
--- the output doesn't count, or its window has the pair (i, j)
-unfoldable pub holdsPair : ℕ → ℕ → Output → Bool
-holdsPair i j a = pick (a .counts) (ltb i (a .step) and ltb j (a .height)) true
+-- a buffer with the window that is kept of it
+abbrev pub outputBy : ℕ → Buffer → Window → Output
+outputBy bits b w =
+    record {
+      set = eqb (b .isSet) 1;
+      counts = countsBy bits (b .isSet) (b .format);
+      base = b .base;
+      step = w .step;
+      height = b .height;
+      span = w .span;
+    }
 
 -- two spans share no byte
 unfoldable pub spansApart : ℕ → ℕ → ℕ → ℕ → Bool
@@ -34,19 +33,36 @@ spansApart base span other otherSpan = pick (leb (base + span) other) true (leb 
 unfoldable pub keepsApart : Output → Output → Bool
 keepsApart a b = pick (a .counts and b .counts) (spansApart (a .base) (a .span) (b .base) (b .span)) true
 
+-- what an output leaves a domain of an extent that its window has: all where it doesn't count
+unfoldable pub extentLeft : Bool → ℕ → ℕ
+extentLeft counts extent = pick counts extent mostExtent
+
 module _ (a b c d : Output) where
   -- some of four outputs is set
   unfoldable pub someSet : Bool
   someSet = pick (pick (pick (a .set) true (b .set)) true (c .set)) true (d .set)
 
-  -- each of four outputs that counts has the pair
-  unfoldable pub eachHolds : ℕ → ℕ → Bool
-  eachHolds i j = ((holdsPair i j a and holdsPair i j b) and holdsPair i j c) and holdsPair i j d
-
   -- no two of four outputs that count share a byte
   unfoldable pub eachApart : Bool
   eachApart =
       (keepsApart b a and (keepsApart c a and keepsApart c b)) and ((keepsApart d a and keepsApart d b) and keepsApart d c)
+
+  -- the columns and the rows that the four leave a domain
+  unfoldable pub columnsBy : ℕ
+  columnsBy =
+      lesser (extentLeft (a .counts) (a .step))
+      (lesser (extentLeft (b .counts) (b .step))
+      (lesser (extentLeft (c .counts) (c .step)) (lesser (extentLeft (d .counts) (d .step)) mostExtent)))
+
+  unfoldable pub rowsBy : ℕ
+  rowsBy =
+      lesser (extentLeft (a .counts) (a .height))
+      (lesser (extentLeft (b .counts) (b .height))
+      (lesser (extentLeft (c .counts) (c .height)) (lesser (extentLeft (d .counts) (d .height)) mostExtent)))
+
+  -- how many of the four count
+  unfoldable pub creditBy : ℕ
+  creditBy = digit (a .counts) + (digit (b .counts) + (digit (c .counts) + (digit (d .counts) + 0)))
 
 -- the first of 7, 8 and 9 by what holds of a start, 0 where none is given
 unfoldable pub firstOf : Bool → Bool → Bool → ℕ

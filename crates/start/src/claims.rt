@@ -1,20 +1,15 @@
 // What a start that passes claims, and its count in the tallies.
-use crate::ready;
 use state::own;
-use state::settings;
 ghost use mathlib.Core.Path.{_≡_};
 ghost use mathlib.Core.List.{[]};
 ghost use Prim.Native.Nat.{_+_, _-_, _*_, _<_, _≤_};
 ghost use lib.ListN.{length};
-ghost use Rattle.laws.specs.Choice.{pick};
 ghost use Rattle.command.specs.declared.commands.Command.{Command};
 ghost use Rattle.state.specs.Asked.{OwnAsked};
-ghost use Rattle.state.specs.Cells.{bufferAt, partyOf, sharedOf, tallyCells, ownLength, sharedLength};
+ghost use Rattle.state.specs.Cells.{partyOf, sharedOf, tallyCells, ownLength};
 ghost use Rattle.state.specs.Effects.{ownAfter};
-ghost use Rattle.laws.specs.Below.{count};
-ghost use Rattle.state.specs.Start.{claimOf, counts, mostClaim, mostPairs};
+ghost use Rattle.state.specs.Start.{mostClaim, mostPairs, pairsOf};
 ghost use Rattle.state.specs.Valid.{DomainValid};
-ghost use Rattle.start.specs.Windows.{countsBy};
 
 // The number of pairs of a domain.
 fn pairs(i0: u32, j0: u32, i1: u32, j1: u32) -> u64
@@ -27,36 +22,10 @@ fn pairs(i0: u32, j0: u32, i1: u32, j1: u32) -> u64
     columns * rows
 }
 
-// 1 for an output that counts, its cells from a place on.
-fn one_at(bits: u32, shared: &[u32; state::SHARED_CELLS], at: usize) -> u64
-    requires { ⌜ (length (now shared) ≡ sharedLength) × (at < 98) ⌝ }
-    ensures value { λ r. ⌜ r ≡ pick (countsBy bits (bufferAt (now (shared .entry)) at .isSet) (bufferAt (now (shared .entry)) at .format)) 1 0 ⌝ }
-    ensures most { λ r. ⌜ r ≤ 1 ⌝ }
-{
-    if ready::is_counted(bits, shared[at], shared[at + 2]) {
-        1
-    } else {
-        0
-    }
-}
-
-// The number of outputs that count.
-fn counted_outputs(shared: &[u32; state::SHARED_CELLS]) -> u64
-    requires { ⌜ length (now shared) ≡ sharedLength ⌝ }
-    ensures value { λ r. ⌜ r ≡ count 4 (counts (sharedOf (now (shared .entry)) .mask) (sharedOf (now (shared .entry)) .outputs)) ⌝ }
-    ensures most { λ r. ⌜ r ≤ 4 ⌝ }
-{
-    let mask = shared[settings::MASK];
-    one_at(mask, shared, settings::OUTPUT_0)
-        + one_at(mask / 16, shared, settings::OUTPUT_1)
-        + one_at(mask / 256, shared, settings::OUTPUT_2)
-        + one_at(mask / 4096, shared, settings::OUTPUT_3)
-}
-
-// The elements that a start claims: the domain's pairs, for each output that counts.
-fn claim(own: &[u32; state::OWN_CELLS], shared: &[u32; state::SHARED_CELLS]) -> u64
-    requires { ⌜ ((length (now own) ≡ ownLength) × (length (now shared) ≡ sharedLength)) × DomainValid (partyOf (now own) [] .domain) ⌝ }
-    ensures value { λ r. ⌜ r ≡ claimOf (partyOf (now (own .entry)) [] .domain) (sharedOf (now (shared .entry)) .mask) (sharedOf (now (shared .entry)) .outputs) ⌝ }
+// The elements that a start claims: for each of the domain's pairs what the outputs give for one.
+fn claim(own: &[u32; state::OWN_CELLS]) -> u64
+    requires { ⌜ (length (now own) ≡ ownLength) × ((partyOf (now own) [] .readiness .gauge .credit ≤ 4) × DomainValid (partyOf (now own) [] .domain)) ⌝ }
+    ensures value { λ r. ⌜ r ≡ pairsOf (partyOf (now (own .entry)) [] .domain) * partyOf (now (own .entry)) [] .readiness .gauge .credit ⌝ }
     ensures most { λ r. ⌜ r ≤ mostClaim ⌝ }
 {
     pairs(
@@ -65,7 +34,7 @@ fn claim(own: &[u32; state::OWN_CELLS], shared: &[u32; state::SHARED_CELLS]) -> 
         own[own::DOMAIN_I1],
         own[own::DOMAIN_J1],
     )
-        * counted_outputs(shared)
+        * own[own::CREDIT] as u64
 }
 
 // A start that passes: one run more, and the elements that it claims.
@@ -77,7 +46,7 @@ pub fn count_start(
     requires { ⌜ OwnAsked (now own) (now tallies) (now shared) ⌝ }
     ensures { λ _. ⌜ now (tallies .exit) ≡ tallyCells (ownAfter Command.Start (sharedOf (now (shared .entry))) (partyOf (now (own .entry)) (now (tallies .entry)))) ⌝ }
 {
-    let claimed = claim(own, shared);
+    let claimed = claim(own);
     tallies[0] = tallies[0] + 1;
     tallies[1] = tallies[1] + claimed;
 }

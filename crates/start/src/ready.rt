@@ -1,20 +1,30 @@
-// What a start asks of the settings alone: 7, 8 and 9. Nothing here changes a cell.
+// What the settings alone give a start, 0, 7, 8 or 9, kept in a party's own cells: renewed by each command that sets one of the
+// settings, so that a start only reads it.
 use command::format;
 use state::own;
 use state::settings;
 ghost use mathlib.Core.Path.{_≡_};
 ghost use mathlib.Core.Bool.{true};
 ghost use mathlib.Core.List.{[]};
-ghost use Prim.Native.Nat.{_%_, _^_, _<_};
+ghost use Prim.Native.Nat.{_%_, _^_, _<_, _≤_};
 ghost use lib.ListN.{length};
 ghost use Rattle.laws.specs.Choice.{_and_, pick};
+ghost use Rattle.laws.specs.Masks.{digit as digitOf};
 ghost use Rattle.command.specs.Format.{channelsOf};
-ghost use Rattle.state.specs.Cells.{bufferAt, partyOf, sharedOf, ownLength, sharedLength};
-ghost use Rattle.state.specs.Start.{readinessOf, unmasked};
-ghost use Rattle.start.specs.Windows.{cellsBuffer, countsBy, eachApart, eachHolds, holdsPair, keepsApart, outputOf, firstOf, someSet, spansApart};
+ghost use Rattle.state.specs.Cells.{bufferAt, partyOf, partyCells, sharedOf, ownLength, sharedLength};
+ghost use Rattle.state.specs.Effects.{renewed, windowFrom};
+ghost use Rattle.state.specs.Readiness.{lesser as lesserOf};
+ghost use Rattle.state.specs.Start.{unmasked};
+ghost use Rattle.start.specs.Gauge.{RenewAsked, settled};
+ghost use Rattle.start.specs.Windows.{columnsBy, countsBy, creditBy, eachApart, extentLeft, firstOf, keepsApart, outputBy, rowsBy, someSet, spansApart};
 
-// An output as a start sees it: whether it is set, whether it counts, and its window. A window that is refused has row step
-// and span 0.
+// The most columns and the most rows that a window has.
+pub const MOST_EXTENT: u32 = 4096;
+
+// What a start gets where nothing is set: the number of refusal::Refusal::StartUnset.
+pub const UNSET: u32 = 7;
+
+// An output as a start sees it: whether it is set, whether it counts, and its window.
 pub struct Output {
     pub set: bool,
     pub counts: bool,
@@ -24,19 +34,21 @@ pub struct Output {
     pub span: u32,
 }
 
+// The bits of the channels that a format code has, four for each code from the lowest on: one, four, one, two and four of them, and
+// none of the codes 5 to 7.
+const CHANNELS: u32 = 0xF31F1;
+
+const LAST_CODE: u32 = 7;
+
 // The mask's bits for the channels that a format code has. `bits` are the mask's from the output's own on, so those of later
-// outputs stand above. The codes 5 to 7 have no channel.
+// outputs stand above. The codes of a stream can't be foretold, so no branch is taken on them.
 fn channel_bits(bits: u32, code: u32) -> u32
     ensures { λ r. ⌜ r ≡ bits % 2 ^ channelsOf code ⌝ }
 {
-    match code {
-        0 => bits % 2,
-        1 => bits % 16,
-        2 => bits % 2,
-        3 => bits % 4,
-        4 => bits % 16,
-        _ => 0,
+    if LAST_CODE < code {
+        return 0;
     }
+    bits & ((CHANNELS >> (4 * code)) % 16)
 }
 
 // Whether the mask has a bit set for a channel of the format: the output isn't silent.
@@ -57,44 +69,27 @@ pub fn is_counted(bits: u32, flag: u32, format: u32) -> bool
     }
 }
 
-// The output that four cells describe. The window of one that isn't set or is silent is asked for nothing, so it isn't judged.
-fn output_of(bits: u32, flag: u32, base: u32, format: u32, height: u32) -> Output
-    ensures { λ r. ⌜ r ≡ outputOf bits (cellsBuffer flag base format height) ⌝ }
-{
-    let counts = is_counted(bits, flag, format);
-    if !counts {
-        return Output {
-            set: flag == 1,
-            counts: false,
-            base: 0,
-            step: 0,
-            height: 0,
-            span: 0,
-        };
-    }
-    let window = format::window_of(base, format, height);
-    Output {
-        set: true,
-        counts: true,
-        base,
-        step: window.step,
-        height,
-        span: window.span,
-    }
-}
-
-// The output whose cells begin at a place.
-pub fn output_at(bits: u32, shared: &[u32; state::SHARED_CELLS], at: usize) -> Output
+// The output whose cells begin at a place, with the row step and span that are kept of it.
+fn output_at(
+    bits: u32,
+    shared: &[u32; state::SHARED_CELLS],
+    at: usize,
+    step: u32,
+    span: u32,
+) -> Output
     requires { ⌜ (length (now shared) ≡ sharedLength) × (at < 98) ⌝ }
-    ensures { λ r. ⌜ r ≡ outputOf bits (bufferAt (now (shared .entry)) at) ⌝ }
+    ensures { λ r. ⌜ r ≡ outputBy bits (bufferAt (now (shared .entry)) at) (windowFrom step span) ⌝ }
 {
-    output_of(
-        bits,
-        shared[at],
-        shared[at + 1],
-        shared[at + 2],
-        shared[at + 3],
-    )
+    let flag = shared[at];
+    let counts = is_counted(bits, flag, shared[at + 2]);
+    Output {
+        set: flag == 1,
+        counts,
+        base: shared[at + 1],
+        step,
+        height: shared[at + 3],
+        span,
+    }
 }
 
 // Two tests, by a call each: a chain of them is one equation, where a chain of `&&` is a join for each of its ways.
@@ -108,17 +103,6 @@ fn either(a: bool, b: bool) -> bool
     ensures { λ r. ⌜ r ≡ pick a true b ⌝ }
 {
     if a { true } else { b }
-}
-
-// Whether the output doesn't count, or has the pair in its window.
-fn holds_pair(a: Output, i: u32, j: u32) -> bool
-    ensures { λ r. ⌜ r ≡ holdsPair i j a ⌝ }
-{
-    if a.counts {
-        both(i < a.step, j < a.height)
-    } else {
-        true
-    }
 }
 
 // Whether two spans share no byte. A span may end where 32 bits do, so the ends are in 64.
@@ -148,14 +132,6 @@ fn some_set(a: Output, b: Output, c: Output, d: Output) -> bool
     either(either(either(a.set, b.set), c.set), d.set)
 }
 
-// Whether each output that counts has the pair: the domain's last, so that its others are inside too.
-fn each_holds(a: Output, b: Output, c: Output, d: Output, i: u32, j: u32) -> bool
-    ensures { λ r. ⌜ r ≡ eachHolds a b c d i j ⌝ }
-{
-    let pair = both(holds_pair(a, i, j), holds_pair(b, i, j));
-    both(both(pair, holds_pair(c, i, j)), holds_pair(d, i, j))
-}
-
 // Whether no two outputs that count share a byte.
 fn each_apart(a: Output, b: Output, c: Output, d: Output) -> bool
     ensures { λ r. ⌜ r ≡ eachApart a b c d ⌝ }
@@ -167,6 +143,54 @@ fn each_apart(a: Output, b: Output, c: Output, d: Output) -> bool
         keeps_apart(d, c),
     );
     both(both(second, third), fourth)
+}
+
+// 1 for yes, 0 for no.
+fn digit(yes: bool) -> u32
+    ensures value { λ r. ⌜ r ≡ digitOf yes ⌝ }
+    ensures most { λ r. ⌜ r ≤ 1 ⌝ }
+{
+    if yes { 1 } else { 0 }
+}
+
+fn lesser(a: u32, b: u32) -> u32
+    ensures { λ r. ⌜ r ≡ lesserOf a b ⌝ }
+{
+    if a < b { a } else { b }
+}
+
+// What an output leaves a domain of its row step or height: all that a window may have where the output doesn't count.
+fn extent_left(counts: bool, extent: u32) -> u32
+    ensures { λ r. ⌜ r ≡ extentLeft counts extent ⌝ }
+{
+    if counts { extent } else { MOST_EXTENT }
+}
+
+// The columns that the outputs leave a domain.
+fn columns(a: Output, b: Output, c: Output, d: Output) -> u32
+    ensures { λ r. ⌜ r ≡ columnsBy a b c d ⌝ }
+{
+    let last = lesser(extent_left(d.counts, d.step), MOST_EXTENT);
+    let later = lesser(extent_left(c.counts, c.step), last);
+    let latest = lesser(extent_left(b.counts, b.step), later);
+    lesser(extent_left(a.counts, a.step), latest)
+}
+
+// The rows that they leave it.
+fn rows(a: Output, b: Output, c: Output, d: Output) -> u32
+    ensures { λ r. ⌜ r ≡ rowsBy a b c d ⌝ }
+{
+    let last = lesser(extent_left(d.counts, d.height), MOST_EXTENT);
+    let later = lesser(extent_left(c.counts, c.height), last);
+    let latest = lesser(extent_left(b.counts, b.height), later);
+    lesser(extent_left(a.counts, a.height), latest)
+}
+
+// The number of outputs that count: what a pair claims.
+fn credit(a: Output, b: Output, c: Output, d: Output) -> u32
+    ensures { λ r. ⌜ r ≡ creditBy a b c d ⌝ }
+{
+    digit(a.counts) + digit(b.counts) + digit(c.counts) + digit(d.counts)
 }
 
 // The first of 7, 8 and 9 that is given, 0 where none is.
@@ -182,20 +206,67 @@ fn first_of(complete: bool, covered: bool, disjoint: bool) -> u32
     if disjoint { 0 } else { 9 }
 }
 
-// Which of 7, 8 and 9 the settings alone give a start, 0 where they let it pass.
-pub fn readiness(own: &[u32; state::OWN_CELLS], shared: &[u32; state::SHARED_CELLS]) -> u32
-    requires { ⌜ (length (now own) ≡ ownLength) × (length (now shared) ≡ sharedLength) ⌝ }
-    ensures { λ r. ⌜ r ≡ readinessOf (partyOf (now (own .entry)) [] .domain) (partyOf (now (own .entry)) [] .instructions) (sharedOf (now (shared .entry)) .mask) (sharedOf (now (shared .entry)) .outputs) ⌝ }
+// The number that the settings alone give a start, by the gauge that is kept: after a command that set the domain or the
+// instruction format.
+pub fn settle(own: &mut [u32; state::OWN_CELLS])
+    requires { ⌜ length (now own) ≡ ownLength ⌝ }
+    ensures { λ _. ⌜ now (own .exit) ≡ partyCells (settled (partyOf (now (own .entry)) [])) ⌝ }
 {
-    let mask = shared[settings::MASK];
-    let a = output_at(mask, shared, settings::OUTPUT_0);
-    let b = output_at(mask / 16, shared, settings::OUTPUT_1);
-    let c = output_at(mask / 256, shared, settings::OUTPUT_2);
-    let d = output_at(mask / 4096, shared, settings::OUTPUT_3);
     let complete = both(
         own[own::DOMAIN] == 1,
-        both(own[own::INSTRUCTIONS] == 1, some_set(a, b, c, d)),
+        both(own[own::INSTRUCTIONS] == 1, own[own::SOME] == 1),
     );
-    let covered = each_holds(a, b, c, d, own[own::DOMAIN_I1], own[own::DOMAIN_J1]);
-    first_of(complete, covered, each_apart(a, b, c, d))
+    let covered = both(
+        own[own::DOMAIN_I1] < own[own::COLUMNS],
+        own[own::DOMAIN_J1] < own[own::ROWS],
+    );
+    let number = first_of(complete, covered, own[own::APART] == 1);
+    own::set_readiness(own, number);
+}
+
+// The gauge and the number: after a command that set an output, whose window is kept by then, or the mask.
+pub fn renew(own: &mut [u32; state::OWN_CELLS], shared: &[u32; state::SHARED_CELLS])
+    requires { ⌜ RenewAsked (now own) (now shared) ⌝ }
+    ensures { λ _. ⌜ now (own .exit) ≡ partyCells (renewed (sharedOf (now (shared .entry))) (partyOf (now (own .entry)) [])) ⌝ }
+{
+    let mask = shared[settings::MASK];
+    let a = output_at(
+        mask,
+        shared,
+        settings::OUTPUT_0,
+        own[own::STEP_0],
+        own[own::SPAN_0],
+    );
+    let b = output_at(
+        mask / 16,
+        shared,
+        settings::OUTPUT_1,
+        own[own::STEP_1],
+        own[own::SPAN_1],
+    );
+    let c = output_at(
+        mask / 256,
+        shared,
+        settings::OUTPUT_2,
+        own[own::STEP_2],
+        own[own::SPAN_2],
+    );
+    let d = output_at(
+        mask / 4096,
+        shared,
+        settings::OUTPUT_3,
+        own[own::STEP_3],
+        own[own::SPAN_3],
+    );
+    let some = digit(some_set(a, b, c, d));
+    let apart = digit(each_apart(a, b, c, d));
+    own::set_gauge(
+        own,
+        some,
+        columns(a, b, c, d),
+        rows(a, b, c, d),
+        apart,
+        credit(a, b, c, d),
+    );
+    settle(own);
 }

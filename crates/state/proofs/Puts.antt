@@ -2,14 +2,14 @@
 -- Assumes nothing.
 use mathlib.Core.Path.{_≡_, refl, sym, ap, _∙_, subst}
 use mathlib.Core.List.{List, [], _∷_}
-use Prim.Native.Nat.{ℕ, _+_, _<_}
+use Prim.Native.Nat.{ℕ, _+_, _*_, _<_}
 use lib.ListN.{length, getD, set}
 use Rattle.laws.specs.Choice.{pick}
 use Rattle.laws.proofs.Table.{each, _&_}
 use Rattle.state.specs.State.{Buffer, Open, Domain, Party, atLine, none}
 use Rattle.state.specs.Effects.{domainFrom, opening, took, stop, withParameter, withDomain, withInstructions, buffer}
 use Rattle.state.specs.Cells.{partyOf, partyCells, ownLength}
-use Rattle.state.specs.Effects.{tookWords}
+use Rattle.state.specs.Effects.{tookWords, gaugeFrom, windowFrom, withGauge, withNumber, withReadiness, withWindow}
 use Rattle.state.proofs.Cells.{own-canon}
 
 module _ (l : List ℕ) (h : length l ≡ ownLength) where
@@ -67,3 +67,26 @@ module _ (l : List ℕ) (h : length l ≡ ownLength) where
   pub line-taken : (n : ℕ) → partyOf (set l 2 n) [] .taken ≡ partyOf l [] .taken
   unfolding partyOf partyCells
   line-taken n = ap (λ (x : List ℕ). partyOf (set x 2 n) [] .taken) (sym (own-canon l [] h))
+
+  pub window-cells : (n a b : ℕ) → n < 4 →
+      set (set l (25 + 2 * n) a) (25 + 2 * n + 1) b ≡
+      partyCells (withReadiness (withWindow n (windowFrom a b) (partyOf l [] .readiness)) (partyOf l []))
+  unfolding partyOf partyCells pick
+  window-cells n a b k =
+      ap (λ (x : List ℕ). set (set x (25 + 2 * n) a) (25 + 2 * n + 1) b) (sym (own-canon l [] h)) ∙
+      each (λ m. set (set (partyCells p) (25 + 2 * m) a) (25 + 2 * m + 1) b ≡ partyCells (withReadiness (withWindow m (windowFrom a b) (p .readiness)) p)) 4
+      (tt & refl & refl & refl & refl) n k
+    where
+      p : Party
+      p = partyOf l []
+
+  pub gauge-cells : (a b c d e : ℕ) →
+      set (set (set (set (set l 20 a) 21 b) 22 c) 23 d) 24 e ≡
+      partyCells (withReadiness (withGauge (gaugeFrom a b c d e) (partyOf l [] .readiness)) (partyOf l []))
+  unfolding partyOf partyCells
+  gauge-cells a b c d e =
+      ap (λ (x : List ℕ). set (set (set (set (set x 20 a) 21 b) 22 c) 23 d) 24 e) (sym (own-canon l [] h))
+
+  pub number-cells : (n : ℕ) → set l 19 n ≡ partyCells (withReadiness (withNumber n (partyOf l [] .readiness)) (partyOf l []))
+  unfolding partyOf partyCells
+  number-cells n = ap (λ (x : List ℕ). set x 19 n) (sym (own-canon l [] h))

@@ -5,7 +5,8 @@ use Prim.Native.Nat.{ℕ, _+_, _<_, _^_}
 use Rattle.state.specs.Start.{mostClaim}
 use Rattle.state.specs.State.{Party, Session}
 use Rattle.state.specs.Valid.{DomainValid, Valid}
-use Rattle.state.specs.Cells.{Sized, partyOf, sessionOf, partyCells, tallyCells, sharedCells}
+use Rattle.state.specs.Readiness.{readinessFor}
+use Rattle.state.specs.Cells.{Sized, partyOf, sharedOf, sessionOf, partyCells, tallyCells, sharedCells}
 
 -- cells that hold a session whole
 pub record Held (s : Session) (own tallies shared : List ℕ) : Type 0 where
@@ -23,9 +24,10 @@ pub record Given (own tallies shared : List ℕ) : Type 0 where
   pub sized : Sized own tallies shared
   pub valid : Valid (sessionOf own tallies shared)
 
--- room for one more start in the tallies, and a domain with its ends in order
+-- room for one more start in the tallies, a domain with its ends in order, and what is kept of readiness is what the settings give
 pub record OwnAsked (own tallies shared : List ℕ) : Type 0 where
   pub sized : Sized own tallies shared
   pub domain : DomainValid (partyOf own tallies .domain)
+  pub kept : partyOf own tallies .readiness ≡ readinessFor (partyOf own tallies) (sharedOf shared)
   pub runs : partyOf own tallies .tally .runs + 1 < 2 ^ 64
   pub claims : partyOf own tallies .tally .claims + mostClaim < 2 ^ 64

@@ -7,8 +7,9 @@ use Rattle.laws.specs.Choice.{pick}
 use Rattle.command.specs.declared.commands.Stored.the-variants as stored
 use Rattle.command.specs.declared.commands.Command.{Command}
 use Rattle.command.specs.declared.commands.Command.the-variants as command
-use Rattle.state.specs.State.{Buffer, Open, Domain, Tally, Party, Shared, Session, none}
+use Rattle.state.specs.State.{Buffer, Open, Domain, Tally, Window, Gauge, Readiness, Party, Shared, Session, none}
 use Rattle.state.specs.Start.{claimOf}
+use Rattle.state.specs.Readiness.{readinessFor}
 
 -- "17: the session has taken 1,000,000,000 words"
 abbrev pub limit : ℕ
@@ -130,6 +131,68 @@ withTally t p =
       tally = t;
     }
 
+-- the party with what is kept of readiness replaced
+abbrev pub withReadiness : Readiness → Party → Party
+withReadiness r p =
+    record {
+      stopped = p .stopped;
+      taken = p .taken;
+      opened = p .opened;
+      domain = p .domain;
+      instructions = p .instructions;
+      birth = p .birth;
+      readiness = r;
+      tally = p .tally;
+    }
+
+-- "The stored number must always equal the one worked out from the settings": worked out anew, with what it is reckoned from
+abbrev pub renewed : Shared → Party → Party
+renewed h p = withReadiness (readinessFor p h) p
+
+-- the number, and the gauge, of what is kept replaced
+abbrev pub withNumber : ℕ → Readiness → Readiness
+withNumber n r =
+    record {
+      number = n;
+      gauge = r .gauge;
+      window0 = r .window0;
+      window1 = r .window1;
+      window2 = r .window2;
+      window3 = r .window3;
+    }
+
+abbrev pub withGauge : Gauge → Readiness → Readiness
+withGauge g r =
+    record {
+      number = r .number;
+      gauge = g;
+      window0 = r .window0;
+      window1 = r .window1;
+      window2 = r .window2;
+      window3 = r .window3;
+    }
+
+-- a gauge of these numbers
+abbrev pub gaugeFrom : ℕ → ℕ → ℕ → ℕ → ℕ → Gauge
+gaugeFrom some columns rows apart credit =
+    record { some = some; columns = columns; rows = rows; apart = apart; credit = credit }
+
+-- a window of this row step and span
+abbrev pub windowFrom : ℕ → ℕ → Window
+windowFrom step span = record { step = step; span = span }
+
+-- one window of what is kept replaced
+abbrev pub withWindow : ℕ → Window → Readiness → Readiness
+withWindow n w r =
+    record {
+      number = r .number;
+      gauge = r .gauge;
+      window0 = pick (eqb n 0) w (r .window0);
+      window1 = pick (eqb n 1) w (r .window1);
+      window2 = pick (eqb n 2) w (r .window2);
+      window3 = pick (eqb n 3) w (r .window3);
+    }
+
 abbrev pub withShared :
     ℕ → ℕ → ℕ → ℕ → ℕ → Buffer → Buffer → Buffer → Buffer → List Buffer → List Buffer → Shared
 withShared m cs cm ts t f i b c o n =
@@ -213,10 +276,10 @@ Numbered (command.OutputMask mask) = Unit {0}
 Numbered (command.ConditionalMask mask) = Unit {0}
 Numbered (command.Test test) = Unit {0}
 
--- the session after a command that was accepted, its last word taken
+-- the session after a command that was accepted, its last word taken: what it sets, and what the settings then give a start
 unfoldable pub after : Command → Session → Session
 after c s =
     record {
-      party = ownAfter c (s .shared) (opening none (took (s .party)));
+      party = renewed (sharedAfter c (s .shared)) (ownAfter c (s .shared) (opening none (took (s .party))));
       shared = sharedAfter c (s .shared);
     }

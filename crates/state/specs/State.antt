@@ -61,7 +61,7 @@ pub record Readiness : Type 0 where
   pub window2 : Window
   pub window3 : Window
 
--- a party's own part; what is fixed at the beginning and what is kept of readiness are all zeros until a request uses them
+-- a party's own part; what is fixed at the beginning is all zeros until a request uses it
 pub record Party : Type 0 where
   pub stopped : ℕ
   pub taken : ℕ
@@ -107,11 +107,16 @@ unborn = record { mine = 0; edition = 0 }
 abbrev pub noWindow : Window
 noWindow = record { step = 0; span = 0 }
 
-abbrev pub nothingKept : Readiness
-nothingKept =
+-- the most columns and the most rows that a window has: "E from 1 to 4,096, height H from 1 to 4,096"
+abbrev pub mostExtent : ℕ
+mostExtent = 4096
+
+-- where nothing is set, a start gets 7, and no output asks anything of a domain
+abbrev pub newReadiness : Readiness
+newReadiness =
     record {
-      number = 0;
-      gauge = record { some = 0; columns = 0; rows = 0; apart = 0; credit = 0 };
+      number = 7;
+      gauge = record { some = 0; columns = mostExtent; rows = mostExtent; apart = 1; credit = 0 };
       window0 = noWindow;
       window1 = noWindow;
       window2 = noWindow;
@@ -128,7 +133,7 @@ newParty =
       domain = record { isSet = 0; i0 = 0; j0 = 0; i1 = 0; j1 = 0 };
       instructions = unset;
       birth = unborn;
-      readiness = nothingKept;
+      readiness = newReadiness;
       tally = record { runs = 0; claims = 0 };
     }
 

@@ -9,7 +9,8 @@ use Rattle.state.specs.Start.{mostClaim}
 use Rattle.laws.specs.Choice.{pick}
 use Rattle.command.specs.Table.{headerOf, countOf}
 use Rattle.command.specs.Kinds.{allowed, kindOf}
-use Rattle.state.specs.State.{Open, Domain, Tally, Session, none, unborn, nothingKept}
+use Rattle.state.specs.State.{Open, Domain, Tally, Session, none, unborn}
+use Rattle.state.specs.Readiness.{readinessFor}
 use Rattle.state.specs.Effects.{limit}
 
 -- the parameters of an open command, in order
@@ -41,9 +42,10 @@ pub record Valid (s : Session) : Type 0 where
   pub opened : s .party .opened .line < 21 → OpenValid (s .party .opened)
   pub domain : DomainValid (s .party .domain)
   pub tally : TallyValid (s .party .tally) (s .party .taken)
-  -- places that requests 6, 9 and 10 use
+  -- places that requests 9 and 10 use
   pub birth : s .party .birth ≡ unborn
-  pub readiness : s .party .readiness ≡ nothingKept
+  -- "The stored number must always equal the one worked out from the settings"; a stopped session's too
+  pub readiness : s .party .readiness ≡ readinessFor (s .party) (s .shared)
   pub outputs : length (s .shared .outputs) ≡ 4
   pub inputs : length (s .shared .inputs) ≡ 16
 

@@ -1,10 +1,12 @@
-// A party's own cells: the stop, the words taken, the open command, the domain and the instruction format.
+// A party's own cells: the stop, the words taken, the open command, the domain, the instruction format, and what the settings
+// alone give a start.
 ghost use mathlib.Core.Path.{_≡_};
 ghost use Prim.Native.Nat.{_+_, _<_, _≤_};
 ghost use mathlib.Core.List.{[]};
 ghost use lib.ListN.{length};
 ghost use Rattle.state.specs.State.{atLine, none};
 ghost use Rattle.state.specs.Effects.{buffer, domainFrom, limit, opening, stop as stopped, took, tookWords, withDomain, withInstructions, withParameter};
+ghost use Rattle.state.specs.Effects.{gaugeFrom, windowFrom, withGauge, withNumber, withReadiness, withWindow};
 ghost use Rattle.state.specs.Cells.{partyOf, partyCells, ownLength};
 
 // A word's place in a piece or in a session, counted from 0: one of document 01's three kinds of number, never a byte
@@ -45,6 +47,38 @@ pub const INSTRUCTIONS_BASE: usize = 14;
 pub const INSTRUCTIONS_FORMAT: usize = 15;
 
 pub const INSTRUCTIONS_HEIGHT: usize = 16;
+
+// The number that the settings alone give a start: 0, 7, 8 or 9.
+pub const READINESS: usize = 19;
+
+// What the outputs ask of a domain and give for a pair: whether one is set; the least row step and height of those that count,
+// whether no two of these share a byte, and the elements that a pair claims.
+pub const SOME: usize = 20;
+
+pub const COLUMNS: usize = 21;
+
+pub const ROWS: usize = 22;
+
+pub const APART: usize = 23;
+
+pub const CREDIT: usize = 24;
+
+// Each output's row step and span.
+pub const STEP_0: usize = 25;
+
+pub const SPAN_0: usize = 26;
+
+pub const STEP_1: usize = 27;
+
+pub const SPAN_1: usize = 28;
+
+pub const STEP_2: usize = 29;
+
+pub const SPAN_2: usize = 30;
+
+pub const STEP_3: usize = 31;
+
+pub const SPAN_3: usize = 32;
 
 // The line that stands for no open command: one past the table.
 pub const NO_LINE: u32 = 21;
@@ -125,4 +159,41 @@ pub fn set_instructions(own: &mut [u32; crate::OWN_CELLS], base: u32, format: u3
     own[INSTRUCTIONS_BASE] = base;
     own[INSTRUCTIONS_FORMAT] = format;
     own[INSTRUCTIONS_HEIGHT] = 1;
+}
+
+// An output's row step and span.
+pub fn set_window(own: &mut [u32; crate::OWN_CELLS], number: u32, step: u32, span: u32)
+    requires { ⌜ (length (now own) ≡ ownLength) × (number < 4) ⌝ }
+    ensures { λ _. ⌜ now (own .exit) ≡ partyCells (withReadiness (withWindow number (windowFrom step span) (partyOf (now (own .entry)) [] .readiness)) (partyOf (now (own .entry)) [])) ⌝ }
+{
+    let at = STEP_0 + 2 * number as usize;
+    own[at] = step;
+    own[at + 1] = span;
+}
+
+// What the outputs ask of a domain and give for a pair.
+pub fn set_gauge(
+    own: &mut [u32; crate::OWN_CELLS],
+    some: u32,
+    columns: u32,
+    rows: u32,
+    apart: u32,
+    credit: u32,
+)
+    requires { ⌜ length (now own) ≡ ownLength ⌝ }
+    ensures { λ _. ⌜ now (own .exit) ≡ partyCells (withReadiness (withGauge (gaugeFrom some columns rows apart credit) (partyOf (now (own .entry)) [] .readiness)) (partyOf (now (own .entry)) [])) ⌝ }
+{
+    own[SOME] = some;
+    own[COLUMNS] = columns;
+    own[ROWS] = rows;
+    own[APART] = apart;
+    own[CREDIT] = credit;
+}
+
+// The number that the settings alone give a start.
+pub fn set_readiness(own: &mut [u32; crate::OWN_CELLS], number: u32)
+    requires { ⌜ length (now own) ≡ ownLength ⌝ }
+    ensures { λ _. ⌜ now (own .exit) ≡ partyCells (withReadiness (withNumber number (partyOf (now (own .entry)) [] .readiness)) (partyOf (now (own .entry)) [])) ⌝ }
+{
+    own[READINESS] = number;
 }

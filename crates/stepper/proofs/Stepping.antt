@@ -86,13 +86,13 @@ module _ (limit : ℕ) (l : List ℕ) (first second slots active wish : ℕ) (ju
       procsHere i =
           branched (branchOp jump first) (popCount first) jump (on i wish) (withActive l active i)
 
-      on-way : outcome ≡ arrived slots jump procsHere (groupOf l .loops) wayHere
+      on-way : outcome ≡ arrived slots jump procsHere (groupOf l) wayHere
       unfolding settled
       on-way = pick-no _ _ (sym over-is ∙ free)
 
       -- the way is refused
       settle-by :
-          (w : Way) → outcome ≡ arrived slots jump procsHere (groupOf l .loops) w → (n : ℕ) (l' : List ℕ) →
+          (w : Way) → outcome ≡ arrived slots jump procsHere (groupOf l) w → (n : ℕ) (l' : List ℕ) →
           GoDone l l' n slots jump w → 1 < n → NumberDone l l' n outcome
       settle-by Stuck e n l' d h =
           subst (λ (x : List ℕ). NumberDone l x n outcome) (sym (d .left)) (refused 14 (d .number) e)
@@ -129,10 +129,10 @@ module _ (limit : ℕ) (l : List ℕ) (first second slots active wish : ℕ) (ju
           g = went-on wayHere d h
 
           groupThen : Group
-          groupThen = record { procs = procsHere; position = g .at; returns = g .rest; loops = groupOf l .loops }
+          groupThen = record { procs = procsHere; position = g .at; returns = g .rest; loops = groupOf l .loops; killed = groupOf l .killed }
 
           steps : outcome ≡ Steps jump groupThen
-          steps = on-way ∙ ap (arrived slots jump procsHere (groupOf l .loops)) (g .goes) ∙ pick-yes _ _ (g .near)
+          steps = on-way ∙ ap (arrived slots jump procsHere (groupOf l)) (g .goes) ∙ pick-yes _ _ (g .near)
 
           there : leaves ≡ cellsOf (modeIn l) groupThen
           there =
@@ -207,7 +207,7 @@ settled-same limit slots first second jump v w procs g out h =
     ap
     (λ (f : ℕ → Proc).
     pick (overLimit limit op procs) (Fails 14)
-    (arrived slots jump f (g .loops) (wayOf (aOp first) jump (g .position) (jumpAddress second) (g .returns))))
+    (arrived slots jump f g (wayOf (aOp first) jump (g .position) (jumpAddress second) (g .returns))))
     (fun-ext (λ i. at i (tested (ltb i 32))))
   where
     at :
@@ -343,12 +343,14 @@ reloop loops (Steps jump g) = Steps jump (withLoops g loops)
 reloop loops (Fails why) = Fails why
 
 arrived-reloop :
-    (slots : ℕ) (jump : Bool) (procs : ℕ → Proc) (old loops : List Opened) (w : Way) →
-    arrived slots jump procs loops w ≡ reloop loops (arrived slots jump procs old w)
-arrived-reloop slots jump procs old loops Stuck = refl
-arrived-reloop slots jump procs old loops (Goes next rs) = by (tested (leb next slots))
+    (slots : ℕ) (jump : Bool) (procs : ℕ → Proc) (g : Group) (loops : List Opened) (w : Way) →
+    arrived slots jump procs (withLoops g loops) w ≡ reloop loops (arrived slots jump procs g w)
+arrived-reloop slots jump procs g loops Stuck = refl
+arrived-reloop slots jump procs g loops (Goes next rs) = by (tested (leb next slots))
   where
-    by : Tested (leb next slots) → arrived slots jump procs loops (Goes next rs) ≡ reloop loops (arrived slots jump procs old (Goes next rs))
+    by :
+        Tested (leb next slots) →
+        arrived slots jump procs (withLoops g loops) (Goes next rs) ≡ reloop loops (arrived slots jump procs g (Goes next rs))
     by (holds e) = pick-yes _ _ e ∙ sym (ap (reloop loops) (pick-yes _ _ e))
     by (fails e) = pick-no _ _ e ∙ sym (ap (reloop loops) (pick-no _ _ e))
 
@@ -365,7 +367,7 @@ settled-reloop limit slots first second jump wish procs g loops = by (tested (ov
     by (holds e) = pick-yes _ _ e ∙ sym (ap (reloop loops) (pick-yes _ _ e))
     by (fails e) =
         pick-no _ _ e ∙
-        arrived-reloop slots jump _ (g .loops) loops (wayOf (aOp first) jump (g .position) (jumpAddress second) (g .returns)) ∙
+        arrived-reloop slots jump _ g loops (wayOf (aOp first) jump (g .position) (jumpAddress second) (g .returns)) ∙
         sym (ap (reloop loops) (pick-no _ _ e))
 
 -- a loop's decision is its own

@@ -35,6 +35,7 @@ fn main() {
     lines::address::add(&mut table);
     lines::element::add(&mut table);
     lines::flow::add(&mut table);
+    lines::kill::add(&mut table);
     table.end();
 }
 

@@ -1,4 +1,4 @@
-//! Flow words for one group: programs, groups, steps and runs.
+//! Flow words for one group: programs, groups, steps, runs and kills.
 
 use crate::lengths::{CELLS, SLOTS};
 use crate::{answer, lent, Answer};
@@ -170,10 +170,36 @@ impl Group {
         })
     }
 
-    /// The number of processors in the group.
+    /// The kill test: every active processor that has a channel under the write mask
+    /// (bit c for channel c) less than zero is killed and leaves the group. The
+    /// registers are four floats for each processor of the group as it began,
+    /// processor 0 first. Answers those who were killed now, bit i for processor i.
+    /// 16 where the program has ended, 13 for a mask over 15, 11 for another number
+    /// of floats, in that order; a refusal changes nothing.
+    #[inline]
+    pub fn kill(&mut self, program: &Program, registers: &[f32], mask: u32) -> Answer<u32> {
+        let mut killed = [0];
+        answer(lent::group_kill(
+            self,
+            program,
+            mask,
+            registers,
+            &mut killed,
+        ))?;
+        Ok(killed[0])
+    }
+
+    /// The number of processors in the group; the killed aren't.
     #[inline]
     pub fn size(&self) -> u32 {
         self.mask().count_ones()
+    }
+
+    /// The number of processors of the group as it began: those in it and the
+    /// killed.
+    #[inline]
+    pub fn started(&self) -> u32 {
+        (self.mask() | self.killed()).count_ones()
     }
 
     /// The processors in the group, bit i for processor i.
@@ -186,6 +212,12 @@ impl Group {
     #[inline]
     pub fn active(&self) -> u32 {
         self.cells[1]
+    }
+
+    /// Those who were killed so far, bit i for processor i.
+    #[inline]
+    pub fn killed(&self) -> u32 {
+        self.cells[13]
     }
 
     /// The branch counter of a processor, 0 for an active one.

@@ -23,5 +23,8 @@ pub const SLOTS: usize = 512;
 /// A group's cells.
 pub const CELLS: usize = 20;
 
+/// The channels of a register.
+pub const CHANNELS: usize = 4;
+
 /// The most days that a lease line has.
 pub const DAYS: usize = 31;

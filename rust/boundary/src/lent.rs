@@ -17,7 +17,7 @@
 
 use crate::flow::{Group, Program};
 use crate::layout::Layout;
-use crate::lengths::{CELLS, DAYS, LOG, MARKS, OWN, SHARED, SLOTS, TALLIES};
+use crate::lengths::{CELLS, CHANNELS, DAYS, LOG, MARKS, OWN, SHARED, SLOTS, TALLIES};
 use crate::log::Replay;
 use crate::raw;
 use crate::session::Session;
@@ -75,7 +75,7 @@ pub fn session_feed(session: &mut Session, words: &[u32], fed: &mut [u64; 2]) ->
 /// status: words taken, 1 if stopped, the open command's header and how many of
 /// its parameters were taken.
 #[inline]
-pub fn session_status(session: &Session, status: &mut [u32; 4]) -> u32 {
+pub fn session_status(session: &Session, status: &mut [u32; 5]) -> u32 {
     // SAFETY: the array is a session's that the library gave out.
     unsafe { raw::egretfold_session_status(&session.own, status) }
 }
@@ -427,4 +427,50 @@ pub fn group_loops(group: &Group, loops: &mut [u32; 13]) {
     // SAFETY: the cells are a group's that the library gave out, and apart from
     // the room.
     unsafe { raw::egretfold_group_loops(&group.cells, loops) }
+}
+
+/// Kills the active processors that have a channel under the write mask less than
+/// zero; the registers are four floats for each processor of the starting group.
+/// killed: those who were killed now. 16, 13 or 11.
+#[inline]
+pub fn group_kill(
+    group: &mut Group,
+    program: &Program,
+    mask: u32,
+    registers: &[f32],
+    killed: &mut [u32; 1],
+) -> u32 {
+    let (start, floats) = (registers.as_ptr(), registers.len());
+    // SAFETY: the cells are a group's that the library gave out; the cells and the
+    // room are apart; start and floats are one slice's.
+    unsafe {
+        raw::egretfold_group_kill(
+            program.slots(),
+            &mut group.cells,
+            mask,
+            start,
+            floats,
+            killed,
+        )
+    }
+}
+
+/// maximum: of two registers, channel by channel. Refuses nothing.
+#[inline]
+pub fn register_maximum(a: &[f32; CHANNELS], b: &[f32; CHANNELS], maximum: &mut [f32; CHANNELS]) {
+    // SAFETY: three arrays of the right length; the one that is written is apart.
+    unsafe { raw::egretfold_register_maximum(a, b, maximum) }
+}
+
+/// choice: between two registers by a third one, channel by channel. Refuses
+/// nothing.
+#[inline]
+pub fn register_choice(
+    a: &[f32; CHANNELS],
+    b: &[f32; CHANNELS],
+    third: &[f32; CHANNELS],
+    choice: &mut [f32; CHANNELS],
+) {
+    // SAFETY: four arrays of the right length; the one that is written is apart.
+    unsafe { raw::egretfold_register_choice(a, b, third, choice) }
 }

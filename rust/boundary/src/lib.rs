@@ -26,6 +26,7 @@ pub mod lengths;
 pub mod lent;
 mod log;
 mod raw;
+mod register;
 mod score;
 mod session;
 
@@ -34,6 +35,7 @@ pub use element::{read, superfine, write, Element};
 pub use flow::{Group, Loop, Loops, Mode, Program, Report, Stepped};
 pub use layout::{layout, locate, translate, Layout, Translated, Window};
 pub use log::{BytesFed, Day, LogStatus, Part, RefusedWord, Replay};
+pub use register::{choice, maximum, Register};
 pub use score::{Lease, Month, ScoredDay, Verdict};
 pub use session::{Fed, Format, Reply, Session, Status};
 

@@ -2,7 +2,7 @@
 //! array of a fixed length is a reference here (to C the same as a pointer), so
 //! that its length is checked; one with a length of its own is a pointer.
 
-use crate::lengths::{CELLS, DAYS, LOG, MARKS, OWN, SHARED, SLOTS, TALLIES};
+use crate::lengths::{CELLS, CHANNELS, DAYS, LOG, MARKS, OWN, SHARED, SLOTS, TALLIES};
 
 extern "C" {
     pub fn egretfold_session_begin(
@@ -28,7 +28,7 @@ extern "C" {
         fed: &mut [u64; 2],
     ) -> u32;
 
-    pub fn egretfold_session_status(own: &[u32; OWN], status: &mut [u32; 4]) -> u32;
+    pub fn egretfold_session_status(own: &[u32; OWN], status: &mut [u32; 5]) -> u32;
 
     pub fn egretfold_session_tallies(tallies: &[u64; TALLIES], counts: &mut [u64; 2]) -> u32;
 
@@ -215,4 +215,26 @@ extern "C" {
     ) -> u32;
 
     pub fn egretfold_group_loops(cells: &[u32; CELLS], loops: &mut [u32; 13]);
+
+    pub fn egretfold_group_kill(
+        slots: u32,
+        cells: &mut [u32; CELLS],
+        mask: u32,
+        registers: *const f32,
+        floats: usize,
+        killed: &mut [u32; 1],
+    ) -> u32;
+
+    pub fn egretfold_register_maximum(
+        a: &[f32; CHANNELS],
+        b: &[f32; CHANNELS],
+        maximum: &mut [f32; CHANNELS],
+    );
+
+    pub fn egretfold_register_choice(
+        a: &[f32; CHANNELS],
+        b: &[f32; CHANNELS],
+        third: &[f32; CHANNELS],
+        choice: &mut [f32; CHANNELS],
+    );
 }

@@ -41,6 +41,8 @@ pub struct Status {
     pub stopped: bool,
     /// The open command's header, and how many of its parameters were taken.
     pub open: Option<(u32, u32)>,
+    /// 0, 7, 8 or 9: what the settings alone give a start. The stop, the words taken and the open command play no part.
+    pub readiness: u32,
 }
 
 /// A format that a command has set. Instructions and constants have height 1.
@@ -87,13 +89,14 @@ impl Session {
 
     #[inline]
     pub fn status(&self) -> Status {
-        let mut status = [0; 4];
+        let mut status = [0; 5];
         lent::session_status(self, &mut status);
         Status {
             taken: status[0],
             stopped: status[1] != 0,
             // No header of the table is 0, so 0 says that none is open.
             open: set(status[2], (status[2], status[3])),
+            readiness: status[4],
         }
     }
 

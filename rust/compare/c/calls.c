@@ -57,12 +57,12 @@ static uint32_t feed(struct session *s, const uint32_t *words, size_t length, ui
 }
 
 static void check_status(const char *call, const struct session *s, uint32_t taken, uint32_t stopped, uint32_t header,
-                         uint32_t parameters)
+                         uint32_t parameters, uint32_t readiness)
 {
-    uint32_t status[4] = {9, 9, 9, 9};
-    const uint32_t expected[4] = {taken, stopped, header, parameters};
+    uint32_t status[5] = {99, 99, 99, 99, 99};
+    const uint32_t expected[5] = {taken, stopped, header, parameters, readiness};
     agree(call, egretfold_session_status(s->own, status), 0);
-    agree_words(call, status, expected, 4);
+    agree_words(call, status, expected, 5);
 }
 
 /* The whole stream in two pieces, cut behind the output's number. */
@@ -73,11 +73,11 @@ static void check_feed(struct session *s)
     agree("session_feed, first piece", feed(s, stream, 5, fed), 0);
     agree("session_feed, words of the first piece", fed[0], 5);
     agree("session_feed, commands of the first piece", fed[1], 1);
-    check_status("session_status inside a command", s, 5, 0, 0xC0030C00, 1);
+    check_status("session_status inside a command", s, 5, 0, 0xC0030C00, 1, 7);
     agree("session_feed, second piece", feed(s, stream + 5, 10, fed), 0);
     agree("session_feed, words of the second piece", fed[0], 10);
     agree("session_feed, commands of the second piece", fed[1], 3);
-    check_status("session_status at the end", s, 15, 0, 0, 0);
+    check_status("session_status at the end", s, 15, 0, 0, 0, 0);
 }
 
 /* What the whole stream leaves: four commands, one run, 1,728 elements. */
@@ -136,7 +136,7 @@ static void check_words(struct session *s)
     agree("session_feed, stopped", feed(s, stream, 15, fed), 1);
     agree("session_feed, words of a stopped session", fed[0], 0);
     agree("session_feed, commands of a stopped session", fed[1], 0);
-    check_status("session_status, stopped", s, 17, 1, 0, 0);
+    check_status("session_status, stopped", s, 17, 1, 0, 0, 0);
 }
 
 /* A piece with a refused word: those before it stand. */
@@ -236,7 +236,7 @@ static void check_log(void)
     check_part("log_part of the first day", &r, 1, 1, 1728);
     check_part("log_part of the second day", &r, 2, 0, 0);
     check_part("log_part past the last day", &r, 3, 0, 0);
-    check_status("session_status of a replay", &r.s, 18, 1, 0, 0);
+    check_status("session_status of a replay", &r.s, 18, 1, 0, 0, 0);
     put_record(bytes + 5, 3, 0);
     agree("log_feed, a wrong kind", feed_log(&r, bytes, 10, taken), 18);
     agree("log_feed, bytes before the wrong kind", taken[0], 5);
@@ -527,6 +527,77 @@ static void check_loops(void)
     agree_words("group_loops, all closed", told, closed, 13);
 }
 
+/* The bits of a float, and the float of bits, whatever they are. */
+static uint32_t bits_of(float f)
+{
+    uint32_t bits;
+    memcpy(&bits, &f, sizeof bits);
+    return bits;
+}
+
+static float float_of(uint32_t bits)
+{
+    float f;
+    memcpy(&f, &bits, sizeof f);
+    return f;
+}
+
+/* C9, then a kill: processors 0 and 1 are active, 0 has minus infinity in channel 2, 1 minus zero and a NaN with its sign set, and
+ * the idle ones -1. B_ELSE then wakes the idle ones, and not the killed one. */
+static void check_kill(void)
+{
+    float registers[16] = {0};
+    uint32_t cells[EGRETFOLD_CELLS], before[EGRETFOLD_CELLS], taken[2], killed[1] = {9};
+    agree("program_load, for a kill", egretfold_program_load(program, 8, firsts, seconds, slots), 0);
+    check_group(cells);
+    agree("group_step, before a kill",
+          egretfold_group_step(firsts, seconds, slots[0], cells, 3, 0, 0, none, 0, taken), 0);
+    registers[2] = float_of(0xFF800000);
+    registers[4] = float_of(0x80000000);
+    registers[5] = float_of(0xFFC00000);
+    registers[8] = registers[12] = -1;
+    memcpy(before, cells, sizeof cells);
+    agree("group_kill, ended", egretfold_group_kill(1, cells, 16, registers, 15, killed), 16);
+    agree("group_kill, a mask over 15", egretfold_group_kill(slots[0], cells, 16, registers, 15, killed), 13);
+    agree("group_kill, too few floats", egretfold_group_kill(slots[0], cells, 15, registers, 15, killed), 11);
+    agree("group_kill, room after a refusal", killed[0], 9);
+    agree_words("group_kill, group after a refusal", cells, before, EGRETFOLD_CELLS);
+    agree("group_kill, channel 2 not asked", egretfold_group_kill(slots[0], cells, 11, registers, 16, killed), 0);
+    agree("group_kill, nobody", killed[0], 0);
+    agree_words("group_kill, group with nobody killed", cells, before, EGRETFOLD_CELLS);
+    agree("group_kill", egretfold_group_kill(slots[0], cells, 15, registers, 16, killed), 0);
+    agree("group_kill, processor 0", killed[0], 1);
+    before[0] = 14, before[1] = 2, before[13] = 1;
+    agree_words("group_kill, group after it", cells, before, EGRETFOLD_CELLS);
+    agree("group_step, B_ELSE after a kill",
+          egretfold_group_step(firsts, seconds, slots[0], cells, 0, 0, 0, none, 0, taken), 0);
+    agree("group_step, active after a kill", cells[1], 12);
+    agree("group_kill, the starting group's length", egretfold_group_kill(slots[0], cells, 1, registers, 16, killed), 0);
+    agree("group_kill, the idle ones now", killed[0], 12);
+    agree("group_kill, all killed so far", cells[13], 13);
+}
+
+/* Zeros of either sign, numbers, and NaNs quiet and signalling, whose bits come back as they are. */
+static void check_registers(void)
+{
+    const uint32_t bits[2][4] = {{0, 0x40000000, 0x7FC12345, 0xC0000000}, {0x80000000, 0x3F800000, 0x3F800000, 0xFF812345}};
+    const uint32_t thirds[4] = {0x80000000, 0x7FC00000, 0, 0x80000001};
+    const uint32_t larger[4] = {0x80000000, 0x40000000, 0x3F800000, 0xFF812345};
+    const uint32_t chosen[4] = {0, 0x3F800000, 0x7FC12345, 0xFF812345};
+    float a[4], b[4], third[4], room[4];
+    uint32_t seen[4];
+    for (int c = 0; c < 4; c++)
+        a[c] = float_of(bits[0][c]), b[c] = float_of(bits[1][c]), third[c] = float_of(thirds[c]);
+    egretfold_register_maximum(a, b, room);
+    for (int c = 0; c < 4; c++)
+        seen[c] = bits_of(room[c]);
+    agree_words("register_maximum", seen, larger, EGRETFOLD_CHANNELS);
+    egretfold_register_choice(a, b, third, room);
+    for (int c = 0; c < 4; c++)
+        seen[c] = bits_of(room[c]);
+    agree_words("register_choice", seen, chosen, EGRETFOLD_CHANNELS);
+}
+
 int main(void)
 {
     struct session s;
@@ -548,6 +619,8 @@ int main(void)
     check_steps();
     check_run();
     check_loops();
+    check_kill();
+    check_registers();
     if (differed != 0) {
         printf("calls: %u agreed, %u differed\n", agreed, differed);
         return 1;

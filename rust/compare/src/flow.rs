@@ -105,7 +105,7 @@ fn store_untouched(case: &mut Case, words: &[u32]) -> Agreement {
 }
 
 /// A group begun by both, or the refusal.
-fn begun(case: &mut Case) -> Agreed<Option<Both>> {
+pub fn begun(case: &mut Case) -> Agreed<Option<Both>> {
     let size = match case.random.below(64) {
         0 => 0,
         1 => 33,
@@ -192,7 +192,7 @@ fn step_by_step(
 /// Once in eight cases, another program for some of the steps: a group may be
 /// stepped under any. Half of these are the same program cut short, under which a
 /// position or a stored return may lie past the end.
-fn other_program(case: &mut Case, program: &Loaded) -> Agreed<Option<Loaded>> {
+pub fn other_program(case: &mut Case, program: &Loaded) -> Agreed<Option<Loaded>> {
     if !case.random.once_in(8) {
         return Ok(None);
     }
@@ -206,15 +206,15 @@ fn other_program(case: &mut Case, program: &Loaded) -> Agreed<Option<Loaded>> {
 }
 
 /// What a step is given besides the group.
-struct Given<'a> {
-    program: &'a Loaded,
-    masks: (u32, u32, u32),
-    integers: &'a [u32],
+pub struct Given<'a> {
+    pub program: &'a Loaded,
+    pub masks: (u32, u32, u32),
+    pub integers: &'a [u32],
 }
 
 /// One step of both groups; answers its refusal, if it was refused, and whether it
 /// was one of a loop's slot.
-fn step(
+pub fn step(
     case: &mut Case,
     asked: impl Fn() -> String,
     given: &Given,
@@ -321,7 +321,7 @@ fn in_portions(case: &mut Case, program: &Loaded, fresh: &Both, masks: &Masks) -
 }
 
 /// One run of both groups; answers its refusal, if it was refused.
-fn run_portion(
+pub fn run_portion(
     case: &mut Case,
     asked: impl Fn() -> String,
     program: &Loaded,

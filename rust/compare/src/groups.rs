@@ -9,8 +9,9 @@ use second::flow::{Group, Loop, Mode, Processor};
 /// The first of the product's cells past its returns.
 const REST: usize = 12;
 
-/// The cells of the mode and of the innermost loop, counted from there.
+/// The cells of the mode, of the killed and of the innermost loop, counted from there.
 const MODE: usize = 0;
+const KILLED: usize = 1;
 const LOOPS: usize = 2;
 
 /// One group of each program, which take the same steps.
@@ -33,7 +34,7 @@ pub struct Seen {
     /// What is told of the loops: the aL shown, then kind, count and aL of each of
     /// four, innermost first.
     loops: [u32; 13],
-    /// The product's cells past its returns: the mode, the open loops, and zeros.
+    /// The product's cells past its returns: the mode, the killed, the open loops, and zeros.
     rest: [u32; CELLS - REST],
 }
 
@@ -86,7 +87,11 @@ pub fn seen_in_second(group: &Group) -> Seen {
         seen.loops[3 * place + 1..][..3].copy_from_slice(&told);
         seen.rest[LOOPS + place] = cell;
     }
+    seen.rest[KILLED] = group.killed;
     for (number, processor) in group.processors.iter().enumerate() {
+        if group.killed >> number & 1 == 1 {
+            continue;
+        }
         seen.members |= 1 << number;
         match processor {
             Processor::Active => seen.active |= 1 << number,

@@ -2,7 +2,7 @@
 //! made apart from it, on millions of made-up inputs: good ones, ones at the
 //! edges of the rules, damaged ones and noise.
 //!
-//! There are eight kinds of cases, one module each:
+//! There are nine kinds of cases, one module each:
 //!
 //! * [`addresses`]: layouts judged, pairs translated, addresses located back;
 //! * [`memory`]: elements read and written in lent memory, superfine reads;
@@ -11,7 +11,8 @@
 //! * [`flow`]: programs loaded, with and without loops, groups stepped and run;
 //! * [`logs`]: logs of a station over midnight, cut anywhere;
 //! * [`scores`]: months of such logs scored against lease lines;
-//! * [`modes`]: groups in full and in partial mode, side by side.
+//! * [`modes`]: groups in full and in partial mode, side by side;
+//! * [`kills`]: groups killed in part between steps and runs, registers of floats.
 //!
 //! Every case is made from its kind, a seed and its number alone, so that any
 //! case can be run again by itself. The tests run fixed cases; the program
@@ -22,8 +23,10 @@
 pub mod addresses;
 pub mod case;
 pub mod commands;
+pub mod floats;
 pub mod flow;
 pub mod groups;
+pub mod kills;
 pub mod layouts;
 pub mod logs;
 pub mod loops;
@@ -60,10 +63,11 @@ pub enum Kind {
     Logs,
     Scores,
     Modes,
+    Kills,
 }
 
 impl Kind {
-    pub const ALL: [Kind; 8] = [
+    pub const ALL: [Kind; 9] = [
         Kind::Addresses,
         Kind::Memory,
         Kind::Streams,
@@ -72,6 +76,7 @@ impl Kind {
         Kind::Logs,
         Kind::Scores,
         Kind::Modes,
+        Kind::Kills,
     ];
 
     pub fn name(self) -> &'static str {
@@ -84,6 +89,7 @@ impl Kind {
             Kind::Logs => "logs",
             Kind::Scores => "scores",
             Kind::Modes => "modes",
+            Kind::Kills => "kills",
         }
     }
 
@@ -101,6 +107,7 @@ impl Kind {
             Kind::Logs => logs::run(case),
             Kind::Scores => scores::run(case),
             Kind::Modes => modes::run(case),
+            Kind::Kills => kills::run(case),
         }
     }
 }

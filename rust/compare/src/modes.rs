@@ -94,17 +94,18 @@ fn side_by_side(
         let asked = || format!("step {number} of {}", about(program, masks));
         let before = pair.full.second.clone();
         let given = (two[0], two[1]);
-        let full = step(case, &asked, program, masks, given, &mut pair.full)?;
-        let partial = step(case, &asked, program, masks, given, &mut pair.partial)?;
+        let full = step(case, asked, program, masks, given, &mut pair.full)?;
+        let partial = step(case, asked, program, masks, given, &mut pair.partial)?;
         case.tally.mark("steps in both modes");
         match (&full, &partial) {
             (_, Ok(_)) => {
                 let asked = || format!("in full mode, {}", asked());
                 case.agree(asked, &full, &partial)?;
-                same_but_the_mode(case, &asked, &pair)?;
+                same_but_the_mode(case, asked, &pair)?;
                 let deepest = deepest(&pair.partial.second);
                 if deepest == Some(MOST_COUNTER) {
-                    case.tally.mark("steps of partial mode that left a counter at 5");
+                    case.tally
+                        .mark("steps of partial mode that left a counter at 5");
                 }
             }
             (Ok(_), Err(number)) => {
@@ -119,7 +120,8 @@ fn side_by_side(
             }
             (Err(of_full), Err(of_partial)) => {
                 if of_full != of_partial {
-                    case.tally.mark("steps refused by both modes with other numbers");
+                    case.tally
+                        .mark("steps refused by both modes with other numbers");
                 }
                 return Ok(());
             }
@@ -239,7 +241,9 @@ fn ran(
         first: report.first,
         active: report.active,
     });
-    let expected = both.second.run_with(&program.second, list, booleans, integers);
+    let expected = both
+        .second
+        .run_with(&program.second, list, booleans, integers);
     let asked = || format!("in mode {:?}, {}", before.mode(), asked());
     case.agree_answer(asked, &product, &expected)?;
     both.agree(case, asked)?;

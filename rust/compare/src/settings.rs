@@ -31,6 +31,8 @@ pub struct Seen {
     pub output_mask: u32,
     pub conditional_mask: Option<u32>,
     pub test: Option<u32>,
+    /// What the settings alone give a start: the product has it stored, the second program works it out.
+    pub readiness: u32,
 }
 
 /// The headers that set one format each; outputs and inputs come behind them.
@@ -113,6 +115,7 @@ pub fn of_product(session: &boundary::Session) -> Seen {
         output_mask: session.output_mask(),
         conditional_mask: session.conditional_mask(),
         test: session.test(),
+        readiness: status.readiness,
     }
 }
 
@@ -129,6 +132,7 @@ pub fn of_second(session: &second::session::Session) -> Seen {
         output_mask: session.output_mask(),
         conditional_mask: session.conditional_mask(),
         test: session.test(),
+        readiness: session.readiness(),
     }
 }
 

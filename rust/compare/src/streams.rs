@@ -63,6 +63,9 @@ pub fn word_by_word(case: &mut Case, mut both: Both, words: &[u32]) -> Agreed<Bo
                 patience -= 1;
             }
         }
+        if !matches!(expected, Ok(Reply::Open)) {
+            ready_alike(case, &both, asked)?;
+        }
         if case.random.once_in(64) {
             both.agree(case, asked)?;
         }
@@ -150,5 +153,20 @@ fn fed_piece(case: &mut Case, both: &mut Both, piece: &[u32], words: &[u32]) -> 
     let expected = both.second.feed(piece);
     case.agree(asked, &product, &expected)?;
     case.tally.mark("pieces fed");
+    ready_alike(case, both, asked)?;
     Ok(expected)
+}
+
+/// The stored number against the one that the second program works out from the settings.
+fn ready_alike(case: &mut Case, both: &Both, asked: impl Fn() -> String) -> Agreement {
+    let asked = || format!("what a start would get after {}", asked());
+    let worked_out = both.second.readiness();
+    case.agree(asked, &both.product.status().readiness, &worked_out)?;
+    case.tally.mark(match worked_out {
+        0 => "starts that would pass",
+        7 => "starts that would get 7",
+        8 => "starts that would get 8",
+        _ => "starts that would get 9",
+    });
+    Ok(())
 }

@@ -7,6 +7,7 @@
 //! have work.
 
 use compare::commands::{self, HEADERS};
+use compare::floats::CLASSES;
 use compare::layouts::SHAPES;
 use compare::tally::Tally;
 use compare::{run_cases, Kind};
@@ -110,6 +111,10 @@ fn streams(numbers: Range<u64>) {
     marks(&tally, &[("questions refused", 50_000)]);
     let above = "streams that claim 2^32 elements or more";
     marks(&tally, &[(above, 300)]);
+    marks(&tally, &[("starts that would pass", 1_000_000)]);
+    marks(&tally, &[("starts that would get 7", 500_000)]);
+    marks(&tally, &[("starts that would get 8", 100_000)]);
+    marks(&tally, &[("starts that would get 9", 50_000)]);
     masked_starts(&tally, 6_000);
     for header in HEADERS {
         marks(&tally, &[(commands::name(header), 5_000)]);
@@ -251,6 +256,50 @@ fn modes() {
         &tally,
         &[(13, 200_000), (14, 2_000), (15, 500), (16, 10_000)],
     );
+}
+
+fn kills(numbers: Range<u64>) {
+    let tally = agree(Kind::Kills, numbers);
+    marks(&tally, &[("kills compared", 350_000)]);
+    marks(&tally, &[("kills that killed nobody", 100_000)]);
+    marks(&tally, &[("kills that killed some", 50_000)]);
+    marks(&tally, &[("kills that killed the whole group", 2_000)]);
+    marks(&tally, &[("kills that left only idle ones", 1_000)]);
+    marks(&tally, &[("kills that spared an idle one", 20_000)]);
+    let living = "kills refused for the living group's length";
+    marks(&tally, &[(living, 2_000)]);
+    let (ended, mask) = (
+        "kills with two causes, of which 16 is first",
+        "kills with two causes, of which 13 is first",
+    );
+    marks(&tally, &[(ended, 2_000), (mask, 2_000)]);
+    marks(&tally, &[("groups in partial mode", 50_000)]);
+    marks(&tally, &[("steps after a kill", 300_000)]);
+    marks(&tally, &[("runs compared", 300_000)]);
+    marks(&tally, &[("registers compared", tally.cases)]);
+    for class in CLASSES {
+        marks(&tally, &[(class, 100_000)]);
+    }
+    refusals(
+        &tally,
+        &[
+            (11, 10_000),
+            (13, 50_000),
+            (14, 10_000),
+            (15, 10_000),
+            (16, 50_000),
+        ],
+    );
+}
+
+#[test]
+fn kills_first_half() {
+    kills(0..200_000);
+}
+
+#[test]
+fn kills_second_half() {
+    kills(200_000..400_000);
 }
 
 fn logs(numbers: Range<u64>) {

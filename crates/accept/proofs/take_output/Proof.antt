@@ -1,8 +1,15 @@
 -- `accept::take_output` meets its contract. Assumes nothing.
-use Rattle.accept.proofs.WholeCommands.{output-place, output-tried, denied, fine}
+use Rattle.accept.proofs.WholeCommands.{counted-length, output-most, output-place, output-tried, denied, fine}
+use Rattle.accept.proofs.Outputs.{output-asked}
 use borrow.Author.Needs.{needs}
 use Rattle.accept.proofs.take_output.Statement.{statement}
 use Rattle.accept.proofs.take_output.Tie as tie
+use Rattle.command.proofs.format.window_of.Reads as window-of-reads
+use Rattle.rules.proofs.fits.output.Reads as output-reads
+use Rattle.start.proofs.ready.renew.Reads as renew-reads
+use Rattle.state.proofs.own.count_words.Reads as count-words-reads
+use Rattle.state.proofs.own.set_window.Reads as set-window-reads
+use Rattle.state.proofs.settings.put.Reads as put-reads
 
 output-requires : tie.Need-output-requires
 output-requires c κs = search needs
@@ -18,16 +25,57 @@ add-put c = search needs
 
 put-requires : tie.Need-put-requires
 put-requires c κs =
-    let at-test = c .before .before .before in
-    (at-test .before .before .pre .1, output-place _ _ _ _ (fine _ (at-test .before .output .ensures) (at-test .if1 .taken)))
+    let at-if1 = c .before .before .before in
+    let at-output = at-if1 .before in
+    let at-start = at-output .before in
+    (at-start .pre .1 .shared-length, output-place _ _ _ _ (fine _ (at-output .output .ensures) (at-if1 .if1 .taken)))
+
+window-of-requires : tie.Need-window-of-requires
+window-of-requires c κs = search needs
+
+set-window-requires : tie.Need-set-window-requires
+set-window-requires c κs =
+    let at-count-words = c .before .before .before .before in
+    let at-if1 = at-count-words .before .before in
+    let at-output = at-if1 .before in
+    (counted-length _ _ _ (at-count-words .count-words .ensures), output-most _ _ _ _ (fine _ (at-output .output .ensures) (at-if1 .if1 .taken)))
+
+renew-requires : tie.Need-renew-requires
+renew-requires c κs =
+    let at-window-of = c .before .before .before .before in
+    let at-put = at-window-of .before in
+    let at-count-words = at-put .before .before in
+    let at-if1 = at-count-words .before .before in
+    let at-output = at-if1 .before in
+    let at-start = at-output .before in
+    output-asked _ _ _ _ _ (at-count-words .count-words .ensures) (at-start .pre .1) _ _ _ _
+    (output-most _ _ _ _ (fine _ (at-output .output .ensures) (at-if1 .if1 .taken))) _
+    (at-window-of .window-of .ensures) _ (c .before .before .set-window .ensures) (at-put .put .ensures)
 
 returns : tie.Need-returns
 returns c =
-    let at-test = c .before .before .before .before in
-    output-tried _ _ _ (c .before .before .count-words .ensures) _ _ _ _ _ _ (fine _ (at-test .before .output .ensures) (at-test .if1 .taken)) (c .put .ensures)
+    let at-set-window = c .before .before .before in
+    let at-put = at-set-window .before .before .before in
+    let at-count-words = at-put .before .before in
+    let at-if1 = at-count-words .before .before in
+    let at-output = at-if1 .before in
+    output-tried _ _ _ (at-count-words .count-words .ensures) _ _ _ _ _ _
+    (fine _ (at-output .output .ensures) (at-if1 .if1 .taken)) (at-put .put .ensures) _ _ (at-set-window .set-window .ensures) _ (c .renew .ensures)
 
 returns-2 : tie.Need-returns-2
 returns-2 c t rest z = denied (c .before .output .ensures) (c .if1 .left)
 
 pub take-output-spec : {M : Type 1} → statement M
-take-output-spec = tie.close (tie.spec output-requires count-words-requires mul-put add-put put-requires returns returns-2)
+take-output-spec =
+    tie.close
+    (tie.spec
+    output-requires
+    count-words-requires
+    mul-put
+    add-put
+    put-requires
+    window-of-requires
+    set-window-requires
+    renew-requires
+    returns
+    returns-2)

@@ -26,10 +26,11 @@ pub trait Counters: Copy {
 /// A group's state.
 #[derive(Clone, Copy, Debug, PartialEq, Eq)]
 pub struct Group<C> {
-    members: u32,
-    active: u32,
+    pub(super) members: u32,
+    pub(super) active: u32,
+    pub(super) killed: u32,
     counters: C,
-    place: Place,
+    pub(super) place: Place,
     loops: Loops,
     partial: bool,
 }
@@ -53,6 +54,7 @@ impl<C: Counters> Group<C> {
         Ok(Group {
             members,
             active: members,
+            killed: 0,
             counters: C::ZEROS,
             place: Place::default(),
             loops: Loops::default(),

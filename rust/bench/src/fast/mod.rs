@@ -1,5 +1,5 @@
 //! Document 01 as a Rust programmer would write it for speed: sessions, logs over midnight, the writer, addresses, elements and
-//! flow words, with document 02's loops.
+//! flow words, with document 02's loops and kills.
 //!
 //! Every entry that stands for one call of the product is marked `#[inline(never)]`. A host reaches the product through a
 //! call that nothing inlines; without the mark the compiler could melt these entries into the timing loop and move the work
@@ -9,6 +9,7 @@ pub mod address;
 pub mod command;
 pub mod element;
 pub mod group;
+mod kill;
 pub mod layout;
 pub mod log;
 mod loops;

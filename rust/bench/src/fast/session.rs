@@ -2,6 +2,8 @@
 //!
 //! A piece is taken by whole commands wherever it holds them: all parameters are judged at once, with one dispatch a
 //! command. What is cut by a piece's end, and a command that is refused, goes word by word, which finds the word at fault.
+//!
+//! What the settings alone give a start is kept: a command that sets one of them renews it, and a start reads it.
 
 use super::command::{line_of, Command, Domain, Format, Kind, Line};
 use super::layout::Window;
@@ -11,6 +13,8 @@ use super::refusal::{
 
 /// How many words a session takes.
 const MOST_WORDS: usize = 1_000_000_000;
+/// The most columns and rows of a window: what no domain goes past.
+const WINDOW_MOST: u32 = 4096;
 /// The words of the longest command.
 const LONGEST: usize = 5;
 
@@ -22,6 +26,16 @@ struct Output {
     last: u32,
     /// The mask's bits for the channels that the format has; the output is silent where none is set.
     channels: u32,
+}
+
+/// What the outputs ask of a domain, and how many claim a pair. Silent ones count for `any` alone.
+#[derive(Clone, Copy, Debug)]
+struct Gauge {
+    any: bool,
+    columns: u32,
+    rows: u32,
+    apart: bool,
+    counted: u64,
 }
 
 /// What an accepted word answers.
@@ -60,6 +74,9 @@ pub struct Session {
     output_mask: u32,
     conditional_mask: Option<u32>,
     test: Option<u32>,
+    gauge: Gauge,
+    /// 0, 7, 8 or 9: what the settings alone give a start.
+    readiness: u32,
 }
 
 impl Default for Session {
@@ -91,6 +108,14 @@ impl Session {
             output_mask: 0xFFFF,
             conditional_mask: None,
             test: None,
+            gauge: Gauge {
+                any: false,
+                columns: WINDOW_MOST,
+                rows: WINDOW_MOST,
+                apart: true,
+                counted: 0,
+            },
+            readiness: NOT_READY,
         }
     }
 
@@ -217,7 +242,9 @@ impl Session {
         let short_format = format_of(p0, p1, 1);
         Ok(match line.kind {
             Kind::SetInstructions => {
-                Command::SetInstructions(set(&mut self.instructions, short_format)?)
+                let set = set(&mut self.instructions, short_format)?;
+                self.settle();
+                Command::SetInstructions(set)
             }
             Kind::SetFloats => Command::SetFloats(set(&mut self.floats, short_format)?),
             Kind::SetIntegers => Command::SetIntegers(set(&mut self.integers, short_format)?),
@@ -229,6 +256,7 @@ impl Session {
             }
             Kind::SetOutputMask => {
                 self.output_mask = p0;
+                self.regauge();
                 Command::SetOutputMask(p0)
             }
             Kind::SetConditionalMask => {
@@ -274,6 +302,7 @@ impl Session {
             last,
             channels: format.channels() << (4 * place),
         });
+        self.regauge();
         Ok(Command::SetOutput(number, format))
     }
 
@@ -282,33 +311,59 @@ impl Session {
         let domain = Domain { i0, j0, i1, j1 };
         domain.in_order()?;
         self.domain = Some(domain);
+        self.settle();
         Ok(Command::SetDomain(domain))
     }
 
-    /// 7, 8, 9, or one more run and its claim. Silent outputs count for 7 alone.
+    /// The gauge after an output or the mask was set, and what it gives a start.
+    #[inline(always)]
+    fn regauge(&mut self) {
+        let mask = self.output_mask;
+        // gathered once, so that the loops below have no mask in them
+        let counted = [0, 1, 2, 3].map(|n| self.outputs[n].as_ref().filter(|o| !o.is_silent(mask)));
+        let outputs = counted.iter().flatten();
+        let gauge = Gauge {
+            any: self.outputs.iter().any(Option::is_some),
+            columns: outputs.clone().fold(WINDOW_MOST, |n, o| n.min(o.step)),
+            rows: outputs
+                .clone()
+                .fold(WINDOW_MOST, |n, o| n.min(o.format.height)),
+            apart: !share_a_byte(&counted),
+            counted: outputs.count() as u64,
+        };
+        self.gauge = gauge;
+        self.settle();
+    }
+
+    /// What the settings alone give a start, by the gauge.
+    #[inline(always)]
+    fn settle(&mut self) {
+        let Gauge { columns, rows, .. } = self.gauge;
+        self.readiness = match (self.domain, self.instructions) {
+            (Some(_), Some(_)) if !self.gauge.any => NOT_READY,
+            (Some(domain), Some(_)) if domain.i1 >= columns || domain.j1 >= rows => DOMAIN_OUTSIDE,
+            (Some(_), Some(_)) if !self.gauge.apart => SPANS_SHARED,
+            (Some(_), Some(_)) => 0,
+            _ => NOT_READY,
+        };
+    }
+
+    /// 7, 8, 9, or one more run and its claim.
     #[inline(always)]
     fn start(&mut self) -> Answer<Command> {
-        let domain = match (self.domain, self.instructions) {
-            (Some(domain), Some(_)) => domain,
-            _ => return Err(NOT_READY),
-        };
-        if self.outputs.iter().all(Option::is_none) {
-            return Err(NOT_READY);
+        match self.domain {
+            Some(domain) if self.readiness == 0 => {
+                self.runs += 1;
+                self.claims += domain.pairs() * self.gauge.counted;
+                Ok(Command::Start)
+            }
+            _ => Err(self.readiness),
         }
-        // gathered once, so that the loops below have no mask in them
-        let mask = self.output_mask;
-        let counted = [0, 1, 2, 3].map(|n| self.outputs[n].as_ref().filter(|o| !o.is_silent(mask)));
-        let mut outputs = counted.iter().flatten();
-        let count = outputs.clone().count() as u64;
-        if !outputs.all(|output| output.holds(&domain)) {
-            return Err(DOMAIN_OUTSIDE);
-        }
-        if share_a_byte(&counted) {
-            return Err(SPANS_SHARED);
-        }
-        self.runs += 1;
-        self.claims += domain.pairs() * count;
-        Ok(Command::Start)
+    }
+
+    /// 0, 7, 8 or 9.
+    pub fn readiness(&self) -> u32 {
+        self.readiness
     }
 
     pub fn taken(&self) -> usize {
@@ -367,11 +422,6 @@ impl Output {
     #[inline(always)]
     fn is_silent(&self, mask: u32) -> bool {
         self.channels & mask == 0
-    }
-
-    #[inline(always)]
-    fn holds(&self, domain: &Domain) -> bool {
-        domain.i1 < self.step && domain.j1 < self.format.height
     }
 
     #[inline(always)]

@@ -11,6 +11,8 @@ use boundary::headers::{
 
 /// The mixed stream is about this long, a stream of one command about half.
 const WORDS: usize = 1 << 16;
+/// A mixed stream that is too long to be learnt by the processor's branch prediction.
+const LONG: usize = 1 << 20;
 /// Every header that sets a format, with how many of its formats there are.
 const FORMATS: [(u32, u32); 7] = [
     (SET_INST_FMT, 1),
@@ -64,6 +66,11 @@ fn mixed(table: &mut Table) {
     ] {
         let name = format!("feed, mixed stream, {name}, a word");
         pieces(table, &name, 0, &stream, length);
+    }
+    let name = "feed, mixed stream of 2^20 words, one piece, a word";
+    if table.wants(name) {
+        let long = mixed_stream(LONG);
+        pieces(table, name, 0, &long, long.len());
     }
     let name = "word by word, mixed stream, a word";
     if !table.wants(name) {
@@ -206,4 +213,5 @@ pub fn check_sessions(product: &boundary::Session, rust: &fast::Session) {
     assert_eq!(product.output_mask(), rust.output_mask(), "mask");
     assert_eq!(product.conditional_mask(), rust.conditional_mask());
     assert_eq!(product.test(), rust.test(), "test");
+    assert_eq!(status.readiness, rust.readiness(), "readiness");
 }

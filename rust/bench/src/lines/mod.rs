@@ -5,6 +5,7 @@ pub mod address;
 pub mod element;
 pub mod feed;
 pub mod flow;
+pub mod kill;
 pub mod log;
 pub mod writer;
 

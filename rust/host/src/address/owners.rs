@@ -31,7 +31,7 @@ pub fn read(
     if let Some(most) = most {
         words = words.first(most);
     }
-    let totals = Walk::new().run(words, &mut Quiet)?;
+    let totals = Walk::new(false).run(words, &mut Quiet)?;
     if let Some((Position(at), refused)) = &totals.refused {
         if as_json {
             let refusal =

@@ -3,10 +3,10 @@
 
 use crate::address::tiles;
 use crate::common::failure::Outcome;
-use crate::common::kinds::{Address, Word};
+use crate::common::kinds::{Address, Position, Word};
 use crate::common::names::{FormatWord, Kind};
 use crate::common::settings::{self, Setting, Value as SettingValue};
-use crate::decode::walk::{Came, Form, Seen, Start, Totals};
+use crate::decode::walk::{Came, Form, Ready, Seen, Start, Totals};
 use boundary::{Format, Layout};
 use serde_json::{json, Map, Value};
 use std::io::Write;
@@ -96,10 +96,26 @@ impl Form for Json<'_> {
             "open": open,
             "refusal": refused,
             "settings": settings,
+            "ready": ready(&totals.ready),
         }});
         writeln!(self.out, "{value}")?;
         Ok(())
     }
+
+    fn ready(&mut self, position: Position, change: &Ready) -> Outcome {
+        if self.summary {
+            return Ok(());
+        }
+        let mut value = ready(change);
+        value["position"] = json!(position.0);
+        writeln!(self.out, "{value}")?;
+        Ok(())
+    }
+}
+
+/// What a start would get of the settings.
+fn ready(ready: &Ready) -> Value {
+    json!({"readiness": ready.number, "cause": ready.cause})
 }
 
 /// A parameter's name as a key.

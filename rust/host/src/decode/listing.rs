@@ -3,11 +3,11 @@
 //! over them.
 
 use crate::common::failure::Outcome;
-use crate::common::kinds::{Address, Word};
+use crate::common::kinds::{Address, Position, Word};
 use crate::common::names::Kind;
 use crate::common::settings::{self, Setting};
 use crate::common::text;
-use crate::decode::walk::{Came, Form, Seen, Start, Totals};
+use crate::decode::walk::{Came, Form, Ready, Seen, Start, Totals};
 use crate::explain::cause::Refused;
 use std::io::Write;
 
@@ -55,6 +55,11 @@ impl Form for Listing<'_> {
         }
         Ok(())
     }
+
+    fn ready(&mut self, _: Position, ready: &Ready) -> Outcome {
+        writeln!(self.out, "# {ready}")?;
+        Ok(())
+    }
 }
 
 /// "start 2: claims 1728 in 1 of 2 outputs (1 silent), 5184 so far".
@@ -79,7 +84,7 @@ fn show_setting(out: &mut dyn Write, setting: &Setting, mark: char) -> Outcome {
     Ok(())
 }
 
-/// The counts, how the stream ends, and its first refusal.
+/// The counts, how the stream ends, its first refusal, and what a start would get.
 fn closing(totals: &Totals) -> Vec<String> {
     let mut lines = vec![format!(
         "{}, {}, {}, {} claimed",
@@ -100,6 +105,7 @@ fn closing(totals: &Totals) -> Vec<String> {
         );
         lines.push(format!("refused {number} at word {position}: {taken} taken before it, {after} after it not taken"));
     }
+    lines.push(totals.ready.to_string());
     lines
 }
 
@@ -185,6 +191,11 @@ impl Form for Terse<'_> {
         for line in closing(totals) {
             writeln!(self.out, "# {line}")?;
         }
+        Ok(())
+    }
+
+    fn ready(&mut self, _: Position, ready: &Ready) -> Outcome {
+        writeln!(self.out, "# {ready}")?;
         Ok(())
     }
 }

@@ -19,6 +19,7 @@ pub const EXAMPLES: &str = "\
 Examples, from the repository's root:
   egretfold decode samples/several.ctm
   egretfold decode --hex samples/refused.hex
+  egretfold decode --ready --terse samples/several.ctm
   egretfold decode --summary --json samples/whole.ctm";
 
 #[derive(Args)]
@@ -37,26 +38,29 @@ pub struct Options {
     /// One JSON object a word, a start and for the whole, a line each
     #[arg(long, conflicts_with = "terse")]
     json: bool,
+    /// What a start would get of the settings, at each command that changes it
+    #[arg(long)]
+    ready: bool,
 }
 
 pub fn run(options: &Options, out: &mut dyn Write) -> Outcome {
     let words = Words::new(Source::open(options.file.as_deref())?, options.hex);
     let summary = options.summary;
     if options.json {
-        show(words, &mut Json { out, summary })
+        show(words, options.ready, &mut Json { out, summary })
     } else if summary {
-        show(words, &mut Summary { out })
+        show(words, options.ready, &mut Summary { out })
     } else if options.terse {
         let open = Vec::new();
-        show(words, &mut Terse { out, open })
+        show(words, options.ready, &mut Terse { out, open })
     } else {
-        show(words, &mut Listing { out })
+        show(words, options.ready, &mut Listing { out })
     }
 }
 
-/// Walks the words and ends with the stream's refusal, if there is one.
-pub fn show(words: Words, form: &mut dyn Form) -> Outcome {
-    let totals = Walk::new().run(words, form)?;
+/// Walks the words, telling changes of what a start would get where they are asked for, and ends with the stream's refusal, if there is one.
+pub fn show(words: Words, changes: bool, form: &mut dyn Form) -> Outcome {
+    let totals = Walk::new(changes).run(words, form)?;
     match totals.refused {
         Some((position, refused)) => {
             let name = totals.name;

@@ -8,6 +8,7 @@ use crate::common::settings::{self, Setting};
 use crate::explain::cause::{self, Refused};
 use crate::input::words::Words;
 use boundary::{headers, Command, Reply, Session};
+use std::fmt;
 
 /// What a word came to.
 pub enum Came {
@@ -49,6 +50,16 @@ pub struct Start<'a> {
     pub settings: &'a [(Setting, bool)],
 }
 
+/// What a start would get now.
+#[derive(Clone)]
+pub struct Ready {
+    pub stopped: bool,
+    /// 0, 7, 8 or 9: what the settings alone give it.
+    pub number: u32,
+    /// Why, where that isn't 0.
+    pub cause: Option<String>,
+}
+
 /// The stream as a whole.
 pub struct Totals {
     /// The input's name.
@@ -64,6 +75,7 @@ pub struct Totals {
     /// The refused word.
     pub refused: Option<(Position, Refused)>,
     pub settings: Vec<Setting>,
+    pub ready: Ready,
 }
 
 /// A form of output.
@@ -76,6 +88,11 @@ pub trait Form {
     fn word(&mut self, seen: &Seen) -> Outcome;
     fn start(&mut self, start: &Start) -> Outcome;
     fn end(&mut self, totals: &Totals) -> Outcome;
+
+    /// A command has changed what a start would get of the settings. Told where it is asked for.
+    fn ready(&mut self, _: Position, _: &Ready) -> Outcome {
+        Ok(())
+    }
 }
 
 /// A form that prints nothing, for those who want the totals.
@@ -108,6 +125,36 @@ impl Seen<'_> {
     }
 }
 
+impl Ready {
+    fn of(session: &Session) -> Ready {
+        let status = session.status();
+        Ready {
+            stopped: status.stopped,
+            number: status.readiness,
+            cause: cause::of_start(status.readiness, session),
+        }
+    }
+}
+
+/// "a start now would get 7: no domain is set".
+impl fmt::Display for Ready {
+    fn fmt(&self, f: &mut fmt::Formatter) -> fmt::Result {
+        let cause = match self.number {
+            0 => "it would pass",
+            _ => self.cause.as_deref().unwrap_or("the settings refuse it"),
+        };
+        if self.stopped {
+            write!(
+                f,
+                "a start now would get 1: the session is stopped; by the settings alone "
+            )?;
+        } else {
+            write!(f, "a start now would get ")?;
+        }
+        write!(f, "{}: {cause}", self.number)
+    }
+}
+
 impl Totals {
     pub fn completed(&self) -> u64 {
         self.commands.iter().map(|(_, count)| count).sum()
@@ -130,12 +177,16 @@ pub struct Walk {
     refused: Option<(Position, Refused)>,
     /// The settings at the last start.
     last: Vec<Setting>,
+    /// What the settings gave a start before this word; nothing where changes aren't asked for.
+    ready: Option<u32>,
 }
 
 impl Walk {
-    pub fn new() -> Walk {
+    /// A walk that tells each change of what a start would get, or none.
+    pub fn new(changes: bool) -> Walk {
         let session = Session::new();
         let last = settings::all(&session);
+        let ready = changes.then(|| session.status().readiness);
         Walk {
             session,
             position: 0,
@@ -143,6 +194,7 @@ impl Walk {
             commands: [0; names::COMMANDS.len()],
             refused: None,
             last,
+            ready,
         }
     }
 
@@ -186,7 +238,19 @@ impl Walk {
         if start {
             self.start(position, claims, form)?;
         }
-        Ok(())
+        self.tell_ready(position, form)
+    }
+
+    /// Tells what a start would get where this word has changed it.
+    fn tell_ready(&mut self, position: Position, form: &mut dyn Form) -> Outcome {
+        let now = self.session.status().readiness;
+        match self.ready {
+            Some(before) if before != now => {
+                self.ready = Some(now);
+                form.ready(position, &Ready::of(&self.session))
+            }
+            _ => Ok(()),
+        }
     }
 
     /// Gives the word to the session.
@@ -272,6 +336,7 @@ impl Walk {
                 .map(|(header, taken)| (names::command_name(header), taken, due(header))),
             refused: self.refused.clone(),
             settings: settings::all(&self.session),
+            ready: Ready::of(&self.session),
         }
     }
 }

@@ -169,10 +169,18 @@ pub fn of_word(number: u32, session: &Session, open: &[u32]) -> Option<String> {
     match number {
         3 => fault(line.header, kind, word),
         4 => too_large(kind, word),
+        7..=9 => of_start(number, session),
+        _ => of_command(number, line, &open[1..]),
+    }
+}
+
+/// What the settings refuse a start with: 7, 8 or 9.
+pub fn of_start(number: u32, session: &Session) -> Option<String> {
+    match number {
         7 => Some(missing(session)),
         8 => settings::outside(session),
         9 => settings::shared_bytes(session),
-        _ => of_command(number, line, &open[1..]),
+        _ => None,
     }
 }
 

@@ -39,6 +39,9 @@ pub fn cause(number: u32) -> &'static str {
     refusal(number).map_or("a number that document 01 doesn't have", |r| r.cause)
 }
 
+/// Request 11's sentence on a kill's refusals.
+const KILL_ORDER: &str = "An ended program gets 16, a write mask over 15 gets 13, a register list not of the starting group's length 11, in that order.";
+
 const fn entry(
     number: u32,
     cause: &'static str,
@@ -168,9 +171,10 @@ pub const ALL: [Refusal; 20] = [
     entry(
         11,
         "a writer's room is shorter than its words; element data isn't s bytes; memory is over 65,536 bytes or ends above 2^32; memory doesn't hold the whole element",
-        "the writer; elements read and written",
+        "the writer; elements read and written; a kill, for the number of its registers",
         &["Lent memory is up to 65,536 bytes standing at a given first address."],
-    ),
+    )
+    .changed_by(&[KILL_ORDER]),
     entry(
         12,
         "no pair of the window owns the address",
@@ -183,7 +187,7 @@ pub const ALL: [Refusal; 20] = [
     entry(
         13,
         "flow word field or group size not allowed",
-        "a fresh group; a step or a run, for the slot that it comes to or the integer word that the slot names",
+        "a fresh group; a step or a run, for the slot that it comes to or the integer word that the slot names; a kill, for its write mask",
         &[
             "A group has 1 to 32 processors (else 13)",
             "Other bits and codes: 13.",
@@ -193,6 +197,7 @@ pub const ALL: [Refusal; 20] = [
     .changed_by(&[
         "Add ops 1 LOOP, 2 ENDLOOP, 3 REP, 4 ENDREP, with the integer number in second-word bits 12:8 of ops 1 and 3, from a lent list of integer words (no such word: 13): count in bits 7:0, start of aL in 15:8, step in 23:16 as -128 to 127, the rest 0, else 13.",
         "Add it as a mode chosen at the start: ops 1 to 4 and A_OP other than 0 get 13, and inactive counters run 0 to 5 (from 5, increment gets 14).",
+        KILL_ORDER,
     ]),
     entry(
         14,
@@ -218,9 +223,10 @@ pub const ALL: [Refusal; 20] = [
     entry(
         16,
         "the program has already ended",
-        "a step or a run",
+        "a step, a run or a kill",
         &["A program has ended when the position is N or above (calls that ask this are given the program); it then gets 16, whatever the list."],
-    ),
+    )
+    .changed_by(&[KILL_ORDER]),
     entry(
         17,
         "the session has taken 1,000,000,000 words",

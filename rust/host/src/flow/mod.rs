@@ -1,5 +1,6 @@
 //! `egretfold flow`: a program listed, or stepped with given masks, a row a step.
 
+mod kills;
 mod loops;
 mod slots;
 mod steps;
@@ -8,6 +9,7 @@ use crate::common::failure::{Failure, Outcome};
 use crate::common::kinds::{SlotNumber, Word};
 use crate::common::text;
 use crate::explain::cause::{self, Refused};
+use crate::flow::kills::Kill;
 use crate::flow::slots::Slot;
 use crate::flow::steps::Row;
 use crate::input::lines::Lines;
@@ -27,7 +29,8 @@ Examples, from the repository's root:
   egretfold flow --hex samples/branch.hex --processors 8 --masks samples/branch.masks
   egretfold flow --hex samples/branch.hex --processors 8 0,0 --repeat 20
   egretfold flow --hex samples/loops.hex --integers samples/loops.integers --processors 4 --masks samples/loops.masks
-  egretfold flow --partial --hex samples/nest.hex --processors 8 0,0 --repeat 15";
+  egretfold flow --partial --hex samples/nest.hex --processors 8 0,0 --repeat 15
+  egretfold flow --hex samples/kill.hex --processors 8 --masks samples/kill.masks --kill 1:F:samples/kill.registers";
 
 #[derive(Args)]
 pub struct Options {
@@ -54,6 +57,9 @@ pub struct Options {
     /// Partial mode: no loops, no pops and pushes, branch counters up to 5
     #[arg(long)]
     partial: bool,
+    /// Kills before step STEP, from 0 on, under a write mask, hex; registers a line each
+    #[arg(long = "kill", value_name = "STEP:MASK:FILE", value_parser = kills::asked)]
+    kills: Vec<kills::Asked>,
     /// The program is hex text
     #[arg(long)]
     hex: bool,
@@ -86,19 +92,25 @@ fn masks(text: &str) -> Result<(u32, u32), String> {
 
 pub fn run(options: &Options, out: &mut dyn Write) -> Outcome {
     let inputs = [&options.list, &options.integers];
-    let named = inputs.iter().filter_map(|file| file.as_deref());
+    let of_kills = options.kills.iter().map(|kill| kill.file.as_path());
+    let named = inputs
+        .iter()
+        .filter_map(|file| file.as_deref())
+        .chain(of_kills);
     let more = named.filter(|file| source::is_standard(Some(file))).count();
     if more + usize::from(source::is_standard(options.file.as_deref())) > 1 {
         return Err(Failure::wrong(
-            "only one of program, masks and integer words can be on standard input",
+            "only one of program, masks, integer words and registers can be on standard input",
         ));
     }
     let (name, program) = load(options)?;
+    let masks = all_masks(options)?;
     let lists = Lists {
-        masks: all_masks(options)?,
+        kills: kills::all(&options.kills, masks.len())?,
+        masks,
         integers: all_integers(options)?,
     };
-    if lists.masks.is_empty() {
+    if lists.masks.is_empty() && lists.kills.is_empty() {
         return steps::list(&program, &lists.integers, options.mode(), options.json, out);
     }
     let size = options.processors;
@@ -110,12 +122,16 @@ pub fn run(options: &Options, out: &mut dyn Write) -> Outcome {
         let slots = text::count(u64::from(program.slots()), "slot");
         let group_words = text::count(u64::from(size), "processor");
         let booleans = Word(options.booleans);
-        let mode = if options.partial { ", partial mode" } else { "" };
+        let mode = if options.partial {
+            ", partial mode"
+        } else {
+            ""
+        };
         writeln!(
             out,
             "{name}: {slots}, {group_words}, booleans {booleans}{mode}"
         )?;
-        for line in steps::head(&group, steps::has_loops(&program)) {
+        for line in steps::head(&group, steps::has_loops(&program), !lists.kills.is_empty()) {
             writeln!(out, "{line}")?;
         }
     }
@@ -123,10 +139,12 @@ pub fn run(options: &Options, out: &mut dyn Write) -> Outcome {
     report(options, &name, &program, group, &lists, stepped, out)
 }
 
-/// What a group is stepped with: two masks a step, and integer words for all.
+/// What a group is stepped with: two masks a step, integer words for all, and the
+/// kills between the steps.
 struct Lists {
     masks: Vec<(u32, u32)>,
     integers: Vec<u32>,
+    kills: Vec<Kill>,
 }
 
 fn load(options: &Options) -> Outcome<(String, Program)> {
@@ -175,24 +193,38 @@ fn all_integers(options: &Options) -> Outcome<Vec<u32>> {
     }
 }
 
-/// A step that was refused.
+/// A step that was refused, or a kill before it.
 struct RefusedStep {
+    /// "kill: " or nothing.
+    call: &'static str,
     step: usize,
     number: SlotNumber,
     refused: Refused,
 }
 
-/// Steps a copy of the group, a row a step, up to the masks' or the program's end,
-/// and answers where that ended.
+/// Steps a copy of the group, a row a step and a kill, up to the masks' or the
+/// program's end, and answers where that ended. A kill that an ended program leaves
+/// over is asked too, and refused.
 fn step_all(
     options: &Options,
     program: &Program,
     mut group: Group,
-    Lists { masks, integers }: &Lists,
+    lists: &Lists,
     out: &mut dyn Write,
 ) -> Outcome<Result<Group, RefusedStep>> {
+    let Lists {
+        masks,
+        integers,
+        kills,
+    } = lists;
+    let mut kills = kills.iter().peekable();
     let looping = steps::has_loops(program);
     for (step, (alu, predicate)) in masks.iter().copied().enumerate() {
+        while let Some(kill) = kills.next_if(|kill| kill.step == step) {
+            if let Err(refused) = kill_row(options, program, &mut group, kill, out)? {
+                return Ok(Err(refused));
+            }
+        }
         if group.position() >= program.slots() {
             break;
         }
@@ -203,6 +235,7 @@ fn step_all(
                 let cause = slots::cause(refusal, program, &group, integers);
                 let refused = cause::refused(refusal, cause);
                 return Ok(Err(RefusedStep {
+                    call: "",
                     step,
                     number,
                     refused,
@@ -224,7 +257,65 @@ fn step_all(
             false => writeln!(out, "{}", row.text())?,
         }
     }
+    for kill in kills {
+        if let Err(refused) = kill_row(options, program, &mut group, kill, out)? {
+            return Ok(Err(refused));
+        }
+    }
     Ok(Ok(group))
+}
+
+/// One kill, and its row where it is made.
+fn kill_row(
+    options: &Options,
+    program: &Program,
+    group: &mut Group,
+    kill: &Kill,
+    out: &mut dyn Write,
+) -> Outcome<Result<(), RefusedStep>> {
+    let number = SlotNumber(group.position());
+    match kill.make(program, group) {
+        Ok(killed) => {
+            match options.json {
+                true => writeln!(out, "{}", kill.json(number, killed, group))?,
+                false => writeln!(out, "{}", kill.text(number, killed, group))?,
+            }
+            Ok(Ok(()))
+        }
+        Err(refusal) => Ok(Err(RefusedStep {
+            call: "kill: ",
+            step: kill.step,
+            number,
+            refused: kill.refused(refusal, program, group),
+        })),
+    }
+}
+
+/// The same by runs: one for the steps up to each kill, then the kill, and a last
+/// one. The report's steps are those of all runs.
+fn ran(
+    options: &Options,
+    program: &Program,
+    group: &mut Group,
+    lists: &Lists,
+) -> Result<Report, u32> {
+    let list: Vec<u32> = lists.masks.iter().flat_map(|(a, p)| [*a, *p]).collect();
+    let mut steps = 0;
+    let mut from = 0;
+    for kill in &lists.kills {
+        let masks = &list[from..2 * kill.step];
+        // Between two kills before one step, and before step 0, there is no run.
+        if !masks.is_empty() {
+            steps += group
+                .run(program, masks, options.booleans, &lists.integers)?
+                .steps;
+        }
+        kill.make(program, group)?;
+        from = 2 * kill.step;
+    }
+    let last = group.run(program, &list[from..], options.booleans, &lists.integers)?;
+    let steps = steps + last.steps;
+    Ok(Report { steps, ..last })
 }
 
 /// The run's own report, from the fresh group over the whole list. It must end as
@@ -234,18 +325,16 @@ fn report(
     name: &str,
     program: &Program,
     mut group: Group,
-    Lists { masks, integers }: &Lists,
+    lists: &Lists,
     stepped: Result<Group, RefusedStep>,
     out: &mut dyn Write,
 ) -> Outcome {
-    let list: Vec<u32> = masks.iter().flat_map(|(a, p)| [*a, *p]).collect();
-    let ran = group.run(program, &list, options.booleans, integers);
-    match (ran, stepped) {
+    match (ran(options, program, &mut group, lists), stepped) {
         (Ok(report), Ok(by_steps)) if by_steps == group => {
             show_report(options, program, &group, report, out)
         }
         (Err(number), Err(step)) if number == step.refused.number => {
-            let in_full = in_full_mode(options, program, &list, integers);
+            let in_full = in_full_mode(options, program, lists);
             show_refused(options, name, &step, in_full, out)
         }
         _ => Err(Failure::wrong(
@@ -256,17 +345,12 @@ fn report(
 
 /// How many steps the run makes in full mode, where partial mode refused it and full
 /// mode doesn't.
-fn in_full_mode(
-    options: &Options,
-    program: &Program,
-    list: &[u32],
-    integers: &[u32],
-) -> Option<u64> {
+fn in_full_mode(options: &Options, program: &Program, lists: &Lists) -> Option<u64> {
     if !options.partial {
         return None;
     }
     let mut group = Group::begin(options.processors).ok()?;
-    let ran = group.run(program, list, options.booleans, integers);
+    let ran = ran(options, program, &mut group, lists);
     ran.ok().map(|report| report.steps)
 }
 
@@ -283,6 +367,7 @@ fn show_report(
         let mut value = json!({ "steps": report.steps });
         value["first_active"] = json!(first);
         value["active"] = json!(active);
+        value["killed"] = json!(Word(group.killed()).to_string());
         value["ended"] = json!(ended);
         writeln!(out, "{}", json!({ "run": value }))?;
         return Ok(());
@@ -293,9 +378,13 @@ fn show_report(
         32 => "none".to_string(),
         processor => processor.to_string(),
     };
+    let killed = match group.killed().count_ones() {
+        0 => String::new(),
+        killed => format!(", {killed} killed"),
+    };
     writeln!(
         out,
-        "run: {steps}, first active processor {first}, {active} active; the {what} ended"
+        "run: {steps}, first active processor {first}, {active} active{killed}; the {what} ended"
     )?;
     Ok(())
 }
@@ -308,16 +397,21 @@ fn show_refused(
     out: &mut dyn Write,
 ) -> Outcome {
     let RefusedStep {
+        call,
         step,
         number,
         refused,
     } = step;
+    let is_kill = !call.is_empty();
     let hint = in_full.map(|steps| {
         let steps = text::count(steps, "step");
         format!("in full mode, without --partial, the run makes {steps}")
     });
     if options.json {
         let mut value = json!({"step": step, "slot": number.0});
+        if is_kill {
+            value["kill"] = json!(true);
+        }
         value["refused"] = json!(refused.number);
         value["cause"] = json!(refused.cause);
         if let Some(steps) = in_full {
@@ -325,14 +419,18 @@ fn show_refused(
         }
         writeln!(out, "{}", json!({ "run": value }))?;
     } else {
-        writeln!(out, "{step:>4}  {number:>4}  {refused}")?;
+        writeln!(out, "{step:>4}  {number:>4}  {call}{refused}")?;
         let number = refused.number;
-        writeln!(out, "run: refused {number}; the group is as before the run")?;
+        let what = if is_kill { "kill" } else { "run" };
+        writeln!(
+            out,
+            "{what}: refused {number}; the group is as before the {what}"
+        )?;
         if let Some(hint) = &hint {
             writeln!(out, "hint: {hint}")?;
         }
     }
     let hint = hint.map_or(String::new(), |hint| format!("; {hint}"));
-    let told = format!("{name}: step {step}, slot {number}: {refused}{hint}");
+    let told = format!("{name}: step {step}, slot {number}: {call}{refused}{hint}");
     Err(Failure::Refused(told))
 }

@@ -151,13 +151,17 @@ fn code(code: u32, names: [&str; 3]) -> String {
     }
 }
 
+/// Why a program that has ended refuses.
+pub fn ended(program: &Program, group: &Group) -> String {
+    let (position, slots) = (group.position(), program.slots());
+    format!("the program has already ended: position {position} of {slots} slots")
+}
+
 /// Why the group's next step was refused.
 pub fn cause(number: u32, program: &Program, group: &Group, integers: &[u32]) -> Option<String> {
     let (position, slots) = (group.position(), program.slots());
     if number == 16 {
-        return Some(format!(
-            "the program has already ended: position {position} of {slots} slots"
-        ));
+        return Some(ended(program, group));
     }
     if position >= slots {
         return None;

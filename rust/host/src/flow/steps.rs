@@ -40,7 +40,7 @@ pub fn list(
 
 /// The width of the column of counters.
 fn width(group: &Group) -> usize {
-    (group.size() as usize).max("counters".len())
+    (group.started() as usize).max("counters".len())
 }
 
 /// Whether a program has loops; the rows of one that has none don't tell of them.
@@ -50,13 +50,13 @@ pub fn has_loops(program: &Program) -> bool {
 }
 
 /// What stands above the steps' rows.
-pub fn head(group: &Group, looping: bool) -> Vec<String> {
+pub fn head(group: &Group, looping: bool, killing: bool) -> Vec<String> {
     let counters = format!("{:<w$}", "counters", w = width(group));
-    let mut lines = vec![
-        "counters: a character a processor, from 0 on: . active, else its branch counter, \
+    let of_kills = if killing { " x killed," } else { "" };
+    let mut lines = vec![format!(
+        "counters: a character a processor, from 0 on: . active,{of_kills} else its branch counter, \
          0 to 9, then a to v"
-            .to_string(),
-    ];
+    )];
     if looping {
         let told = "loops: those open, outermost first: L a LOOP, R a REP, and its turns left; \
                     aL is the innermost LOOP's";
@@ -128,19 +128,22 @@ impl Row<'_> {
         }
     }
 
-    /// A character a processor: . for an active one, else its counter.
+    /// A character a processor: . for an active one, x for a killed one, else its
+    /// counter.
     fn counters(&self) -> String {
-        let one = |p| match self.group.active() >> p & 1 {
-            1 => '.',
-            _ => char::from_digit(self.group.counter(p), 32).unwrap_or('?'),
+        let has = |mask: u32, p: u32| mask >> p & 1 == 1;
+        let one = |p| match self.group.counter(p) {
+            _ if has(self.group.active(), p) => '.',
+            _ if has(self.group.killed(), p) => 'x',
+            counter => char::from_digit(counter, 32).unwrap_or('?'),
         };
-        (0..self.group.size()).map(one).collect()
+        (0..self.group.started()).map(one).collect()
     }
 
     pub fn json(&self) -> Value {
-        let idle = |p: &u32| self.group.active() >> p & 1 == 0;
+        let idle = |p: &u32| (self.group.mask() & !self.group.active()) >> p & 1 == 1;
         let counter = |p| json!({"processor": p, "counter": self.group.counter(p)});
-        let counters: Vec<Value> = (0..self.group.size()).filter(idle).map(counter).collect();
+        let counters: Vec<Value> = (0..32).filter(idle).map(counter).collect();
         let mut value = json!({ "step": self.step });
         value["alu"] = json!(Word(self.alu).to_string());
         value["predicate"] = json!(Word(self.predicate).to_string());
@@ -148,6 +151,7 @@ impl Row<'_> {
         value["next"] = json!(self.stepped.position);
         value["active"] = json!(Word(self.group.active()).to_string());
         value["counters"] = json!(counters);
+        value["killed"] = json!(Word(self.group.killed()).to_string());
         value["returns"] = json!(self.group.returns());
         value["loops"] = loops::json(self.group);
         value["al"] = json!(self.group.loops().al);

@@ -209,7 +209,9 @@ fn refused_runs(kind: u64, mode: Mode, any: fn(&mut Random) -> Vec<u32>) -> [u32
                 assert_eq!(output.status.code(), Some(1), "{told}");
                 assert!(told.contains(&format!(": refused {number}, ")), "{told}");
                 let cause = told.split("; in full mode").next().unwrap_or_default();
-                let is_bare = BARE_FLOW.iter().any(|bare| cause.trim_end().ends_with(bare));
+                let is_bare = BARE_FLOW
+                    .iter()
+                    .any(|bare| cause.trim_end().ends_with(bare));
                 assert!(!is_bare, "{told}");
                 assert_eq!(cause != told, full.is_ok(), "{told}");
                 seen[number as usize] += 1;

@@ -90,6 +90,21 @@ const CASES: &[(&str, &str, &str)] = &[
     ("decode-refused", "decode --hex samples/refused.hex", ""),
     ("decode-terse", "decode --terse samples/several.ctm", ""),
     (
+        "decode-ready",
+        "decode --ready --hex samples/ready.hex",
+        "",
+    ),
+    (
+        "decode-ready-terse",
+        "decode --ready --terse --hex samples/ready.hex",
+        "",
+    ),
+    (
+        "decode-ready-json",
+        "decode --ready --json --hex samples/ready.hex",
+        "",
+    ),
+    (
         "decode-terse-refused",
         "decode --terse --hex samples/refused.hex",
         "",
@@ -357,6 +372,51 @@ const CASES: &[(&str, &str, &str)] = &[
         "flow-partial-loop",
         "flow --partial --hex --processors 4 - 0,0",
         "1 20200",
+    ),
+    (
+        "flow-kill",
+        "flow --hex samples/kill.hex --processors 8 --masks samples/kill.masks --kill 1:F:samples/kill.registers --kill 3:1:samples/kill.registers",
+        "",
+    ),
+    (
+        "flow-kill-json",
+        "flow --hex --json samples/kill.hex --processors 8 --masks samples/kill.masks --kill 1:F:samples/kill.registers --kill 3:1:samples/kill.registers",
+        "",
+    ),
+    (
+        "flow-kill-alone",
+        "flow --hex samples/kill.hex --processors 8 --kill 0:8:samples/kill.registers",
+        "",
+    ),
+    (
+        "flow-kill-loops",
+        "flow --hex samples/loops.hex --integers samples/loops.integers --processors 4 --masks samples/loops.masks --kill 7:1:-",
+        "0 0 0 0\n-1 0 0 0\n-1 0 0 0\n0 0 0 0\n",
+    ),
+    (
+        "flow-kill-mask",
+        "flow --hex samples/kill.hex --processors 8 --masks samples/kill.masks --kill 1:10:samples/kill.registers",
+        "",
+    ),
+    (
+        "flow-kill-length",
+        "flow --hex samples/kill.hex --processors 7 --masks samples/kill.masks --kill 0:F:samples/kill.registers",
+        "",
+    ),
+    (
+        "flow-kill-length-json",
+        "flow --hex --json samples/kill.hex --processors 7 --masks samples/kill.masks --kill 0:F:samples/kill.registers",
+        "",
+    ),
+    (
+        "flow-kill-partial",
+        "flow --partial --hex samples/nest.hex --processors 8 --masks samples/nest.masks --kill 6:1:-",
+        "0 0 0 0\n0 0 0 0\n0 0 0 0\n0 0 0 0\n0 0 0 0\n0 0 0 0\n-1 0 0 0\n0 0 0 0\n",
+    ),
+    (
+        "flow-kill-ended",
+        "flow --hex samples/kill.hex --processors 8 --masks samples/kill.masks --kill 4:F:samples/kill.registers",
+        "",
     ),
     ("explain", "explain", ""),
     ("explain-6", "explain 6", ""),

@@ -7,6 +7,18 @@ use Rattle.session.proofs.stream.begin.Tie as tie
 element-write-own : tie.Need-element-write-own
 element-write-own c = search needs
 
+element-write-own-2 : tie.Need-element-write-own-2
+element-write-own-2 c = search needs
+
+element-write-own-3 : tie.Need-element-write-own-3
+element-write-own-3 c = search needs
+
+element-write-own-4 : tie.Need-element-write-own-4
+element-write-own-4 c = search needs
+
+element-write-own-5 : tie.Need-element-write-own-5
+element-write-own-5 c = search needs
+
 element-write-shared : tie.Need-element-write-shared
 element-write-shared c = search needs
 
@@ -14,4 +26,13 @@ returns : tie.Need-returns
 returns c = begun
 
 pub begin-spec : {M : Type 1} → statement M
-begin-spec = tie.close (tie.spec element-write-own element-write-shared returns)
+begin-spec =
+    tie.close
+    (tie.spec
+    element-write-own
+    element-write-own-2
+    element-write-own-3
+    element-write-own-4
+    element-write-own-5
+    element-write-shared
+    returns)

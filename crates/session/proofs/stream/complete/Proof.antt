@@ -55,7 +55,7 @@ returns c =
 
 refusal-of-requires : tie.Need-refusal-of-requires
 refusal-of-requires c κs =
-    let at-if1 = c .before .before in
+    let at-if1 = c .before in
     let at-take-last = at-if1 .before in
     let earlier = at-take-last .before .before .before .before .before in
     let at-start = earlier .before .before .before .before in
@@ -64,7 +64,7 @@ refusal-of-requires c κs =
 
 stop-requires : tie.Need-stop-requires
 stop-requires c κs =
-    let at-take-last = c .before .before .before .before .before in
+    let at-take-last = c .before .before .before .before in
     let earlier = at-take-last .before .before .before .before .before in
     let at-start = earlier .before .before .before .before in
     last-length (at-start .args .own .now) (at-start .args .tallies .now) (at-start .args .shared .now) (at-start .pre) _ _ _ _
@@ -74,7 +74,7 @@ stop-requires c κs =
 returns-2 : tie.Need-returns-2
 returns-2 c =
     let at-refusal-of = c .before .before in
-    let at-if1 = at-refusal-of .before .before .before in
+    let at-if1 = at-refusal-of .before .before in
     let at-take-last = at-if1 .before in
     let earlier = at-take-last .before .before .before .before .before in
     let at-start = earlier .before .before .before .before in

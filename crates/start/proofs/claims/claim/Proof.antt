@@ -1,9 +1,10 @@
--- `start::claims::claim` meets its contract: pairs times outputs, at most 67,108,864. Assumes nothing.
+-- `start::claims::claim` meets its contract. Assumes nothing.
 use native.Mathlib.Omega.{arith}
-use Rattle.start.proofs.Readiness.{claim-fits, claim-told, domain-places}
+use Rattle.start.proofs.Readiness.{claim-told, credit-most, domain-places}
 use borrow.Author.Needs.{needs}
 use Rattle.start.proofs.claims.claim.Statement.{statement}
 use Rattle.start.proofs.claims.claim.Tie as tie
+use Rattle.start.proofs.claims.pairs.Reads as pairs-reads
 
 element-copy-out-pairs : tie.Need-element-copy-out-pairs
 element-copy-out-pairs c = search needs
@@ -19,21 +20,29 @@ element-copy-out-pairs-4 c = search needs
 
 pairs-requires : tie.Need-pairs-requires
 pairs-requires c κs =
-    domain-places
-    (c .before .before .before .before .args .own .now)
-    (c .before .before .before .before .pre .1)
+    let at-start = c .before .before .before .before in
+    domain-places (at-start .args .own .now) (at-start .pre .1 .1)
 
-counted-outputs-requires : tie.Need-counted-outputs-requires
-counted-outputs-requires c κs = search needs
+element-copy-out-result : tie.Need-element-copy-out-result
+element-copy-out-result c = search needs
+
+cast-result : tie.Need-cast-result
+cast-result c =
+    let earlier = c .before .before .before .before .before in
+    let at-start = earlier .before in
+    omega (arith, credit-most (at-start .args .own .now) (at-start .pre .1 .0))
 
 mul-result : tie.Need-mul-result
-mul-result c = omega (arith, claim-fits (c .before .pairs .ensures .1) (c .counted-outputs .ensures .1))
+mul-result c =
+    let earlier = c .before .before .before .before .before in
+    let at-start = earlier .before in
+    omega (arith, claim-told (at-start .args .own .now) (at-start .pre .1 .0) (c .before .pairs .ensures) .1)
 
 returns : tie.Need-returns
 returns c =
-    let at-pairs = c .before in
-    let entry = at-pairs .before .before .before .before .before in
-    claim-told (entry .args .own .now) (entry .args .shared .now) (at-pairs .pairs .ensures) (c .counted-outputs .ensures)
+    let earlier = c .before .before .before .before .before in
+    let at-start = earlier .before in
+    claim-told (at-start .args .own .now) (at-start .pre .1 .0) (c .before .pairs .ensures)
 
 pub claim-spec : {M : Type 1} → statement M
 claim-spec =
@@ -44,6 +53,7 @@ claim-spec =
     element-copy-out-pairs-3
     element-copy-out-pairs-4
     pairs-requires
-    counted-outputs-requires
+    element-copy-out-result
+    cast-result
     mul-result
     returns)

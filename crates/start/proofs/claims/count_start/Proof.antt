@@ -4,13 +4,13 @@ use native.Mathlib.Omega.{arith}
 use lib.ListN.{getD}
 use Rattle.state.specs.Cells.{partyOf, sharedOf}
 use Rattle.state.proofs.OwnPuts.{second-tally, start-tallies}
+use Rattle.start.proofs.Readiness.{claim-asked, claim-kept}
 use borrow.Author.Needs.{needs}
 use Rattle.start.proofs.claims.count_start.Statement.{statement}
 use Rattle.start.proofs.claims.count_start.Tie as tie
 
 claim-requires : tie.Need-claim-requires
-unfolding partyOf
-claim-requires c κs = ((c .pre .sized .own-length, c .pre .sized .shared-length), c .pre .domain)
+claim-requires c κs = claim-asked (c .args .own .now) (c .args .tallies .now) (c .args .shared .now) (c .pre)
 
 element-copy-out-tallies : tie.Need-element-copy-out-tallies
 element-copy-out-tallies c = search needs
@@ -48,7 +48,8 @@ returns c =
     let entry = at-claim .before in
     let args = entry .args in
     start-tallies (args .own .now) (entry .pre .sized .own-length) (args .tallies .now) (entry .pre .sized .tallies-length)
-    (sharedOf (args .shared .now)) _ (at-claim .claim .ensures .0)
+    (sharedOf (args .shared .now)) _
+    (claim-kept (args .own .now) (args .tallies .now) (args .shared .now) (entry .pre) (at-claim .claim .ensures .0))
 
 pub count-start-spec : {M : Type 1} → statement M
 count-start-spec =

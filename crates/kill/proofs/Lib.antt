@@ -1,0 +1,4 @@
+pub mod Answering
+pub mod Taking
+pub mod Through
+pub mod Words

@@ -1,0 +1,4 @@
+pub mod Killing
+pub mod Magnitudes
+pub mod Order
+pub mod Patterns

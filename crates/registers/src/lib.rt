@@ -1,0 +1,110 @@
+// Registers of four f32 channels (request 11, "Kill test on float registers"): which registers of a list kill, and the maximum and
+// the choice, channel by channel. Floats are compared as IEEE 754 does, so that minus zero and a NaN are not less than zero; what is
+// answered is one of the operands as it stands. Nothing is refused here: crates/kill judges the write mask and the list.
+ghost use mathlib.Core.Path.{_≡_};
+ghost use Prim.Native.Nat.{_+_, _*_, _≤_, _/_};
+ghost use lib.Dec.{eqb};
+ghost use lib.ListN.{length};
+ghost use Rattle.laws.specs.Choice.{_and_};
+ghost use Rattle.laws.specs.Masks.{digit};
+ghost use Rattle.registers.specs.Registers.{lessThanZero, killedBy, maximumOf, choiceOf, eachOf2, eachOf3, channelCount, mostChannels, registerAt, killMask};
+
+// "a register of four f32 channels"
+pub struct Register {
+    pub c0: f32,
+    pub c1: f32,
+    pub c2: f32,
+    pub c3: f32,
+}
+
+// How many channels a register has.
+pub const CHANNELS: usize = 4;
+
+// Whether a channel is under its bit of the write mask and less than zero.
+fn under(bit: u32, channel: f32) -> bool
+    ensures { λ r. ⌜ r ≡ (eqb bit 1 and lessThanZero channel) ⌝ }
+{
+    (bit == 1) & (channel < 0.0)
+}
+
+// Whether a channel under the write mask is less than zero. All four are asked, without a branch between them: that is quicker
+// than stopping at the first.
+pub fn kills(register: Register, mask: u32) -> bool
+    ensures { λ r. ⌜ r ≡ killedBy mask register ⌝ }
+{
+    under(mask % 2, register.c0)
+        | (under(mask / 2 % 2, register.c1)
+            | (under(mask / 4 % 2, register.c2) | under(mask / 8 % 2, register.c3)))
+}
+
+// The larger of two channels: `a` where `b < a`, otherwise `b`.
+fn larger(a: f32, b: f32) -> f32
+    ensures { λ r. ⌜ r ≡ maximumOf a b ⌝ }
+{
+    if b < a { a } else { b }
+}
+
+// One of two channels: `a` where the third is at least zero, otherwise `b`.
+fn chosen(a: f32, b: f32, third: f32) -> f32
+    ensures { λ r. ⌜ r ≡ choiceOf a b third ⌝ }
+{
+    if third >= 0.0 { a } else { b }
+}
+
+// The maximum of two registers, channel by channel.
+pub fn maximum(a: Register, b: Register) -> Register
+    ensures { λ r. ⌜ r ≡ eachOf2 maximumOf a b ⌝ }
+{
+    Register {
+        c0: larger(a.c0, b.c0),
+        c1: larger(a.c1, b.c1),
+        c2: larger(a.c2, b.c2),
+        c3: larger(a.c3, b.c3),
+    }
+}
+
+// The choice between two registers by a third one, channel by channel.
+pub fn choice(a: Register, b: Register, third: Register) -> Register
+    ensures { λ r. ⌜ r ≡ eachOf3 choiceOf a b third ⌝ }
+{
+    Register {
+        c0: chosen(a.c0, b.c0, third.c0),
+        c1: chosen(a.c1, b.c1, third.c1),
+        c2: chosen(a.c2, b.c2, third.c2),
+        c3: chosen(a.c3, b.c3, third.c3),
+    }
+}
+
+// The register of processor `i` in a list, four channels a processor.
+fn register_at(registers: &[f32], i: usize) -> Register
+    requires { ⌜ i * channelCount + channelCount ≤ length (now registers) ⌝ }
+    ensures { λ r. ⌜ r ≡ registerAt (now (registers .entry)) i ⌝ }
+{
+    Register {
+        c0: registers[i * CHANNELS],
+        c1: registers[i * CHANNELS + 1],
+        c2: registers[i * CHANNELS + 2],
+        c3: registers[i * CHANNELS + 3],
+    }
+}
+
+// A test as a bit.
+fn bit_of(test: bool) -> u32
+    ensures { λ r. ⌜ r ≡ digit test ⌝ }
+{
+    if test { 1 } else { 0 }
+}
+
+// The registers of a list that kill, bit i for processor i: from the last one down, so that each bit moves up to its place.
+pub fn kill_mask(registers: &[f32], mask: u32) -> u32
+    requires { ⌜ length (now registers) ≤ mostChannels ⌝ }
+    ensures { λ r. ⌜ r ≡ killMask (length (now (registers .entry)) / channelCount) (now (registers .entry)) mask ⌝ }
+{
+    let mut i = registers.len() / CHANNELS;
+    let mut found = 0u32;
+    while 0 < i {
+        i -= 1;
+        found = found * 2 + bit_of(kills(register_at(registers, i), mask));
+    }
+    found
+}
