@@ -1,0 +1,4 @@
+pub mod Entries
+pub mod Opposites
+pub mod Surveys
+pub mod Tests
