@@ -24,7 +24,9 @@ add-turn-3 : tie.Need-add-turn-3
 add-turn-3 c = search needs
 
 turn-requires-3 : tie.Need-turn-requires-3
-turn-requires-3 c κs = third-asked _ _ _ _ _ _ _ _ (c .before .before .before .before .before .before .before .before .before .before .before .pre) (c .before .before .to2 .given ∙ c .before .before .before .before .before .before .to .given)
+turn-requires-3 c κs =
+    third-asked _ _ _ _ _ _ _ _ (c .before .before .before .before .before .before .before .before .before .before .before .pre)
+    (c .before .before .to2 .given ∙ c .before .before .before .before .before .before .to .given)
 
 add-turn-4 : tie.Need-add-turn-4
 add-turn-4 c = search needs
@@ -36,13 +38,20 @@ add-turn-5 : tie.Need-add-turn-5
 add-turn-5 c = search needs
 
 turn-requires-4 : tie.Need-turn-requires-4
-turn-requires-4 c κs = fourth-asked _ _ _ _ _ _ _ _ (c .before .before .before .before .before .before .before .before .before .before .before .before .before .before .before .pre) (c .before .before .to3 .given ∙ c .before .before .before .before .before .before .to2 .given ∙ c .before .before .before .before .before .before .before .before .before .before .to .given)
+turn-requires-4 c κs =
+    fourth-asked _ _ _ _ _ _ _ _
+    (c .before .before .before .before .before .before .before .before .before .before .before .before .before .before .before .pre)
+    (c .before .before .to3 .given ∙ c .before .before .before .before .before .before .to2 .given ∙ c .before .before .before .before .before .before .before .before .before .before .to .given)
 
 same-length : tie.Need-same-length
 same-length c = search needs
 
 returns : tie.Need-returns
-returns c = four-moved _ _ _ _ _ _ _ _ _ _ (c .before .before .before .before .before .before .before .before .before .before .before .before .before .before .turn .ensures) (c .before .before .before .before .before .before .before .before .before .before .turn2 .ensures) (c .before .before .before .before .before .before .turn3 .ensures) (c .before .before .turn4 .ensures)
+returns c =
+    four-moved _ _ _ _ _ _ _ _ _ _
+    (c .before .before .before .before .before .before .before .before .before .before .before .before .before .before .turn .ensures)
+    (c .before .before .before .before .before .before .before .before .before .before .turn2 .ensures)
+    (c .before .before .before .before .before .before .turn3 .ensures) (c .before .before .turn4 .ensures)
 
 pub two-pairs-spec : {M : Type 1} → statement M
 two-pairs-spec =

@@ -51,7 +51,10 @@ edge-requires : tie.Need-edge-requires
 edge-requires c κs = lead-asked _ _ _ _ _ _ _ _ _ _ _ _ _ _ _ _ (of-kind _ _ true _ _ _ _ _ _ _ _ _ _ _ _ _ _ _ (c .before .before .before .before .pre) (c .before .if1 .taken))
 
 tiles-requires : tie.Need-tiles-requires
-tiles-requires c κs = tiles-asked _ _ _ _ _ _ _ _ _ _ _ _ _ _ _ _ (of-kind _ _ true _ _ _ _ _ _ _ _ _ _ _ _ _ _ _ (c .before .before .before .before .before .before .before .before .pre) (c .before .before .before .before .before .if1 .taken)) _ (c .before .before .to .given)
+tiles-requires c κs =
+    tiles-asked _ _ _ _ _ _ _ _ _ _ _ _ _ _ _ _
+    (of-kind _ _ true _ _ _ _ _ _ _ _ _ _ _ _ _ _ _ (c .before .before .before .before .before .before .before .before .pre) (c .before .before .before .before .before .if1 .taken))
+    _ (c .before .before .to .given)
 
 add-edge : tie.Need-add-edge
 add-edge c = search needs
@@ -60,7 +63,10 @@ add-edge-2 : tie.Need-add-edge-2
 add-edge-2 c = search needs
 
 edge-requires-2 : tie.Need-edge-requires-2
-edge-requires-2 c κs = tail-asked _ _ _ _ _ _ _ _ _ _ _ _ _ _ _ _ (of-kind _ _ true _ _ _ _ _ _ _ _ _ _ _ _ _ _ _ (c .before .before .before .before .before .before .before .before .before .before .before .before .pre) (c .before .before .before .before .before .before .before .before .before .if1 .taken)) _ (c .before .before .to2 .given ∙ c .before .before .before .before .before .before .to .given)
+edge-requires-2 c κs =
+    tail-asked _ _ _ _ _ _ _ _ _ _ _ _ _ _ _ _
+    (of-kind _ _ true _ _ _ _ _ _ _ _ _ _ _ _ _ _ _ (c .before .before .before .before .before .before .before .before .before .before .before .before .pre) (c .before .before .before .before .before .before .before .before .before .if1 .taken))
+    _ (c .before .before .to2 .given ∙ c .before .before .before .before .before .before .to .given)
 
 add-by-runs : tie.Need-add-by-runs
 add-by-runs c = search needs

@@ -33,10 +33,14 @@ add-row : tie.Need-add-row Inv-loop μ-loop
 add-row c = omega (arith, c .before .before .before .before .pre .rows-most, c .loop-test .taken)
 
 row-requires : tie.Need-row-requires Inv-loop μ-loop
-row-requires c κs = row-asked _ _ _ _ _ _ _ _ _ _ _ _ _ _ _ _ _ (c .before .before .before .before .before .pre) _ _ _ (c .before .loop-test .taken) (c .before .before .loop .inv .line-at) (c .before .before .loop .inv .long)
+row-requires c κs =
+    row-asked _ _ _ _ _ _ _ _ _ _ _ _ _ _ _ _ _ (c .before .before .before .before .before .pre) _ _ _ (c .before .loop-test .taken)
+    (c .before .before .loop .inv .line-at) (c .before .before .loop .inv .long)
 
 add-line : tie.Need-add-line Inv-loop μ-loop
-add-line c = omega (arith, line-in _ _ _ _ _ _ _ _ _ _ _ _ _ _ _ _ _ (c .before .before .before .before .before .before .before .before .pre) _ _ (c .before .before .before .before .loop-test .taken) (c .before .before .before .before .before .loop .inv .line-at))
+add-line c =
+    omega
+    (arith, line-in _ _ _ _ _ _ _ _ _ _ _ _ _ _ _ _ _ (c .before .before .before .before .before .before .before .before .pre) _ _ (c .before .before .before .before .loop-test .taken) (c .before .before .before .before .before .loop .inv .line-at))
 
 add-j : tie.Need-add-j Inv-loop μ-loop
 add-j c = omega (arith, c .before .before .before .before .before .before .before .before .pre .rows-most, c .before .before .before .before .loop-test .taken)
@@ -45,7 +49,9 @@ loop-less : tie.Need-loop-less Inv-loop μ-loop
 loop-less c = omega (arith, c .before .before .before .before .loop-test .taken)
 
 loop-again : tie.Need-loop-again Inv-loop μ-loop
-loop-again c = rect-next _ _ _ _ _ _ _ _ _ _ _ _ _ (c .before .before .before .before .before .loop .inv) (c .before .before .before .before .loop-test .taken) (c .before .to .given) (c .before .before .row .ensures)
+loop-again c =
+    rect-next _ _ _ _ _ _ _ _ _ _ _ _ _ (c .before .before .before .before .before .loop .inv)
+    (c .before .before .before .before .loop-test .taken) (c .before .to .given) (c .before .before .row .ensures)
 
 same-length : tie.Need-same-length Inv-loop μ-loop
 same-length c = c .before .loop .inv .long

@@ -23,16 +23,21 @@ add-column : tie.Need-add-column Inv-loop μ-loop
 add-column c = omega (arith, c .before .before .before .before .pre .columns, c .before .before .before .before .pre .step, c .loop-test .taken)
 
 offset-requires : tie.Need-offset-requires Inv-loop μ-loop
-offset-requires c κs = (column-asked _ _ _ _ _ _ _ _ _ (c .before .before .before .before .args .from .now) (c .before .before .before .before .args .to .now) (c .before .before .before .before .pre) _ (c .loop-test .taken), c .before .before .before .before .pre .whole)
+offset-requires c κs =
+    (column-asked _ _ _ _ _ _ _ _ _ (c .before .before .before .before .args .from .now) (c .before .before .before .before .args .to .now) (c .before .before .before .before .pre) _ (c .loop-test .taken), c .before .before .before .before .pre .whole)
 
 cast-place : tie.Need-cast-place Inv-loop μ-loop
 cast-place c = search needs
 
 add-place : tie.Need-add-place Inv-loop μ-loop
-add-place c = place-small _ _ _ _ _ _ _ _ _ (c .before .before .before .before .before .args .from .now) (c .before .before .before .before .before .args .to .now) (c .before .before .before .before .before .pre) _ (c .before .loop-test .taken) _ (c .offset .ensures)
+add-place c =
+    place-small _ _ _ _ _ _ _ _ _ (c .before .before .before .before .before .args .from .now)
+    (c .before .before .before .before .before .args .to .now) (c .before .before .before .before .before .pre) _
+    (c .before .loop-test .taken) _ (c .offset .ensures)
 
 run-from-requires : tie.Need-run-from-requires Inv-loop μ-loop
-run-from-requires c κs = (c .before .before .before .before .before .pre .size, column-small _ _ _ _ _ _ _ _ _ (c .before .before .before .before .before .args .from .now) (c .before .before .before .before .before .args .to .now) (c .before .before .before .before .before .pre) _ (c .before .loop-test .taken), c .before .before .before .before .before .pre .whole)
+run-from-requires c κs =
+    (c .before .before .before .before .before .pre .size, column-small _ _ _ _ _ _ _ _ _ (c .before .before .before .before .before .args .from .now) (c .before .before .before .before .before .args .to .now) (c .before .before .before .before .before .pre) _ (c .before .loop-test .taken), c .before .before .before .before .before .pre .whole)
 
 sub-smaller : tie.Need-sub-smaller Inv-loop μ-loop
 sub-smaller c = omega (arith, c .before .before .loop-test .taken)
@@ -41,25 +46,43 @@ smaller-requires : tie.Need-smaller-requires Inv-loop μ-loop
 smaller-requires c κs = search needs
 
 mul-bytes : tie.Need-mul-bytes Inv-loop μ-loop
-mul-bytes c = omega (arith, bytes-small _ _ _ _ _ _ _ _ _ _ _ (c .before .before .before .before .before .before .before .pre) _ (c .before .before .before .loop-test .taken) _ _ _ _ _ (c .before .before .before .before .loop .inv) (c .before .before .offset .ensures) (c .before .run-from .ensures) (c .smaller .ensures) .0)
+mul-bytes c =
+    omega
+    (arith, bytes-small _ _ _ _ _ _ _ _ _ _ _ (c .before .before .before .before .before .before .before .pre) _ (c .before .before .before .loop-test .taken) _ _ _ _ _ (c .before .before .before .before .loop .inv) (c .before .before .offset .ensures) (c .before .run-from .ensures) (c .smaller .ensures) .0)
 
 cast-bytes : tie.Need-cast-bytes Inv-loop μ-loop
-cast-bytes c = omega (arith, bytes-small _ _ _ _ _ _ _ _ _ _ _ (c .before .before .before .before .before .before .before .pre) _ (c .before .before .before .loop-test .taken) _ _ _ _ _ (c .before .before .before .before .loop .inv) (c .before .before .offset .ensures) (c .before .run-from .ensures) (c .smaller .ensures) .0)
+cast-bytes c =
+    omega
+    (arith, bytes-small _ _ _ _ _ _ _ _ _ _ _ (c .before .before .before .before .before .before .before .pre) _ (c .before .before .before .loop-test .taken) _ _ _ _ _ (c .before .before .before .before .loop .inv) (c .before .before .offset .ensures) (c .before .run-from .ensures) (c .smaller .ensures) .0)
 
 stretch-requires : tie.Need-stretch-requires Inv-loop μ-loop
-stretch-requires c κs = run-asked _ _ _ _ _ _ _ _ _ _ _ (c .before .before .before .before .before .before .before .before .pre) _ (c .before .before .before .before .loop-test .taken) _ _ _ _ _ (c .before .before .before .before .before .loop .inv) (c .before .before .before .offset .ensures) (c .before .before .run-from .ensures) (c .before .smaller .ensures)
+stretch-requires c κs =
+    run-asked _ _ _ _ _ _ _ _ _ _ _ (c .before .before .before .before .before .before .before .before .pre) _
+    (c .before .before .before .before .loop-test .taken) _ _ _ _ _ (c .before .before .before .before .before .loop .inv)
+    (c .before .before .before .offset .ensures) (c .before .before .run-from .ensures) (c .before .smaller .ensures)
 
 add-here : tie.Need-add-here Inv-loop μ-loop
-add-here c = omega (arith, bytes-small _ _ _ _ _ _ _ _ _ _ _ (c .before .before .before .before .before .before .before .before .before .before .before .pre) _ (c .before .before .before .before .before .before .before .loop-test .taken) _ _ _ _ _ (c .before .before .before .before .before .before .before .before .loop .inv) (c .before .before .before .before .before .before .offset .ensures) (c .before .before .before .before .before .run-from .ensures) (c .before .before .before .before .smaller .ensures) .1)
+add-here c =
+    omega
+    (arith, bytes-small _ _ _ _ _ _ _ _ _ _ _ (c .before .before .before .before .before .before .before .before .before .before .before .pre) _ (c .before .before .before .before .before .before .before .loop-test .taken) _ _ _ _ _ (c .before .before .before .before .before .before .before .before .loop .inv) (c .before .before .before .before .before .before .offset .ensures) (c .before .before .before .before .before .run-from .ensures) (c .before .before .before .before .smaller .ensures) .1)
 
 add-i : tie.Need-add-i Inv-loop μ-loop
-add-i c = omega (arith, bytes-small _ _ _ _ _ _ _ _ _ _ _ (c .before .before .before .before .before .before .before .before .before .before .before .pre) _ (c .before .before .before .before .before .before .before .loop-test .taken) _ _ _ _ _ (c .before .before .before .before .before .before .before .before .loop .inv) (c .before .before .before .before .before .before .offset .ensures) (c .before .before .before .before .before .run-from .ensures) (c .before .before .before .before .smaller .ensures) .2)
+add-i c =
+    omega
+    (arith, bytes-small _ _ _ _ _ _ _ _ _ _ _ (c .before .before .before .before .before .before .before .before .before .before .before .pre) _ (c .before .before .before .before .before .before .before .loop-test .taken) _ _ _ _ _ (c .before .before .before .before .before .before .before .before .loop .inv) (c .before .before .before .before .before .before .offset .ensures) (c .before .before .before .before .before .run-from .ensures) (c .before .before .before .before .smaller .ensures) .2)
 
 loop-less : tie.Need-loop-less Inv-loop μ-loop
-loop-less c = omega (arith, some _ _ _ _ _ _ _ _ _ _ _ (c .before .before .before .before .before .before .before .before .before .before .before .pre) _ (c .before .before .before .before .before .before .before .loop-test .taken) _ _ _ _ _ (c .before .before .before .before .before .before .before .before .loop .inv) (c .before .before .before .before .before .before .offset .ensures) (c .before .before .before .before .before .run-from .ensures) (c .before .before .before .before .smaller .ensures), c .before .before .before .before .smaller .ensures .1, c .before .before .before .before .before .before .before .loop-test .taken)
+loop-less c =
+    omega
+    (arith, some _ _ _ _ _ _ _ _ _ _ _ (c .before .before .before .before .before .before .before .before .before .before .before .pre) _ (c .before .before .before .before .before .before .before .loop-test .taken) _ _ _ _ _ (c .before .before .before .before .before .before .before .before .loop .inv) (c .before .before .before .before .before .before .offset .ensures) (c .before .before .before .before .before .run-from .ensures) (c .before .before .before .before .smaller .ensures), c .before .before .before .before .smaller .ensures .1, c .before .before .before .before .before .before .before .loop-test .taken)
 
 loop-again : tie.Need-loop-again Inv-loop μ-loop
-loop-again c = runs-next _ _ _ _ _ _ _ _ _ _ _ (c .before .before .before .before .before .before .before .before .before .before .before .pre) _ (c .before .before .before .before .before .before .before .loop-test .taken) _ _ _ _ _ (c .before .before .before .before .before .before .before .before .loop .inv) (c .before .before .before .before .before .before .offset .ensures) (c .before .before .before .before .before .run-from .ensures) (c .before .before .before .before .smaller .ensures) _ (c .before .to .given) (c .before .before .stretch .ensures)
+loop-again c =
+    runs-next _ _ _ _ _ _ _ _ _ _ _ (c .before .before .before .before .before .before .before .before .before .before .before .pre) _
+    (c .before .before .before .before .before .before .before .loop-test .taken) _ _ _ _ _
+    (c .before .before .before .before .before .before .before .before .loop .inv)
+    (c .before .before .before .before .before .before .offset .ensures) (c .before .before .before .before .before .run-from .ensures)
+    (c .before .before .before .before .smaller .ensures) _ (c .before .to .given) (c .before .before .stretch .ensures)
 
 same-length : tie.Need-same-length Inv-loop μ-loop
 same-length c = c .before .loop .inv .1 .long

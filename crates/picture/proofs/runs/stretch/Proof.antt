@@ -28,13 +28,18 @@ one-requires : tie.Need-one-requires Inv-loop μ-loop
 one-requires c κs = part-asked _ _ _ _ _ _ (c .before .before .before .before .before .pre) _ _ (c .before .before .loop .inv) 32 (omega arith) (omega (arith, c .before .loop-test .taken))
 
 add-i : tie.Need-add-i Inv-loop μ-loop
-add-i c = omega (arith, c .before .before .before .before .loop-test .taken, c .before .before .before .before .before .before .before .before .pre .place-fits, c .before .before .before .before .before .before .before .before .pre .memory-most)
+add-i c =
+    omega
+    (arith, c .before .before .before .before .loop-test .taken, c .before .before .before .before .before .before .before .before .pre .place-fits, c .before .before .before .before .before .before .before .before .pre .memory-most)
 
 loop-less : tie.Need-loop-less Inv-loop μ-loop
 loop-less c = omega (arith, c .before .before .before .before .loop-test .taken)
 
 loop-again : tie.Need-loop-again Inv-loop μ-loop
-loop-again c = stretch-next _ _ _ _ _ _ (c .before .before .before .before .before .before .before .before .pre) _ _ (c .before .before .before .before .before .loop .inv) _ (c .before .before .before .before .loop-test .taken) (c .before .to .given) (c .before .before .one .ensures)
+loop-again c =
+    stretch-next _ _ _ _ _ _ (c .before .before .before .before .before .before .before .before .pre) _ _
+    (c .before .before .before .before .before .loop .inv) _ (c .before .before .before .before .loop-test .taken) (c .before .to .given)
+    (c .before .before .one .ensures)
 
 add-one-3 : tie.Need-add-one-3 Inv-loop μ-loop
 add-one-3 c = sums-fit _ _ _ _ _ _ (c .before .before .before .before .pre) _ _ (c .before .loop .inv) .0
@@ -52,7 +57,9 @@ same-length : tie.Need-same-length Inv-loop μ-loop
 same-length c = c .before .to2 .given ∙ c .before .before .before .before .before .loop .inv .long
 
 returns : tie.Need-returns Inv-loop μ-loop
-returns c = stretch-done _ _ _ _ _ _ (c .before .before .before .before .before .before .before .before .pre) _ _ (c .before .before .before .before .before .loop .inv) _ (c .before .before .one2 .ensures)
+returns c =
+    stretch-done _ _ _ _ _ _ (c .before .before .before .before .before .before .before .before .pre) _ _
+    (c .before .before .before .before .before .loop .inv) _ (c .before .before .one2 .ensures)
 
 pub stretch-spec : {M : Type 1} → statement M
 stretch-spec =

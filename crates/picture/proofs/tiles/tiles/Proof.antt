@@ -22,13 +22,17 @@ add-tile-row : tie.Need-add-tile-row Inv-loop μ-loop
 add-tile-row c = omega (arith, c .before .before .before .before .pre .tiles-most, c .loop-test .taken)
 
 tile-row-requires : tie.Need-tile-row-requires Inv-loop μ-loop
-tile-row-requires c κs = one-tile _ _ _ _ _ _ _ _ _ (c .before .before .before .before .before .pre) _ _ _ (c .before .loop-test .taken) (c .before .before .loop .inv .1 .long) (c .before .before .loop .inv .1 .line-at)
+tile-row-requires c κs =
+    one-tile _ _ _ _ _ _ _ _ _ (c .before .before .before .before .before .pre) _ _ _ (c .before .loop-test .taken)
+    (c .before .before .loop .inv .1 .long) (c .before .before .loop .inv .1 .line-at)
 
 mul-at : tie.Need-mul-at Inv-loop μ-loop
 mul-at c = omega (arith, c .before .before .before .before .before .before .before .before .pre .few)
 
 add-at : tie.Need-add-at Inv-loop μ-loop
-add-at c = line-small _ _ _ _ _ _ _ _ _ (c .before .before .before .before .before .before .before .before .pre) _ _ (c .before .before .before .before .loop-test .taken) (c .before .before .before .before .before .loop .inv .1 .line-at)
+add-at c =
+    line-small _ _ _ _ _ _ _ _ _ (c .before .before .before .before .before .before .before .before .pre) _ _
+    (c .before .before .before .before .loop-test .taken) (c .before .before .before .before .before .loop .inv .1 .line-at)
 
 add-k : tie.Need-add-k Inv-loop μ-loop
 add-k c = omega (arith, c .before .before .before .before .before .before .before .before .pre .tiles-most, c .before .before .before .before .loop-test .taken)
