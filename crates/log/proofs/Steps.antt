@@ -1,5 +1,5 @@
 -- What the routines of a replay leave, return by return: each is the step that the definitions say. Assumes nothing.
-use mathlib.Core.Path.{_≡_, refl, sym, ap, ap₂, _∙_}
+use mathlib.Core.Path.{_≡_, refl, sym, ap, ap₂, _∙_, subst}
 use mathlib.Core.Bool.{true}
 use mathlib.Core.List.{List, [], _∷_}
 use Prim.Native.Nat.{ℕ, _<_, _≤_}
@@ -7,7 +7,7 @@ use native.Mathlib.Omega.{arith}
 use lib.Dec.{eqb}
 use lib.ListN.{length, getD}
 use denote.Enum.Declared.{tagOf}
-use types.Run.{OneOf}
+use types.Run.{OneOf, miss}
 use borrow.Author.Tests.{eq-eqb, ne-eqb, lt-ltb, le-ltb}
 use Rattle.laws.specs.Choice.{_and_, pick}
 use Rattle.laws.proofs.Choice.{pick-yes, pick-no}
@@ -23,9 +23,10 @@ use Rattle.session.specs.Answers.{PieceLeft as WordsFed}
 use Rattle.session.specs.Asked.{Left}
 use Rattle.session.specs.Answers.{firstOf, replyOf as wordReply}
 use Rattle.session.specs.declared.stream.Answer.{Answer}
-use Rattle.session.specs.declared.stream.Answer.the-variants.{Refused}
+use Rattle.session.specs.declared.stream.Answer.the-variants.{Open, Done, Refused}
 use Rattle.session.specs.declared.stream.Fed as declared
-use Rattle.session.proofs.Feeding.{Fold, fold-begins, fold-ends, fold-goes, fold-refused}
+use Rattle.session.proofs.Feeding.{Fold, fold-begins, fold-ends, fold-open, fold-completed, fold-refused}
+use Rattle.session.proofs.Numbers.{numbered}
 use Rattle.session.proofs.stream.Answer.{the-type}
 use Rattle.session.proofs.Handed.{piece-given}
 use Rattle.session.proofs.Refusals.{fed-valid}
@@ -38,6 +39,7 @@ use Rattle.replay.specs.Cells.{viewed, replayIn, ReplayGiven}
 use Rattle.replay.specs.Own.{Changed, Answered, noting}
 use Rattle.refusal.specs.Number.{numberOf}
 use Rattle.refusal.specs.declared.Refusal.{Refusal}
+use Rattle.refusal.specs.declared.Refusal.the-variants as refusal
 use Rattle.log.specs.Asked.{Became, ReplaySized, OpenAsked, WordsAsked, WordsLeft}
 use Rattle.replay.specs.Own.{MidnightLeft, NumberAsked}
 
@@ -87,6 +89,29 @@ module _ (ws l own tallies shared l1 own1 tallies1 shared1 : List ℕ) (g : Give
             unfold viewed in after-first (first n) e marks;
       }
 
+-- a refusal's number is neither an open command's nor a completed one's
+number-between : (why : Refusal) → (1 ≤ numberOf why) × (numberOf why < 64)
+number-between refusal.Stopped = (omega arith, omega arith)
+number-between refusal.UnknownHeader = (omega arith, omega arith)
+number-between refusal.Malformed = (omega arith, omega arith)
+number-between refusal.NumberTooHigh = (omega arith, omega arith)
+number-between refusal.DomainCrossed = (omega arith, omega arith)
+number-between refusal.WindowRule = (omega arith, omega arith)
+number-between refusal.StartUnset = (omega arith, omega arith)
+number-between refusal.DomainOutside = (omega arith, omega arith)
+number-between refusal.SpansShared = (omega arith, omega arith)
+number-between refusal.PairOutside = (omega arith, omega arith)
+number-between refusal.WrongLength = (omega arith, omega arith)
+number-between refusal.Unowned = (omega arith, omega arith)
+number-between refusal.FlowField = (omega arith, omega arith)
+number-between refusal.AtLimit = (omega arith, omega arith)
+number-between refusal.PastEnd = (omega arith, omega arith)
+number-between refusal.Ended = (omega arith, omega arith)
+number-between refusal.WordLimit = (omega arith, omega arith)
+number-between refusal.RecordKind = (omega arith, omega arith)
+number-between refusal.MidnightDay = (omega arith, omega arith)
+number-between refusal.LeaseLine = (omega arith, omega arith)
+
 -- one word, by the session's step
 module _
     (w : ℕ)
@@ -105,12 +130,24 @@ module _
     fine : (r : declared.Fed) → nothing ≡ firstOf (r .refusal) → Piece r → WordsLeft (w ∷ []) l own tallies shared l1 own1 tallies1 shared1
     fine r e p = words-fine (w ∷ []) l own tallies shared l1 own1 tallies1 shared1 g r p c (e ∙ p .refusal)
 
+    fed-one : (n : ℕ) → Fold (sessionOf own tallies shared) (w ∷ []) own1 tallies1 shared1 1 n →
+        WordsLeft (w ∷ []) l own tallies shared l1 own1 tallies1 shared1
+    fed-one n f = fine _ refl (fold-ends (sessionOf own tallies shared) (w ∷ []) own1 tallies1 shared1 _ n f (omega arith))
+
+    fed-by : (b : Answer) → OneOf (0 ∷ 1 ∷ []) (tagOf the-type b) →
+        Left (stepOf (sessionOf own tallies shared) w) (wordReply b) own1 tallies1 shared1 →
+        WordsLeft (w ∷ []) l own tallies shared l1 own1 tallies1 shared1
+    fed-by Open o k =
+        fed-one _
+        (fold-open (sessionOf own tallies shared) (w ∷ []) own tallies shared 0 0 fold (omega arith) own1 tallies1 shared1 0 refl (numbered k))
+    fed-by (Done x) o k =
+        fed-one _
+        (fold-completed (sessionOf own tallies shared) (w ∷ []) own tallies shared 0 0 fold (omega arith) own1 tallies1 shared1 64 refl
+        (numbered k))
+    fed-by (Refused why) o k = absurd (miss (0 ∷ 1 ∷ []) 2 tt o)
+
     pub word-fine : OneOf (0 ∷ 1 ∷ []) (tagOf the-type a) → WordsLeft (w ∷ []) l own tallies shared l1 own1 tallies1 shared1
-    word-fine o =
-        fine _ refl
-        (fold-ends (sessionOf own tallies shared) (w ∷ []) own1 tallies1 shared1 _ _
-        (fold-goes (sessionOf own tallies shared) (w ∷ []) own tallies shared 0 0 fold (omega arith) own1 tallies1 shared1 a o h _ refl)
-        (omega arith))
+    word-fine o = fed-by a o h
 
     module _ (l2 : List ℕ) (n : ℕ) (d : Changed (noting n) l1 l2) where
       denied-with : (r : declared.Fed) → first n ≡ firstOf (r .refusal) → Piece r → WordsLeft (w ∷ []) l own tallies shared l2 own1 tallies1 shared1
@@ -119,7 +156,9 @@ module _
       pub word-noted : (why : Refusal) → a ≡ Refused why → n ≡ numberOf why → WordsLeft (w ∷ []) l own tallies shared l2 own1 tallies1 shared1
       word-noted why e k =
           denied-with _ (ap first k)
-          (fold-refused (sessionOf own tallies shared) (w ∷ []) own tallies shared 0 0 fold (omega arith) own1 tallies1 shared1 a why e h)
+          (fold-refused (sessionOf own tallies shared) (w ∷ []) own tallies shared 0 0 fold (omega arith) own1 tallies1 shared1 (numberOf why)
+          (λ z. omega (arith, z, number-between why)) (λ z. omega (arith, z, number-between why)) why refl
+          (numbered (subst (λ (b : Answer). Left (stepOf (sessionOf own tallies shared) w) (wordReply b) own1 tallies1 shared1) e h)))
 
 -- a byte that only adds to a record
 module _ (l l1 : List ℕ) (b : ℕ) (going : getD l 0 0 ≡ 0) where

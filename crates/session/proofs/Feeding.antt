@@ -7,8 +7,6 @@ use native.Mathlib.Numerals.{add-one}
 use native.Mathlib.Omega.{arith}
 use lib.ListN.{length, getD, drop, length-append, length-drop, drop-of-length-le}
 use lib.Seq.{drop-cons, drop-drop}
-use denote.Enum.Declared.{tagOf}
-use types.Run.{OneOf, miss}
 use Rattle.refusal.specs.Number.{numberOf}
 use Rattle.refusal.specs.declared.Refusal.{Refusal}
 use Rattle.refusal.specs.Told.{gives}
@@ -25,21 +23,19 @@ use Rattle.session.specs.Again.{fed, atWord}
 use Rattle.accept.specs.Whole.{Ready, Tried, untaken, accepted as takenWhole, Begun, begun, unbegun}
 use Rattle.session.specs.Feed.{First, nothing, first, onward, ended, proceed, feedOf, joined}
 use Rattle.session.specs.Feed as piece
-use Rattle.session.specs.Answers.{replyOf, completedBy, PieceLeft}
+use Rattle.session.specs.Answers.{PieceLeft}
 use Rattle.state.specs.Asked.{Given, Held}
-use Rattle.session.specs.Asked.{Left}
+use Rattle.session.specs.Asked.{Left, Numbered}
 use Rattle.state.specs.Cells.{Sized, sessionOf}
-use Rattle.session.specs.declared.stream.Answer.{Answer}
-use Rattle.session.specs.declared.stream.Answer.the-variants.{Open, Done, Refused}
 use Rattle.session.specs.declared.stream.First as firsts
 use Rattle.session.specs.declared.stream.First.the-variants as firstly
 use Rattle.session.specs.declared.stream.Fed.{Fed}
 use Rattle.state.specs.declared.own.WordPosition.{WordPosition}
-use Rattle.session.proofs.stream.Answer.{the-type}
 use Rattle.state.proofs.Cells.{held-view, held-given}
 use Rattle.session.proofs.Cut.{cut}
 use Rattle.session.proofs.Handed.{word-given}
 use Rattle.session.proofs.Kept.{kept}
+use Rattle.session.proofs.Numbers.{step-open, step-completed, step-refused}
 use Rattle.session.proofs.ReadBack.{reads-back}
 use Rattle.session.proofs.Refusals.{fed-valid}
 use Rattle.session.proofs.Taking.{same}
@@ -51,11 +47,6 @@ ahead i cs f = record { taken = i + f .taken; commands = cs ++ f .commands; refu
 fed-path : {m n : ℕ} {c d : List Command} {r : First} {s : Session} → m ≡ n → c ≡ d →
     _≡_ {A = piece.Fed} (record { taken = m; commands = c; refusal = r; session = s }) (record { taken = n; commands = d; refusal = r; session = s })
 fed-path {r = r} {s = s} p q = λ k. record { taken = p k; commands = q k; refusal = r; session = s }
-
-pub completed-most : (y : Reply) → completedBy y ≤ 1
-completed-most stillOpen = omega arith
-completed-most (completed x) = omega arith
-completed-most (refused n) = omega arith
 
 -- `i` words were taken and completed `n` commands; the cells hold the session that they left
 pub record Fold (s : Session) (ws l t c : List ℕ) (i n : ℕ) : Type 0 where
@@ -206,20 +197,20 @@ module _ (s : Session) (ws l t c : List ℕ) (i n : ℕ) (f : Fold s ws l t c i 
           held = h .held;
         })
 
-    pub fold-refused : (a : Answer) (why : Refusal) → a ≡ Refused why → Left step (replyOf a) l1 t1 c1 →
+    pub fold-refused : (r : ℕ) → (r ≡ 64 → ⊥) → (r ≡ 0 → ⊥) → (why : Refusal) → numberOf why ≡ r → Numbered step r l1 t1 c1 →
         PieceLeft (feedOf s ws) (answered i n (firstly.Refused why)) l1 t1 c1
-    fold-refused a why e h = stopping why (subst (λ (b : Answer). Left step (replyOf b) l1 t1 c1) e h)
+    fold-refused r a b why e h = stopping why (step-refused (sessionOf l t c) w r l1 t1 c1 h b a why e)
 
     -- a word that is taken
-    goes : (y : Reply) → Left step y l1 t1 c1 → (cs : List Command) → length cs ≡ completedBy y →
-        ((r : piece.Fed) → proceed y (step .session) r ≡ onward cs r) → Fold s ws l1 t1 c1 (i + 1) (n + completedBy y)
-    goes y h cs e p =
+    goes : (y : Reply) → Left step y l1 t1 c1 → (cs : List Command) → length cs ≤ 1 →
+        ((r : piece.Fed) → proceed y (step .session) r ≡ onward cs r) → (m : ℕ) → n + length cs ≡ m → Fold s ws l1 t1 c1 (i + 1) m
+    goes y h cs few p m e =
         record {
           done = f .done ++ cs;
           given = word-given w y (f .given) h;
           within = omega (arith, less);
-          number = length-append (f .done) cs ∙ ap₂ (λ (a b : ℕ). a + b) (f .number) e;
-          fewer = omega (arith, f .fewer, completed-most y);
+          number = length-append (f .done) cs ∙ ap (λ (a : ℕ). a + length cs) (f .number) ∙ e;
+          fewer = omega (arith, f .fewer, few, e);
           rest =
               here ∙ ap (λ (r : Reply). ahead i (f .done) (proceed r (step .session) later)) (sym (h .reply)) ∙
               ap (ahead i (f .done)) (p later) ∙ fed-path (plus i (later .taken)) (sym (append-assoc (f .done) cs (later .commands))) ∙
@@ -235,12 +226,12 @@ module _ (s : Session) (ws l t c : List ℕ) (i n : ℕ) (f : Fold s ws l t c i 
         plus : (a b : ℕ) → a + suc b ≡ a + 1 + b
         plus a b = omega arith
 
-    accepted : (a : Answer) → OneOf (0 ∷ 1 ∷ []) (tagOf the-type a) → Left step (replyOf a) l1 t1 c1 →
-        Fold s ws l1 t1 c1 (i + 1) (n + completedBy (replyOf a))
-    accepted Open o h = goes stillOpen h [] refl (λ r. unfold proceed in refl)
-    accepted (Done x) o h = goes (completed x) h (x ∷ []) refl (λ r. unfold proceed in refl)
-    accepted (Refused why) o h = absurd (miss (0 ∷ 1 ∷ []) 2 tt o)
+    pub fold-open : (r : ℕ) → r ≡ 0 → Numbered step r l1 t1 c1 → Fold s ws l1 t1 c1 (i + 1) n
+    fold-open r e h =
+        goes stillOpen (step-open (sessionOf l t c) w r l1 t1 c1 h e) [] (omega arith) (λ r. unfold proceed in refl) n (add-zero n)
 
-    pub fold-goes : (a : Answer) → OneOf (0 ∷ 1 ∷ []) (tagOf the-type a) → Left step (replyOf a) l1 t1 c1 →
-        (m : ℕ) → m ≡ completedBy (replyOf a) → Fold s ws l1 t1 c1 (i + 1) (n + m)
-    fold-goes a o h m e = subst (λ (k : ℕ). Fold s ws l1 t1 c1 (i + 1) (n + k)) (sym e) (accepted a o h)
+    pub fold-completed : (r : ℕ) → r ≡ 64 → Numbered step r l1 t1 c1 → Fold s ws l1 t1 c1 (i + 1) (n + 1)
+    fold-completed r e h =
+        let k = step-completed (sessionOf l t c) w r l1 t1 c1 h e in
+        goes (completed (k .command)) (record { reply = sym (k .is); held = h .held }) (k .command ∷ []) (omega arith)
+        (λ r. unfold proceed in refl) (n + 1) refl

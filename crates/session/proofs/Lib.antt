@@ -3,6 +3,7 @@ pub mod Feeding
 pub mod Handed
 pub mod Kept
 pub mod LastWords
+pub mod Numbers
 pub mod Parameters
 pub mod ReadAgain
 pub mod ReadBack

@@ -45,7 +45,7 @@ fed-valid s (w ∷ ws) v =
     (fed-valid (stepOf s w .session) ws (kept s w v))
 
 -- where the reply is a refusal, the session is as one that was refused so
-abbrev Told-so : Session → Stepped → Type 0
+abbrev pub Told-so : Session → Stepped → Type 0
 Told-so s t = (n : ℕ) → t .reply ≡ refused n → RefusedTo s n (t .session)
 
 module _ (s : Session) where
@@ -94,6 +94,10 @@ module _ (s : Session) where
   by-rules d t fine = by-command d
   by-rules d t five = refuses-so (low (omega arith) (omega arith))
   by-rules d t six = refuses-so (low (omega arith) (omega arith))
+
+  pub completing-so : (o : Open) → Told-so s (completing o s)
+  unfolding completing
+  completing-so o = by-rules _ _ (ruled _)
 
   by-parameter : (w : ℕ) → Told-so s (parameterStep s w)
   unfolding parameterStep placing completing

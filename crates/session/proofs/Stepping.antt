@@ -179,15 +179,14 @@ module _ (l t s : List ℕ) (w : ℕ) (a : ParameterAsked l t s w) where
     unfolding partyOf partyCells
     is-open = ap (λ (x : List ℕ). partyOf x [] .opened) e1
 
-    pub placed-whole : countOf (getD l 2 0) ≤ getD l 3 0 + 1 → (r : Reply) (l2 t2 s2 : List ℕ) →
-        Left (completing (partyOf l1 [] .opened) (sessionOf l1 t s)) r l2 t2 s2 → Left (placing next sw) r l2 t2 s2
+    pub placed-whole : countOf (getD l 2 0) ≤ getD l 3 0 + 1 →
+        placing next sw ≡ completing (partyOf l1 [] .opened) (sessionOf l1 t s)
     unfolding placing reopened
-    placed-whole k r l2 t2 s2 h =
-        subst (λ (x : Stepped). Left x r l2 t2 s2)
+    placed-whole k =
+        sym
         (ap (λ (p : Party). completing (partyOf l1 [] .opened) (record { party = p; shared = sharedOf s })) is-next ∙
         ap (λ (q : Open). completing q (reopened next sw)) is-open ∙
         completing-same next next sw ∙ sym (pick-no _ _ (le-ltb _ _ more)))
-        h
       where
         more : countOf (next .line) ≤ next .count
         more = unfold partyOf in k

@@ -16,10 +16,10 @@ use Rattle.command.specs.declared.kinds.Kind.{Kind}
 use Rattle.command.proofs.Headers.{count-most}
 use Rattle.state.specs.State.{Open, Party, Session, atLine, none, newSession}
 use Rattle.state.specs.Effects.{limit, opening, took, stop, withParameter}
-use Rattle.session.specs.Step.{Reply, stillOpen, refused, Stepped, refusing, placing, parameterStep, headerStep, stepOf}
+use Rattle.session.specs.Step.{stillOpen, refused, Stepped, refusing, placing, parameterStep, headerStep, stepOf}
 use Rattle.state.specs.Valid.{Valid}
 use Rattle.state.specs.Asked.{Held, Given}
-use Rattle.session.specs.Asked.{Left, OpenAsked, ParameterAsked}
+use Rattle.session.specs.Asked.{Left, Read, OpenAsked, ParameterAsked}
 use Rattle.state.specs.Cells.{Sized, partyOf, partyCells, tallyCells, sharedOf, sharedCells, sessionOf, ownLength}
 use Rattle.state.proofs.Cells.{own-canon, tally-canon, shared-canon}
 use Rattle.session.proofs.Stepping.{refusing-left}
@@ -54,10 +54,10 @@ module _ (l t s : List ℕ) (w : ℕ) (a : OpenAsked l t s) where
       parameter-asked =
           record { given = a .given; taken = a .taken; line = a .line; kindAllows = unfold partyOf in (sym e ∙ passes) }
 
-      pub kind-passed : (y : Reply) (l1 t1 s1 : List ℕ) → Left (placing (withParameter (partyOf l [] .opened) w) so) y l1 t1 s1 →
-          Left (parameterStep so w) y l1 t1 s1
+      pub kind-passed : (n : ℕ) (l1 : List ℕ) → Read (placing (withParameter (partyOf l [] .opened) w) so) n l1 t s →
+          Read (parameterStep so w) n l1 t s
       unfolding parameterStep partyOf
-      kind-passed y l1 t1 s1 h = subst (λ (x : Stepped). Left x y l1 t1 s1) (sym (pick-yes _ _ (sym e ∙ passes))) h
+      kind-passed n l1 h = subst (λ (x : Stepped). Read x n l1 t s) (sym (pick-yes _ _ (sym e ∙ passes))) h
 
 -- a word
 module _ (l t s : List ℕ) (w : ℕ) (g : Given l t s) where
@@ -99,8 +99,8 @@ module _ (l t s : List ℕ) (w : ℕ) (g : Given l t s) where
               line = unfold partyOf in (omega (arith, ne, g .valid .line-most));
             }
 
-        pub word-parameter : (y : Reply) (l1 t1 s1 : List ℕ) → Left (parameterStep sg w) y l1 t1 s1 → Left (stepOf sg w) y l1 t1 s1
-        word-parameter y l1 t1 s1 h = subst (λ (x : Stepped). Left x y l1 t1 s1) (sym (going ∙ pick-no _ _ (ne-eqb _ _ ne))) h
+        pub word-parameter : (n : ℕ) (l1 : List ℕ) → Read (parameterStep sg w) n l1 t s → Read (stepOf sg w) n l1 t s
+        word-parameter n l1 h = subst (λ (x : Stepped). Read x n l1 t s) (sym (going ∙ pick-no _ _ (ne-eqb _ _ ne))) h
 
       module _ (e : getD l 2 0 ≡ 21) where
         header : stepOf sg w ≡ headerStep sg w

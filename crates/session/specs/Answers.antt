@@ -19,12 +19,6 @@ replyOf Open = stillOpen
 replyOf (Done command) = completed command
 replyOf (Refused why) = refused (numberOf why)
 
--- how many commands a reply completes
-abbrev pub completedBy : Reply → ℕ
-completedBy stillOpen = 0
-completedBy (completed command) = 1
-completedBy (refused n) = 0
-
 abbrev pub firstOf : firsts.First → piece.First
 firstOf firstly.Nothing = nothing
 firstOf (firstly.Refused why) = first (numberOf why)

@@ -9,15 +9,26 @@ use Rattle.laws.specs.Choice.{pick}
 use Rattle.command.specs.Kinds.{allowed, kindOf}
 use Rattle.command.specs.Commands.{EachAllowed}
 use Rattle.state.specs.Effects.{limit}
-use Rattle.session.specs.Step.{Reply, Stepped}
+use Rattle.session.specs.Step.{Reply, Stepped, stillOpen, completed, refused, completing}
 use Rattle.state.specs.Valid.{parametersOf}
 use Rattle.refusal.specs.Number.{IsNumber}
-use Rattle.state.specs.Cells.{partyOf, ownLength}
+use Rattle.state.specs.Cells.{partyOf, sessionOf, ownLength}
 use Rattle.state.specs.Asked.{Held, Given, OwnAsked}
 
 -- a step's reply, and cells that hold the session after it
 pub record Left (t : Stepped) (r : Reply) (own tallies shared : List ℕ) : Type 0 where
   pub reply : r ≡ t .reply
+  pub held : Held (t .session) own tallies shared
+
+-- a reply as one number: 0 where the command is still open, 64 where the word completed it, else the refusal's
+abbrev pub replyNumber : Reply → ℕ
+replyNumber stillOpen = 0
+replyNumber (completed command) = 64
+replyNumber (refused n) = n
+
+-- a step's reply as a number, and cells that hold the session after it
+pub record Numbered (t : Stepped) (r : ℕ) (own tallies shared : List ℕ) : Type 0 where
+  pub number : r ≡ replyNumber (t .reply)
   pub held : Held (t .session) own tallies shared
 
 -- the refusal of a command whose parameters are allowed and which isn't accepted, by its line and what the settings give a start:
@@ -40,6 +51,13 @@ pub record CompleteAsked (own tallies shared : List ℕ) : Type 0 where
   pub taken : partyOf own tallies .taken < limit
   pub line : partyOf own tallies .opened .line < 21
   pub passed : EachAllowed (partyOf own tallies .opened .line) (parametersOf (partyOf own tallies .opened))
+
+-- a word that was read: its step's number; or, with 64, the cells hold an open command with all its parameters, and the step is
+-- that command's completion
+pub record Read (t : Stepped) (r : ℕ) (own tallies shared : List ℕ) : Type 0 where
+  pub answered : (r ≡ 64 → ⊥) → Numbered t r own tallies shared
+  pub asked : r ≡ 64 → CompleteAsked own tallies shared
+  pub completes : r ≡ 64 → t ≡ completing (partyOf own [] .opened) (sessionOf own tallies shared)
 
 -- a valid session that takes words, with an open command whose next parameter's kind allows the word
 pub record ParameterAsked (own tallies shared : List ℕ) (w : ℕ) : Type 0 where

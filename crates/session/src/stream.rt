@@ -18,12 +18,28 @@ ghost use Rattle.state.specs.Effects.{withParameter};
 ghost use Rattle.session.specs.Step.{completing, parameterStep, placing, stepOf};
 ghost use Rattle.state.specs.Cells.{Sized, partyOf, sessionOf};
 ghost use Rattle.state.specs.Asked.{Given, Held};
-ghost use Rattle.session.specs.Asked.{CompleteAsked, Left, OpenAsked, ParameterAsked, RefusalAsked, refusalAt, storedIn};
-ghost use Rattle.session.specs.Answers.{PieceLeft, completedBy, replyOf};
+ghost use Rattle.session.specs.Asked.{CompleteAsked, Left, Numbered, OpenAsked, ParameterAsked, Read, RefusalAsked, refusalAt, storedIn};
+ghost use Rattle.session.specs.Answers.{PieceLeft, replyOf};
 ghost use Rattle.session.specs.Feed.{feedOf};
 
 // Words that a session takes before it answers 17.
 const WORD_LIMIT: u32 = 1000000000;
+
+// What a word is answered as one number, which stays in a register: the command is still open, the word completed it, or else
+// the refusal's number.
+const OPEN: u32 = 0;
+
+const COMPLETED: u32 = 64;
+
+// A word that was read and is its command's last: the cells hold the whole command, which is still to be judged.
+const WHOLE: u32 = 64;
+
+// The refusals of a word that isn't judged as a parameter.
+const STOPPED: u32 = 1;
+
+const UNKNOWN_HEADER: u32 = 2;
+
+const FULL: u32 = 17;
 
 // What a word is answered: the command is still open, the command that the word completed, or the refusal.
 pub enum Answer {
@@ -50,6 +66,118 @@ fn complete(
     own: &mut [u32; state::OWN_CELLS],
     tallies: &mut [u64; state::TALLIES],
     shared: &mut [u32; state::SHARED_CELLS],
+) -> u32
+    requires { ⌜ CompleteAsked (now own) (now tallies) (now shared) ⌝ }
+    ensures { λ r. ⌜ Numbered (completing (partyOf (now (own .entry)) [] .opened) (sessionOf (now (own .entry)) (now (tallies .entry)) (now (shared .entry)))) r (now (own .exit)) (now (tallies .exit)) (now (shared .exit)) ⌝ }
+{
+    let line = own[own::LINE];
+    let p0 = own[own::PARAMETER_0];
+    let p1 = own[own::PARAMETER_1];
+    let p2 = own[own::PARAMETER_2];
+    let p3 = own[own::PARAMETER_3];
+    if 0 < accept::take_last(own, tallies, shared, line, p0, p1, p2, p3) {
+        own::close(own);
+        return COMPLETED;
+    }
+    let why = refusal_of(own, line);
+    own::stop(own);
+    refusal::number(why)
+}
+
+// A parameter that its kind allows. The last one is placed and not yet counted: the command is still to be judged.
+fn placed(
+    own: &mut [u32; state::OWN_CELLS],
+    tallies: &[u64; state::TALLIES],
+    shared: &[u32; state::SHARED_CELLS],
+    word: u32,
+) -> u32
+    requires { ⌜ ParameterAsked (now own) (now tallies) (now shared) word ⌝ }
+    ensures { λ r. ⌜ Read (placing (withParameter (partyOf (now (own .entry)) [] .opened) word) (sessionOf (now (own .entry)) (now (tallies .entry)) (now (shared .entry)))) r (now (own .exit)) (now (tallies .entry)) (now (shared .entry)) ⌝ }
+{
+    let line = own[own::LINE];
+    let count = own[own::COUNT];
+    own::place(own, count, word);
+    if count + 1 < table::parameters(line) {
+        own::count_word(own);
+        return OPEN;
+    }
+    WHOLE
+}
+
+// A word where a command is open: judged by the kind of the parameter that it is.
+fn parameter(
+    own: &mut [u32; state::OWN_CELLS],
+    tallies: &[u64; state::TALLIES],
+    shared: &[u32; state::SHARED_CELLS],
+    word: u32,
+) -> u32
+    requires { ⌜ OpenAsked (now own) (now tallies) (now shared) ⌝ }
+    ensures { λ r. ⌜ Read (parameterStep (sessionOf (now (own .entry)) (now (tallies .entry)) (now (shared .entry))) word) r (now (own .exit)) (now (tallies .entry)) (now (shared .entry)) ⌝ }
+{
+    let line = own[own::LINE];
+    let count = own[own::COUNT];
+    if kinds::place_allowed(line, count, word) {
+        return placed(own, tallies, shared, word);
+    }
+    let kind = kinds::kind_at(line, count);
+    own::stop(own);
+    refusal::number(kinds::fault(kind))
+}
+
+// One word up to a command's end. 1 comes before 17, and 17 before the word is looked at.
+fn read(
+    own: &mut [u32; state::OWN_CELLS],
+    tallies: &[u64; state::TALLIES],
+    shared: &[u32; state::SHARED_CELLS],
+    word: u32,
+) -> u32
+    requires { ⌜ Given (now own) (now tallies) (now shared) ⌝ }
+    ensures { λ r. ⌜ Read (stepOf (sessionOf (now (own .entry)) (now (tallies .entry)) (now (shared .entry))) word) r (now (own .exit)) (now (tallies .entry)) (now (shared .entry)) ⌝ }
+{
+    if own[own::STOPPED] == 1 {
+        return STOPPED;
+    }
+    if WORD_LIMIT <= own[own::TAKEN] {
+        own::stop(own);
+        return FULL;
+    }
+    if own[own::LINE] != own::NO_LINE {
+        return parameter(own, tallies, shared, word);
+    }
+    match table::line_of(word) {
+        Line::Unknown => {
+            own::stop(own);
+            UNKNOWN_HEADER
+        }
+        Line::At(line) => {
+            own::open_line(own, line);
+            OPEN
+        }
+    }
+}
+
+// One word as a number.
+fn step(
+    own: &mut [u32; state::OWN_CELLS],
+    tallies: &mut [u64; state::TALLIES],
+    shared: &mut [u32; state::SHARED_CELLS],
+    word: u32,
+) -> u32
+    requires { ⌜ Given (now own) (now tallies) (now shared) ⌝ }
+    ensures { λ r. ⌜ Numbered (stepOf (sessionOf (now (own .entry)) (now (tallies .entry)) (now (shared .entry))) word) r (now (own .exit)) (now (tallies .exit)) (now (shared .exit)) ⌝ }
+{
+    let number = read(own, tallies, shared, word);
+    if number == WHOLE {
+        return complete(own, tallies, shared);
+    }
+    number
+}
+
+// The answer to a command's last word: the cells hold the command until it is judged.
+fn finish(
+    own: &mut [u32; state::OWN_CELLS],
+    tallies: &mut [u64; state::TALLIES],
+    shared: &mut [u32; state::SHARED_CELLS],
 ) -> Answer
     requires { ⌜ CompleteAsked (now own) (now tallies) (now shared) ⌝ }
     ensures { λ r. ⌜ Left (completing (partyOf (now (own .entry)) [] .opened) (sessionOf (now (own .entry)) (now (tallies .entry)) (now (shared .entry)))) (replyOf r) (now (own .exit)) (now (tallies .exit)) (now (shared .exit)) ⌝ }
@@ -59,56 +187,14 @@ fn complete(
     let p1 = own[own::PARAMETER_1];
     let p2 = own[own::PARAMETER_2];
     let p3 = own[own::PARAMETER_3];
-    if 0 < accept::take_last(own, tallies, shared, line, p0, p1, p2, p3) {
-        own::close(own);
+    let number = complete(own, tallies, shared);
+    if number == COMPLETED {
         return Answer::Done(commands::build(line, p0, p1, p2, p3));
     }
-    let why = refusal_of(own, line);
-    own::stop(own);
-    Answer::Refused(why)
+    Answer::Refused(refusal::with_number(number))
 }
 
-// A parameter that its kind allows.
-fn placed(
-    own: &mut [u32; state::OWN_CELLS],
-    tallies: &mut [u64; state::TALLIES],
-    shared: &mut [u32; state::SHARED_CELLS],
-    word: u32,
-) -> Answer
-    requires { ⌜ ParameterAsked (now own) (now tallies) (now shared) word ⌝ }
-    ensures { λ r. ⌜ Left (placing (withParameter (partyOf (now (own .entry)) [] .opened) word) (sessionOf (now (own .entry)) (now (tallies .entry)) (now (shared .entry)))) (replyOf r) (now (own .exit)) (now (tallies .exit)) (now (shared .exit)) ⌝ }
-{
-    let line = own[own::LINE];
-    let count = own[own::COUNT];
-    own::place(own, count, word);
-    if count + 1 < table::parameters(line) {
-        own::count_word(own);
-        return Answer::Open;
-    }
-    complete(own, tallies, shared)
-}
-
-// A word where a command is open: judged by the kind of the parameter that it is.
-fn parameter(
-    own: &mut [u32; state::OWN_CELLS],
-    tallies: &mut [u64; state::TALLIES],
-    shared: &mut [u32; state::SHARED_CELLS],
-    word: u32,
-) -> Answer
-    requires { ⌜ OpenAsked (now own) (now tallies) (now shared) ⌝ }
-    ensures { λ r. ⌜ Left (parameterStep (sessionOf (now (own .entry)) (now (tallies .entry)) (now (shared .entry))) word) (replyOf r) (now (own .exit)) (now (tallies .exit)) (now (shared .exit)) ⌝ }
-{
-    let line = own[own::LINE];
-    let count = own[own::COUNT];
-    if kinds::place_allowed(line, count, word) {
-        return placed(own, tallies, shared, word);
-    }
-    let kind = kinds::kind_at(line, count);
-    own::stop(own);
-    Answer::Refused(kinds::fault(kind))
-}
-
-// One word. 1 comes before 17, and 17 before the word is looked at.
+// One word.
 pub fn word(
     own: &mut [u32; state::OWN_CELLS],
     tallies: &mut [u64; state::TALLIES],
@@ -118,25 +204,11 @@ pub fn word(
     requires { ⌜ Given (now own) (now tallies) (now shared) ⌝ }
     ensures { λ r. ⌜ Left (stepOf (sessionOf (now (own .entry)) (now (tallies .entry)) (now (shared .entry))) word) (replyOf r) (now (own .exit)) (now (tallies .exit)) (now (shared .exit)) ⌝ }
 {
-    if own[own::STOPPED] == 1 {
-        return Answer::Refused(Refusal::Stopped);
-    }
-    if WORD_LIMIT <= own[own::TAKEN] {
-        own::stop(own);
-        return Answer::Refused(Refusal::WordLimit);
-    }
-    if own[own::LINE] != own::NO_LINE {
-        return parameter(own, tallies, shared, word);
-    }
-    match table::line_of(word) {
-        Line::Unknown => {
-            own::stop(own);
-            Answer::Refused(Refusal::UnknownHeader)
-        }
-        Line::At(line) => {
-            own::open_line(own, line);
-            Answer::Open
-        }
+    let number = read(own, tallies, shared, word);
+    match number {
+        OPEN => Answer::Open,
+        WHOLE => finish(own, tallies, shared),
+        _ => Answer::Refused(refusal::with_number(number)),
     }
 }
 
@@ -173,17 +245,6 @@ pub struct Fed {
     pub refusal: First,
 }
 
-// One for a command that was completed.
-fn completed_by(answer: Answer) -> u64
-    ensures { λ r. ⌜ r ≡ completedBy (replyOf answer) ⌝ }
-{
-    match answer {
-        Answer::Open => 0,
-        Answer::Done(_) => 1,
-        Answer::Refused(_) => 0,
-    }
-}
-
 // A piece of words, one after another up to the first refused one; words after that aren't looked at. A command that lies
 // whole in the piece and is accepted is taken at once.
 pub fn feed(
@@ -205,15 +266,20 @@ pub fn feed(
             continue;
         }
         let next = i + 1;
-        let answer = word(own, tallies, shared, words[i]);
-        if let Answer::Refused(why) = answer {
+        let number = step(own, tallies, shared, words[i]);
+        if number == COMPLETED {
+            commands = commands + 1;
+            i = next;
+            continue;
+        }
+        if number != OPEN {
+            let why = refusal::with_number(number);
             return Fed {
                 taken: WordPosition(i as u64),
                 commands,
                 refusal: First::Refused(why),
             };
         }
-        commands = commands + completed_by(answer);
         i = next;
     }
     Fed {

@@ -1,4 +1,6 @@
 -- `session::stream::placed` meets its contract. Assumes nothing.
+use native.Mathlib.Omega.{arith}
+use Rattle.session.proofs.Numbers.{numbered, read-answered, read-whole}
 use Rattle.session.proofs.Stepping.{place-asked, count-fits, placed-asked, placed-open, complete-asked, placed-whole}
 use borrow.Author.Needs.{needs}
 use Rattle.session.proofs.stream.placed.Statement.{statement}
@@ -39,28 +41,22 @@ returns c =
     let at-place = at-parameters .before in
     let entry = at-place .before .before .before .before in
     let args = entry .args in
-    placed-open (args .own .now) (args .tallies .now) (args .shared .now) (args .word) (entry .pre) _ (at-place .place .ensures)
-    (rw (← (at-parameters .parameters .ensures)) (at-if1 .if1 .taken)) _ (c .count-word .ensures)
-
-complete-requires : tie.Need-complete-requires
-complete-requires c κs =
-    let at-if1 = c .before .before .before in
-    let at-parameters = at-if1 .before in
-    let at-place = at-parameters .before in
-    let entry = at-place .before .before .before .before in
-    let args = entry .args in
-    complete-asked (args .own .now) (args .tallies .now) (args .shared .now) (args .word) (entry .pre) _ (at-place .place .ensures)
-    (rw (← (at-parameters .parameters .ensures)) (at-if1 .if1 .left))
+    read-answered (λ e. omega (arith, e))
+    (numbered
+    (placed-open (args .own .now) (args .tallies .now) (args .shared .now) (args .word) (entry .pre) _ (at-place .place .ensures)
+    (rw (← (at-parameters .parameters .ensures)) (at-if1 .if1 .taken)) _ (c .count-word .ensures)))
 
 returns-2 : tie.Need-returns-2
 returns-2 c =
-    let at-if1 = c .before .before .before .before in
-    let at-parameters = at-if1 .before in
+    let at-parameters = c .before in
     let at-place = at-parameters .before in
     let entry = at-place .before .before .before .before in
     let args = entry .args in
-    placed-whole (args .own .now) (args .tallies .now) (args .shared .now) (args .word) (entry .pre) _ (at-place .place .ensures)
-    (rw (← (at-parameters .parameters .ensures)) (at-if1 .if1 .left)) _ _ _ _ (c .complete .ensures)
+    read-whole
+    (complete-asked (args .own .now) (args .tallies .now) (args .shared .now) (args .word) (entry .pre) _ (at-place .place .ensures)
+    (rw (← (at-parameters .parameters .ensures)) (c .if1 .left)))
+    (placed-whole (args .own .now) (args .tallies .now) (args .shared .now) (args .word) (entry .pre) _ (at-place .place .ensures)
+    (rw (← (at-parameters .parameters .ensures)) (c .if1 .left)))
 
 pub placed-spec : {M : Type 1} → statement M
 placed-spec =
@@ -73,5 +69,4 @@ placed-spec =
     parameters-requires
     count-word-requires
     returns
-    complete-requires
     returns-2)
