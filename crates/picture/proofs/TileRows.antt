@@ -93,7 +93,9 @@ module _ (start row t : ℕ) where
     where
       by-bits :
           (X : ℕ) → Bits t a b c X →
-          start + (2048 * (X / 8) + 32 * (32 * ((bit 2 row + bit 3 X) % 2) + 16 * ((bit 2 X + bit 3 row) % 2) + 8 * ((bit 1 row + bit 2 X) % 2) + 4 * ((bit 1 X + bit 2 row) % 2) + 2 * bit 0 row + bit 0 X)) ≡
+          start +
+          (2048 * (X / 8) + 32 * (32 * ((bit 2 row + bit 3 X) % 2) + 16 * ((bit 2 X + bit 3 row) % 2) + 8 * ((bit 1 row + bit 2 X) % 2) + 4 * ((bit 1 X + bit 2 row) % 2) + 2 * bit 0 row + bit 0 X))
+          ≡
           start + (2048 * t + 32 * (32 * ((y2 + t % 2) % 2) + 16 * ((a + y3) % 2) + 8 * ((y1 + a) % 2) + 4 * ((b + y2) % 2) + 2 * y0 + c))
       by-bits X v =
           λ (i : 𝕀).

@@ -34,7 +34,10 @@ same-length c = search needs
 
 returns : tie.Need-returns
 returns c =
-    rect-told _ _ _ _ _ _ _ _ _ _ (c .before .before .before .before .before .before .before .before .pre) _ _ (c .before .before .before .before .before .split .ensures) (c .before .before .before .before .block-bytes .ensures) _ _ _ (c .before .before .rows .ensures)
+    let before-1 = c .before .before .before .before .before in
+    let at-pre = before-1 .before .before .before in
+    rect-told _ _ _ _ _ _ _ _ _ _ (at-pre .pre) _ _ (c .before .before .before .before .before .split .ensures)
+    (c .before .before .before .before .block-bytes .ensures) _ _ _ (c .before .before .rows .ensures)
 
 pub carry-spec : {M : Type 1} → statement M
 carry-spec =

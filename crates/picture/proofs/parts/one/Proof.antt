@@ -31,7 +31,9 @@ same-length c = search needs
 
 returns : tie.Need-returns
 returns c =
-    let args = c .before .before .before .before .before .before .before .args in
+    let before-1 = c .before .before .before .before .before in
+    let at-args = before-1 .before .before in
+    let args = at-args .args in
     same-part (args .out) (args .place) (args .line) _ _ (args .from .now) (args .to .now) _ (c .before .before .before .before .match .keys1) (c .before .before .turn .ensures)
 
 same-length-2 : tie.Need-same-length-2
@@ -39,7 +41,9 @@ same-length-2 c = search needs
 
 returns-2 : tie.Need-returns-2
 returns-2 c =
-    let args = c .before .before .before .before .before .before .before .args in
+    let before-1 = c .before .before .before .before .before in
+    let at-args = before-1 .before .before in
+    let args = at-args .args in
     same-part (args .out) (args .place) (args .line) _ _ (args .from .now) (args .to .now) _ (c .before .before .before .before .match .keys2) (c .before .before .turn2 .ensures)
 
 same-length-3 : tie.Need-same-length-3
@@ -47,7 +51,9 @@ same-length-3 c = search needs
 
 returns-3 : tie.Need-returns-3
 returns-3 c =
-    let args = c .before .before .before .before .before .before .before .args in
+    let before-1 = c .before .before .before .before .before in
+    let at-args = before-1 .before .before in
+    let args = at-args .args in
     same-part (args .out) (args .place) (args .line) _ _ (args .from .now) (args .to .now) _ (c .before .before .before .before .match .keys3) (c .before .before .turn3 .ensures)
 
 same-length-4 : tie.Need-same-length-4
@@ -55,7 +61,9 @@ same-length-4 c = search needs
 
 returns-4 : tie.Need-returns-4
 returns-4 c =
-    let args = c .before .before .before .before .before .before .before .args in
+    let before-1 = c .before .before .before .before .before in
+    let at-args = before-1 .before .before in
+    let args = at-args .args in
     same-part (args .out) (args .place) (args .line) _ _ (args .from .now) (args .to .now) _ (c .before .before .before .before .match .keys4) (c .before .before .turn4 .ensures)
 
 same-length-5 : tie.Need-same-length-5
@@ -63,7 +71,9 @@ same-length-5 c = search needs
 
 returns-5 : tie.Need-returns-5
 returns-5 c =
-    let args = c .before .before .before .before .before .before .before .args in
+    let before-1 = c .before .before .before .before .before in
+    let at-args = before-1 .before .before in
+    let args = at-args .args in
     same-part (args .out) (args .place) (args .line) _ _ (args .from .now) (args .to .now) _ (c .before .before .before .before .match .keys5) (c .before .before .turn5 .ensures)
 
 same-length-6 : tie.Need-same-length-6
@@ -71,7 +81,9 @@ same-length-6 c = search needs
 
 returns-6 : tie.Need-returns-6
 returns-6 c =
-    let args = c .before .before .before .before .before .before .before .args in
+    let before-1 = c .before .before .before .before .before in
+    let at-args = before-1 .before .before in
+    let args = at-args .args in
     same-part (args .out) (args .place) (args .line) _ _ (args .from .now) (args .to .now) _ (c .before .before .before .before .match .keys6) (c .before .before .turn6 .ensures)
 
 same-length-7 : tie.Need-same-length-7

@@ -52,8 +52,10 @@ edge-requires c κs = lead-asked _ _ _ _ _ _ _ _ _ _ _ _ _ _ _ _ (of-kind _ _ tr
 
 tiles-requires : tie.Need-tiles-requires
 tiles-requires c κs =
+    let before-1 = c .before .before .before .before .before in
+    let at-pre = before-1 .before .before .before in
     tiles-asked _ _ _ _ _ _ _ _ _ _ _ _ _ _ _ _
-    (of-kind _ _ true _ _ _ _ _ _ _ _ _ _ _ _ _ _ _ (c .before .before .before .before .before .before .before .before .pre) (c .before .before .before .before .before .if1 .taken))
+    (of-kind _ _ true _ _ _ _ _ _ _ _ _ _ _ _ _ _ _ (at-pre .pre) (c .before .before .before .before .before .if1 .taken))
     _ (c .before .before .to .given)
 
 add-edge : tie.Need-add-edge
@@ -64,9 +66,13 @@ add-edge-2 c = search needs
 
 edge-requires-2 : tie.Need-edge-requires-2
 edge-requires-2 c κs =
+    let before-1 = c .before .before .before .before .before in
+    let at-to = before-1 .before in
+    let at-if = at-to .before .before .before in
+    let at-pre = at-if .before .before .before in
     tail-asked _ _ _ _ _ _ _ _ _ _ _ _ _ _ _ _
-    (of-kind _ _ true _ _ _ _ _ _ _ _ _ _ _ _ _ _ _ (c .before .before .before .before .before .before .before .before .before .before .before .before .pre) (c .before .before .before .before .before .before .before .before .before .if1 .taken))
-    _ (c .before .before .to2 .given ∙ c .before .before .before .before .before .before .to .given)
+    (of-kind _ _ true _ _ _ _ _ _ _ _ _ _ _ _ _ _ _ (at-pre .pre) (at-if .if1 .taken))
+    _ (c .before .before .to2 .given ∙ at-to .to .given)
 
 add-by-runs : tie.Need-add-by-runs
 add-by-runs c = search needs
@@ -82,17 +88,28 @@ same-length c = search needs
 
 returns : tie.Need-returns
 returns c =
-    let args = c .before .before .before .before .before .before .before .before .before .before .before .before .before .before .before .args in
-    told-kind (args .out) (args .tiled) true (args .size) (args .stride / args .size) (args .at) (args .y) (args .x) (args .line) (args .lead + args .inner + args .tail) (args .from .now) (args .to .now) _ (c .before .before .before .before .before .before .before .before .before .before .before .before .if1 .taken)
-    (three-parts _ _ _ _ _ _ _ _ _ _ _ _ _ _ (args .from .now) (args .to .now) _ _ _ (of-kind _ _ true _ _ _ _ _ _ _ _ _ _ _ _ _ _ _ (c .before .before .before .before .before .before .before .before .before .before .before .before .before .before .before .pre) (c .before .before .before .before .before .before .before .before .before .before .before .before .if1 .taken)) (c .before .before .before .before .before .before .before .before .before .to .given) (c .before .before .before .before .before .before .before .before .before .before .edge .ensures) (c .before .before .before .before .before .before .tiles .ensures) (c .before .before .edge2 .ensures))
+    let before-1 = c .before .before .before .before .before in
+    let at-tiles = before-1 .before in
+    let at-to = at-tiles .before .before .before in
+    let at-edge = at-to .before in
+    let at-if = at-edge .before .before in
+    let at-args = at-if .before .before .before in
+    let args = at-args .args in
+    told-kind (args .out) (args .tiled) true (args .size) (args .stride / args .size) (args .at) (args .y) (args .x) (args .line)
+    (args .lead + args .inner + args .tail) (args .from .now) (args .to .now) _ (at-if .if1 .taken)
+    (three-parts _ _ _ _ _ _ _ _ _ _ _ _ _ _ (args .from .now) (args .to .now) _ _ _ (of-kind _ _ true _ _ _ _ _ _ _ _ _ _ _ _ _ _ _ (at-args .pre) (at-if .if1 .taken)) (at-to .to .given) (at-edge .edge .ensures) (at-tiles .tiles .ensures) (c .before .before .edge2 .ensures))
 
 same-length-2 : tie.Need-same-length-2
 same-length-2 c = search needs
 
 returns-2 : tie.Need-returns-2
 returns-2 c =
-    let args = c .before .before .before .before .before .before .before .args in
-    told-kind (args .out) (args .tiled) false (args .size) (args .stride / args .size) (args .at) (args .y) (args .x) (args .line) (args .lead + args .inner + args .tail) (args .from .now) (args .to .now) _ (c .before .before .before .before .if1 .left) (c .before .before .by-runs .ensures)
+    let before-1 = c .before .before .before .before .before in
+    let at-args = before-1 .before .before in
+    let args = at-args .args in
+    told-kind (args .out) (args .tiled) false (args .size) (args .stride / args .size) (args .at) (args .y) (args .x) (args .line)
+    (args .lead + args .inner + args .tail) (args .from .now) (args .to .now) _ (c .before .before .before .before .if1 .left)
+    (c .before .before .by-runs .ensures)
 
 pub row-spec : {M : Type 1} → statement M
 row-spec =

@@ -39,11 +39,16 @@ row-requires c κs =
 
 add-line : tie.Need-add-line Inv-loop μ-loop
 add-line c =
+    let before-1 = c .before .before .before .before .before in
+    let at-pre = before-1 .before .before .before in
     omega
-    (arith, line-in _ _ _ _ _ _ _ _ _ _ _ _ _ _ _ _ _ (c .before .before .before .before .before .before .before .before .pre) _ _ (c .before .before .before .before .loop-test .taken) (c .before .before .before .before .before .loop .inv .line-at))
+    (arith, line-in _ _ _ _ _ _ _ _ _ _ _ _ _ _ _ _ _ (at-pre .pre) _ _ (c .before .before .before .before .loop-test .taken) (c .before .before .before .before .before .loop .inv .line-at))
 
 add-j : tie.Need-add-j Inv-loop μ-loop
-add-j c = omega (arith, c .before .before .before .before .before .before .before .before .pre .rows-most, c .before .before .before .before .loop-test .taken)
+add-j c =
+    let before-1 = c .before .before .before .before .before in
+    let at-pre = before-1 .before .before .before in
+    omega (arith, at-pre .pre .rows-most, c .before .before .before .before .loop-test .taken)
 
 loop-less : tie.Need-loop-less Inv-loop μ-loop
 loop-less c = omega (arith, c .before .before .before .before .loop-test .taken)

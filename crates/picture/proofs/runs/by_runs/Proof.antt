@@ -47,41 +47,67 @@ smaller-requires c κs = search needs
 
 mul-bytes : tie.Need-mul-bytes Inv-loop μ-loop
 mul-bytes c =
+    let before-1 = c .before .before .before .before .before in
+    let at-pre = before-1 .before .before in
     omega
-    (arith, bytes-small _ _ _ _ _ _ _ _ _ _ _ (c .before .before .before .before .before .before .before .pre) _ (c .before .before .before .loop-test .taken) _ _ _ _ _ (c .before .before .before .before .loop .inv) (c .before .before .offset .ensures) (c .before .run-from .ensures) (c .smaller .ensures) .0)
+    (arith, bytes-small _ _ _ _ _ _ _ _ _ _ _ (at-pre .pre) _ (c .before .before .before .loop-test .taken) _ _ _ _ _ (c .before .before .before .before .loop .inv) (c .before .before .offset .ensures) (c .before .run-from .ensures) (c .smaller .ensures) .0)
 
 cast-bytes : tie.Need-cast-bytes Inv-loop μ-loop
 cast-bytes c =
+    let before-1 = c .before .before .before .before .before in
+    let at-pre = before-1 .before .before in
     omega
-    (arith, bytes-small _ _ _ _ _ _ _ _ _ _ _ (c .before .before .before .before .before .before .before .pre) _ (c .before .before .before .loop-test .taken) _ _ _ _ _ (c .before .before .before .before .loop .inv) (c .before .before .offset .ensures) (c .before .run-from .ensures) (c .smaller .ensures) .0)
+    (arith, bytes-small _ _ _ _ _ _ _ _ _ _ _ (at-pre .pre) _ (c .before .before .before .loop-test .taken) _ _ _ _ _ (c .before .before .before .before .loop .inv) (c .before .before .offset .ensures) (c .before .run-from .ensures) (c .smaller .ensures) .0)
 
 stretch-requires : tie.Need-stretch-requires Inv-loop μ-loop
 stretch-requires c κs =
-    run-asked _ _ _ _ _ _ _ _ _ _ _ (c .before .before .before .before .before .before .before .before .pre) _
+    let before-1 = c .before .before .before .before .before in
+    let at-pre = before-1 .before .before .before in
+    run-asked _ _ _ _ _ _ _ _ _ _ _ (at-pre .pre) _
     (c .before .before .before .before .loop-test .taken) _ _ _ _ _ (c .before .before .before .before .before .loop .inv)
     (c .before .before .before .offset .ensures) (c .before .before .run-from .ensures) (c .before .smaller .ensures)
 
 add-here : tie.Need-add-here Inv-loop μ-loop
 add-here c =
+    let before-1 = c .before .before .before .before .before in
+    let at-offset = before-1 .before in
+    let at-loop-test = at-offset .before in
+    let at-loop = at-loop-test .before in
+    let at-pre = at-loop .before .before .before in
     omega
-    (arith, bytes-small _ _ _ _ _ _ _ _ _ _ _ (c .before .before .before .before .before .before .before .before .before .before .before .pre) _ (c .before .before .before .before .before .before .before .loop-test .taken) _ _ _ _ _ (c .before .before .before .before .before .before .before .before .loop .inv) (c .before .before .before .before .before .before .offset .ensures) (c .before .before .before .before .before .run-from .ensures) (c .before .before .before .before .smaller .ensures) .1)
+    (arith, bytes-small _ _ _ _ _ _ _ _ _ _ _ (at-pre .pre) _ (at-loop-test .loop-test .taken) _ _ _ _ _ (at-loop .loop .inv) (at-offset .offset .ensures) (c .before .before .before .before .before .run-from .ensures) (c .before .before .before .before .smaller .ensures) .1)
 
 add-i : tie.Need-add-i Inv-loop μ-loop
 add-i c =
+    let before-1 = c .before .before .before .before .before in
+    let at-offset = before-1 .before in
+    let at-loop-test = at-offset .before in
+    let at-loop = at-loop-test .before in
+    let at-pre = at-loop .before .before .before in
     omega
-    (arith, bytes-small _ _ _ _ _ _ _ _ _ _ _ (c .before .before .before .before .before .before .before .before .before .before .before .pre) _ (c .before .before .before .before .before .before .before .loop-test .taken) _ _ _ _ _ (c .before .before .before .before .before .before .before .before .loop .inv) (c .before .before .before .before .before .before .offset .ensures) (c .before .before .before .before .before .run-from .ensures) (c .before .before .before .before .smaller .ensures) .2)
+    (arith, bytes-small _ _ _ _ _ _ _ _ _ _ _ (at-pre .pre) _ (at-loop-test .loop-test .taken) _ _ _ _ _ (at-loop .loop .inv) (at-offset .offset .ensures) (c .before .before .before .before .before .run-from .ensures) (c .before .before .before .before .smaller .ensures) .2)
 
 loop-less : tie.Need-loop-less Inv-loop μ-loop
 loop-less c =
+    let before-1 = c .before .before .before .before .before in
+    let at-offset = before-1 .before in
+    let at-loop-test = at-offset .before in
+    let at-loop = at-loop-test .before in
+    let at-pre = at-loop .before .before .before in
     omega
-    (arith, some _ _ _ _ _ _ _ _ _ _ _ (c .before .before .before .before .before .before .before .before .before .before .before .pre) _ (c .before .before .before .before .before .before .before .loop-test .taken) _ _ _ _ _ (c .before .before .before .before .before .before .before .before .loop .inv) (c .before .before .before .before .before .before .offset .ensures) (c .before .before .before .before .before .run-from .ensures) (c .before .before .before .before .smaller .ensures), c .before .before .before .before .smaller .ensures .1, c .before .before .before .before .before .before .before .loop-test .taken)
+    (arith, some _ _ _ _ _ _ _ _ _ _ _ (at-pre .pre) _ (at-loop-test .loop-test .taken) _ _ _ _ _ (at-loop .loop .inv) (at-offset .offset .ensures) (c .before .before .before .before .before .run-from .ensures) (c .before .before .before .before .smaller .ensures), c .before .before .before .before .smaller .ensures .1, at-loop-test .loop-test .taken)
 
 loop-again : tie.Need-loop-again Inv-loop μ-loop
 loop-again c =
-    runs-next _ _ _ _ _ _ _ _ _ _ _ (c .before .before .before .before .before .before .before .before .before .before .before .pre) _
-    (c .before .before .before .before .before .before .before .loop-test .taken) _ _ _ _ _
-    (c .before .before .before .before .before .before .before .before .loop .inv)
-    (c .before .before .before .before .before .before .offset .ensures) (c .before .before .before .before .before .run-from .ensures)
+    let before-1 = c .before .before .before .before .before in
+    let at-offset = before-1 .before in
+    let at-loop-test = at-offset .before in
+    let at-loop = at-loop-test .before in
+    let at-pre = at-loop .before .before .before in
+    runs-next _ _ _ _ _ _ _ _ _ _ _ (at-pre .pre) _
+    (at-loop-test .loop-test .taken) _ _ _ _ _
+    (at-loop .loop .inv)
+    (at-offset .offset .ensures) (c .before .before .before .before .before .run-from .ensures)
     (c .before .before .before .before .smaller .ensures) _ (c .before .to .given) (c .before .before .stretch .ensures)
 
 same-length : tie.Need-same-length Inv-loop μ-loop

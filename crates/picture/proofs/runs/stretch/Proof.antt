@@ -29,15 +29,19 @@ one-requires c κs = part-asked _ _ _ _ _ _ (c .before .before .before .before .
 
 add-i : tie.Need-add-i Inv-loop μ-loop
 add-i c =
+    let before-1 = c .before .before .before .before .before in
+    let at-pre = before-1 .before .before .before in
     omega
-    (arith, c .before .before .before .before .loop-test .taken, c .before .before .before .before .before .before .before .before .pre .place-fits, c .before .before .before .before .before .before .before .before .pre .memory-most)
+    (arith, c .before .before .before .before .loop-test .taken, at-pre .pre .place-fits, at-pre .pre .memory-most)
 
 loop-less : tie.Need-loop-less Inv-loop μ-loop
 loop-less c = omega (arith, c .before .before .before .before .loop-test .taken)
 
 loop-again : tie.Need-loop-again Inv-loop μ-loop
 loop-again c =
-    stretch-next _ _ _ _ _ _ (c .before .before .before .before .before .before .before .before .pre) _ _
+    let before-1 = c .before .before .before .before .before in
+    let at-pre = before-1 .before .before .before in
+    stretch-next _ _ _ _ _ _ (at-pre .pre) _ _
     (c .before .before .before .before .before .loop .inv) _ (c .before .before .before .before .loop-test .taken) (c .before .to .given)
     (c .before .before .one .ensures)
 
@@ -58,7 +62,9 @@ same-length c = c .before .to2 .given ∙ c .before .before .before .before .bef
 
 returns : tie.Need-returns Inv-loop μ-loop
 returns c =
-    stretch-done _ _ _ _ _ _ (c .before .before .before .before .before .before .before .before .pre) _ _
+    let before-1 = c .before .before .before .before .before in
+    let at-pre = before-1 .before .before .before in
+    stretch-done _ _ _ _ _ _ (at-pre .pre) _ _
     (c .before .before .before .before .before .loop .inv) _ (c .before .before .one2 .ensures)
 
 pub stretch-spec : {M : Type 1} → statement M

@@ -92,7 +92,9 @@ same-length c = search needs
 
 returns : tie.Need-returns
 returns c =
-    let args = c .before .before .before .before .before .before .args in
+    let before-1 = c .before .before .before .before .before in
+    let at-args = before-1 .before in
+    let args = at-args .args in
     c .before .before .four-pairs .ensures ∙
     eight-blocks (args .start) (args .row) (args .tile) (args .out) (args .n) (args .line) (args .from .now) (args .to .now)
 

@@ -27,15 +27,23 @@ tile-row-requires c κs =
     (c .before .before .loop .inv .1 .long) (c .before .before .loop .inv .1 .line-at)
 
 mul-at : tie.Need-mul-at Inv-loop μ-loop
-mul-at c = omega (arith, c .before .before .before .before .before .before .before .before .pre .few)
+mul-at c =
+    let before-1 = c .before .before .before .before .before in
+    let at-pre = before-1 .before .before .before in
+    omega (arith, at-pre .pre .few)
 
 add-at : tie.Need-add-at Inv-loop μ-loop
 add-at c =
-    line-small _ _ _ _ _ _ _ _ _ (c .before .before .before .before .before .before .before .before .pre) _ _
+    let before-1 = c .before .before .before .before .before in
+    let at-pre = before-1 .before .before .before in
+    line-small _ _ _ _ _ _ _ _ _ (at-pre .pre) _ _
     (c .before .before .before .before .loop-test .taken) (c .before .before .before .before .before .loop .inv .1 .line-at)
 
 add-k : tie.Need-add-k Inv-loop μ-loop
-add-k c = omega (arith, c .before .before .before .before .before .before .before .before .pre .tiles-most, c .before .before .before .before .loop-test .taken)
+add-k c =
+    let before-1 = c .before .before .before .before .before in
+    let at-pre = before-1 .before .before .before in
+    omega (arith, at-pre .pre .tiles-most, c .before .before .before .before .loop-test .taken)
 
 loop-less : tie.Need-loop-less Inv-loop μ-loop
 loop-less c = omega (arith, c .before .before .before .before .loop-test .taken)
