@@ -9,6 +9,7 @@ use lib.Ieee.{Float, binary32, nan, lt, le, ofBits}
 use Rattle.laws.specs.Choice.{_and_, pick}
 use Rattle.laws.specs.Below.{some}
 use Rattle.laws.specs.Masks.{on, pack}
+use Rattle.registers.specs.declared.Masked.{Masked}
 use Rattle.registers.specs.declared.Register.{Register}
 
 -- "a register of four f32 channels": how many, and how many 32 registers have
@@ -70,6 +71,21 @@ registerAt l i =
       c1 = getD l (i * channelCount + 1) nan;
       c2 = getD l (i * channelCount + 2) nan;
       c3 = getD l (i * channelCount + 3) nan;
+    }
+
+-- a register under the instruction's write mask, without it
+abbrev pub unmasked : Masked → Register
+unmasked r = record { c0 = r .c0; c1 = r .c1; c2 = r .c2; c3 = r .c3 }
+
+-- processor i's in a list, under the write mask
+abbrev pub maskedAt : List Float → ℕ → ℕ → Masked
+maskedAt l i mask =
+    record {
+      c0 = registerAt l i .c0;
+      c1 = registerAt l i .c1;
+      c2 = registerAt l i .c2;
+      c3 = registerAt l i .c3;
+      mask = mask;
     }
 
 -- a register's channels as a list

@@ -7,7 +7,7 @@ ghost use lib.Dec.{eqb};
 ghost use lib.ListN.{length};
 ghost use Rattle.laws.specs.Choice.{_and_};
 ghost use Rattle.laws.specs.Masks.{digit};
-ghost use Rattle.registers.specs.Registers.{lessThanZero, killedBy, maximumOf, choiceOf, eachOf2, eachOf3, channelCount, mostChannels, registerAt, killMask};
+ghost use Rattle.registers.specs.Registers.{lessThanZero, killedBy, maximumOf, choiceOf, eachOf2, eachOf3, channelCount, mostChannels, unmasked, maskedAt, killMask};
 
 // "a register of four f32 channels"
 pub struct Register {
@@ -15,6 +15,15 @@ pub struct Register {
     pub c1: f32,
     pub c2: f32,
     pub c3: f32,
+}
+
+// A register under the instruction's write mask, bit c of which is for channel c: what a processor is tested by.
+pub struct Masked {
+    pub c0: f32,
+    pub c1: f32,
+    pub c2: f32,
+    pub c3: f32,
+    pub mask: u32,
 }
 
 // How many channels a register has.
@@ -29,9 +38,10 @@ fn under(bit: u32, channel: f32) -> bool
 
 // Whether a channel under the write mask is less than zero. All four are asked, without a branch between them: that is quicker
 // than stopping at the first.
-pub fn kills(register: Register, mask: u32) -> bool
-    ensures { λ r. ⌜ r ≡ killedBy mask register ⌝ }
+pub fn kills(register: Masked) -> bool
+    ensures { λ r. ⌜ r ≡ killedBy (register .mask) (unmasked register) ⌝ }
 {
+    let mask = register.mask;
     under(mask % 2, register.c0)
         | (under(mask / 2 % 2, register.c1)
             | (under(mask / 4 % 2, register.c2) | under(mask / 8 % 2, register.c3)))
@@ -75,16 +85,17 @@ pub fn choice(a: Register, b: Register, third: Register) -> Register
     }
 }
 
-// The register of processor `i` in a list, four channels a processor.
-fn register_at(registers: &[f32], i: usize) -> Register
+// The register of processor `i` in a list, four channels a processor, under the write mask.
+fn masked_at(registers: &[f32], i: usize, mask: u32) -> Masked
     requires { ⌜ i * channelCount + channelCount ≤ length (now registers) ⌝ }
-    ensures { λ r. ⌜ r ≡ registerAt (now (registers .entry)) i ⌝ }
+    ensures { λ r. ⌜ r ≡ maskedAt (now (registers .entry)) i mask ⌝ }
 {
-    Register {
+    Masked {
         c0: registers[i * CHANNELS],
         c1: registers[i * CHANNELS + 1],
         c2: registers[i * CHANNELS + 2],
         c3: registers[i * CHANNELS + 3],
+        mask,
     }
 }
 
@@ -104,7 +115,7 @@ pub fn kill_mask(registers: &[f32], mask: u32) -> u32
     let mut found = 0u32;
     while 0 < i {
         i -= 1;
-        found = found * 2 + bit_of(kills(register_at(registers, i), mask));
+        found = found * 2 + bit_of(kills(masked_at(registers, i, mask)));
     }
     found
 }

@@ -5,7 +5,8 @@ use Prim.Native.Nat.{_/_, _≤_}
 use native.Mathlib.Omega.{arith}
 use lib.ListN.{length}
 use Rattle.laws.proofs.Masks.{digit-lt}
-use Rattle.registers.specs.Registers.{killedBy}
+use Rattle.registers.specs.declared.Masked.{Masked}
+use Rattle.registers.specs.Registers.{killedBy, unmasked}
 use Rattle.registers.proofs.Killing.{killedFrom, from-none, from-room, from-more, from-all}
 use Rattle.registers.proofs.kill_mask.Statement.{statement}
 use Rattle.registers.proofs.kill_mask.Tie as tie
@@ -36,8 +37,8 @@ mul-found c =
       from-room registers (entry .args .mask) (length registers / 4) (at-loop .loop .i) (c .loop-test .taken) (omega (arith, entry .pre)),
     )
 
-register-at-requires : tie.Need-register-at-requires Inv-loop μ-loop
-register-at-requires c κs = omega (arith, c .before .loop .inv)
+masked-at-requires : tie.Need-masked-at-requires Inv-loop μ-loop
+masked-at-requires c κs = omega (arith, c .before .loop .inv)
 
 kills-requires : tie.Need-kills-requires Inv-loop μ-loop
 kills-requires c κs = tt
@@ -75,7 +76,7 @@ loop-again c =
     let mask = entry .args .mask in (
       omega (arith, at-loop .loop .inv),
       from-more registers mask (length registers / 4) (at-test .loop-test .taken) (at-loop .loop .inv .0) (at-loop .loop .inv .1)
-          (c .bit-of .ensures) (at-kills .kills .ensures ∙ ap (killedBy mask) (at-register .register-at .ensures)),
+          (c .bit-of .ensures) (at-kills .kills .ensures ∙ ap (λ (m : Masked). killedBy (m .mask) (unmasked m)) (at-register .masked-at .ensures)),
     )
 
 -- all processors
@@ -96,7 +97,7 @@ kill-mask-spec =
     loop-holds
     sub-i
     mul-found
-    register-at-requires
+    masked-at-requires
     kills-requires
     bit-of-requires
     add-found
