@@ -333,11 +333,7 @@ pub fn run_portion(
     let product = both
         .product
         .run(&program.product, portion, booleans, integers);
-    let product = product.map(|report| Report {
-        steps: report.steps,
-        first: report.first,
-        active: report.active,
-    });
+    let product = product.map(as_second);
     let expected = both
         .second
         .run_with(&program.second, portion, booleans, integers);
@@ -360,4 +356,13 @@ pub fn run_portion(
         case.untouched(&asked, &(both.product, again), &(before, before))?;
     }
     Ok(expected.err())
+}
+
+/// A run's report of the product as the second program has it.
+pub(crate) fn as_second(report: boundary::Report) -> Report {
+    Report {
+        steps: report.steps,
+        first: report.first,
+        active: report.active,
+    }
 }

@@ -236,11 +236,7 @@ fn ran(
     let before = both.product;
     let group = &mut both.product;
     let product = group.run(&program.product, list, booleans, integers);
-    let product = product.map(|report| Report {
-        steps: report.steps,
-        first: report.first,
-        active: report.active,
-    });
+    let product = product.map(crate::flow::as_second);
     let expected = both
         .second
         .run_with(&program.second, list, booleans, integers);
