@@ -109,18 +109,10 @@ fn step_number(
     let second = seconds[at];
     if slot::permitted(cells[group::MODE], first) {
         if first % slot::OPS == 0 {
-            return stepper::single::jump_slot(
-                first,
-                second,
-                slots,
-                cells,
-                alu,
-                predicate,
-                booleans,
-            );
+            return steps::single::jump_slot(first, second, slots, cells, alu, predicate, booleans);
         }
         let word = loops::word_at(second / slot::INTEGER % slot::INTEGERS, integers);
-        return stepper::looping::loop_slot(
+        return steps::looping::loop_slot(
             first,
             second,
             slots,
@@ -294,7 +286,7 @@ fn one_step(
     let second = seconds[at];
     if slot::permitted(cells[group::MODE], first) {
         if first % slot::OPS == 0 {
-            let number = stepper::running::jump_slot(
+            let number = steps::running::jump_slot(
                 first,
                 second,
                 slots,
@@ -306,7 +298,7 @@ fn one_step(
             return made_of(number);
         }
         let word = loops::word_at(second / slot::INTEGER % slot::INTEGERS, integers);
-        let number = stepper::looping::loop_slot(
+        let number = steps::looping::loop_slot(
             first,
             second,
             slots,

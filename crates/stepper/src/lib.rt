@@ -1,8 +1,5 @@
 // A step of a group on its cells, answered in one number. A refusal (13 to 16) leaves the cells as they were.
-pub mod looping;
-mod place;
-pub mod running;
-pub mod single;
+pub mod place;
 pub mod slot;
 
 use group::planes::Branched;
@@ -16,9 +13,9 @@ ghost use Rattle.stepper.specs.Answers.{decisionBy};
 pub struct SlotNumber(pub u32);
 
 // What decides a step: a loop, to stay or to jump, or the processors' wishes.
-const JUMP: u32 = 1;
+pub const JUMP: u32 = 1;
 
-const WISHES: u32 = 2;
+pub const WISHES: u32 = 2;
 
 // The answer of a step: the group jumped or stayed, and goes on at a slot.
 pub enum Stepped {
@@ -28,7 +25,7 @@ pub enum Stepped {
 }
 
 // Stores the active processors and the planes of the branch counters.
-fn put_masks(cells: &mut [u32; group::CELLS], w: Branched)
+pub fn put_masks(cells: &mut [u32; group::CELLS], w: Branched)
     requires { ⌜ CellsNamed (now cells) ⌝ }
     ensures { λ r. ⌜ now (cells .exit) ≡ withMasks (now (cells .entry)) w ⌝ }
 {
@@ -41,7 +38,7 @@ fn put_masks(cells: &mut [u32; group::CELLS], w: Branched)
 }
 
 // The decision: a loop's, or where none decides what the wishes come to.
-fn overrule(decision: u32, wanted: bool) -> bool
+pub fn overrule(decision: u32, wanted: bool) -> bool
     ensures { λ r. ⌜ r ≡ decisionBy decision wanted ⌝ }
 {
     if decision == WISHES {
