@@ -271,7 +271,7 @@ fn month_of(log: &Log, lease: &Lease) -> Outcome<Month> {
     match (log.replay.score(lease), &log.stop) {
         (Ok(month), _) => Ok(month),
         (Err(_), Some(stop)) => Err(Failure::Refused(log.complaint(stop)).hinted(log.hint())),
-        (Err(number), None) => Err(Failure::Refused(cause::refused(number, None).to_string())),
+        (Err(refusal), None) => Err(Failure::Refused(cause::refused(refusal, None).to_string())),
     }
 }
 
