@@ -4,6 +4,7 @@ use crate::inputs::{domain, instructions, mixed_stream, output, settings, Random
 use crate::table::Table;
 use bench::fast::command::{write_command, Command, Format};
 use bench::fast::session as fast;
+use boundary::Edition;
 use boundary::headers::{
     SET_COND_OUT_FMT, SET_CONSTB_FMT, SET_CONSTF_FMT, SET_CONSTI_FMT, SET_INP_FMT, SET_INST_FMT,
     SET_OUT_FMT, START_PROGRAM, WAIT_FOR_IDLE,
@@ -81,7 +82,7 @@ fn mixed(table: &mut Table) {
         name,
         stream.len(),
         || {
-            let mut session = boundary::Session::new();
+            let mut session = boundary::Session::new(Edition::First);
             stream
                 .iter()
                 .map(|&word| product_word(&mut session, word))
@@ -125,7 +126,7 @@ fn pieces(table: &mut Table, name: &str, outputs: u32, stream: &[u32], length: u
     if !table.wants(name) {
         return;
     }
-    let mut product_ready = boundary::Session::new();
+    let mut product_ready = boundary::Session::new(Edition::First);
     let mut rust_ready = fast::Session::new();
     if outputs > 0 {
         product_ready.feed(&settings(outputs));
@@ -165,7 +166,7 @@ fn check_pieces(product: &boundary::Session, rust: &fast::Session, stream: &[u32
 }
 
 fn check_words(stream: &[u32]) {
-    let mut product = boundary::Session::new();
+    let mut product = boundary::Session::new(Edition::First);
     let mut rust = fast::Session::new();
     for &word in stream {
         let by_rust = rust.word(word).map(|reply| match reply {

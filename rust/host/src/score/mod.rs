@@ -11,6 +11,7 @@ pub mod sample;
 mod station;
 
 use crate::common::digits::{grouped, Digits};
+use crate::common::edition::{self, EditionOption};
 use crate::common::failure::{Failure, Outcome};
 use crate::common::text;
 use crate::common::visible;
@@ -23,7 +24,7 @@ use crate::score::issue::Issue;
 use crate::score::month::Score;
 use crate::score::picture::file::Replaced;
 use crate::score::picture::unscored::{self, Unscored};
-use boundary::{Lease, Month, Verdict};
+use boundary::{Edition, Lease, Month, Verdict};
 use clap::Args;
 use std::io::{self, Write};
 use std::path::{Path, PathBuf};
@@ -35,11 +36,14 @@ day; the last day's number is below 2^32. A day is served what it claimed, up to
 a day without a midnight in the log is served 0. A month is full where every day owes more
 than 0 and is served in full, \"nothing owed\" where days owe 0, else short. A dark day is
 served nothing of what it owes.
+With --edition 2 a pair counts the unmasked channels of each output, where edition 1 counts an
+output that isn't silent once.
 Exit status: 0 full or nothing owed, 3 short, 1 refused, 2 a wrong command line or file.
 Where there is no score, a card asked for with --svg says so, in place of an earlier one.
 
 Examples, from the repository's root:
   egretfold score samples/station-14.log --first-day 101 --days 30 --owed 14000000
+  egretfold score samples/station-14.log --first-day 101 --days 30 --owed 56000000 --edition 2
   egretfold score samples/full-month.log --first-day 131 --days 31 --owed 14000000 --from 2026-05-01 --csv
   egretfold score samples/station-14.log --first-day 101 --days 30 --owed 14000000 --from 2026-04-01 --svg april.svg --station 14 --lessee 'the harbour'";
 
@@ -74,6 +78,8 @@ pub struct Options {
     #[arg(long, value_name = "FILE")]
     svg: Option<PathBuf>,
     #[command(flatten)]
+    edition: EditionOption,
+    #[command(flatten)]
     issue: issue::IssueOptions,
 }
 
@@ -83,6 +89,13 @@ pub struct LeaseLine {
     pub first_day: u32,
     pub days: u32,
     pub owed: u32,
+}
+
+/// What a score was asked for, as it was given.
+pub struct Asked {
+    /// The edition's number.
+    pub edition: u32,
+    pub line: LeaseLine,
 }
 
 /// Where the picture goes.
@@ -122,20 +135,33 @@ pub fn run(options: &Options, out: &mut dyn Write) -> Outcome {
         days: options.days,
         owed: options.owed,
     };
+    let asked = Asked {
+        edition: options.edition.number,
+        line,
+    };
     let picture = Picture::asked(options)?;
     let issue = Issue::new(&options.issue);
-    // Before any log is opened.
+    // Before any log is opened: the edition before all else, then the lease line.
+    let edition = match options.edition.accepted() {
+        Ok(edition) => edition,
+        Err(refused) => {
+            if options.json {
+                rows::refused_asked(&asked, &refused, out)?;
+            }
+            return unscored(edition::refused(refused), options, &issue, &picture, out);
+        }
+    };
     let lease = match accepted(line) {
         Ok(lease) => lease,
         Err(refused) => {
             if options.json {
-                rows::refused_line(&line, &refused, out)?;
+                rows::refused_asked(&asked, &refused, out)?;
             }
             return unscored(refused_line(refused), options, &issue, &picture, out);
         }
     };
     let dates = dates(options.from, &lease)?;
-    let mut log = Log::with_digest();
+    let mut log = Log::with_digest(edition);
     // A score of a part of what was asked for would be no score: no card then.
     let read = Source::open_all(&options.files).and_then(|sources| log.read(sources));
     if let Err(failure) = read {
@@ -145,7 +171,7 @@ pub fn run(options: &Options, out: &mut dyn Write) -> Outcome {
         Ok(month) => month,
         Err(failure) => {
             if options.json {
-                rows::refused_log(&line, &log, out)?;
+                rows::refused_log(&asked, &log, out)?;
             }
             return unscored(failure, options, &issue, &picture, out);
         }
@@ -154,7 +180,7 @@ pub fn run(options: &Options, out: &mut dyn Write) -> Outcome {
     let drawn = picture.draw(|| picture::svg(&score), out);
     match (options.json, options.csv) {
         _ if matches!(picture, Picture::Standard) => {}
-        (true, _) => rows::json(&score, &line, out)?,
+        (true, _) => rows::json(&score, &asked, out)?,
         (_, true) => csv(&score, out)?,
         _ => card::text(&score, Digits::plain(options.plain), out)?,
     }
@@ -184,9 +210,10 @@ fn unscored(
             .from
             .map_or_else(|| lease_days(options), picture::month_of),
         lease: format!(
-            "{}, {} elements owed a day",
+            "{}, {} elements owed a day, edition {}",
             lease_days(options),
-            grouped(u64::from(options.owed))
+            grouped(u64::from(options.owed)),
+            options.edition.number
         ),
         log: format!("Log {}", files(&options.files)),
         issue,
@@ -235,7 +262,7 @@ fn files(files: &[PathBuf]) -> String {
 /// The card of a log that is at hand.
 pub fn show(source: Source, line: LeaseLine, from: Date, out: &mut dyn Write) -> Outcome<Verdict> {
     let lease = accepted(line).map_err(refused_line)?;
-    let mut log = Log::new();
+    let mut log = Log::new(Edition::First);
     log.read(vec![source])?;
     let dates = dates(Some(from), &lease)?;
     let score = Score::new(lease, dates, month_of(&log, &lease)?, &log, Issue::nobody());

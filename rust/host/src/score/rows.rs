@@ -7,12 +7,12 @@ use crate::replay::days;
 use crate::replay::log::Log;
 use crate::score::checks::Check;
 use crate::score::month::{Score, Served};
-use crate::score::LeaseLine;
+use crate::score::Asked;
 use serde_json::{json, Value};
 use std::io::Write;
 
 /// A line for each day, and one for the month.
-pub fn json(score: &Score, line: &LeaseLine, out: &mut dyn Write) -> Outcome {
+pub fn json(score: &Score, asked: &Asked, out: &mut dyn Write) -> Outcome {
     for day in &score.days {
         let value = json!({
             "day": day.number,
@@ -25,7 +25,7 @@ pub fn json(score: &Score, line: &LeaseLine, out: &mut dyn Write) -> Outcome {
         });
         writeln!(out, "{value}")?;
     }
-    let mut summary = summary(line, Value::Null);
+    let mut summary = summary(asked, Value::Null);
     score.issue.put(&mut summary);
     summary["sha256"] = json!(score.log.digest());
     let checks: Vec<Value> = score.checks.iter().map(Check::json).collect();
@@ -42,25 +42,27 @@ pub fn json(score: &Score, line: &LeaseLine, out: &mut dyn Write) -> Outcome {
     Ok(())
 }
 
-/// The one line of a lease line that was refused: no log was read.
-pub fn refused_line(line: &LeaseLine, refused: &Refused, out: &mut dyn Write) -> Outcome {
+/// The one line of an edition or a lease line that was refused: no log was read.
+pub fn refused_asked(asked: &Asked, refused: &Refused, out: &mut dyn Write) -> Outcome {
     let refusal = json!({"refused": refused.number, "cause": refused.cause});
-    writeln!(out, "{}", json!({ "summary": summary(line, refusal) }))?;
+    writeln!(out, "{}", json!({ "summary": summary(asked, refusal) }))?;
     Ok(())
 }
 
 /// The one line of a log whose replay was stopped: no day has a score.
-pub fn refused_log(line: &LeaseLine, log: &Log, out: &mut dyn Write) -> Outcome {
+pub fn refused_log(asked: &Asked, log: &Log, out: &mut dyn Write) -> Outcome {
     let told = days::summary(log);
-    let mut summary = summary(line, told["refusal"].clone());
+    let mut summary = summary(asked, told["refusal"].clone());
     summary["log"] = told;
     writeln!(out, "{}", json!({ "summary": summary }))?;
     Ok(())
 }
 
-/// The lease line, and what was refused in place of a score.
-fn summary(line: &LeaseLine, refusal: Value) -> Value {
+/// The edition and the lease line, and what was refused in place of a score.
+fn summary(asked: &Asked, refusal: Value) -> Value {
+    let line = &asked.line;
     json!({
+        "edition": asked.edition,
         "lease": {"first_day": line.first_day, "days": line.days, "owed": line.owed},
         "refusal": refusal,
     })
@@ -69,14 +71,15 @@ fn summary(line: &LeaseLine, refusal: Value) -> Value {
 /// A head and a row a day; numbers and dates need no quotes.
 pub fn csv(score: &Score, out: &mut dyn Write) -> Outcome {
     let date = score.dates().map_or("", |_| "date,");
-    writeln!(out, "day,{date}claimed,served,owed,dark,in_log")?;
+    writeln!(out, "day,{date}claimed,served,owed,dark,in_log,edition")?;
+    let edition = score.log.edition().number();
     for day in &score.days {
         let date = day.date.map_or(String::new(), |date| format!("{date},"));
         let (claimed, served, owed) = (day.claimed, day.served, day.owed);
         let (number, dark, in_log) = (day.number, day.is_dark(), day.in_log);
         writeln!(
             out,
-            "{number},{date}{claimed},{served},{owed},{dark},{in_log}"
+            "{number},{date}{claimed},{served},{owed},{dark},{in_log},{edition}"
         )?;
     }
     Ok(())
