@@ -166,6 +166,33 @@ static void check_silent(void)
     agree("session_tallies, elements of a silent output", counts[1], 1728);
 }
 
+/* Edition 2 credits the two channels of FLOAT32_2 under a full mask, and one of them with channel 0 masked off; edition 1 one for
+ * each. */
+static void check_editions(void)
+{
+    const uint32_t words[11] = {0xC0030C00, 1, 0x4000, 0x3000060, 0x12, 0xC0000800, 0, 0xC0001900, 0xFFEF, 0xC0000800, 0};
+    const uint64_t elements[3] = {0, 1728 + 2 * 1728 + 2 * 1728, 1728 + 3 * 1728 + 2 * 1728};
+    struct session s, before;
+    for (uint32_t edition = 1; edition < 3; edition++) {
+        uint64_t fed[2] = {9, 9}, counts[2] = {9, 9};
+        uint32_t status[6] = {9, 9, 9, 9, 9, 9};
+        agree("session_begin under an edition", egretfold_session_begin(s.own, s.tallies, s.shared, edition), 0);
+        agree("session_feed under an edition", feed(&s, stream, 15, fed), 0);
+        agree("session_feed, two outputs under an edition", feed(&s, words, 11, fed), 0);
+        agree("session_tallies under an edition", egretfold_session_tallies(s.tallies, counts), 0);
+        agree("session_tallies, runs under an edition", counts[0], 3);
+        agree("session_tallies, elements under an edition", counts[1], elements[edition]);
+        agree("session_status under an edition", egretfold_session_status(s.own, status), 0);
+        agree("session_status, the edition", status[5], edition);
+    }
+    memcpy(&before, &s, sizeof s);
+    agree("session_begin, edition 0", egretfold_session_begin(s.own, s.tallies, s.shared, 0), 3);
+    agree("session_begin, edition 3", egretfold_session_begin(s.own, s.tallies, s.shared, 3), 3);
+    agree("session_begin, own numbers after a refusal", memcmp(s.own, before.own, sizeof s.own) == 0, 1);
+    agree("session_begin, tallies after a refusal", memcmp(s.tallies, before.tallies, sizeof s.tallies) == 0, 1);
+    agree("session_begin, settings after a refusal", memcmp(s.shared, before.shared, sizeof s.shared) == 0, 1);
+}
+
 struct replay {
     uint32_t log[EGRETFOLD_LOG];
     uint64_t marks[EGRETFOLD_MARKS];
@@ -225,6 +252,11 @@ static void check_log(void)
     const size_t length = put_log(bytes);
     agree("log_begin", egretfold_log_begin(r.log, r.marks, r.s.own, r.s.tallies, r.s.shared, 1), 0);
     check_log_status("log_status of a new replay", &r, fresh);
+    r.log[0] = 77;
+    agree("log_begin, edition 3", egretfold_log_begin(r.log, r.marks, r.s.own, r.s.tallies, r.s.shared, 3), 3);
+    agree("log_begin, own numbers after a refusal", r.log[0], 77);
+    agree("log_begin, edition 2", egretfold_log_begin(r.log, r.marks, r.s.own, r.s.tallies, r.s.shared, 2), 0);
+    agree("log_begin, edition 1", egretfold_log_begin(r.log, r.marks, r.s.own, r.s.tallies, r.s.shared, 1), 0);
     check_part("log_part of a new replay", &r, 0, 0, 0);
     agree("log_feed, first piece", feed_log(&r, bytes, 94, taken), 0);
     agree("log_feed, bytes of the first piece", taken[0], 94);
@@ -274,6 +306,10 @@ static void check_lease_lines(void)
     agree("score_lease, 32 days", egretfold_score_lease(1, 30, 32, 1), 21);
     agree("score_lease, 100,000,001 owed", egretfold_score_lease(1, 30, 1, 100000001), 21);
     agree("score_lease, past the last number", egretfold_score_lease(1, 4294967266, 31, 1), 21);
+    agree("score_lease, edition 2", egretfold_score_lease(2, 30, 1, 1), 0);
+    agree("score_lease, 0 days under edition 2", egretfold_score_lease(2, 30, 0, 1), 21);
+    agree("score_lease, edition 0", egretfold_score_lease(0, 30, 1, 1), 3);
+    agree("score_lease, edition 3 before 0 days", egretfold_score_lease(3, 30, 0, 1), 3);
 }
 
 static uint64_t claimed[EGRETFOLD_DAYS], served[EGRETFOLD_DAYS], month[3];
@@ -607,6 +643,7 @@ int main(void)
     check_words(&s);
     check_refused_piece();
     check_silent();
+    check_editions();
     check_log();
     check_log_days();
     check_lease_lines();
