@@ -2,7 +2,9 @@
 //! look at how a replay is used.
 
 use boundary::headers::{SET_DOMAIN, SET_INST_FMT, SET_OUT_FMT, START_PROGRAM};
-use boundary::{lent, BytesFed, Day, Edition, Lease, LogStatus, Part, RefusedWord, Replay, Session};
+use boundary::{
+    lent, BytesFed, Day, Edition, Lease, LogStatus, Part, RefusedWord, Replay, Session,
+};
 
 /// Document 01's whole stream up to its start, which claims 1,728 elements.
 #[rustfmt::skip]

@@ -128,9 +128,15 @@ fn the_three_verdicts() {
     assert_eq!(replay.score(&lease(102, 1, 0)), Ok(nothing));
     // A new replay has no midnight.
     let nothing = month(&[day(0, 0, 0)], 0, Verdict::NothingOwed);
-    assert_eq!(Replay::new(Edition::First).score(&lease(0, 1, 0)), Ok(nothing));
+    assert_eq!(
+        Replay::new(Edition::First).score(&lease(0, 1, 0)),
+        Ok(nothing)
+    );
     let short = month(&[day(0, 0, 0)], 1, Verdict::Short);
-    assert_eq!(Replay::new(Edition::First).score(&lease(0, 1, 1)), Ok(short));
+    assert_eq!(
+        Replay::new(Edition::First).score(&lease(0, 1, 1)),
+        Ok(short)
+    );
 }
 
 #[test]

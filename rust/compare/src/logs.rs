@@ -118,12 +118,7 @@ fn of_second(second: &Second) -> Seen {
 /// The log in pieces, some of them empty. Their sums must be the whole's; after a
 /// refusal each piece gets its number again and nothing is taken, but an empty
 /// one has no refusal.
-fn fed_in_pieces(
-    case: &mut Case,
-    edition: Edition,
-    log: &[u8],
-    whole: Fed,
-) -> Agreed<Product> {
+fn fed_in_pieces(case: &mut Case, edition: Edition, log: &[u8], whole: Fed) -> Agreed<Product> {
     let mut product = Product::new(edition);
     let mut sum = Fed {
         taken: 0,

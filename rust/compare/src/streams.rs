@@ -139,10 +139,12 @@ fn under_the_other_edition(
     let bounded = first <= second && second <= 4 * first;
     case.agree(asked, &(first, second, bounded), &(first, second, true))?;
     if first < second {
-        case.tally.mark("streams whose claims the editions tell apart");
+        case.tally
+            .mark("streams whose claims the editions tell apart");
     }
     if second == 4 * first && first > 0 {
-        case.tally.mark("streams that claim four times as much under edition 2");
+        case.tally
+            .mark("streams that claim four times as much under edition 2");
     }
     other.claims = seen.claims;
     case.agree(asked, &other, seen)
@@ -156,12 +158,7 @@ fn fed_uncut(case: &mut Case, edition: Edition, words: &[u32]) -> Agreed<(Both, 
 }
 
 /// The stream in pieces, some of them empty. Their sums must be the whole's.
-fn fed_in_pieces(
-    case: &mut Case,
-    edition: Edition,
-    words: &[u32],
-    whole: Fed,
-) -> Agreed<Both> {
+fn fed_in_pieces(case: &mut Case, edition: Edition, words: &[u32], whole: Fed) -> Agreed<Both> {
     let mut both = Both::new(edition);
     let mut sum = Fed {
         taken: 0,

@@ -4,11 +4,11 @@ use crate::inputs::{domain, instructions, mixed_stream, output, settings, Random
 use crate::table::Table;
 use bench::fast::command::{write_command, Command, Format};
 use bench::fast::session as fast;
-use boundary::Edition;
 use boundary::headers::{
     SET_COND_OUT_FMT, SET_CONSTB_FMT, SET_CONSTF_FMT, SET_CONSTI_FMT, SET_INP_FMT, SET_INST_FMT,
     SET_OUT_FMT, START_PROGRAM, WAIT_FOR_IDLE,
 };
+use boundary::Edition;
 
 /// The mixed stream is about this long, a stream of one command about half.
 const WORDS: usize = 1 << 16;

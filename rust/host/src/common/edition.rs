@@ -21,7 +21,10 @@ impl EditionOption {
     pub fn accepted(&self) -> Result<Edition, Refused> {
         let number = self.number;
         Edition::of(number).map_err(|refusal| {
-            cause::refused(refusal, Some(format!("edition {number} is neither 1 nor 2")))
+            cause::refused(
+                refusal,
+                Some(format!("edition {number} is neither 1 nor 2")),
+            )
         })
     }
 }

@@ -196,6 +196,7 @@ impl Made<'_> {
             };
             self.put(number);
         }
+        self.edition();
         self.valued(3, "--from", &DATES);
         self.valued(6, "--station", &["14", "\u{1b}[2J", "<&\">", ""]);
         self.valued(6, "--lessee", &["Harbour", "a\nb", "\u{202e}x"]);
@@ -207,8 +208,17 @@ impl Made<'_> {
         self.logs();
     }
 
+    fn edition(&mut self) {
+        self.valued(
+            4,
+            "--edition",
+            &["1", "2", "2", "2", "0", "3", "4294967295"],
+        );
+    }
+
     fn replay(&mut self) {
         self.put("replay");
+        self.edition();
         for flag in ["--json", "--csv", "--plain"] {
             self.flag(5, flag);
         }
@@ -217,6 +227,7 @@ impl Made<'_> {
 
     fn decode(&mut self) {
         self.put("decode");
+        self.edition();
         for (times, flag) in [
             (3, "--hex"),
             (4, "--summary"),
