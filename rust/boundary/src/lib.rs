@@ -18,6 +18,7 @@
 #![deny(unsafe_op_in_unsafe_fn)]
 
 mod command;
+mod edition;
 mod element;
 mod flow;
 pub mod headers;
@@ -31,6 +32,7 @@ mod score;
 mod session;
 
 pub use command::{parameters, write_command, Command};
+pub use edition::Edition;
 pub use element::{read, superfine, write, Element};
 pub use flow::{Group, Loop, Loops, Mode, Program, Report, Stepped};
 pub use layout::{layout, locate, translate, Layout, Translated, Window};
