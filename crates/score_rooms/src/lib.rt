@@ -1,11 +1,13 @@
-// A station's monthly score over numbers, by its lease line and the replay of its log: a status, 0 or a refusal's number (18, 19
-// or 21), with its numbers in rooms that the caller lends. A refusal touches no room.
+// A station's monthly score over numbers, by its lease line and the replay of its log: a status, 0 or a refusal's number (3, 18,
+// 19 or 21), with its numbers in rooms that the caller lends. A refusal touches no room.
+use refusal::Refusal;
 use score::line;
 use score::line::Judged;
 use score::month::Scored;
 use score::month::Verdict;
+use state::edition;
 ghost use mathlib.Core.Path.{_≡_};
-ghost use Rattle.score.specs.Lease.{leaseTold};
+ghost use Rattle.score.specs.Lease.{lineTold};
 ghost use Rattle.score.specs.Answers.{leaseLine};
 ghost use Rattle.refusal.specs.Crossing.{statusOf};
 ghost use Rattle.score_rooms.specs.Rooms.{ScoreCrosses, verdictNumber};
@@ -13,10 +15,13 @@ ghost use Rattle.score_rooms.specs.Rooms.{ScoreCrosses, verdictNumber};
 // The length of a month's room: what was served and owed in all, and the verdict.
 pub const MONTH_NUMBERS: usize = 3;
 
-// Whether a lease line is within its bounds; 21.
-pub fn lease(first_day: u32, days: u32, owed: u32) -> u32
-    ensures { λ r. ⌜ r ≡ statusOf (leaseTold (leaseLine «first_day» days owed)) ⌝ }
+// Whether an edition is one of the two and a lease line within its bounds; 3, then 21.
+pub fn lease(edition: u32, first_day: u32, days: u32, owed: u32) -> u32
+    ensures { λ r. ⌜ r ≡ statusOf (lineTold edition (leaseLine «first_day» days owed)) ⌝ }
 {
+    if !edition::is_known(edition) {
+        return refusal::number(Refusal::Malformed);
+    }
     let judged = line::judge(first_day, days, owed);
     match judged {
         Judged::Accepted => 0,

@@ -7,6 +7,7 @@ use command::table::Line;
 use refusal;
 use refusal::Refusal;
 use start::ready;
+use state::edition;
 use state::own;
 use state::own::WordPosition;
 use state::settings;
@@ -19,7 +20,7 @@ ghost use Rattle.session.specs.Step.{completing, parameterStep, placing,
 ghost use Rattle.state.specs.Cells.{Sized, partyOf, sessionOf};
 ghost use Rattle.state.specs.Asked.{Given, Held};
 ghost use Rattle.session.specs.Asked.{CompleteAsked, Left, Numbered, OpenAsked, ParameterAsked, Read, RefusalAsked, refusalAt, storedIn};
-ghost use Rattle.session.specs.Answers.{PieceLeft, replyOf};
+ghost use Rattle.session.specs.Answers.{Begins, PieceLeft, replyOf};
 ghost use Rattle.session.specs.Feed.{feedOf};
 
 // Words that a session takes before it answers 17.
@@ -212,15 +213,17 @@ pub fn word(
     }
 }
 
-// A new session: nothing set, mask 65535; a start would get 7, and no output asks anything of a domain.
-pub fn begin(
+// A new session of an edition: nothing set, mask 65535; a start would get 7, and no output asks anything of a domain.
+fn make(
     own: &mut [u32; state::OWN_CELLS],
     tallies: &mut [u64; state::TALLIES],
     shared: &mut [u32; state::SHARED_CELLS],
+    edition: u32,
 )
-    ensures { λ _. ⌜ Held newSession (now (own .exit)) (now (tallies .exit)) (now (shared .exit)) ⌝ }
+    ensures { λ _. ⌜ Held (newSession edition) (now (own .exit)) (now (tallies .exit)) (now (shared .exit)) ⌝ }
 {
     *own = [0; state::OWN_CELLS];
+    own[own::EDITION] = edition;
     own[own::LINE] = own::NO_LINE;
     own[own::READINESS] = ready::UNSET;
     own[own::COLUMNS] = ready::MOST_EXTENT;
@@ -229,6 +232,22 @@ pub fn begin(
     *tallies = [0; state::TALLIES];
     *shared = [0; state::SHARED_CELLS];
     shared[settings::MASK] = 65535;
+}
+
+// Begins a session of an edition, 0; 3 where it is neither 1 nor 2, and nothing is touched then.
+pub fn begin(
+    own: &mut [u32; state::OWN_CELLS],
+    tallies: &mut [u64; state::TALLIES],
+    shared: &mut [u32; state::SHARED_CELLS],
+    edition: u32,
+) -> u32
+    ensures { λ r. ⌜ Begins edition r (now (own .entry)) (now (tallies .entry)) (now (shared .entry)) (now (own .exit)) (now (tallies .exit)) (now (shared .exit)) ⌝ }
+{
+    if edition::is_known(edition) {
+        make(own, tallies, shared, edition);
+        return 0;
+    }
+    refusal::number(Refusal::Malformed)
 }
 
 // The first refusal of a piece, or none.

@@ -1,6 +1,7 @@
 // What the settings alone give a start, 0, 7, 8 or 9, kept in a party's own cells: renewed by each command that sets one of the
 // settings, so that a start only reads it.
 use command::format;
+use state::edition;
 use state::own;
 use state::settings;
 ghost use mathlib.Core.Path.{_≡_};
@@ -14,9 +15,9 @@ ghost use Rattle.command.specs.Format.{channelsOf};
 ghost use Rattle.state.specs.Cells.{bufferAt, partyOf, partyCells, sharedOf, ownLength, sharedLength};
 ghost use Rattle.state.specs.Effects.{renewed, windowFrom};
 ghost use Rattle.state.specs.Readiness.{lesser as lesserOf};
-ghost use Rattle.state.specs.Start.{unmasked};
+ghost use Rattle.state.specs.Start.{creditOf, unmasked};
 ghost use Rattle.start.specs.Gauge.{RenewAsked, settled};
-ghost use Rattle.start.specs.Windows.{columnsBy, countsBy, creditBy, eachApart, extentLeft, firstOf, keepsApart, outputBy, rowsBy, someSet, spansApart};
+ghost use Rattle.start.specs.Windows.{columnsBy, countsBy, creditBy, eachApart, extentLeft, firstOf, keepsApart, onesIn, outputBy, rowsBy, someSet, spansApart};
 
 // The most columns and the most rows that a window has.
 pub const MOST_EXTENT: u32 = 4096;
@@ -39,6 +40,9 @@ pub struct Output {
 const CHANNELS: u32 = 0xF31F1;
 
 const LAST_CODE: u32 = 7;
+
+// How many ones a number of four bits has, a digit of four bits for each from the lowest on.
+const ONES: u64 = 0x4332322132212110;
 
 // The mask's bits for the channels that a format code has. `bits` are the mask's from the output's own on, so those of later
 // outputs stand above. The codes of a stream can't be foretold, so no branch is taken on them.
@@ -67,6 +71,29 @@ pub fn is_counted(bits: u32, flag: u32, format: u32) -> bool
     } else {
         false
     }
+}
+
+// The number of ones among four bits: a digit is looked up, so that no branch is taken on them.
+fn ones(four: u32) -> u32
+    requires { ⌜ four < 16 ⌝ }
+    ensures value { λ r. ⌜ r ≡ onesIn four ⌝ }
+    ensures most { λ r. ⌜ r ≤ 4 ⌝ }
+{
+    ((ONES >> (4 * four)) % 16) as u32
+}
+
+// What a pair is credited for an output that counts, by its unmasked channels; 0 for another.
+fn pair_credit(edition: u32, bits: u32, flag: u32, format: u32) -> u32
+    ensures value { λ r. ⌜ r ≡ creditBy edition bits flag format ⌝ }
+    ensures most { λ r. ⌜ r ≤ 4 ⌝ }
+{
+    if !is_counted(bits, flag, format) {
+        return 0;
+    }
+    if edition == edition::BY_CHANNEL {
+        return ones(channel_bits(bits, format::code(format)));
+    }
+    1
 }
 
 // The output whose cells begin at a place, with the row step and span that are kept of it.
@@ -186,11 +213,36 @@ fn rows(a: Output, b: Output, c: Output, d: Output) -> u32
     lesser(extent_left(a.counts, a.height), latest)
 }
 
-// The number of outputs that count: what a pair claims.
-fn credit(a: Output, b: Output, c: Output, d: Output) -> u32
-    ensures { λ r. ⌜ r ≡ creditBy a b c d ⌝ }
+// What a pair is credited for all outputs: what it claims.
+fn credit(edition: u32, shared: &[u32; state::SHARED_CELLS]) -> u32
+    requires { ⌜ length (now shared) ≡ sharedLength ⌝ }
+    ensures { λ r. ⌜ r ≡ creditOf edition (sharedOf (now (shared .entry)) .mask) (sharedOf (now (shared .entry)) .outputs) ⌝ }
 {
-    digit(a.counts) + digit(b.counts) + digit(c.counts) + digit(d.counts)
+    let mask = shared[settings::MASK];
+    pair_credit(
+        edition,
+        mask,
+        shared[settings::OUTPUT_0],
+        shared[settings::OUTPUT_0 + 2],
+    )
+        + pair_credit(
+            edition,
+            mask / 16,
+            shared[settings::OUTPUT_1],
+            shared[settings::OUTPUT_1 + 2],
+        )
+        + pair_credit(
+            edition,
+            mask / 256,
+            shared[settings::OUTPUT_2],
+            shared[settings::OUTPUT_2 + 2],
+        )
+        + pair_credit(
+            edition,
+            mask / 4096,
+            shared[settings::OUTPUT_3],
+            shared[settings::OUTPUT_3 + 2],
+        )
 }
 
 // The first of 7, 8 and 9 that is given, 0 where none is.
@@ -229,6 +281,7 @@ pub fn renew(own: &mut [u32; state::OWN_CELLS], shared: &[u32; state::SHARED_CEL
     requires { ⌜ RenewAsked (now own) (now shared) ⌝ }
     ensures { λ _. ⌜ now (own .exit) ≡ partyCells (renewed (sharedOf (now (shared .entry))) (partyOf (now (own .entry)) [])) ⌝ }
 {
+    let edition = own[own::EDITION];
     let mask = shared[settings::MASK];
     let a = output_at(
         mask,
@@ -266,7 +319,7 @@ pub fn renew(own: &mut [u32; state::OWN_CELLS], shared: &[u32; state::SHARED_CEL
         columns(a, b, c, d),
         rows(a, b, c, d),
         apart,
-        credit(a, b, c, d),
+        credit(edition, shared),
     );
     settle(own);
 }

@@ -216,7 +216,7 @@ withShared m cs cm ts t f i b c o n =
 unfoldable pub ownAfter : Command → Shared → Party → Party
 ownAfter (command.Domain i0 j0 i1 j1) h p = withDomain (domainFrom i0 j0 i1 j1) p
 ownAfter command.Start h p =
-    withTally (record { runs = p .tally .runs + 1; claims = p .tally .claims + claimOf (p .domain) (h .mask) (h .outputs) }) p
+    withTally (record { runs = p .tally .runs + 1; claims = p .tally .claims + claimOf (p .birth .edition) (p .domain) (h .mask) (h .outputs) }) p
 ownAfter (command.Effectless what) h p = p
 ownAfter (command.Store stored.Instructions base format) h p = withInstructions (buffer base format 1) p
 ownAfter (command.Store stored.Floats base format) h p = p

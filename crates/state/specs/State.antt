@@ -33,7 +33,7 @@ pub record Tally : Type 0 where
   pub claims : ℕ
 
 -- what is fixed when a session begins: the numbers that a party owns, a bit each (0 to 15 inputs, 16 to 19 outputs, 20 what belongs
--- to party 0), and the edition
+-- to party 0; all zeros until a request uses them), and the edition of the lease rule
 pub record Birth : Type 0 where
   pub mine : ℕ
   pub edition : ℕ
@@ -61,7 +61,7 @@ pub record Readiness : Type 0 where
   pub window2 : Window
   pub window3 : Window
 
--- a party's own part; what is fixed at the beginning is all zeros until a request uses it
+-- a party's own part
 pub record Party : Type 0 where
   pub stopped : ℕ
   pub taken : ℕ
@@ -101,8 +101,9 @@ atLine line = record { line = line; count = 0; p0 = 0; p1 = 0; p2 = 0; p3 = 0 }
 abbrev pub none : Open
 none = atLine 21
 
-abbrev pub unborn : Birth
-unborn = record { mine = 0; edition = 0 }
+-- "A session's edition .. is fixed at its birth"
+abbrev pub bornIn : ℕ → Birth
+bornIn edition = record { mine = 0; edition = edition }
 
 abbrev pub noWindow : Window
 noWindow = record { step = 0; span = 0 }
@@ -124,15 +125,15 @@ newReadiness =
     }
 
 -- "A new session has nothing set and mask 65535."
-abbrev pub newParty : Party
-newParty =
+abbrev pub newParty : ℕ → Party
+newParty edition =
     record {
       stopped = 0;
       taken = 0;
       opened = none;
       domain = record { isSet = 0; i0 = 0; j0 = 0; i1 = 0; j1 = 0 };
       instructions = unset;
-      birth = unborn;
+      birth = bornIn edition;
       readiness = newReadiness;
       tally = record { runs = 0; claims = 0 };
     }
@@ -153,5 +154,5 @@ newShared =
       inputs = unset ∷ unset ∷ unset ∷ unset ∷ unset ∷ unset ∷ unset ∷ unset ∷ unset ∷ unset ∷ unset ∷ unset ∷ unset ∷ unset ∷ unset ∷ unset ∷ [];
     }
 
-abbrev pub newSession : Session
-newSession = record { party = newParty; shared = newShared }
+abbrev pub newSession : ℕ → Session
+newSession edition = record { party = newParty edition; shared = newShared }

@@ -48,6 +48,9 @@ pub const INSTRUCTIONS_FORMAT: usize = 15;
 
 pub const INSTRUCTIONS_HEIGHT: usize = 16;
 
+// The edition of the lease rule, fixed when the session begins.
+pub const EDITION: usize = 18;
+
 // The number that the settings alone give a start: 0, 7, 8 or 9.
 pub const READINESS: usize = 19;
 

@@ -21,6 +21,7 @@ use crate::lengths::{CELLS, CHANNELS, DAYS, LOG, MARKS, OWN, SHARED, SLOTS, TALL
 use crate::log::Replay;
 use crate::raw;
 use crate::session::Session;
+use crate::{answer, Answer};
 
 /// Arrays that no begin has filled yet.
 const UNFILLED: Session = Session {
@@ -29,19 +30,24 @@ const UNFILLED: Session = Session {
     shared: [0; SHARED],
 };
 
-/// A new session. This call has no refusal.
+/// A new session under the edition with this number. 3.
 #[inline]
-pub fn session_begin() -> Session {
+pub fn session_begin(edition: u32) -> Answer<Session> {
     let mut session = UNFILLED;
+    answer(session_begin_anew(&mut session, edition))?;
+    Ok(session)
+}
+
+/// A new session in the arrays of this one, under the edition with this number. 3: then it stays as it was.
+#[inline]
+pub fn session_begin_anew(session: &mut Session, edition: u32) -> u32 {
     let Session {
         own,
         tallies,
         shared,
-    } = &mut session;
+    } = session;
     // SAFETY: three separate arrays of the right lengths; no state is read.
-    let number = unsafe { raw::egretfold_session_begin(own, tallies, shared) };
-    assert_eq!(number, 0, "a session's begin has no refusal");
-    session
+    unsafe { raw::egretfold_session_begin(own, tallies, shared, edition) }
 }
 
 /// One word. command: 0 where a command is still open, else 1; then the
@@ -73,9 +79,9 @@ pub fn session_feed(session: &mut Session, words: &[u32], fed: &mut [u64; 2]) ->
 }
 
 /// status: words taken, 1 if stopped, the open command's header and how many of
-/// its parameters were taken.
+/// its parameters were taken, what the settings give a start, and the edition.
 #[inline]
-pub fn session_status(session: &Session, status: &mut [u32; 5]) -> u32 {
+pub fn session_status(session: &Session, status: &mut [u32; 6]) -> u32 {
     // SAFETY: the array is a session's that the library gave out.
     unsafe { raw::egretfold_session_status(&session.own, status) }
 }
@@ -129,19 +135,24 @@ fn arrays(replay: &mut Replay) -> Arrays<'_> {
     (&mut replay.log, &mut replay.marks, own, tallies, shared)
 }
 
-/// A new replay. This call has no refusal.
+/// A new replay under the edition with this number. 3.
 #[inline]
-pub fn log_begin() -> Replay {
+pub fn log_begin(edition: u32) -> Answer<Replay> {
     let mut replay = Replay {
         log: [0; LOG],
         marks: Box::new([0; MARKS]),
         session: UNFILLED,
     };
-    let (log, marks, own, tallies, shared) = arrays(&mut replay);
+    answer(log_begin_anew(&mut replay, edition))?;
+    Ok(replay)
+}
+
+/// A new replay in the arrays of this one, under the edition with this number. 3: then it stays as it was.
+#[inline]
+pub fn log_begin_anew(replay: &mut Replay, edition: u32) -> u32 {
+    let (log, marks, own, tallies, shared) = arrays(replay);
     // SAFETY: five separate arrays of the right lengths; no state is read.
-    let number = unsafe { raw::egretfold_log_begin(log, marks, own, tallies, shared) };
-    assert_eq!(number, 0, "a replay's begin has no refusal");
-    replay
+    unsafe { raw::egretfold_log_begin(log, marks, own, tallies, shared, edition) }
 }
 
 /// A piece of bytes. taken: the bytes taken. Returns the first refused byte's
@@ -181,11 +192,12 @@ pub fn log_part(replay: &Replay, part: u32, counts: &mut [u64; 2]) -> u32 {
     unsafe { raw::egretfold_log_part(&replay.log, &replay.marks, tallies, part, counts) }
 }
 
-/// Judges a lease line: first day, days, elements owed a day. 21.
+/// Judges the number of an edition and a lease line: first day, days, elements owed
+/// a day. 3, then 21.
 #[inline]
-pub fn score_lease((first_day, days, owed): (u32, u32, u32)) -> u32 {
+pub fn score_lease(edition: u32, (first_day, days, owed): (u32, u32, u32)) -> u32 {
     // SAFETY: numbers alone.
-    unsafe { raw::egretfold_score_lease(first_day, days, owed) }
+    unsafe { raw::egretfold_score_lease(edition, first_day, days, owed) }
 }
 
 /// Of a lease line (first day, days, elements owed a day), for each of its days:

@@ -22,9 +22,9 @@
 //!
 //! ```
 //! use boundary::headers::{SET_DOMAIN, SET_INST_FMT, SET_OUT_FMT, START_PROGRAM};
-//! use boundary::{locate, translate, Layout, Session};
+//! use boundary::{locate, translate, Edition, Layout, Session};
 //!
-//! let mut session = Session::new();
+//! let mut session = Session::new(Edition::First);
 //! let fed = session.feed(&[
 //!     SET_INST_FMT, 0x1000, 0x0400_0010,
 //!     SET_OUT_FMT, 0, 0x800, 0x0201_0064, 18,
@@ -43,6 +43,7 @@
 #![deny(unsafe_op_in_unsafe_fn)]
 
 mod command;
+mod edition;
 mod element;
 mod flow;
 pub mod headers;
@@ -57,6 +58,7 @@ mod score;
 mod session;
 
 pub use command::{parameters, write_command, Command};
+pub use edition::Edition;
 pub use element::{read, superfine, write, Element};
 pub use flow::{Group, Loop, Loops, Mode, Program, Report, Stepped};
 pub use layout::{layout, locate, translate, Layout, Translated, Window};

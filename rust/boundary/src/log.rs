@@ -2,7 +2,7 @@
 //! across all days, and what each day came to.
 
 use crate::lengths::{LOG, MARKS};
-use crate::{answer, lent, Answer, Refusal, Session};
+use crate::{answer, lent, Answer, Edition, Refusal, Session};
 
 /// A replay's state. Its arrays are private, so that it is always one that the
 /// library gave out. It may be cloned and both copies used.
@@ -61,10 +61,11 @@ pub struct Day {
 }
 
 impl Replay {
-    /// A new replay, with a new session.
+    /// A new replay, with a new session under an edition.
     #[inline]
-    pub fn new() -> Replay {
-        lent::log_begin()
+    pub fn new(edition: Edition) -> Replay {
+        let begun = lent::log_begin(edition.number());
+        begun.expect("both editions are accepted")
     }
 
     /// Takes a piece of bytes, one after another up to the first refused one. 18 or
@@ -142,11 +143,5 @@ impl Replay {
     #[inline]
     pub fn session(&self) -> &Session {
         &self.session
-    }
-}
-
-impl Default for Replay {
-    fn default() -> Replay {
-        Replay::new()
     }
 }

@@ -9,6 +9,7 @@ extern "C" {
         own: &mut [u32; OWN],
         tallies: &mut [u64; TALLIES],
         shared: &mut [u32; SHARED],
+        edition: u32,
     ) -> u32;
 
     pub fn egretfold_session_word(
@@ -28,7 +29,7 @@ extern "C" {
         fed: &mut [u64; 2],
     ) -> u32;
 
-    pub fn egretfold_session_status(own: &[u32; OWN], status: &mut [u32; 5]) -> u32;
+    pub fn egretfold_session_status(own: &[u32; OWN], status: &mut [u32; 6]) -> u32;
 
     pub fn egretfold_session_tallies(tallies: &[u64; TALLIES], counts: &mut [u64; 2]) -> u32;
 
@@ -50,6 +51,7 @@ extern "C" {
         own: &mut [u32; OWN],
         tallies: &mut [u64; TALLIES],
         shared: &mut [u32; SHARED],
+        edition: u32,
     ) -> u32;
 
     pub fn egretfold_log_feed(
@@ -82,7 +84,7 @@ extern "C" {
         counts: &mut [u64; 2],
     ) -> u32;
 
-    pub fn egretfold_score_lease(first_day: u32, days: u32, owed: u32) -> u32;
+    pub fn egretfold_score_lease(edition: u32, first_day: u32, days: u32, owed: u32) -> u32;
 
     pub fn egretfold_score_month(
         log: &[u32; LOG],

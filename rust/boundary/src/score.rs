@@ -1,7 +1,7 @@
 //! A month of a station's log, scored against its lease line.
 
 use crate::lengths::DAYS;
-use crate::{answer, lent, Answer, Replay};
+use crate::{answer, lent, Answer, Edition, Replay};
 
 /// An accepted lease line. Its numbers are private, so that there is no other.
 #[derive(Clone, Copy, Debug, PartialEq, Eq)]
@@ -44,7 +44,9 @@ impl Lease {
     /// A lease of 1 to [`DAYS`] days that owe at most 100,000,000 elements each, the last
     /// day's number below 2^32. 21.
     pub fn new(first_day: u32, days: u32, owed: u32) -> Answer<Lease> {
-        answer(lent::score_lease((first_day, days, owed)))?;
+        // Both editions have the same bounds; the replay's is the one that is scored by.
+        let edition = Edition::First.number();
+        answer(lent::score_lease(edition, (first_day, days, owed)))?;
         Ok(Lease {
             first_day,
             days,
@@ -71,14 +73,14 @@ impl Lease {
 }
 
 impl Replay {
-    /// The month of the log so far. 18 or 19, where it stopped the replay; refused
+    /// The month of the log so far, under the replay's edition. 18 or 19, where it stopped the replay; refused
     /// words and unfinished records refuse nothing.
     ///
     /// ```
-    /// use boundary::{Lease, Replay, Verdict};
+    /// use boundary::{Edition, Lease, Replay, Verdict};
     ///
     /// // A record is its kind, 2 for a midnight, and a number of four bytes: day 101 begins.
-    /// let mut replay = Replay::new();
+    /// let mut replay = Replay::new(Edition::First);
     /// replay.feed(&[2, 101, 0, 0, 0]);
     /// let month = replay.score(&Lease::new(101, 1, 500)?)?;
     /// assert_eq!((month.served, month.owed, month.verdict), (0, 500, Verdict::Short));

@@ -2,7 +2,7 @@
 //! they leave, and the tallies.
 
 use crate::lengths::{OWN, SHARED, TALLIES};
-use crate::{answer, lent, Answer, Command, Refusal};
+use crate::{answer, lent, Answer, Command, Edition, Refusal};
 
 /// A session's state. Its arrays are private, so that it is always one that the
 /// library gave out. It may be cloned and both copies used.
@@ -43,6 +43,8 @@ pub struct Status {
     pub open: Option<(u32, u32)>,
     /// 0, 7, 8 or 9: what the settings alone give a start. The stop, the words taken and the open command play no part.
     pub readiness: u32,
+    /// The edition that the session began under.
+    pub edition: Edition,
 }
 
 /// A format that a command has set. Instructions and constants have height 1.
@@ -54,10 +56,11 @@ pub struct Format {
 }
 
 impl Session {
-    /// A new session: nothing set, mask 65535.
+    /// A new session under an edition: nothing set, mask 65535.
     #[inline]
-    pub fn new() -> Session {
-        lent::session_begin()
+    pub fn new(edition: Edition) -> Session {
+        let begun = lent::session_begin(edition.number());
+        begun.expect("both editions are accepted")
     }
 
     /// Takes one word. 1 to 9 or 17; all but 1 stop the session and drop the open
@@ -79,9 +82,9 @@ impl Session {
     ///
     /// ```
     /// use boundary::headers::{START_PROGRAM, WAIT_FOR_IDLE};
-    /// use boundary::{Refusal, Session};
+    /// use boundary::{Edition, Refusal, Session};
     ///
-    /// let mut session = Session::new();
+    /// let mut session = Session::new(Edition::First);
     /// let fed = session.feed(&[WAIT_FOR_IDLE, 0, START_PROGRAM, 0]);
     /// // Nothing is set yet, so the start's last word is refused; what came before stands.
     /// assert_eq!((fed.taken, fed.commands), (3, 1));
@@ -101,14 +104,20 @@ impl Session {
 
     #[inline]
     pub fn status(&self) -> Status {
-        let mut status = [0; 5];
+        let mut status = [0; 6];
         lent::session_status(self, &mut status);
+        let [taken, stopped, header, parameters, readiness, edition] = status;
         Status {
-            taken: status[0],
-            stopped: status[1] != 0,
+            taken,
+            stopped: stopped != 0,
             // No header of the table is 0, so 0 says that none is open.
-            open: set(status[2], (status[2], status[3])),
-            readiness: status[4],
+            open: set(header, (header, parameters)),
+            readiness,
+            edition: match edition {
+                1 => Edition::First,
+                2 => Edition::Second,
+                other => unreachable!("the library has no edition {other}"),
+            },
         }
     }
 
@@ -177,12 +186,6 @@ impl Session {
         let mut masks = [0; 5];
         lent::session_masks(self, &mut masks);
         masks
-    }
-}
-
-impl Default for Session {
-    fn default() -> Session {
-        Session::new()
     }
 }
 

@@ -113,7 +113,7 @@ fn sessions() {
     let mut random = Random(2);
     let mut refused = 0;
     for _ in 0..20_000 {
-        let mut session = Session::new();
+        let mut session = Session::new(Edition::First);
         for _ in 0..random.below(8) {
             let words = random.numbers(40);
             refused += u32::from(session.feed(&words).refusal.is_some());
@@ -140,7 +140,7 @@ fn replays_and_scores() {
     let mut random = Random(3);
     let mut scored = 0;
     for _ in 0..20_000 {
-        let mut replay = Replay::new();
+        let mut replay = Replay::new(Edition::First);
         let mut day = random.number();
         for _ in 0..random.below(6) {
             if random.below(3) > 0 {

@@ -3,7 +3,7 @@
 
 use boundary::headers::{SET_DOMAIN, SET_INST_FMT, SET_OUT_FMT, START_PROGRAM};
 use boundary::{
-    lent, BytesFed, Day, Lease, LogStatus, Part, Refusal, RefusedWord, Replay, Session,
+    lent, BytesFed, Day, Edition, Lease, LogStatus, Part, Refusal, RefusedWord, Replay, Session,
 };
 
 /// Document 01's whole stream up to its start, which claims 1,728 elements.
@@ -64,7 +64,7 @@ fn three_days() -> Vec<u8> {
 
 #[test]
 fn a_new_replay_has_nothing() {
-    let replay = Replay::new();
+    let replay = Replay::new(Edition::First);
     let status = LogStatus {
         stopped: None,
         refused: None,
@@ -75,14 +75,13 @@ fn a_new_replay_has_nothing() {
     assert_eq!(replay.status(), status);
     assert_eq!((replay.before(), replay.part(1)), (part(0), part(0)));
     assert_eq!(days(&replay), []);
-    assert_eq!(replay.session(), &Session::new());
-    assert_eq!(Replay::default(), replay);
+    assert_eq!(replay.session(), &Session::new(Edition::First));
 }
 
 #[test]
 fn days_are_counted_by_the_last_word() {
     let bytes = three_days();
-    let mut replay = Replay::new();
+    let mut replay = Replay::new(Edition::First);
     assert_eq!(replay.feed(&bytes), fed(bytes.len(), None));
     assert_eq!(replay.before(), part(1));
     assert_eq!(days(&replay), [day(100, 1), day(101, 2), day(102, 0)]);
@@ -104,12 +103,12 @@ fn days_are_counted_by_the_last_word() {
 fn pieces_may_be_cut_at_every_byte() {
     let mut bytes = three_days();
     bytes.extend([1, 7]);
-    let mut whole = Replay::new();
+    let mut whole = Replay::new(Edition::First);
     assert_eq!(whole.feed(&bytes), fed(bytes.len(), None));
     assert_eq!(whole.status().unfinished, 2);
     for cut in 0..=bytes.len() {
         let (first, second) = bytes.split_at(cut);
-        let mut replay = Replay::new();
+        let mut replay = Replay::new(Edition::First);
         assert_eq!(replay.feed(first), fed(first.len(), None));
         assert_eq!(replay.status().unfinished as usize, cut % 5);
         assert_eq!(replay.feed(second), fed(second.len(), None));
@@ -121,9 +120,9 @@ fn pieces_may_be_cut_at_every_byte() {
 fn bytes_one_by_one_are_a_piece() {
     for last in [vec![1, 7], vec![3, 1], midnight(104)] {
         let bytes = [three_days(), last].concat();
-        let mut whole = Replay::new();
+        let mut whole = Replay::new(Edition::First);
         let answer = whole.feed(&bytes);
-        let mut single = Replay::new();
+        let mut single = Replay::new(Edition::First);
         for (place, byte) in bytes.iter().enumerate() {
             let refusal = answer.refusal.filter(|_| place as u64 >= answer.taken);
             assert_eq!(
@@ -133,7 +132,7 @@ fn bytes_one_by_one_are_a_piece() {
             );
         }
         assert_eq!(single, whole);
-        let mut pieces = Replay::new();
+        let mut pieces = Replay::new(Edition::First);
         for (place, piece) in bytes.chunks(1).enumerate() {
             let refusal = answer.refusal.filter(|_| place as u64 >= answer.taken);
             let taken = usize::from(refusal.is_none());
@@ -145,7 +144,7 @@ fn bytes_one_by_one_are_a_piece() {
 
 #[test]
 fn a_wrong_kind_byte_is_18() {
-    let mut replay = Replay::new();
+    let mut replay = Replay::new(Edition::First);
     let bytes = [three_days(), vec![3], words(&[START_PROGRAM, 0])].concat();
     assert_eq!(
         replay.feed(&bytes),
@@ -167,7 +166,7 @@ fn a_wrong_kind_byte_is_18() {
 #[test]
 fn a_wrong_day_is_19_at_its_last_byte() {
     for (first, next) in [(7, 7), (7, 6), (7, 9), (u32::MAX, 0), (0, u32::MAX)] {
-        let mut replay = Replay::new();
+        let mut replay = Replay::new(Edition::First);
         let bytes = [midnight(first), midnight(next), vec![1]].concat();
         assert_eq!(replay.feed(&bytes), fed(9, Some(Refusal::MidnightDay)));
         let status = replay.status();
@@ -184,7 +183,7 @@ fn a_wrong_day_is_19_at_its_last_byte() {
 fn four_hundred_midnights_come_and_no_more() {
     let first = u32::MAX - 399;
     let all: Vec<u8> = (0..400).flat_map(|place| midnight(first + place)).collect();
-    let mut replay = Replay::new();
+    let mut replay = Replay::new(Edition::First);
     assert_eq!(replay.feed(&words(&SETTINGS)), fed(65, None));
     assert_eq!(replay.feed(&all), fed(2_000, None));
     assert_eq!(replay.feed(&words(&[START_PROGRAM, 0])), fed(10, None));
@@ -195,7 +194,7 @@ fn four_hundred_midnights_come_and_no_more() {
         replay.feed(&midnight(0)),
         fed(4, Some(Refusal::MidnightDay))
     );
-    let mut low = Replay::new();
+    let mut low = Replay::new(Edition::First);
     let all: Vec<u8> = (0..401).flat_map(midnight).collect();
     assert_eq!(low.feed(&all), fed(2_004, Some(Refusal::MidnightDay)));
     assert_eq!(low.status().days, Some((0, 399)));
@@ -209,7 +208,7 @@ fn the_days_go_on_after_a_refused_word() {
         midnight(103),
     ]
     .concat();
-    let mut replay = Replay::new();
+    let mut replay = Replay::new(Edition::First);
     assert_eq!(replay.feed(&bytes), fed(bytes.len(), None));
     let status = replay.status();
     let refused = RefusedWord {
@@ -244,7 +243,7 @@ fn a_day_may_claim_more_than_2_to_the_32_elements() {
         words(&[START_PROGRAM, 0]),
     ]
     .concat();
-    let mut replay = Replay::new();
+    let mut replay = Replay::new(Edition::First);
     assert_eq!(replay.feed(&bytes), fed(bytes.len(), None));
     let part = |runs| Part {
         runs,
@@ -272,9 +271,9 @@ fn words_in_a_row_may_be_any_number() {
                 let at = 5 * (1 + place) + 1;
                 bytes[at..at + 4].copy_from_slice(&[255; 4]);
             }
-            let mut whole = Replay::new();
+            let mut whole = Replay::new(Edition::First);
             assert_eq!(whole.feed(&bytes), fed(bytes.len(), None));
-            let mut single = Replay::new();
+            let mut single = Replay::new(Edition::First);
             bytes
                 .iter()
                 .for_each(|byte| assert_eq!(single.byte(*byte), Ok(())));
@@ -292,7 +291,7 @@ fn words_in_a_row_may_be_any_number() {
 
 #[test]
 fn the_room_of_a_refused_piece_is_written() {
-    let mut replay = Replay::new();
+    let mut replay = Replay::new(Edition::First);
     let mut taken = [9];
     assert_eq!(
         lent::log_feed(&mut replay, &[2, 0, 0, 0, 0, 0], &mut taken),

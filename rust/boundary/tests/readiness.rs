@@ -3,7 +3,7 @@
 use boundary::headers::{
     SET_DOMAIN, SET_INP_FMT, SET_INST_FMT, SET_OUT_FMT, SET_OUT_MASK, START_PROGRAM, WAIT_FOR_IDLE,
 };
-use boundary::{Refusal, Session};
+use boundary::{Edition, Refusal, Session};
 
 /// UINT8_4, tiled, pitch 96: 32 columns a tile, 4 bytes an element.
 const FORMAT: u32 = 0x0101_0060;
@@ -21,7 +21,7 @@ fn fed(session: &mut Session, words: &[u32]) -> u32 {
 }
 
 fn ready() -> Session {
-    let mut session = Session::new();
+    let mut session = Session::new(Edition::First);
     fed(&mut session, &INSTRUCTIONS);
     fed(&mut session, &output(0, 0));
     assert_eq!(fed(&mut session, &DOMAIN), 0);
@@ -30,7 +30,7 @@ fn ready() -> Session {
 
 #[test]
 fn the_stored_number_follows_the_settings() {
-    let mut session = Session::new();
+    let mut session = Session::new(Edition::First);
     assert_eq!(session.status().readiness, 7, "nothing is set");
     assert_eq!(fed(&mut session, &output(0, 0)), 7);
     assert_eq!(fed(&mut session, &DOMAIN), 7);
@@ -86,7 +86,7 @@ fn a_stop_leaves_it() {
 
 #[test]
 fn a_start_gets_the_stored_number_after_1_and_3() {
-    let mut session = Session::new();
+    let mut session = Session::new(Edition::First);
     assert_eq!(
         session.feed(&[START_PROGRAM, 1]).refusal,
         Some(Refusal::Malformed)
@@ -107,7 +107,7 @@ fn a_start_gets_the_stored_number_after_1_and_3() {
             9,
         ),
     ] {
-        let mut session = Session::new();
+        let mut session = Session::new(Edition::First);
         assert_eq!(fed(&mut session, &words), number);
         let refusal = session.feed(&[START_PROGRAM, 0]).refusal;
         assert_eq!(refusal.map(u32::from), Some(number));

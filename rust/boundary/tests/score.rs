@@ -3,7 +3,7 @@
 
 use boundary::headers::{SET_DOMAIN, SET_INST_FMT, SET_OUT_FMT, START_PROGRAM};
 use boundary::lengths::DAYS;
-use boundary::{lent, Lease, Month, Refusal, Replay, ScoredDay, Verdict};
+use boundary::{lent, Edition, Lease, Month, Refusal, Replay, ScoredDay, Verdict};
 
 /// Document 01's whole stream up to its start, which claims 1,728 elements.
 #[rustfmt::skip]
@@ -40,7 +40,7 @@ fn three_days() -> Vec<u8> {
 }
 
 fn replayed(bytes: &[u8]) -> Replay {
-    let mut replay = Replay::new();
+    let mut replay = Replay::new(Edition::First);
     replay.feed(bytes);
     replay
 }
@@ -128,9 +128,15 @@ fn the_three_verdicts() {
     assert_eq!(replay.score(&lease(102, 1, 0)), Ok(nothing));
     // A new replay has no midnight.
     let nothing = month(&[day(0, 0, 0)], 0, Verdict::NothingOwed);
-    assert_eq!(Replay::new().score(&lease(0, 1, 0)), Ok(nothing));
+    assert_eq!(
+        Replay::new(Edition::First).score(&lease(0, 1, 0)),
+        Ok(nothing)
+    );
     let short = month(&[day(0, 0, 0)], 1, Verdict::Short);
-    assert_eq!(Replay::new().score(&lease(0, 1, 1)), Ok(short));
+    assert_eq!(
+        Replay::new(Edition::First).score(&lease(0, 1, 1)),
+        Ok(short)
+    );
 }
 
 #[test]

@@ -3,7 +3,7 @@
 //! and what a start makes of silent outputs.
 
 use boundary::headers::{SET_DOMAIN, SET_INST_FMT, SET_OUT_FMT, SET_OUT_MASK, START_PROGRAM};
-use boundary::{Part, Refusal, Replay, Session};
+use boundary::{Edition, Part, Refusal, Replay, Session};
 
 /// For each format code the nibbles under which its output is silent.
 const SILENT: [&[u32]; 5] = [
@@ -42,9 +42,9 @@ fn stream(mask: u32, outputs: &[[u32; 5]]) -> Vec<u32> {
 /// What the start comes to: its runs and claims, or its refusal. A piece and its
 /// words one by one must come to the same session.
 fn started(words: &[u32]) -> Result<(u64, u64), Refusal> {
-    let mut whole = Session::new();
+    let mut whole = Session::new(Edition::First);
     let fed = whole.feed(words);
-    let mut by_words = Session::new();
+    let mut by_words = Session::new(Edition::First);
     let answers: Vec<_> = words.iter().map(|word| by_words.word(*word)).collect();
     assert_eq!(by_words, whole, "{words:X?}");
     let (last, before) = answers.split_last().expect("the start's last word");
@@ -133,7 +133,7 @@ fn refusal_7_is_as_before() {
 
 #[test]
 fn the_mask_at_the_starts_last_word_counts() {
-    let mut session = Session::new();
+    let mut session = Session::new(Edition::First);
     let set_up = [&output(1, 0, 2)[..], &READY].concat();
     assert_eq!(session.feed(&set_up).refusal, None);
     let masks = [(0xFFFF, 15), (0xFF0F, 15), (0xFFEF, 15), (0x0010, 30)];
@@ -165,7 +165,7 @@ fn a_camera_masked_for_a_day_has_runs_and_no_elements() {
         midnight(3),
         words(&[0xFFFE, START_PROGRAM, 0]),
     ];
-    let mut replay = Replay::new();
+    let mut replay = Replay::new(Edition::First);
     assert_eq!(replay.feed(&log.concat()).refusal, None);
     let days: Vec<Part> = replay.days().map(|day| day.part).collect();
     let part = |runs, claims| Part { runs, claims };

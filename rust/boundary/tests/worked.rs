@@ -4,7 +4,7 @@
 use boundary::headers::{SET_DOMAIN, SET_INST_FMT, SET_OUT_FMT, START_PROGRAM};
 use boundary::{layout, locate, parameters, read, superfine, translate, write, write_command};
 use boundary::{Answer, Refusal, Translated};
-use boundary::{Command, Fed, Format, Group, Layout, Program, Reply, Session, Window};
+use boundary::{Command, Edition, Fed, Format, Group, Layout, Program, Reply, Session, Window};
 
 #[rustfmt::skip]
 const STREAM: [u32; 15] = [
@@ -88,7 +88,7 @@ fn a_superfine_read_takes_four_neighbours() {
 
 #[test]
 fn the_whole_stream_makes_one_run() {
-    let mut session = Session::new();
+    let mut session = Session::new(Edition::First);
     let (first, second) = STREAM.split_at(5);
     let refusal = None;
     let fed = |taken, commands| Fed {
@@ -121,7 +121,7 @@ fn the_whole_stream_makes_one_run() {
 
 #[test]
 fn a_refused_word_stops_the_session() {
-    let mut session = Session::new();
+    let mut session = Session::new(Edition::First);
     assert_eq!(session.word(START_PROGRAM), Ok(Reply::Open));
     assert_eq!(session.word(0), Err(Refusal::StartUnset));
     assert!(session.status().stopped);
@@ -132,7 +132,7 @@ fn a_refused_word_stops_the_session() {
 
 #[test]
 fn a_command_is_written_to_the_words_it_came_from() {
-    let mut session = Session::new();
+    let mut session = Session::new(Edition::First);
     let mut last = Reply::Open;
     for word in &STREAM[..3] {
         last = session.word(*word).unwrap();

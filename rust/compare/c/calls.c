@@ -48,7 +48,7 @@ static const uint32_t stream[15] = {
 
 static void begin(struct session *s)
 {
-    agree("session_begin", egretfold_session_begin(s->own, s->tallies, s->shared), 0);
+    agree("session_begin", egretfold_session_begin(s->own, s->tallies, s->shared, 1), 0);
 }
 
 static uint32_t feed(struct session *s, const uint32_t *words, size_t length, uint64_t fed[2])
@@ -59,10 +59,10 @@ static uint32_t feed(struct session *s, const uint32_t *words, size_t length, ui
 static void check_status(const char *call, const struct session *s, uint32_t taken, uint32_t stopped, uint32_t header,
                          uint32_t parameters, uint32_t readiness)
 {
-    uint32_t status[5] = {99, 99, 99, 99, 99};
-    const uint32_t expected[5] = {taken, stopped, header, parameters, readiness};
+    uint32_t status[6] = {99, 99, 99, 99, 99, 99};
+    const uint32_t expected[6] = {taken, stopped, header, parameters, readiness, 1};
     agree(call, egretfold_session_status(s->own, status), 0);
-    agree_words(call, status, expected, 5);
+    agree_words(call, status, expected, 6);
 }
 
 /* The whole stream in two pieces, cut behind the output's number. */
@@ -166,6 +166,33 @@ static void check_silent(void)
     agree("session_tallies, elements of a silent output", counts[1], 1728);
 }
 
+/* Edition 2 credits the two channels of FLOAT32_2 under a full mask, and one of them with channel 0 masked off; edition 1 one for
+ * each. */
+static void check_editions(void)
+{
+    const uint32_t words[11] = {0xC0030C00, 1, 0x4000, 0x3000060, 0x12, 0xC0000800, 0, 0xC0001900, 0xFFEF, 0xC0000800, 0};
+    const uint64_t elements[3] = {0, 1728 + 2 * 1728 + 2 * 1728, 1728 + 3 * 1728 + 2 * 1728};
+    struct session s, before;
+    for (uint32_t edition = 1; edition < 3; edition++) {
+        uint64_t fed[2] = {9, 9}, counts[2] = {9, 9};
+        uint32_t status[6] = {9, 9, 9, 9, 9, 9};
+        agree("session_begin under an edition", egretfold_session_begin(s.own, s.tallies, s.shared, edition), 0);
+        agree("session_feed under an edition", feed(&s, stream, 15, fed), 0);
+        agree("session_feed, two outputs under an edition", feed(&s, words, 11, fed), 0);
+        agree("session_tallies under an edition", egretfold_session_tallies(s.tallies, counts), 0);
+        agree("session_tallies, runs under an edition", counts[0], 3);
+        agree("session_tallies, elements under an edition", counts[1], elements[edition]);
+        agree("session_status under an edition", egretfold_session_status(s.own, status), 0);
+        agree("session_status, the edition", status[5], edition);
+    }
+    memcpy(&before, &s, sizeof s);
+    agree("session_begin, edition 0", egretfold_session_begin(s.own, s.tallies, s.shared, 0), 3);
+    agree("session_begin, edition 3", egretfold_session_begin(s.own, s.tallies, s.shared, 3), 3);
+    agree("session_begin, own numbers after a refusal", memcmp(s.own, before.own, sizeof s.own) == 0, 1);
+    agree("session_begin, tallies after a refusal", memcmp(s.tallies, before.tallies, sizeof s.tallies) == 0, 1);
+    agree("session_begin, settings after a refusal", memcmp(s.shared, before.shared, sizeof s.shared) == 0, 1);
+}
+
 struct replay {
     uint32_t log[EGRETFOLD_LOG];
     uint64_t marks[EGRETFOLD_MARKS];
@@ -223,8 +250,13 @@ static void check_log(void)
     static struct replay r;
     uint64_t taken[1] = {9};
     const size_t length = put_log(bytes);
-    agree("log_begin", egretfold_log_begin(r.log, r.marks, r.s.own, r.s.tallies, r.s.shared), 0);
+    agree("log_begin", egretfold_log_begin(r.log, r.marks, r.s.own, r.s.tallies, r.s.shared, 1), 0);
     check_log_status("log_status of a new replay", &r, fresh);
+    r.log[0] = 77;
+    agree("log_begin, edition 3", egretfold_log_begin(r.log, r.marks, r.s.own, r.s.tallies, r.s.shared, 3), 3);
+    agree("log_begin, own numbers after a refusal", r.log[0], 77);
+    agree("log_begin, edition 2", egretfold_log_begin(r.log, r.marks, r.s.own, r.s.tallies, r.s.shared, 2), 0);
+    agree("log_begin, edition 1", egretfold_log_begin(r.log, r.marks, r.s.own, r.s.tallies, r.s.shared, 1), 0);
     check_part("log_part of a new replay", &r, 0, 0, 0);
     agree("log_feed, first piece", feed_log(&r, bytes, 94, taken), 0);
     agree("log_feed, bytes of the first piece", taken[0], 94);
@@ -255,11 +287,11 @@ static void check_log_days(void)
     uint64_t taken[1] = {9};
     put_record(bytes, 2, 4294967295);
     put_record(bytes + 5, 2, 0);
-    agree("log_begin", egretfold_log_begin(r.log, r.marks, r.s.own, r.s.tallies, r.s.shared), 0);
+    agree("log_begin", egretfold_log_begin(r.log, r.marks, r.s.own, r.s.tallies, r.s.shared, 1), 0);
     agree("log_feed, a wrong day", feed_log(&r, bytes, 10, taken), 19);
     agree("log_feed, bytes before a wrong day's last", taken[0], 9);
     check_log_status("log_status after a wrong day", &r, stopped);
-    agree("log_begin, again", egretfold_log_begin(r.log, r.marks, r.s.own, r.s.tallies, r.s.shared), 0);
+    agree("log_begin, again", egretfold_log_begin(r.log, r.marks, r.s.own, r.s.tallies, r.s.shared, 1), 0);
     for (unsigned i = 0; i < 10; i++)
         agree("log_byte", egretfold_log_byte(r.log, r.marks, r.s.own, r.s.tallies, r.s.shared, bytes[i]), i < 9 ? 0 : 19);
     check_log_status("log_status after a wrong day, byte by byte", &r, stopped);
@@ -267,13 +299,17 @@ static void check_log_days(void)
 
 static void check_lease_lines(void)
 {
-    agree("score_lease, 1 day that owes nothing", egretfold_score_lease(0, 1, 0), 0);
-    agree("score_lease, 31 days of 100,000,000", egretfold_score_lease(0, 31, 100000000), 0);
-    agree("score_lease, up to the last number", egretfold_score_lease(4294967265, 31, 1), 0);
-    agree("score_lease, 0 days", egretfold_score_lease(30, 0, 1), 21);
-    agree("score_lease, 32 days", egretfold_score_lease(30, 32, 1), 21);
-    agree("score_lease, 100,000,001 owed", egretfold_score_lease(30, 1, 100000001), 21);
-    agree("score_lease, past the last number", egretfold_score_lease(4294967266, 31, 1), 21);
+    agree("score_lease, 1 day that owes nothing", egretfold_score_lease(1, 0, 1, 0), 0);
+    agree("score_lease, 31 days of 100,000,000", egretfold_score_lease(1, 0, 31, 100000000), 0);
+    agree("score_lease, up to the last number", egretfold_score_lease(1, 4294967265, 31, 1), 0);
+    agree("score_lease, 0 days", egretfold_score_lease(1, 30, 0, 1), 21);
+    agree("score_lease, 32 days", egretfold_score_lease(1, 30, 32, 1), 21);
+    agree("score_lease, 100,000,001 owed", egretfold_score_lease(1, 30, 1, 100000001), 21);
+    agree("score_lease, past the last number", egretfold_score_lease(1, 4294967266, 31, 1), 21);
+    agree("score_lease, edition 2", egretfold_score_lease(2, 30, 1, 1), 0);
+    agree("score_lease, 0 days under edition 2", egretfold_score_lease(2, 30, 0, 1), 21);
+    agree("score_lease, edition 0", egretfold_score_lease(0, 30, 1, 1), 3);
+    agree("score_lease, edition 3 before 0 days", egretfold_score_lease(3, 30, 0, 1), 3);
 }
 
 static uint64_t claimed[EGRETFOLD_DAYS], served[EGRETFOLD_DAYS], month[3];
@@ -303,7 +339,7 @@ static void check_scores(void)
     static struct replay r;
     uint64_t taken[1] = {9};
     const size_t length = put_log(bytes);
-    agree("log_begin", egretfold_log_begin(r.log, r.marks, r.s.own, r.s.tallies, r.s.shared), 0);
+    agree("log_begin", egretfold_log_begin(r.log, r.marks, r.s.own, r.s.tallies, r.s.shared, 1), 0);
     agree("log_feed, the log", feed_log(&r, bytes, length, taken), 0);
     agree("score_month, short", score(&r, 29, 3, 1000), 0);
     check_month("score_month, short", claims, serves, shorts);
@@ -607,6 +643,7 @@ int main(void)
     check_words(&s);
     check_refused_piece();
     check_silent();
+    check_editions();
     check_log();
     check_log_days();
     check_lease_lines();

@@ -23,6 +23,7 @@
 pub mod addresses;
 pub mod case;
 pub mod commands;
+pub mod editions;
 pub mod floats;
 pub mod flow;
 pub mod groups;

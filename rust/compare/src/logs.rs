@@ -4,10 +4,11 @@
 //! tallies are compared, then what later bytes get.
 
 use crate::case::{Agreed, Agreement, Case};
+use crate::editions;
 use crate::records;
 use crate::settings;
 use crate::starts;
-use boundary::{lent, Replay as Product};
+use boundary::{lent, Edition, Replay as Product};
 use second::log::{Fed, Part, RefusedWord, Replay as Second};
 
 /// All that can be asked of a replay, from either program.
@@ -26,17 +27,19 @@ struct Seen {
 }
 
 pub fn run(case: &mut Case) -> Agreement {
+    let edition = editions::any(case);
     let log = records::any(&mut case.random);
-    let mut second = Second::new();
+    let mut second = Second::new_in(edition.number()).expect("an edition of document 02");
     let expected = second.feed(&log);
-    let mut product = Product::new();
+    let mut product = Product::new(edition);
     let asked = || format!("log {log:X?}");
     case.agree(asked, &fed(&mut product, &log), &expected)?;
     agree(case, &product, &second, asked)?;
-    let cut = fed_in_pieces(case, &log, expected)?;
+    let cut = fed_in_pieces(case, edition, &log, expected)?;
     agree(case, &cut, &second, || format!("log {log:X?} in pieces"))?;
     count(case, &log, &second);
     starts::of_words(case.tally, words(&log[..expected.taken as usize]));
+    editions::refuse_replay(case, &cut, edition)?;
     later_bytes(case, cut, second, &log)
 }
 
@@ -115,8 +118,8 @@ fn of_second(second: &Second) -> Seen {
 /// The log in pieces, some of them empty. Their sums must be the whole's; after a
 /// refusal each piece gets its number again and nothing is taken, but an empty
 /// one has no refusal.
-fn fed_in_pieces(case: &mut Case, log: &[u8], whole: Fed) -> Agreed<Product> {
-    let mut product = Product::new();
+fn fed_in_pieces(case: &mut Case, edition: Edition, log: &[u8], whole: Fed) -> Agreed<Product> {
+    let mut product = Product::new(edition);
     let mut sum = Fed {
         taken: 0,
         refusal: None,

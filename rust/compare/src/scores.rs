@@ -3,10 +3,11 @@
 //! and so by the second program.
 
 use crate::case::{Agreement, Case};
+use crate::editions;
 use crate::random::Random;
 use crate::records;
 use boundary::lengths::DAYS;
-use boundary::{lent, Lease as ProductLease, Month as ProductMonth, Replay as Product};
+use boundary::{lent, Edition, Lease as ProductLease, Month as ProductMonth, Replay as Product};
 use second::log::{Day, Replay as Second};
 use second::score::{Lease, Month, ScoredDay, Verdict};
 
@@ -17,16 +18,18 @@ const MOST_DAYS: u32 = DAYS as u32;
 const MOST_OWED: u32 = 100_000_000;
 
 pub fn run(case: &mut Case) -> Agreement {
+    let edition = editions::any(case);
     let log = records::any(&mut case.random);
-    let mut second = Second::new();
+    let mut second = Second::new_in(edition.number()).expect("an edition of document 02");
     second.feed(&log);
-    let product = fed_in_pieces(&mut case.random, &log);
+    let product = fed_in_pieces(&mut case.random, edition, &log);
     case.tally.add("bytes", log.len() as u64);
     for _ in 0..LEASES {
         let lease = lease(&mut case.random, &second);
         let asked = || format!("{lease:?} and log {log:X?}");
         let expected = lease.month(&second);
-        case.agree(asked, &judged(&lease), &lease.judge())?;
+        case.agree(asked, &judged(edition, &lease), &lease.judge())?;
+        editions::refuse_score(case, &lease, &log)?;
         rooms(case, &lease, &product, &expected, asked)?;
         // The product's comfortable form is asked where the lease line can be had.
         if let Ok(accepted) = ProductLease::new(lease.first_day, lease.days, lease.owed) {
@@ -39,8 +42,8 @@ pub fn run(case: &mut Case) -> Agreement {
     Ok(())
 }
 
-fn fed_in_pieces(random: &mut Random, log: &[u8]) -> Product {
-    let mut product = Product::new();
+fn fed_in_pieces(random: &mut Random, edition: Edition, log: &[u8]) -> Product {
+    let mut product = Product::new(edition);
     let length = random.one_of(&[1, 4, 7, 64, 1_000]);
     let mut left = log;
     while !left.is_empty() {
@@ -150,8 +153,9 @@ fn around(random: &mut Random, claims: u64) -> u32 {
     }
 }
 
-fn judged(lease: &Lease) -> Result<(), u32> {
-    match lent::score_lease((lease.first_day, lease.days, lease.owed)) {
+fn judged(edition: Edition, lease: &Lease) -> Result<(), u32> {
+    let line = (lease.first_day, lease.days, lease.owed);
+    match lent::score_lease(edition.number(), line) {
         0 => Ok(()),
         number => Err(number),
     }

@@ -6,7 +6,7 @@ use boundary::headers::{
     SET_COND_OUT_FMT, SET_CONSTB_FMT, SET_CONSTF_FMT, SET_CONSTI_FMT, SET_INP_FMT, SET_INST_FMT,
     SET_OUT_FMT,
 };
-use boundary::lent;
+use boundary::{lent, Edition};
 use second::session::Format;
 use second::Answer;
 
@@ -53,10 +53,12 @@ fn formats() -> impl Iterator<Item = (u32, u32)> {
 }
 
 impl Both {
-    pub fn new() -> Both {
+    /// Both begin under the edition.
+    pub fn new(edition: Edition) -> Both {
+        let second = second::session::Session::new_in(edition.number());
         Both {
-            product: boundary::Session::new(),
-            second: second::session::Session::new(),
+            product: boundary::Session::new(edition),
+            second: second.expect("document 02's editions are 1 and 2"),
         }
     }
 
@@ -92,12 +94,6 @@ impl Both {
             case.untouched(asked, &room, &filled)?;
         }
         Ok(())
-    }
-}
-
-impl Default for Both {
-    fn default() -> Both {
-        Both::new()
     }
 }
 

@@ -1,30 +1,37 @@
 //! Cases of the third kind: a stream of command words is given to both programs
 //! word by word, and answers, settings and tallies are compared; then to fresh
-//! sessions in random pieces and uncut, which must come to the same.
+//! sessions in random pieces and uncut, which must come to the same; and under the
+//! other edition, which must come to the same but for the claimed elements.
 
 use crate::case::{Agreed, Agreement, Case};
 use crate::commands;
-use crate::settings::{of_product, of_second, Both};
+use crate::editions;
+use crate::settings::{of_product, of_second, Both, Seen};
 use crate::starts;
 use crate::words;
 use crate::writer::for_product;
 use boundary::headers::START_PROGRAM;
-use boundary::lent;
+use boundary::{lent, Edition};
 use second::command::{write, Command};
 use second::session::{Fed, Reply};
 
 pub fn run(case: &mut Case) -> Agreement {
+    let edition = editions::any(case);
     let words = words::any(&mut case.random);
     case.tally.add("words", words.len() as u64);
-    let by_words = word_by_word(case, Both::new(), &words)?;
-    let (uncut, whole) = fed_uncut(case, &words)?;
-    let in_pieces = fed_in_pieces(case, &words, whole)?;
+    let by_words = word_by_word(case, Both::new(edition), &words)?;
+    let (uncut, whole) = fed_uncut(case, edition, &words)?;
+    let in_pieces = fed_in_pieces(case, edition, &words, whole)?;
     let seen = of_product(&by_words.product);
     for (way, both) in [("uncut", &uncut), ("in pieces", &in_pieces)] {
         let asked = || format!("settings after {words:X?} fed {way}");
         case.agree(asked, &of_product(&both.product), &seen)?;
         case.agree(asked, &of_second(&both.second), &seen)?;
     }
+    under_the_other_edition(case, edition, &words, whole, &seen)?;
+    let kept = by_words.product.status().edition;
+    case.agree(|| format!("edition after {words:X?}"), &kept, &edition)?;
+    editions::refuse_session(case, &by_words.product, edition)?;
     case.tally.add("starts passed", seen.runs);
     if seen.claims > u64::from(u32::MAX) {
         case.tally.mark("streams that claim 2^32 elements or more");
@@ -113,16 +120,47 @@ fn room_untouched(
     case.agree(asked, &before, after)
 }
 
+/// The stream under the other edition: the same answers and settings, and under edition 2 no fewer claimed elements than
+/// under edition 1, and at most four times as many.
+fn under_the_other_edition(
+    case: &mut Case,
+    edition: Edition,
+    words: &[u32],
+    whole: Fed,
+    seen: &Seen,
+) -> Agreement {
+    let (both, fed) = fed_uncut(case, editions::other(edition), words)?;
+    let asked = || format!("{words:X?} under the other edition");
+    case.agree(asked, &fed, &whole)?;
+    let mut other = of_product(&both.product);
+    let (first, second) = match edition {
+        Edition::First => (seen.claims, other.claims),
+        Edition::Second => (other.claims, seen.claims),
+    };
+    let bounded = first <= second && second <= 4 * first;
+    case.agree(asked, &(first, second, bounded), &(first, second, true))?;
+    if first < second {
+        case.tally
+            .mark("streams whose claims the editions tell apart");
+    }
+    if second == 4 * first && first > 0 {
+        case.tally
+            .mark("streams that claim four times as much under edition 2");
+    }
+    other.claims = seen.claims;
+    case.agree(asked, &other, seen)
+}
+
 /// The stream as one piece, and what was answered to it.
-fn fed_uncut(case: &mut Case, words: &[u32]) -> Agreed<(Both, Fed)> {
-    let mut both = Both::new();
+fn fed_uncut(case: &mut Case, edition: Edition, words: &[u32]) -> Agreed<(Both, Fed)> {
+    let mut both = Both::new(edition);
     let fed = fed_piece(case, &mut both, words, words)?;
     Ok((both, fed))
 }
 
 /// The stream in pieces, some of them empty. Their sums must be the whole's.
-fn fed_in_pieces(case: &mut Case, words: &[u32], whole: Fed) -> Agreed<Both> {
-    let mut both = Both::new();
+fn fed_in_pieces(case: &mut Case, edition: Edition, words: &[u32], whole: Fed) -> Agreed<Both> {
+    let mut both = Both::new(edition);
     let mut sum = Fed {
         taken: 0,
         commands: 0,

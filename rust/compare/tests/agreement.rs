@@ -61,6 +61,19 @@ fn masked_starts(tally: &Tally, least: u64) {
     );
 }
 
+/// Demands that about half of the cases were under each edition, and that numbers of no edition were tried.
+fn editions(tally: &Tally, refused: u64) {
+    let third = tally.cases / 3;
+    marks(
+        tally,
+        &[
+            ("cases under edition 1", third),
+            ("cases under edition 2", third),
+        ],
+    );
+    marks(tally, &[("begins refused for their edition", refused)]);
+}
+
 fn addresses(numbers: Range<u64>) {
     let tally = agree(Kind::Addresses, numbers);
     let third = tally.cases / 3;
@@ -116,6 +129,10 @@ fn streams(numbers: Range<u64>) {
     marks(&tally, &[("starts that would get 8", 100_000)]);
     marks(&tally, &[("starts that would get 9", 50_000)]);
     masked_starts(&tally, 6_000);
+    editions(&tally, tally.cases);
+    let apart = "streams whose claims the editions tell apart";
+    let most = "streams that claim four times as much under edition 2";
+    marks(&tally, &[(apart, 10_000), (most, 1_000)]);
     for header in HEADERS {
         marks(&tally, &[(commands::name(header), 5_000)]);
     }
@@ -319,6 +336,7 @@ fn logs(numbers: Range<u64>) {
     let in_a_row = "logs with more words in a row than are gathered";
     marks(&tally, &[(above, 20), (in_a_row, 2_000)]);
     masked_starts(&tally, 2_000);
+    editions(&tally, tally.cases);
     // Of words the first refusal counts, which is never 1.
     let words_at_fault = [(2, 4_000), (3, 6_000), (4, 1_000)];
     let last_parameters = [(5, 300), (6, 200), (7, 300), (8, 1_500), (9, 800)];
@@ -341,6 +359,8 @@ fn logs_second_half() {
 #[test]
 fn scores() {
     let tally = agree(Kind::Scores, 0..40_000);
+    editions(&tally, 0);
+    marks(&tally, &[("scores refused for their edition", 320_000)]);
     let verdicts = [("full months", 10_000), ("short months", 50_000)];
     marks(&tally, &verdicts);
     marks(&tally, &[("months that owe nothing", 20_000)]);

@@ -3,7 +3,7 @@
 //! compared with the second program, which can begin at that count.
 
 use boundary::headers::WAIT_FOR_IDLE;
-use boundary::Session;
+use boundary::{Edition, Session};
 use compare::case::Case;
 use compare::random::Random;
 use compare::settings::Both;
@@ -19,7 +19,7 @@ const LEFT: u64 = 40;
 /// A session that has taken all words up to there, every one of them accepted.
 fn near_the_limit() -> Session {
     let piece: Vec<u32> = [WAIT_FOR_IDLE, 0].repeat(500_000);
-    let mut session = Session::new();
+    let mut session = Session::new(Edition::First);
     let mut wanted = LIMIT - LEFT;
     while wanted > 0 {
         let length = wanted.min(piece.len() as u64);
@@ -64,7 +64,7 @@ fn no_word_is_taken_past_the_limit() {
 
 #[test]
 fn an_empty_piece_is_never_refused() {
-    let mut session = Session::new();
+    let mut session = Session::new(Edition::First);
     assert_eq!(session.word(1), Err(boundary::Refusal::UnknownHeader));
     let fed = session.feed(&[]);
     assert_eq!((fed.taken, fed.commands, fed.refusal), (0, 0, None));

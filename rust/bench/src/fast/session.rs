@@ -28,14 +28,21 @@ struct Output {
     channels: u32,
 }
 
-/// What the outputs ask of a domain, and how many claim a pair. Silent ones count for `any` alone.
+/// What the outputs ask of a domain, and what a pair is credited for them. Silent ones count for `any` alone.
 #[derive(Clone, Copy, Debug)]
 struct Gauge {
     any: bool,
     columns: u32,
     rows: u32,
     apart: bool,
-    counted: u64,
+    credit: u64,
+}
+
+/// The edition of the lease rule: a pair is credited one for each output that isn't silent, or its unmasked channels.
+#[derive(Clone, Copy, Debug, PartialEq, Eq)]
+pub enum Edition {
+    First,
+    Second,
 }
 
 /// What an accepted word answers.
@@ -55,6 +62,7 @@ pub struct Fed {
 
 #[derive(Clone)]
 pub struct Session {
+    edition: Edition,
     taken: usize,
     stopped: bool,
     /// The open command's line, and its parameters so far.
@@ -86,10 +94,16 @@ impl Default for Session {
 }
 
 impl Session {
-    /// A new session: nothing set, mask 65535.
-    #[inline(never)]
+    /// A new session under edition 1: nothing set, mask 65535.
     pub fn new() -> Session {
+        Session::new_in(Edition::First)
+    }
+
+    /// The same under an edition.
+    #[inline(never)]
+    pub fn new_in(edition: Edition) -> Session {
         Session {
+            edition,
             taken: 0,
             stopped: false,
             open: None,
@@ -113,7 +127,7 @@ impl Session {
                 columns: WINDOW_MOST,
                 rows: WINDOW_MOST,
                 apart: true,
-                counted: 0,
+                credit: 0,
             },
             readiness: NOT_READY,
         }
@@ -329,7 +343,10 @@ impl Session {
                 .clone()
                 .fold(WINDOW_MOST, |n, o| n.min(o.format.height)),
             apart: !share_a_byte(&counted),
-            counted: outputs.count() as u64,
+            credit: match self.edition {
+                Edition::First => outputs.count() as u64,
+                Edition::Second => outputs.map(|o| o.unmasked(mask)).sum(),
+            },
         };
         self.gauge = gauge;
         self.settle();
@@ -354,7 +371,7 @@ impl Session {
         match self.domain {
             Some(domain) if self.readiness == 0 => {
                 self.runs += 1;
-                self.claims += domain.pairs() * self.gauge.counted;
+                self.claims += domain.pairs() * self.gauge.credit;
                 Ok(Command::Start)
             }
             _ => Err(self.readiness),
@@ -422,6 +439,11 @@ impl Output {
     #[inline(always)]
     fn is_silent(&self, mask: u32) -> bool {
         self.channels & mask == 0
+    }
+
+    #[inline(always)]
+    fn unmasked(&self, mask: u32) -> u64 {
+        u64::from((self.channels & mask).count_ones())
     }
 
     #[inline(always)]

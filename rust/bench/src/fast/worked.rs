@@ -7,7 +7,7 @@ use super::layout::{judge, Layout};
 use super::log::Replay;
 use super::program::{Program, Stepped};
 use super::refusal::Answer;
-use super::session::{Fed, Reply, Session};
+use super::session::{Edition, Fed, Reply, Session};
 use super::{planes, processors};
 
 const WHOLE_STREAM: [u32; 15] = [
@@ -256,6 +256,22 @@ fn silent_outputs_claim_nothing() {
     }
     assert_eq!(started(&masked(0xFFFE, &[])), Ok((1, 0)));
     assert_eq!(started(&masked(0x0001, &[])), Ok((1, 1_728)));
+}
+
+#[test]
+fn edition_2_credits_unmasked_channels() {
+    for (code, channels) in (0..).zip([1, 4, 1, 2, 4]) {
+        for (nibble, number) in (0..16u32).flat_map(|nibble| (1..4).map(move |n| (nibble, n))) {
+            // output 0, of FLOAT32_1, has one
+            let mask = nibble << (4 * number) | 0xF;
+            let output = [number, 0x10_0000, code << 24 | 0x64, 0x12];
+            let mut session = Session::new_in(Edition::Second);
+            assert_eq!(session.feed(&masked(mask, &[output])).refusal, None);
+            let credit = 1 + (nibble % (1 << channels)).count_ones();
+            let asked = format!("code {code}, {mask:04X}");
+            assert_eq!(session.claims(), 1_728 * u64::from(credit), "{asked}");
+        }
+    }
 }
 
 #[test]

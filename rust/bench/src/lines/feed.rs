@@ -8,6 +8,7 @@ use boundary::headers::{
     SET_COND_OUT_FMT, SET_CONSTB_FMT, SET_CONSTF_FMT, SET_CONSTI_FMT, SET_INP_FMT, SET_INST_FMT,
     SET_OUT_FMT, START_PROGRAM, WAIT_FOR_IDLE,
 };
+use boundary::Edition;
 
 /// The mixed stream is about this long, a stream of one command about half.
 const WORDS: usize = 1 << 16;
@@ -65,12 +66,18 @@ fn mixed(table: &mut Table) {
         ("pieces of 1", 1),
     ] {
         let name = format!("feed, mixed stream, {name}, a word");
-        pieces(table, &name, 0, &stream, length);
+        pieces(table, &name, new(), &stream, length);
     }
+    let second = (
+        boundary::Session::new(Edition::Second),
+        fast::Session::new_in(fast::Edition::Second),
+    );
+    let name = "feed, mixed stream under edition 2, one piece, a word";
+    pieces(table, name, second, &stream, stream.len());
     let name = "feed, mixed stream of 2^20 words, one piece, a word";
     if table.wants(name) {
         let long = mixed_stream(LONG);
-        pieces(table, name, 0, &long, long.len());
+        pieces(table, name, new(), &long, long.len());
     }
     let name = "word by word, mixed stream, a word";
     if !table.wants(name) {
@@ -81,7 +88,7 @@ fn mixed(table: &mut Table) {
         name,
         stream.len(),
         || {
-            let mut session = boundary::Session::new();
+            let mut session = boundary::Session::new(Edition::First);
             stream
                 .iter()
                 .map(|&word| product_word(&mut session, word))
@@ -115,21 +122,35 @@ fn rust_word(session: &mut fast::Session, word: u32) -> u64 {
     }
 }
 
+/// A line for a stream of one command, to sessions with this many outputs ready to start (0: new ones).
 fn single(table: &mut Table, name: &str, outputs: u32, stream: &[u32]) {
     let name = format!("feed, {name}, one piece, a word");
-    pieces(table, &name, outputs, stream, stream.len());
+    let (mut product, mut rust) = new();
+    if outputs > 0 {
+        product.feed(&settings(outputs));
+        rust.feed(&settings(outputs));
+    }
+    pieces(table, &name, (product, rust), stream, stream.len());
 }
 
-/// A line for a stream fed in pieces of one length, to a session with this many outputs ready to start (0: a new one).
-fn pieces(table: &mut Table, name: &str, outputs: u32, stream: &[u32], length: usize) {
+/// A session of each side.
+type Sessions = (boundary::Session, fast::Session);
+
+/// New ones, under edition 1.
+fn new() -> Sessions {
+    (boundary::Session::new(Edition::First), fast::Session::new())
+}
+
+/// A line for a stream fed in pieces of one length, to such sessions.
+fn pieces(
+    table: &mut Table,
+    name: &str,
+    (product_ready, rust_ready): Sessions,
+    stream: &[u32],
+    length: usize,
+) {
     if !table.wants(name) {
         return;
-    }
-    let mut product_ready = boundary::Session::new();
-    let mut rust_ready = fast::Session::new();
-    if outputs > 0 {
-        product_ready.feed(&settings(outputs));
-        rust_ready.feed(&settings(outputs));
     }
     check_pieces(&product_ready, &rust_ready, stream, length);
     table.line(
@@ -166,7 +187,7 @@ fn check_pieces(product: &boundary::Session, rust: &fast::Session, stream: &[u32
 }
 
 fn check_words(stream: &[u32]) {
-    let mut product = boundary::Session::new();
+    let mut product = boundary::Session::new(Edition::First);
     let mut rust = fast::Session::new();
     for &word in stream {
         let by_rust = rust.word(word).map(|reply| match reply {

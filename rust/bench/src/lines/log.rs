@@ -4,6 +4,7 @@ use super::feed::check_sessions;
 use crate::inputs::mixed_log;
 use crate::table::Table;
 use bench::fast::log as fast;
+use boundary::Edition;
 
 /// The log has about this many words, and a midnight before every so many of them.
 const WORDS: usize = 1 << 16;
@@ -29,7 +30,7 @@ fn pieces(table: &mut Table, name: &str, log: &[u8], length: usize) {
         name,
         log.len(),
         || {
-            let mut replay = boundary::Replay::new();
+            let mut replay = boundary::Replay::new(Edition::First);
             let fed = log.chunks(length).map(|piece| replay.feed(piece));
             fed.map(|fed| fed.taken).sum()
         },
@@ -43,7 +44,7 @@ fn pieces(table: &mut Table, name: &str, log: &[u8], length: usize) {
 
 /// Feeds the pieces to both sides: equal answers, nothing refused, and at the end equal days and equal sessions.
 fn check_pieces(log: &[u8], length: usize) {
-    let mut product = boundary::Replay::new();
+    let mut product = boundary::Replay::new(Edition::First);
     let mut rust = fast::Replay::new();
     for piece in log.chunks(length) {
         let (by_product, by_rust) = (product.feed(piece), rust.feed(piece));

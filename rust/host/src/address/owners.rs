@@ -7,7 +7,7 @@ use crate::decode::walk::{Quiet, Walk};
 use crate::explain::cause;
 use crate::input::source::Source;
 use crate::input::words::Words;
-use boundary::Layout;
+use boundary::{Edition, Layout};
 use serde_json::json;
 use std::io::Write;
 use std::path::Path;
@@ -33,7 +33,7 @@ pub fn read(
     if let Some(most) = most {
         words = words.first(most);
     }
-    let totals = Walk::new(false).run(words, &mut Quiet)?;
+    let totals = Walk::new(Edition::First, false).run(words, &mut Quiet)?;
     if let Some((Position(at), refused)) = &totals.refused {
         if as_json {
             let refusal =

@@ -10,7 +10,7 @@
 #[allow(dead_code)] // the dates are for the card
 mod station;
 
-use boundary::{Lease, Month, Replay, Verdict};
+use boundary::{Edition, Lease, Month, Replay, Verdict};
 
 const LOG: &[u8] = include_bytes!("../../../../samples/station-14.log");
 
@@ -19,7 +19,7 @@ const MIDNIGHT: u8 = 2;
 
 /// A replay of its own for the bytes, scored from this day on.
 fn scored(bytes: &[u8], first_day: u32, days: u32) -> (Month, Replay) {
-    let mut replay = Replay::new();
+    let mut replay = Replay::new(Edition::First);
     replay.feed(bytes);
     let month = Lease::new(first_day, days, station::OWED).and_then(|lease| replay.score(&lease));
     (month.expect("the sample isn't refused"), replay)

@@ -1,4 +1,4 @@
-//! Makes the logs in samples/ and the stream with a masked camera, so that what
+//! Makes the logs in samples/ and the streams with masked cameras, so that what
 //! stands in them can be read here. From rust/:
 //!
 //!     cargo run -p host --bin make-samples
@@ -62,6 +62,8 @@ const FRAMES: usize = 24;
 
 /// Every channel of output 1, the second camera, masked off.
 const SECOND_CAMERA_OFF: [u32; 2] = [SET_OUT_MASK, 0xFF0F];
+/// Channel 3 of output 1 masked off.
+const LAST_CHANNEL_OFF: [u32; 2] = [SET_OUT_MASK, 0xFF7F];
 const ALL_ON: [u32; 2] = [SET_OUT_MASK, 0xFFFF];
 
 /// Station 14's month. The cameras are set up before the first midnight, with a frame
@@ -113,6 +115,23 @@ fn station_15() -> Vec<Vec<u8>> {
     weeks
 }
 
+/// Station 14's June: from the 8th to the 14th the second camera's last channel is masked
+/// off, by which edition 2 of the lease rule credits less and edition 1 as much as before.
+fn june() -> Log {
+    let first = station::FIRST_DAY + station::DAYS + 31;
+    let mut log = Log::new().words(&CAMERAS);
+    for date in 1..=30 {
+        log = log.midnight(first + date - 1);
+        log = match date {
+            8 => log.words(&LAST_CHANNEL_OFF),
+            15 => log.words(&ALL_ON),
+            _ => log,
+        };
+        log = log.frames(FRAMES);
+    }
+    log
+}
+
 /// A February in which the station wasn't leased, with two frames to try it.
 fn nothing_owed() -> Log {
     let first = station::FIRST_DAY - 59;
@@ -152,21 +171,36 @@ const MASKED: [u32; 20] = [
     START_PROGRAM, 0,
 ];
 
+/// Two cameras: output 0 of FLOAT32_1 and output 1 of UINT8_4. At the first start both are
+/// updated whole, at the second the last two channels of output 1 are masked off, at the
+/// third all of them, with bits for the channels that output 0 doesn't have.
+#[rustfmt::skip]
+const CHANNELS: [u32; 15] = [
+    SET_OUT_FMT, 1, 0x4000, 0x0100_0060, 18,
+    START_PROGRAM, 0,
+    SET_OUT_MASK, 0xFF3F,
+    START_PROGRAM, 0,
+    SET_OUT_MASK, 0xFF0F,
+    START_PROGRAM, 0,
+];
+
 /// A stream's words, low byte first.
 fn stream(words: &[u32]) -> Vec<u8> {
     words.iter().flat_map(|word| word.to_le_bytes()).collect()
 }
 
 /// The bytes of every file, by its name.
-fn files() -> [(&'static str, Vec<u8>); 7] {
+fn files() -> [(&'static str, Vec<u8>); 9] {
     [
         ("station-14.log", station_14().bytes),
         ("full-month.log", full_month().bytes),
+        ("station-14-june.log", june().bytes),
         ("nothing-owed.log", nothing_owed().bytes),
         ("damaged.log", damaged()),
         ("three-days.log", three_days().bytes),
         ("refused.log", refused().bytes),
         ("masked.ctm", stream(&[&SETTINGS[..], &MASKED].concat())),
+        ("channels.ctm", stream(&[&SETTINGS[..], &CHANNELS].concat())),
     ]
 }
 

@@ -3,6 +3,7 @@
 //! ends.
 
 pub mod digits;
+pub mod edition;
 pub mod failure;
 pub mod file;
 pub mod interrupt;

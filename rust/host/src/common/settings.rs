@@ -4,7 +4,7 @@
 use crate::common::kinds::Address;
 use crate::common::names::{self, FormatWord, Kind, Line};
 use crate::common::text;
-use boundary::{headers, Format, Layout, Session};
+use boundary::{headers, Edition, Format, Layout, Session};
 
 #[derive(Clone, Debug, PartialEq, Eq)]
 pub enum Value {
@@ -100,13 +100,33 @@ pub fn counted(session: &Session) -> Vec<(u32, Format)> {
 /// Document 02's "silent": the mask has no bit for a channel that the output's
 /// format has.
 pub fn is_silent(mask: u32, number: u32, format: &Format) -> bool {
-    let channels = channels(format);
-    (0..channels).all(|channel| mask >> (4 * number + channel) & 1 == 0)
+    unmasked(mask, number, format) == 0
 }
 
-fn channels(format: &Format) -> u32 {
-    let element = FormatWord(format.format).element();
-    element.map_or(0, |element| element.channels)
+/// The mask of a new session.
+const FULL_MASK: u32 = 0xFFFF;
+
+/// The channels that an output's format has.
+pub fn channels(format: &Format) -> u64 {
+    unmasked(FULL_MASK, 0, format)
+}
+
+/// The channels that the mask leaves of those that an output's format has, by the
+/// product: what it claims under edition 2 for one pair, with no other output set.
+pub fn unmasked(mask: u32, number: u32, format: &Format) -> u64 {
+    let mut alone = Session::new(Edition::Second);
+    // A start asks for instructions, and looks no further at them.
+    alone.feed(&[headers::SET_INST_FMT, 0, 0x20]);
+    let Format {
+        base,
+        format,
+        height,
+    } = *format;
+    alone.feed(&[headers::SET_OUT_FMT, number, base, format, height]);
+    alone.feed(&[headers::SET_OUT_MASK, mask]);
+    alone.feed(&[headers::SET_DOMAIN, 0, 0, 0, 0]);
+    alone.feed(&[headers::START_PROGRAM, 0]);
+    alone.claims()
 }
 
 pub fn layout(format: &Format) -> Layout {

@@ -6,7 +6,7 @@ use crate::common::failure::Outcome;
 use crate::common::kinds::{Address, Position, Word};
 use crate::common::names::{FormatWord, Kind};
 use crate::common::settings::{self, Setting, Value as SettingValue};
-use crate::decode::walk::{Came, Form, Ready, Seen, Start, Totals};
+use crate::decode::walk::{Came, Form, Output, Ready, Seen, Start, Totals};
 use boundary::{Format, Layout};
 use serde_json::{json, Map, Value};
 use std::io::Write;
@@ -55,13 +55,16 @@ impl Form for Json<'_> {
             value
         };
         let settings: Vec<Value> = start.settings.iter().map(with_mark).collect();
+        let outputs = start.outputs();
+        let silent = outputs.iter().filter(|output| output.is_silent());
         let value = json!({
             "start": start.runs,
             "position": start.position.0,
             "claimed": start.claimed,
             "claims": start.claims,
-            "outputs": start.outputs.set,
-            "silent": start.outputs.silent,
+            "outputs": outputs.iter().map(|output| output.number).collect::<Vec<_>>(),
+            "silent": silent.map(|output| output.number).collect::<Vec<_>>(),
+            "channels": outputs.iter().map(channels).collect::<Vec<_>>(),
             "settings": settings,
         });
         writeln!(self.out, "{value}")?;
@@ -91,6 +94,7 @@ impl Form for Json<'_> {
             "taken": totals.taken,
             "commands": totals.completed(),
             "by_name": commands,
+            "edition": totals.edition.number(),
             "runs": totals.runs,
             "claims": totals.claims,
             "open": open,
@@ -111,6 +115,11 @@ impl Form for Json<'_> {
         writeln!(self.out, "{value}")?;
         Ok(())
     }
+}
+
+/// How many channels of an output the mask leaves, by which edition 2 claims.
+fn channels(output: &Output) -> Value {
+    json!({"output": output.number, "unmasked": output.unmasked, "of": output.channels})
 }
 
 /// What a start would get of the settings.

@@ -8,8 +8,9 @@ use crate::common::kinds::{Address, Position, Word};
 use crate::common::names::Kind;
 use crate::common::settings::{self, Setting};
 use crate::common::text;
-use crate::decode::walk::{Came, Form, Ready, Seen, Start, Totals};
+use crate::decode::walk::{Came, Form, Output, Ready, Seen, Start, Totals};
 use crate::explain::cause::Refused;
+use boundary::Edition;
 use std::io::Write;
 
 /// A line a word, the settings at each start.
@@ -63,21 +64,46 @@ impl Form for Listing<'_> {
     }
 }
 
-/// "start 2: claims 1728 in 1 of 2 outputs (1 silent), 5184 so far".
+/// "start 2: claims 1728 in 1 of 2 outputs (1 silent), 5184 so far"; by channels under edition 2.
 fn claim(start: &Start) -> String {
-    let set = start.outputs.set.len() as u64;
-    let silent = start.outputs.silent.len() as u64;
-    let mut outputs = text::count(set, "output");
-    if silent > 0 {
-        outputs = format!("{} of {outputs} ({silent} silent)", set - silent);
-    }
+    let outputs = start.outputs();
+    let counted = match start.edition() {
+        Edition::First => by_outputs(&outputs),
+        Edition::Second => by_channels(&outputs),
+    };
     let Start {
         runs,
         claimed,
         claims,
         ..
     } = start;
-    format!("start {runs}: claims {claimed} in {outputs}, {claims} so far")
+    format!("start {runs}: claims {claimed} in {counted}, {claims} so far")
+}
+
+fn by_outputs(outputs: &[Output]) -> String {
+    let set = outputs.len() as u64;
+    let silent = outputs.iter().filter(|output| output.is_silent()).count() as u64;
+    match silent {
+        0 => text::count(set, "output"),
+        _ => format!(
+            "{} of {} ({silent} silent)",
+            set - silent,
+            text::count(set, "output")
+        ),
+    }
+}
+
+/// "1 of 1 channel of output 0 and 2 of 4 channels of output 1".
+fn by_channels(outputs: &[Output]) -> String {
+    let one = |output: &Output| {
+        let channels = text::count(output.channels, "channel");
+        format!(
+            "{} of {channels} of output {}",
+            output.unmasked, output.number
+        )
+    };
+    let each: Vec<String> = outputs.iter().map(one).collect();
+    each.join(" and ")
 }
 
 fn show_setting(out: &mut dyn Write, setting: &Setting, mark: char) -> Outcome {
@@ -87,8 +113,12 @@ fn show_setting(out: &mut dyn Write, setting: &Setting, mark: char) -> Outcome {
 
 /// The counts, how the stream ends, its first refusal, and what a start would get.
 fn closing(totals: &Totals) -> Vec<String> {
+    let under = match totals.edition {
+        Edition::First => "",
+        Edition::Second => " under edition 2",
+    };
     let mut lines = vec![format!(
-        "{}, {}, {}, {} claimed",
+        "{}, {}, {}, {} claimed{under}",
         text::count(totals.words, "word"),
         text::count(totals.completed(), "command"),
         text::count(totals.runs, "run"),

@@ -5,6 +5,7 @@ mod listing;
 pub mod walk;
 
 use crate::common::digits::Digits;
+use crate::common::edition::{self, EditionOption};
 use crate::common::failure::{Failure, Outcome};
 use crate::decode::json::Json;
 use crate::decode::listing::{Listing, Summary, Terse};
@@ -21,7 +22,8 @@ Examples, from the repository's root:
   egretfold decode samples/several.ctm
   egretfold decode --hex samples/refused.hex
   egretfold decode --ready --terse samples/several.ctm
-  egretfold decode --summary --json samples/whole.ctm";
+  egretfold decode --summary --json samples/whole.ctm
+  egretfold decode --edition 2 --terse samples/masked.ctm";
 
 #[derive(Args)]
 pub struct Options {
@@ -45,27 +47,31 @@ pub struct Options {
     /// With --summary: large numbers without commas between their digits
     #[arg(long, requires = "summary", conflicts_with = "json")]
     plain: bool,
+    #[command(flatten)]
+    edition: EditionOption,
 }
 
 pub fn run(options: &Options, out: &mut dyn Write) -> Outcome {
+    let edition = options.edition.accepted().map_err(edition::refused)?;
     let words = Words::new(Source::open(options.file.as_deref())?, options.hex);
     let summary = options.summary;
+    let walk = Walk::new(edition, options.ready);
     if options.json {
-        show(words, options.ready, &mut Json { out, summary })
+        show(words, walk, &mut Json { out, summary })
     } else if summary {
         let digits = Digits::plain(options.plain);
-        show(words, options.ready, &mut Summary { out, digits })
+        show(words, walk, &mut Summary { out, digits })
     } else if options.terse {
         let open = Vec::new();
-        show(words, options.ready, &mut Terse { out, open })
+        show(words, walk, &mut Terse { out, open })
     } else {
-        show(words, options.ready, &mut Listing { out })
+        show(words, walk, &mut Listing { out })
     }
 }
 
-/// Walks the words, telling changes of what a start would get where they are asked for, and ends with the stream's refusal, if there is one.
-pub fn show(words: Words, changes: bool, form: &mut dyn Form) -> Outcome {
-    let totals = Walk::new(changes).run(words, form)?;
+/// Walks the words and ends with the stream's refusal, if there is one.
+fn show(words: Words, walk: Walk, form: &mut dyn Form) -> Outcome {
+    let totals = walk.run(words, form)?;
     match totals.refused {
         Some((position, refused)) => {
             let name = totals.name;

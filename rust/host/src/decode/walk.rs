@@ -1,13 +1,13 @@
 //! A stream of command words given to a session one by one, with what each word
 //! came to. The forms in which `decode` prints are told of every word.
 
-use crate::common::failure::{Failure, Outcome};
+use crate::common::failure::Outcome;
 use crate::common::kinds::Position;
 use crate::common::names::{self, Kind, Line};
 use crate::common::settings::{self, Setting};
 use crate::explain::cause::{self, Refused};
 use crate::input::words::Words;
-use boundary::{headers, Command, Reply, Session};
+use boundary::{headers, Command, Edition, Reply, Session};
 use std::fmt;
 
 /// What a word came to.
@@ -30,11 +30,11 @@ pub struct Seen<'a> {
     pub came: Came,
 }
 
-/// The outputs that are set at a start, by their numbers, and those among them that
-/// are silent.
-pub struct Outputs {
-    pub set: Vec<u32>,
-    pub silent: Vec<u32>,
+/// An output that is set at a start: how many of its channels the mask leaves.
+pub struct Output {
+    pub number: u32,
+    pub unmasked: u64,
+    pub channels: u64,
 }
 
 /// A start that passed.
@@ -44,10 +44,10 @@ pub struct Start<'a> {
     pub claims: u64,
     /// What this start claimed.
     pub claimed: u64,
-    pub outputs: Outputs,
     /// The settings in force, each with whether it changed since the last start;
     /// none for a form that doesn't want them.
     pub settings: &'a [(Setting, bool)],
+    session: &'a Session,
 }
 
 /// What a start would get now.
@@ -68,6 +68,7 @@ pub struct Totals {
     pub taken: u64,
     /// Completed commands, by their lines of the table.
     pub commands: Vec<(&'static Line, u64)>,
+    pub edition: Edition,
     pub runs: u64,
     pub claims: u64,
     /// The open command at the end: its name, parameters taken, parameters due.
@@ -124,6 +125,30 @@ impl Seen<'_> {
     pub fn kind(&self) -> Option<Kind> {
         let place = self.open.len().checked_sub(2)?;
         self.line()?.parameters.get(place).copied()
+    }
+}
+
+impl Start<'_> {
+    pub fn edition(&self) -> Edition {
+        self.session.status().edition
+    }
+
+    /// The outputs that are set. Asked of the product at each call, since not all forms tell of them.
+    pub fn outputs(&self) -> Vec<Output> {
+        let mask = self.session.output_mask();
+        let output = |(number, format)| Output {
+            number,
+            unmasked: settings::unmasked(mask, number, &format),
+            channels: settings::channels(&format),
+        };
+        let set = settings::outputs(self.session);
+        set.into_iter().map(output).collect()
+    }
+}
+
+impl Output {
+    pub fn is_silent(&self) -> bool {
+        self.unmasked == 0
     }
 }
 
@@ -184,9 +209,9 @@ pub struct Walk {
 }
 
 impl Walk {
-    /// A walk that tells each change of what a start would get, or none.
-    pub fn new(changes: bool) -> Walk {
-        let session = Session::new();
+    /// A walk under an edition that tells each change of what a start would get, or none.
+    pub fn new(edition: Edition, changes: bool) -> Walk {
+        let session = Session::new(edition);
         let last = settings::all(&session);
         let ready = changes.then(|| session.status().readiness);
         Walk {
@@ -291,38 +316,16 @@ impl Walk {
         };
         let mark = |setting: &Setting| (setting.clone(), !self.last.contains(setting));
         let marked: Vec<(Setting, bool)> = now.iter().map(mark).collect();
-        let claimed = self.session.claims() - claims;
         form.start(&Start {
             position,
             runs: self.session.runs(),
             claims: self.session.claims(),
-            claimed,
-            outputs: self.outputs(position, claimed)?,
+            claimed: self.session.claims() - claims,
             settings: &marked,
+            session: &self.session,
         })?;
         self.last = now;
         Ok(())
-    }
-
-    /// The outputs that this start met. Those that aren't silent must come to what
-    /// the product claims.
-    fn outputs(&self, position: Position, claimed: u64) -> Outcome<Outputs> {
-        let mask = self.session.output_mask();
-        let outputs = settings::outputs(&self.session);
-        let silent = outputs
-            .iter()
-            .filter(|(number, format)| settings::is_silent(mask, *number, format));
-        let silent: Vec<u32> = silent.map(|(number, _)| *number).collect();
-        let set: Vec<u32> = outputs.iter().map(|(number, _)| *number).collect();
-        let pairs = self.session.domain().map_or(0, |d| settings::pairs(&d));
-        let worked = pairs * (set.len() - silent.len()) as u64;
-        if worked != claimed {
-            return Err(Failure::wrong(format!(
-                "a fault of the program: the outputs that the start at word {position} counts \
-                 come to {worked} elements, where the product claims {claimed}"
-            )));
-        }
-        Ok(Outputs { set, silent })
     }
 
     fn totals(&self, words: &Words) -> Totals {
@@ -334,6 +337,7 @@ impl Walk {
             words: self.position,
             taken: u64::from(status.taken),
             commands: counted.filter(|(_, count)| *count > 0).collect(),
+            edition: status.edition,
             runs: self.session.runs(),
             claims: self.session.claims(),
             open: status

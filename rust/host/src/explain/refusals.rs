@@ -98,7 +98,7 @@ pub const ALL: [Refusal; 20] = [
     entry(
         3,
         "a reserved bit or code is set, or a layout argument is malformed",
-        "any parameter but an input's or output's number; the writer; calls that take a layout",
+        "any parameter but an input's or output's number; the writer; calls that take a layout; the begin of a session, a replay or a score, for its edition",
         &[
             "All bits not named are reserved; an input or output number is the whole word.",
             "Codes: 0 UINT16_1, 2 bytes; 1 UINT8_4, 4; 2 FLOAT32_1, 4; 3 FLOAT32_2, 8; 4 FLOAT32_4, 16; 5 to 7 refused.",
@@ -106,7 +106,8 @@ pub const ALL: [Refusal; 20] = [
             "Base is a multiple of 2,048, pitch a multiple of 4 up to 8,188, else 3.",
             "Refusals 3 and 4 come with the word at fault",
         ],
-    ),
+    )
+    .changed_by(&["A session's edition (1 or 2, else 3 before all else) is fixed at its birth, also for replay and score; all answers but claimed totals, and what is reckoned from those, agree."]),
     entry(
         4,
         "input number over 15, output number over 3",

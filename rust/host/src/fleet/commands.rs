@@ -14,6 +14,7 @@ pub fn tell(rows: &[Row], out: &mut dyn Write) -> Outcome {
         let mut words: Vec<String> = vec!["egretfold".into(), "score".into(), "--json".into()];
         let mut put =
             |option: &str, value: String| words.push(format!("{option}={}", quoted(&value)));
+        put("--edition", asked.edition.to_string());
         put("--first-day", line.first_day.to_string());
         put("--days", line.days.to_string());
         put("--owed", line.owed.to_string());

@@ -9,7 +9,7 @@ use crate::input::source::Source;
 use crate::score::asked::{Asked, LeaseLine};
 use crate::score::civil::Date;
 use crate::score::issue::Issue;
-use boundary::Lease;
+use boundary::{Edition, Lease};
 use csv::{ByteRecord, ReaderBuilder};
 use std::path::{Path, PathBuf};
 
@@ -86,7 +86,7 @@ pub struct Leases {
 }
 
 impl Leases {
-    pub fn read(file: &Path, issued: Date) -> Outcome<Leases> {
+    pub fn read(file: &Path, edition: Edition, issued: Date) -> Outcome<Leases> {
         let mut source = Source::open(Some(file))?;
         let bytes = source.all(LONGEST)?;
         if WIDE.iter().any(|begin| bytes.starts_with(begin)) {
@@ -100,7 +100,7 @@ impl Leases {
         };
         let folder = file.parent().unwrap_or_else(|| Path::new(""));
         let text = bytes.strip_prefix(&MARK).unwrap_or(&bytes);
-        leases.read_rows(text, folder, issued);
+        leases.read_rows(text, folder, (edition, issued));
         leases.told_twice();
         Ok(leases)
     }
@@ -129,7 +129,7 @@ impl Leases {
         Err(Failure::Wrong(text))
     }
 
-    fn read_rows(&mut self, text: &[u8], folder: &Path, issued: Date) {
+    fn read_rows(&mut self, text: &[u8], folder: &Path, by: (Edition, Date)) {
         let delimiter = delimiter(text);
         let mut reader = ReaderBuilder::new()
             .has_headers(false)
@@ -159,7 +159,7 @@ impl Leases {
                         delimiter,
                         faults: &mut self.faults,
                     };
-                    self.rows.extend(reading.row(folder, issued));
+                    self.rows.extend(reading.row(folder, by));
                 }
             }
             // Without a header no row can be read.
@@ -325,7 +325,7 @@ impl Reading<'_> {
         }
     }
 
-    fn row(mut self, folder: &Path, issued: Date) -> Option<Row> {
+    fn row(mut self, folder: &Path, by: (Edition, Date)) -> Option<Row> {
         let before = self.faults.len();
         if self.record.len() != self.header.width {
             let (has, due) = (self.record.len(), self.header.width);
@@ -347,7 +347,9 @@ impl Reading<'_> {
             },
             _ => return None,
         };
+        let (edition, issued) = by;
         let asked = Asked {
+            edition: edition.number(),
             line,
             from,
             files: files.unwrap_or_default(),

@@ -19,6 +19,7 @@ mod stations;
 pub mod text;
 
 use crate::common::digits::Digits;
+use crate::common::edition::{self, EditionOption};
 use crate::common::failure::{Failure, Outcome};
 use crate::common::replaced::{Goes, Kind};
 use crate::fleet::leases::{Leases, Row};
@@ -27,6 +28,7 @@ use crate::fleet::report::Four;
 use crate::score::asked::{Asked, Card};
 use crate::score::civil::Date;
 use crate::score::issue;
+use boundary::Edition;
 use clap::Args;
 use std::collections::HashMap;
 use std::io::Write;
@@ -55,7 +57,7 @@ pub struct Options {
     leases: Option<PathBuf>,
     /// Join the lines of score --json in these files, in place of reading logs; with a lease file, each of its stations is
     /// due, else the fleet is who stands there
-    #[arg(long, value_name = "FILE", num_args = 1..)]
+    #[arg(long, value_name = "FILE", num_args = 1.., conflicts_with = "number")]
     from_scores: Option<Vec<PathBuf>>,
     /// Print the line of score --json for each station, and read no log
     #[arg(long, conflicts_with_all = ["from_scores", "json", "csv", "plain", "html", "cards"])]
@@ -82,14 +84,17 @@ pub struct Options {
     /// The date of issue; today (UTC) where none is given
     #[arg(long, value_name = "YYYY-MM-DD", value_parser = Date::parse)]
     issued: Option<Date>,
+    #[command(flatten)]
+    edition: EditionOption,
 }
 
 pub fn run(options: &Options, out: &mut dyn Write) -> Outcome {
+    let edition = options.edition.accepted().map_err(edition::refused)?;
     let form = (options.json || options.csv).then_some("--json and --csv");
     let html = Goes::asked(options.html.as_deref(), Kind::Html, form)?;
     let date = issue::day_of(options.issued);
     let rows = match &options.leases {
-        Some(file) => Some(rows(file, options.cards.as_deref(), date)?),
+        Some(file) => Some(rows(file, options.cards.as_deref(), (edition, date))?),
         None => None,
     };
     if let (true, Some(rows)) = (options.commands, &rows) {
@@ -100,7 +105,7 @@ pub fn run(options: &Options, out: &mut dyn Write) -> Outcome {
     }
     let (cards, four) = match (&options.from_scores, &rows) {
         (Some(files), rows) => joined(scores::read(files)?, rows.as_deref())?,
-        (None, rows) => stations::read(rows.as_deref().unwrap_or_default())?,
+        (None, rows) => stations::read(edition, rows.as_deref().unwrap_or_default())?,
     };
     let fleet = Fleet::new(cards, four, options.sort, date);
     let drawn = match &options.cards {
@@ -119,8 +124,8 @@ pub fn run(options: &Options, out: &mut dyn Write) -> Outcome {
     fleet.outcome()
 }
 
-fn rows(file: &Path, cards: Option<&Path>, date: Date) -> Outcome<Vec<Row>> {
-    let mut leases = Leases::read(file, date)?;
+fn rows(file: &Path, cards: Option<&Path>, (edition, date): (Edition, Date)) -> Outcome<Vec<Row>> {
+    let mut leases = Leases::read(file, edition, date)?;
     if let Some(folder) = cards {
         let faults = cards::faults(folder, &leases.rows);
         leases.add_faults(faults);
@@ -128,12 +133,26 @@ fn rows(file: &Path, cards: Option<&Path>, date: Date) -> Outcome<Vec<Row>> {
     leases.rows()
 }
 
+/// The edition by which all of them were scored.
+fn edition_of(cards: &[Card]) -> Outcome<Edition> {
+    let first = match cards.first() {
+        Some(first) => first,
+        None => return Err(Failure::wrong("there is no score in what is joined")),
+    };
+    let number = first.edition();
+    if let Some(other) = cards.iter().find(|card| card.edition() != number) {
+        let (one, other, by) = (station(first), station(other), other.edition());
+        return Err(Failure::Wrong(format!(
+            "station {one} is scored by edition {number} and station {other} by edition {by}"
+        )));
+    }
+    Edition::of(number).map_err(|_| Failure::Wrong(format!("there is no edition {number}")))
+}
+
 /// The cards that were scored elsewhere, in the lease file's order where there is one,
 /// and their four numbers by their months.
 fn joined(cards: Vec<Card>, rows: Option<&[Row]>) -> Outcome<(Vec<Card>, Four)> {
-    if cards.is_empty() {
-        return Err(Failure::wrong("there is no score in what is joined"));
-    }
+    let edition = edition_of(&cards)?;
     let mut told: HashMap<String, Card> = HashMap::new();
     let mut order = Vec::new();
     for card in cards {
@@ -146,7 +165,10 @@ fn joined(cards: Vec<Card>, rows: Option<&[Row]>) -> Outcome<(Vec<Card>, Four)> 
     let cards: Vec<Card> = match rows {
         None => order.iter().filter_map(|name| told.remove(name)).collect(),
         Some(rows) => {
-            let due: Outcome<Vec<Card>> = rows.iter().map(|row| due(row, &mut told)).collect();
+            let due: Outcome<Vec<Card>> = rows
+                .iter()
+                .map(|row| due(row, edition, &mut told))
+                .collect();
             let due = due?;
             if let Some(name) = order.iter().find(|name| told.contains_key(*name)) {
                 let stranger = format!("station {name} is scored and has no row in the lease file");
@@ -166,14 +188,14 @@ fn joined(cards: Vec<Card>, rows: Option<&[Row]>) -> Outcome<(Vec<Card>, Four)> 
 }
 
 /// The card of a row, which must be of its lease line.
-fn due(row: &Row, told: &mut HashMap<String, Card>) -> Outcome<Card> {
+fn due(row: &Row, edition: Edition, told: &mut HashMap<String, Card>) -> Outcome<Card> {
     let Asked {
         line, from, issue, ..
     } = &row.asked;
     match told.remove(row.station()) {
         None => Ok(row
             .asked
-            .missing("no score of it is among those that are joined")),
+            .missing(edition, "no score of it is among those that are joined")),
         Some(card)
             if card.line() == *line
                 && card.from() == *from

@@ -1,5 +1,6 @@
 //! A fleet's month: its stations' cards with what they come to together.
 
+use crate::common::edition;
 use crate::common::failure::{Failure, Outcome};
 use crate::common::text;
 use crate::fleet::files::name_order;
@@ -8,7 +9,7 @@ use crate::score::asked::Card;
 use crate::score::checks::Check;
 use crate::score::civil::Date;
 use crate::score::month::{percent, Score, Served};
-use boundary::Verdict;
+use boundary::{Edition, Verdict};
 use clap::ValueEnum;
 use std::cmp::Ordering;
 use std::collections::HashMap;
@@ -60,6 +61,12 @@ impl Fleet {
 
     pub fn scores(&self) -> impl Iterator<Item = &Score> {
         self.cards.iter().filter_map(Card::score)
+    }
+
+    /// The edition of the lease rule, which is the same for all of them, with its rule.
+    pub fn rule(&self) -> Option<&'static str> {
+        let number = self.cards.first()?.edition();
+        Edition::of(number).ok().map(edition::rule)
     }
 
     pub fn percent(&self) -> Option<String> {

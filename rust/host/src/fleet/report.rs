@@ -4,7 +4,7 @@
 //! the report's own comparison.
 
 use crate::score::month::{Score, Served};
-use boundary::{Answer, Lease, Replay};
+use boundary::{Answer, Edition, Lease, Replay};
 
 /// The most logs that the report takes at once.
 pub const MOST_STATIONS: usize = 64;
@@ -85,6 +85,7 @@ struct Kept {
 /// Logs that are handed to the report together. What one has of memory is bounded: a log
 /// that alone is longer isn't kept, and its month's own numbers are joined.
 pub struct Group {
+    edition: Edition,
     most: usize,
     bytes: Vec<u8>,
     kept: Vec<Kept>,
@@ -97,8 +98,9 @@ pub struct Group {
 
 impl Group {
     /// A group of so many bytes at most.
-    pub fn new(most: usize) -> Group {
+    pub fn new(edition: Edition, most: usize) -> Group {
         Group {
+            edition,
             most,
             bytes: Vec::new(),
             kept: Vec::new(),
@@ -162,12 +164,15 @@ impl Group {
             .iter()
             .map(|kept| (kept.length, kept.lease))
             .collect();
-        let told = report(logs, &stations).map(|[served, owed, silent_days, station]| Four {
-            served,
-            owed,
-            silent_days,
-            smallest: self.kept.get(station as usize).map(|kept| kept.part),
-        });
+        let told =
+            report(self.edition, logs, &stations).map(|[served, owed, silent_days, station]| {
+                Four {
+                    served,
+                    owed,
+                    silent_days,
+                    smallest: self.kept.get(station as usize).map(|kept| kept.part),
+                }
+            });
         self.join(told);
         self.kept.clear();
         self.bytes.drain(..self.begin);
@@ -176,14 +181,14 @@ impl Group {
 }
 
 /// Request 14's report over these logs, which stand one behind the other.
-fn report(logs: &[u8], stations: &[(usize, Lease)]) -> Answer<[u64; 4]> {
+fn report(edition: Edition, logs: &[u8], stations: &[(usize, Lease)]) -> Answer<[u64; 4]> {
     let mut told = [0, 0, 0, MOST_STATIONS as u64];
     let mut smallest: Option<Part> = None;
     let mut rest = logs;
     for (place, (length, lease)) in stations.iter().enumerate() {
         let (log, behind) = rest.split_at(*length);
         rest = behind;
-        let mut replay = Replay::new();
+        let mut replay = Replay::new(edition);
         replay.feed(log);
         let month = replay.score(lease)?;
         told[0] += month.served;
@@ -240,7 +245,7 @@ mod tests {
     }
 
     fn score(bytes: Vec<u8>, owed: u32) -> Score {
-        let mut log = Log::new();
+        let mut log = Log::new(Edition::First);
         let source = Source::of_bytes("a log", Box::leak(bytes.into_boxed_slice()));
         assert!(log.read(vec![source], &mut |_| {}).is_ok());
         let lease = Lease::new(5, 4, owed).expect("a lease");
@@ -266,7 +271,7 @@ mod tests {
         assert!(due.smallest.is_some() && due.silent_days > 0 && due.served > 0);
         for most in [0, 64, 200, 400, 1_000, 5_000, 1 << 20] {
             for piece in [1, 64, 5_000] {
-                let mut group = Group::new(most);
+                let mut group = Group::new(Edition::First, most);
                 for (place, (bytes, score)) in months.iter().enumerate() {
                     bytes.chunks(piece).for_each(|piece| group.take(piece));
                     assert!(group.bytes.len() <= most);

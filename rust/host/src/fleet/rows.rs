@@ -18,6 +18,7 @@ pub fn json(fleet: &Fleet, out: &mut dyn Write) -> Outcome {
         let mut value = json!({
             "station": station(card),
             "lessee": card.issue().lessee,
+            "edition": card.edition(),
             "lease": lease(&card.line(), card.from()),
         });
         match card {
@@ -71,6 +72,7 @@ pub fn csv(fleet: &Fleet, out: &mut dyn Write) -> Outcome {
         "first_day",
         "days",
         "owed_a_day",
+        "edition",
         "served",
         "owed",
         "percent",
@@ -92,7 +94,7 @@ pub fn csv(fleet: &Fleet, out: &mut dyn Write) -> Outcome {
     Ok(())
 }
 
-fn row(card: &Card) -> [String; 13] {
+fn row(card: &Card) -> [String; 14] {
     let line = card.line();
     let begin = [
         station(card).to_string(),
@@ -100,6 +102,7 @@ fn row(card: &Card) -> [String; 13] {
         line.first_day.to_string(),
         line.days.to_string(),
         line.owed.to_string(),
+        card.edition().to_string(),
     ];
     let end = match card {
         Card::Scored(score) => [
@@ -118,7 +121,7 @@ fn row(card: &Card) -> [String; 13] {
             [a, b, c, d, e, f, unscored.name().to_string(), why]
         }
     };
-    let [a, b, c, d, e] = begin;
-    let [f, g, h, i, j, k, l, m] = end;
-    [a, b, c, d, e, f, g, h, i, j, k, l, m]
+    let [a, b, c, d, e, f] = begin;
+    let [g, h, i, j, k, l, m, n] = end;
+    [a, b, c, d, e, f, g, h, i, j, k, l, m, n]
 }

@@ -7,7 +7,7 @@ use crate::score::checks::Check;
 use crate::score::civil::Date;
 use crate::score::issue::Issue;
 use crate::score::month::{verdict_name, Day, Score};
-use boundary::{Month, ScoredDay, Verdict};
+use boundary::{Edition, Month, ScoredDay, Verdict};
 use serde_json::Value;
 use std::path::PathBuf;
 
@@ -79,6 +79,7 @@ fn unscored(
     issue: Issue,
 ) -> Read<Card> {
     let unscored = Unscored {
+        edition: short(summary, "edition")?,
         line,
         from,
         inputs: texts(summary, "inputs")?,
@@ -111,7 +112,10 @@ fn scored(
         read.push(day(value, &line, place, date)?);
     }
     let checks: Read<Vec<Check>> = list(summary, "checks")?.iter().map(check).collect();
+    let edition = short(summary, "edition")?;
+    let edition = Edition::of(edition).map_err(|_| format!("there is no edition {edition}"))?;
     let score = Score {
+        edition,
         lease,
         inputs: texts(&summary["log"], "inputs")?,
         digest: optional(summary, "sha256")?,

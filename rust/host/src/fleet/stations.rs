@@ -6,7 +6,7 @@ use crate::fleet::leases::Row;
 use crate::fleet::report::{Four, Group, MOST_STATIONS};
 use crate::input::progress;
 use crate::score::asked::Card;
-use boundary::{Answer, Refusal};
+use boundary::{Answer, Edition, Refusal};
 use rayon::prelude::*;
 use std::fs;
 
@@ -19,12 +19,13 @@ const PARTS: usize = 4;
 
 /// Reads and scores each station; its cards in the rows' order, and the four numbers of
 /// those that have a score.
-pub fn read(rows: &[Row]) -> Outcome<(Vec<Card>, Four)> {
+pub fn read(edition: Edition, rows: &[Row]) -> Outcome<(Vec<Card>, Four)> {
     progress::begin_together(bytes(rows), rows.len());
     let parts = PARTS * rayon::current_num_threads();
     let size = ((rows.len() + parts - 1) / parts).clamp(1, MOST_STATIONS);
     let places: Vec<(usize, &Row)> = rows.iter().enumerate().collect();
-    let read: Vec<(Vec<Card>, Answer<Four>)> = places.par_chunks(size).map(part).collect();
+    let parts = places.par_chunks(size).map(|rows| part(edition, rows));
+    let read: Vec<(Vec<Card>, Answer<Four>)> = parts.collect();
     progress::end_together();
     let mut cards = Vec::new();
     let mut told = Four::default();
@@ -36,12 +37,13 @@ pub fn read(rows: &[Row]) -> Outcome<(Vec<Card>, Four)> {
 }
 
 /// Some stations, one after the other.
-fn part(rows: &[(usize, &Row)]) -> (Vec<Card>, Answer<Four>) {
-    let mut group = Group::new(KEPT);
+fn part(edition: Edition, rows: &[(usize, &Row)]) -> (Vec<Card>, Answer<Four>) {
+    let mut group = Group::new(edition, KEPT);
     let mut cards = Vec::new();
     for (place, row) in rows {
         let also = &mut |piece: &[u8]| group.take(piece);
-        let card = row.asked.score(row.lease, row.dates.clone(), also);
+        let dates = row.dates.clone();
+        let card = row.asked.score(edition, row.lease, dates, also);
         group.end(*place, card.score());
         cards.push(card);
         progress::station_done();

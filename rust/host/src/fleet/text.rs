@@ -20,6 +20,9 @@ struct Row {
 /// and what to check before cards are sent.
 pub fn tell(fleet: &Fleet, digits: Digits, out: &mut dyn Write) -> Outcome {
     writeln!(out, "fleet of {}", fleet.heading())?;
+    if let Some(rule) = fleet.rule() {
+        writeln!(out, "{rule}")?;
+    }
     writeln!(out)?;
     for line in table(fleet, digits) {
         writeln!(out, "{}", line.trim_end())?;

@@ -2,6 +2,7 @@
 //! log beside its score.
 
 use crate::common::digits::Digits;
+use crate::common::edition;
 use crate::common::failure::Outcome;
 use crate::common::names;
 use crate::common::text;
@@ -32,6 +33,7 @@ pub fn table(log: &Log, digits: Digits, out: &mut dyn Write) -> Outcome {
         text::count(log.words(), "word"),
         text::count(u64::from(log.replay.status().midnights), "midnight"),
     )?;
+    writeln!(out, "{}", edition::rule(log.edition()))?;
     for note in notes(log) {
         writeln!(out, "{note}")?;
     }
@@ -50,9 +52,10 @@ fn parts(log: &Log) -> impl Iterator<Item = (String, Part)> + '_ {
 /// A head and a row for what ended before the first midnight and for each day. The
 /// rows have no place for what is told below the table: it goes to standard error.
 pub fn csv(log: &Log, out: &mut dyn Write) -> Outcome {
-    writeln!(out, "day,runs,claimed")?;
+    writeln!(out, "day,runs,claimed,edition")?;
+    let edition = log.edition().number();
     for (name, part) in parts(log) {
-        writeln!(out, "{name},{},{}", part.runs, part.claims)?;
+        writeln!(out, "{name},{},{},{edition}", part.runs, part.claims)?;
     }
     out.flush()?;
     tell_notes(log);
@@ -162,6 +165,7 @@ pub fn summary(log: &Log) -> Value {
         "midnights": status.midnights,
         "first_day": status.days.map(|(first, _)| first),
         "last_day": status.days.map(|(_, last)| last),
+        "edition": log.edition().number(),
         "runs": runs,
         "claims": claims,
         "open": open,

@@ -5,7 +5,7 @@ use crate::common::failure::Outcome;
 use crate::explain::cause::{self, Refused};
 use crate::input::looks::{self, Looks};
 use crate::input::source::{Source, PIECE};
-use boundary::{LogStatus, Replay};
+use boundary::{Edition, LogStatus, Replay};
 use sha2::{Digest, Sha256};
 use std::fmt;
 
@@ -58,9 +58,10 @@ pub struct Log {
 }
 
 impl Log {
-    pub fn new() -> Log {
+    /// A log whose elements are claimed by this edition.
+    pub fn new(edition: Edition) -> Log {
         Log {
-            replay: Replay::new(),
+            replay: Replay::new(edition),
             inputs: Vec::new(),
             bytes: 0,
             taken: 0,
@@ -73,11 +74,15 @@ impl Log {
     }
 
     /// A log whose SHA-256 is wanted.
-    pub fn with_digest() -> Log {
+    pub fn with_digest(edition: Edition) -> Log {
         Log {
             digest: Some(Sha256::new()),
-            ..Log::new()
+            ..Log::new(edition)
         }
+    }
+
+    pub fn edition(&self) -> Edition {
+        self.replay.session().status().edition
     }
 
     /// The SHA-256 of all bytes read, in hex.

@@ -4,6 +4,7 @@ pub mod days;
 pub mod log;
 
 use crate::common::digits::Digits;
+use crate::common::edition::{self, EditionOption};
 use crate::common::failure::{Failure, Outcome};
 use crate::input::source::Source;
 use crate::replay::log::Log;
@@ -21,6 +22,7 @@ Examples, from the repository's root:
   egretfold replay samples/three-days.log
   egretfold replay --json samples/refused.log
   egretfold replay --csv samples/three-days.log
+  egretfold replay --edition 2 samples/station-14.log
   head -c 98 samples/three-days.log | egretfold replay -";
 
 #[derive(Args)]
@@ -36,10 +38,13 @@ pub struct Options {
     /// Large numbers without commas between their digits
     #[arg(long, conflicts_with_all = ["json", "csv"])]
     plain: bool,
+    #[command(flatten)]
+    edition: EditionOption,
 }
 
 pub fn run(options: &Options, out: &mut dyn Write) -> Outcome {
-    let mut log = Log::new();
+    let edition = options.edition.accepted().map_err(edition::refused)?;
+    let mut log = Log::new(edition);
     let ended = log.read(Source::open_all(&options.files)?, &mut |_| {});
     match (options.json, options.csv) {
         (true, _) => days::json(&log, out)?,

@@ -9,7 +9,7 @@ use crate::replay::log::Log;
 use crate::score::civil::Date;
 use crate::score::issue::Issue;
 use crate::score::month::Score;
-use boundary::{Lease, Month, Verdict};
+use boundary::{Edition, Lease, Month, Verdict};
 use serde_json::{json, Value};
 use std::path::{Path, PathBuf};
 
@@ -23,6 +23,8 @@ pub struct LeaseLine {
 
 /// A lease line, its first day's date where that is known, and the log's files.
 pub struct Asked {
+    /// The number of the edition of the lease rule.
+    pub edition: u32,
     pub line: LeaseLine,
     pub from: Option<Date>,
     pub files: Vec<PathBuf>,
@@ -37,6 +39,8 @@ pub enum Card {
 
 /// A month that has no score.
 pub struct Unscored {
+    /// The number of the edition that was asked for.
+    pub edition: u32,
     pub line: LeaseLine,
     pub from: Option<Date>,
     /// The files that were asked for, by their names.
@@ -66,6 +70,7 @@ impl Unscored {
             Failure::Short => (false, String::new()),
         };
         Unscored {
+            edition: asked.edition,
             line: asked.line,
             from: asked.from,
             inputs: asked.names(),
@@ -90,6 +95,14 @@ impl Card {
         match self {
             Card::Scored(score) => &score.issue,
             Card::Unscored(unscored) => &unscored.issue,
+        }
+    }
+
+    /// The number of its edition.
+    pub fn edition(&self) -> u32 {
+        match self {
+            Card::Scored(score) => score.edition.number(),
+            Card::Unscored(unscored) => unscored.edition,
         }
     }
 
@@ -146,9 +159,8 @@ impl Asked {
         dates(self.from, lease)
     }
 
-    /// The card of a lease line that was refused: no log is read.
-    pub fn refused_line(&self, refused: Refused) -> Card {
-        let failure = Failure::Refused(format!("lease line: {refused}"));
+    /// The card of an edition or a lease line that was refused: no log is read.
+    pub fn refused(&self, refused: Refused, failure: Failure) -> Card {
         Card::Unscored(Unscored {
             refusal: json!({"refused": refused.number, "cause": refused.cause}),
             ..Unscored::new(self, failure)
@@ -156,18 +168,23 @@ impl Asked {
     }
 
     /// The card of a log that wasn't read, for this reason.
-    pub fn missing(&self, why: &str) -> Card {
-        Card::Unscored(Unscored::new(self, Failure::Wrong(why.to_string())))
+    pub fn missing(&self, edition: Edition, why: &str) -> Card {
+        let failure = Failure::Wrong(why.to_string());
+        Card::Unscored(Unscored {
+            edition: edition.number(),
+            ..Unscored::new(self, failure)
+        })
     }
 
     /// Reads the log and scores it. Each piece of the log is handed on too.
     pub fn score(
         &self,
+        edition: Edition,
         lease: Lease,
         dates: Vec<Option<Date>>,
         also: &mut dyn FnMut(&[u8]),
     ) -> Card {
-        let mut log = Log::with_digest();
+        let mut log = Log::with_digest(edition);
         // A score of a part of what was asked for would be no score.
         let read = Source::open_all(&self.files).and_then(|sources| log.read(sources, also));
         if let Err(failure) = read {

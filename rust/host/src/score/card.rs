@@ -1,6 +1,7 @@
 //! The card: a month as people read it.
 
 use crate::common::digits::Digits;
+use crate::common::edition;
 use crate::common::failure::Outcome;
 use crate::score::month::{filled, Day, Score};
 use std::io::Write;
@@ -16,6 +17,7 @@ pub fn text(score: &Score, digits: Digits, out: &mut dyn Write) -> Outcome {
         writeln!(out, "{whose}")?;
     }
     writeln!(out, "{}", lease(score, digits))?;
+    writeln!(out, "{}", edition::rule(score.edition))?;
     writeln!(out)?;
     for line in table(score, digits) {
         writeln!(out, "{line}")?;

@@ -12,6 +12,7 @@ pub mod sample;
 mod station;
 
 use crate::common::digits::Digits;
+use crate::common::edition::{self, EditionOption};
 use crate::common::failure::{Failure, Outcome};
 use crate::common::replaced::{Goes, Kind};
 use crate::fleet::page;
@@ -22,7 +23,7 @@ use crate::score::asked::{accepted, dates, month_of, Asked, Card, LeaseLine};
 use crate::score::civil::Date;
 use crate::score::issue::Issue;
 use crate::score::month::Score;
-use boundary::Verdict;
+use boundary::{Edition, Verdict};
 use clap::Args;
 use std::io::{self, Write};
 use std::path::PathBuf;
@@ -34,11 +35,14 @@ day; the last day's number is below 2^32. A day is served what it claimed, up to
 a day without a midnight in the log is served 0. A month is full where every day owes more
 than 0 and is served in full, \"nothing owed\" where days owe 0, else short. A dark day is
 served nothing of what it owes.
+With --edition 2 a pair counts the unmasked channels of each output, where edition 1 counts an
+output that isn't silent once.
 Exit status: 0 full or nothing owed, 3 short, 1 refused, 2 a wrong command line or file.
 Where there is no score, a card asked for with --svg or --html says so, in place of an earlier one.
 
 Examples, from the repository's root:
   egretfold score samples/station-14.log --first-day 101 --days 30 --owed 14000000
+  egretfold score samples/station-14.log --first-day 101 --days 30 --owed 56000000 --edition 2
   egretfold score samples/full-month.log --first-day 131 --days 31 --owed 14000000 --from 2026-05-01 --csv
   egretfold score samples/station-14.log --first-day 101 --days 30 --owed 14000000 --from 2026-04-01 --svg april.svg --station 14 --lessee 'the harbour'";
 
@@ -77,12 +81,15 @@ pub struct Options {
     #[arg(long, value_name = "FILE")]
     html: Option<PathBuf>,
     #[command(flatten)]
+    edition: EditionOption,
+    #[command(flatten)]
     issue: issue::IssueOptions,
 }
 
 impl Options {
     fn asked(&self) -> Asked {
         Asked {
+            edition: self.edition.number,
             line: LeaseLine {
                 first_day: self.first_day,
                 days: self.days,
@@ -130,14 +137,7 @@ impl Places {
 pub fn run(options: &Options, out: &mut dyn Write) -> Outcome {
     let places = Places::asked(options)?;
     let asked = options.asked();
-    // Before any log is opened.
-    let card = match asked.lease() {
-        Err(refused) => asked.refused_line(refused),
-        Ok(lease) => {
-            let dates = asked.dates(&lease).map_err(wrong_from)?;
-            asked.score(lease, dates, &mut |_| {})
-        }
-    };
+    let card = card(options, &asked)?;
     let written = places.write(&card, out);
     if !places.take_standard() {
         show_as_asked(options, &card, out)?;
@@ -147,6 +147,26 @@ pub fn run(options: &Options, out: &mut dyn Write) -> Outcome {
         (Err(failure), Err(Failure::Wrong(text))) => Err(failure.hinted(Some(text))),
         (outcome, _) => outcome,
     }
+}
+
+/// Before any log is opened the edition is judged, before all else, then the lease line.
+fn card(options: &Options, asked: &Asked) -> Outcome<Card> {
+    let edition = match options.edition.accepted() {
+        Ok(edition) => edition,
+        Err(refused) => {
+            let failure = edition::refused(refused.clone());
+            return Ok(asked.refused(refused, failure));
+        }
+    };
+    let lease = match asked.lease() {
+        Ok(lease) => lease,
+        Err(refused) => {
+            let failure = Failure::Refused(format!("lease line: {refused}"));
+            return Ok(asked.refused(refused, failure));
+        }
+    };
+    let dates = asked.dates(&lease).map_err(wrong_from)?;
+    Ok(asked.score(edition, lease, dates, &mut |_| {}))
 }
 
 fn show_as_asked(options: &Options, card: &Card, out: &mut dyn Write) -> Outcome {
@@ -165,7 +185,7 @@ fn wrong_from(text: String) -> Failure {
 /// The card of a log that is at hand.
 pub fn show(source: Source, line: LeaseLine, from: Date, out: &mut dyn Write) -> Outcome<Verdict> {
     let lease = accepted(line).map_err(Failure::wrong)?;
-    let mut log = Log::new();
+    let mut log = Log::new(Edition::First);
     log.read(vec![source], &mut |_| {})?;
     let dates = dates(Some(from), &lease).map_err(wrong_from)?;
     let score = Score::new(lease, dates, month_of(&log, &lease)?, &log, Issue::nobody());

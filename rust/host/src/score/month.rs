@@ -7,11 +7,13 @@ use crate::score::asked::LeaseLine;
 use crate::score::checks::{self, Check};
 use crate::score::civil::Date;
 use crate::score::issue::Issue;
-use boundary::{Lease, Month, ScoredDay, Verdict};
+use boundary::{Edition, Lease, Month, ScoredDay, Verdict};
 use serde_json::Value;
 
 /// A month, its lease and what is told of the log that it is of.
 pub struct Score {
+    /// The edition of the lease rule that it is scored by.
+    pub edition: Edition,
     pub lease: Lease,
     /// The log's inputs by their names.
     pub inputs: Vec<String>,
@@ -85,6 +87,7 @@ impl Score {
         let days: Vec<Day> = month.days.iter().zip(dates).map(day).collect();
         let checks = checks::all(log, &lease, &days);
         Score {
+            edition: log.edition(),
             lease,
             inputs: log.inputs.iter().map(|(name, _)| name.clone()).collect(),
             digest: log.digest(),

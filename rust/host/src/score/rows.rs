@@ -40,7 +40,11 @@ fn days(score: &Score, out: &mut dyn Write) -> Outcome {
 
 fn summary(score: &Score) -> Value {
     let from = score.dates().map(|(first, _)| first);
-    let mut summary = json!({"lease": lease(&score.line(), from), "refusal": null});
+    let mut summary = json!({
+        "edition": score.edition.number(),
+        "lease": lease(&score.line(), from),
+        "refusal": null,
+    });
     score.issue.put(&mut summary);
     summary["sha256"] = json!(score.digest);
     let checks: Vec<Value> = score.checks.iter().map(Check::json).collect();
@@ -59,7 +63,11 @@ fn summary(score: &Score) -> Value {
 /// What was refused, or couldn't be read, in place of a score.
 fn unscored_summary(unscored: &Unscored) -> Value {
     let lease = lease(&unscored.line, unscored.from);
-    let mut summary = json!({"lease": lease, "refusal": unscored.refusal});
+    let mut summary = json!({
+        "edition": unscored.edition,
+        "lease": lease,
+        "refusal": unscored.refusal,
+    });
     unscored.issue.put(&mut summary);
     summary["inputs"] = json!(unscored.inputs);
     summary["unscored"] = json!({"name": unscored.name(), "why": unscored.why});
@@ -78,14 +86,15 @@ pub fn lease(line: &LeaseLine, from: Option<Date>) -> Value {
 /// A head and a row a day; numbers and dates need no quotes.
 pub fn csv(score: &Score, out: &mut dyn Write) -> Outcome {
     let date = score.dates().map_or("", |_| "date,");
-    writeln!(out, "day,{date}claimed,served,owed,dark,in_log")?;
+    writeln!(out, "day,{date}claimed,served,owed,dark,in_log,edition")?;
+    let edition = score.edition.number();
     for day in &score.days {
         let date = day.date.map_or(String::new(), |date| format!("{date},"));
         let (claimed, served, owed) = (day.claimed, day.served, day.owed);
         let (number, dark, in_log) = (day.number, day.is_dark(), day.in_log);
         writeln!(
             out,
-            "{number},{date}{claimed},{served},{owed},{dark},{in_log}"
+            "{number},{date}{claimed},{served},{owed},{dark},{in_log},{edition}"
         )?;
     }
     Ok(())

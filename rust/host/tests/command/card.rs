@@ -258,7 +258,7 @@ fn rows_tell_which_days_the_log_has() {
     let text = told(&output);
     let ends: Vec<&str> = text
         .lines()
-        .map(|line| line.rsplit(',').next().expect("a value"))
+        .map(|line| line.rsplit(',').nth(1).expect("a value"))
         .collect();
     assert_eq!(ends, ["in_log", "true", "true", "false"]);
 }

@@ -1,7 +1,7 @@
 //! Refusals told with their place, their number and both quantities.
 
 use crate::common::{complained, egretfold, Folder};
-use boundary::{Group, Mode, Program, Session};
+use boundary::{Edition, Group, Mode, Program, Session};
 use compare::random::Random;
 use compare::{loops, programs, words};
 
@@ -124,7 +124,7 @@ fn refused_streams_get_more_than_the_bare_cause() {
     let mut seen = [0; 18];
     for case in 0..3_000 {
         let words = words::any(&mut Random::of_case(91, 3, case));
-        let number = match Session::new().feed(&words).refusal {
+        let number = match Session::new(Edition::First).feed(&words).refusal {
             Some(refusal) => refusal.number(),
             None => continue,
         };

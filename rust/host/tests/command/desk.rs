@@ -617,7 +617,8 @@ fn tables_for_programs() {
     let outside = egretfold("tile --size 4 --mark 4096,0", b"");
     assert_eq!(outside.status.code(), Some(1));
     let csv = told(&egretfold("replay --csv samples/three-days.log", b""));
-    let due = "day,runs,claimed\nbefore,1,1728\n101,2,3456\n102,1,1728\n103,2,1728\n";
+    let due =
+        "day,runs,claimed,edition\nbefore,1,1728,1\n101,2,3456,1\n102,1,1728,1\n103,2,1728,1\n";
     assert_eq!(csv, due);
     let refused = egretfold("replay --csv samples/refused.log", b"");
     assert_eq!(refused.status.code(), Some(1));

@@ -743,6 +743,48 @@ fn scores_that_are_not_whole_are_told() {
     }
 }
 
+/// By edition 2 the same logs serve more; editions aren't mixed.
+#[test]
+fn a_fleet_is_scored_by_one_edition() {
+    let folder = Folder::new("fleet-editions");
+    let leases = "station,log,first day,days,owed\n14,samples/station-14.log,101,30,100000000\n";
+    let scores = |edition: &str, station: &str| {
+        let leases = leases.replace("14,s", &format!("{station},s"));
+        let line = format!("fleet - --commands --edition {edition} --issued 2026-05-02");
+        let line = told(&egretfold(&line, leases.as_bytes()));
+        let arguments = line.trim().strip_prefix("egretfold ").expect("a line");
+        told(&egretfold(arguments, b""))
+    };
+    let mut served = Vec::new();
+    for edition in ["1", "2"] {
+        let line = format!("fleet - --json --edition {edition} --issued 2026-05-02");
+        let output = egretfold(&line, leases.as_bytes());
+        let file = folder.write("scores", scores(edition, "14").as_bytes());
+        let joined = fleet(
+            "",
+            &format!("--json --issued 2026-05-02 --from-scores {file}"),
+        );
+        assert_eq!(told(&joined), told(&output), "edition {edition}");
+        let (stations, whole) = lines(&output);
+        assert_eq!(stations[0]["edition"].to_string(), edition);
+        served.push(whole["served"].as_u64().expect("a number"));
+    }
+    // Each channel of UINT8_4 counts.
+    assert_eq!(served[1], 4 * served[0]);
+    let both = scores("1", "14") + &scores("2", "15");
+    let file = folder.write("scores", both.as_bytes());
+    let output = fleet("", &format!("--from-scores {file}"));
+    assert_eq!(output.status.code(), Some(2));
+    let due = "station 14 is scored by edition 1 and station 15 by edition 2";
+    assert!(complained(&output).contains(due), "{}", complained(&output));
+    let output = fleet("no-such.csv", "--edition 3");
+    assert_eq!(output.status.code(), Some(1));
+    assert!(complained(&output).contains("edition: refused 3, edition 3 is neither 1 nor 2"));
+    // The scores have their edition.
+    let output = fleet("", &format!("--from-scores {file} --edition 1"));
+    assert_eq!(output.status.code(), Some(2));
+}
+
 /// A start's claim under these settings, 96 x 18.
 const CLAIM: u64 = 1_728;
 

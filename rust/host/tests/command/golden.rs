@@ -85,7 +85,52 @@ const CASES: &[(&str, &str, &str)] = &[
         "score samples/station-14.log --first-day 101 --days 30 --owed 1 --from 9999-12-31",
         "",
     ),
+    (
+        "score-edition-2",
+        "score samples/station-14.log --first-day 101 --days 30 --owed 56000000 --edition 2 --from 2026-04-01",
+        "",
+    ),
+    (
+        "score-june",
+        "score samples/station-14-june.log --first-day 162 --days 30 --owed 14000000 --edition 1 --from 2026-06-01",
+        "",
+    ),
+    (
+        "score-june-edition-2",
+        "score samples/station-14-june.log --first-day 162 --days 30 --owed 56000000 --edition 2 --from 2026-06-01",
+        "",
+    ),
+    (
+        "score-june-edition-2-json",
+        "score samples/station-14-june.log --first-day 167 --days 4 --owed 56000000 --edition 2 --json --issued 2026-07-02",
+        "",
+    ),
+    (
+        "score-june-edition-2-csv",
+        "score samples/station-14-june.log --first-day 167 --days 4 --owed 56000000 --edition 2 --csv",
+        "",
+    ),
+    (
+        "score-edition-3",
+        "score samples/nothing.log --first-day 101 --days 32 --owed 1 --edition 3",
+        "",
+    ),
+    (
+        "score-edition-3-json",
+        "score samples/damaged.log --first-day 101 --days 32 --owed 1 --edition 3 --json --issued 2026-05-02",
+        "",
+    ),
     ("fleet", "fleet samples/leases.csv", ""),
+    (
+        "fleet-edition-2",
+        "fleet samples/leases.csv --edition 2",
+        "",
+    ),
+    (
+        "fleet-edition-3",
+        "fleet samples/nothing.csv --edition 3",
+        "",
+    ),
     (
         "fleet-json",
         "fleet samples/leases.csv --json --issued 2026-05-02",
@@ -169,6 +214,28 @@ const CASES: &[(&str, &str, &str)] = &[
         "",
     ),
     ("decode-masked-json", "decode --json samples/masked.ctm", ""),
+    ("decode-channels", "decode --terse samples/channels.ctm", ""),
+    (
+        "decode-channels-edition-2",
+        "decode --edition 2 samples/channels.ctm",
+        "",
+    ),
+    (
+        "decode-channels-edition-2-terse",
+        "decode --edition 2 --terse samples/channels.ctm",
+        "",
+    ),
+    (
+        "decode-channels-edition-2-json",
+        "decode --edition 2 --json samples/channels.ctm",
+        "",
+    ),
+    (
+        "decode-channels-edition-2-summary",
+        "decode --edition 2 --summary samples/channels.ctm",
+        "",
+    ),
+    ("decode-edition-0", "decode --edition 0 samples/nothing.ctm", ""),
     ("decode-open", "decode --hex", "C0030700 0 0\n"),
     ("decode-nothing", "decode", ""),
     (
@@ -201,6 +268,22 @@ const CASES: &[(&str, &str, &str)] = &[
     ),
     ("replay-csv", "replay --csv samples/three-days.log", ""),
     ("replay-plain", "replay --plain samples/station-14.log", ""),
+    (
+        "replay-edition-2",
+        "replay --edition 2 samples/station-14-june.log",
+        "",
+    ),
+    (
+        "replay-edition-2-json",
+        "replay --edition 2 --json samples/three-days.log",
+        "",
+    ),
+    (
+        "replay-edition-2-csv",
+        "replay --edition 2 --csv samples/station-14-june.log",
+        "",
+    ),
+    ("replay-edition-3", "replay --edition 3 samples/nothing.log", ""),
     ("replay-nothing", "replay", ""),
     ("replay-folder", "replay samples/three-days.log samples", ""),
     ("replay-kind", "replay -", "\u{1}\0\u{9}\0\0\u{7}more"),
@@ -454,6 +537,7 @@ const CASES: &[(&str, &str, &str)] = &[
         "",
     ),
     ("explain", "explain", ""),
+    ("explain-3", "explain 3", ""),
     ("explain-6", "explain 6", ""),
     ("explain-7", "explain 7", ""),
     ("explain-8", "explain 8", ""),
@@ -480,6 +564,14 @@ const PICTURES: &[(&str, &str)] = &[
     (
         "full-month",
         "samples/full-month.log --first-day 131 --days 31 --owed 14000000 --from 2026-05-01",
+    ),
+    (
+        "edition-2",
+        "samples/station-14-june.log --first-day 162 --days 30 --owed 56000000 --edition 2 --from 2026-06-01 --station 14 --lessee Harbour",
+    ),
+    (
+        "edition-3",
+        "samples/station-14-june.log --first-day 162 --days 30 --owed 56000000 --edition 3 --from 2026-06-01",
     ),
     (
         "nothing-owed",

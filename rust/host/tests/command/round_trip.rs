@@ -1,7 +1,7 @@
 //! Decoded streams, encoded again, are byte for byte what they were.
 
 use crate::common::egretfold;
-use boundary::Session;
+use boundary::{Edition, Session};
 use compare::random::Random;
 use compare::words;
 
@@ -15,7 +15,9 @@ fn bytes(words: &[u32]) -> Vec<u8> {
 /// The first so many made-up streams that the product accepts, or refuses.
 fn streams(count: usize, accepted: bool) -> impl Iterator<Item = Vec<u32>> {
     let made = (0..).map(|case| words::any(&mut Random::of_case(90, SEED, case)));
-    let kept = made.filter(move |words| Session::new().feed(words).refusal.is_none() == accepted);
+    let kept = made.filter(move |words| {
+        Session::new(Edition::First).feed(words).refusal.is_none() == accepted
+    });
     kept.take(count)
 }
 

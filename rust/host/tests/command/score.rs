@@ -96,6 +96,10 @@ fn the_forms_agree() {
             "samples/station-14.log",
             "--first-day 90 --days 31 --owed 614400",
         ),
+        (
+            "samples/station-14-june.log",
+            "--first-day 160 --days 31 --owed 56000000 --edition 2",
+        ),
     ] {
         let by_rows = rows(&score(log, &format!("{line} --csv")));
         let json = told(&score(log, &format!("{line} --json")));
@@ -106,11 +110,17 @@ fn the_forms_agree() {
         let summary = objects.pop().expect("a summary")["summary"].clone();
         assert_eq!(objects.len(), by_rows.len());
         let mut served = 0;
-        for (object, row) in objects.iter().zip(&by_rows) {
+        for (object, row) in objects.iter_mut().zip(&by_rows) {
+            // One number for all days, which JSON has in the summary alone.
+            object["edition"] = summary["edition"].clone();
             let dated = object["date"].is_string();
             let keys: &[&str] = match dated {
-                true => &["day", "date", "claimed", "served", "owed", "dark", "in_log"],
-                false => &["day", "claimed", "served", "owed", "dark", "in_log"],
+                true => &[
+                    "day", "date", "claimed", "served", "owed", "dark", "in_log", "edition",
+                ],
+                false => &[
+                    "day", "claimed", "served", "owed", "dark", "in_log", "edition",
+                ],
             };
             let values: Vec<String> = keys
                 .iter()
@@ -121,14 +131,16 @@ fn the_forms_agree() {
         }
         assert_eq!(summary["served"], served);
         let card = told(&score(log, &format!("{line} --plain")));
+        let edition = format!("\nedition {} of the lease rule: ", summary["edition"]);
+        assert!(card.contains(&edition), "{card}");
         for row in &by_rows {
             let shown = card
                 .lines()
                 .find(|line| line.trim_start().starts_with(&row[0]));
             let shown = shown.expect("a row for each day");
-            let values: Vec<&str> = shown.split_whitespace().take(row.len() - 2).collect();
-            assert_eq!(values, row[..row.len() - 2]);
-            let [dark, in_log] = [row.len() - 2, row.len() - 1].map(|place| row[place] == "true");
+            let values: Vec<&str> = shown.split_whitespace().take(row.len() - 3).collect();
+            assert_eq!(values, row[..row.len() - 3]);
+            let [dark, in_log] = [row.len() - 3, row.len() - 2].map(|place| row[place] == "true");
             assert_eq!(shown.contains("  dark"), dark);
             assert_eq!(shown.contains("  no midnight in the log"), !in_log);
         }

@@ -42,7 +42,11 @@ pub fn of_one(card: &Card) -> String {
 /// The page of a fleet.
 pub fn html(fleet: &Fleet) -> String {
     let cards: Vec<Placed> = fleet.told().collect();
-    let told = [fleet.heading(), text::four(fleet, Digits::Grouped)];
+    let told = [
+        fleet.heading(),
+        text::four(fleet, Digits::Grouped),
+        fleet.rule().unwrap_or_default().to_string(),
+    ];
     let parts = [
         notice("No score", cards.iter().filter_map(no_score).collect()),
         notice(

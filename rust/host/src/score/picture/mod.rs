@@ -194,6 +194,7 @@ fn head(drawing: &mut Drawing, score: &Score, down: u32) {
         Some(_) => format!("{}, {owed} elements owed a day", days_of(score)),
         None => format!("{owed} elements owed a day"),
     };
+    let lease = format!("{lease}, edition {}", score.edition.number());
     let log = format!("Log {}", month::log_name(&score.inputs, file_name));
     drawing.text((LEFT, down + 58), &title(score), &TITLE);
     let lines = [score.issue.whose(), Some(lease), Some(log)];

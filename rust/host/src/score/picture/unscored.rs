@@ -22,7 +22,8 @@ pub fn drawn(unscored: &Unscored) -> Framed {
     let title = title(unscored);
     drawing.text((LEFT, 58), &title, &TITLE.at_most(600));
     let owed = grouped(u64::from(unscored.line.owed));
-    let lease = format!("{}, {owed} elements owed a day", days(unscored));
+    let (days, edition) = (days(unscored), unscored.edition);
+    let lease = format!("{days}, {owed} elements owed a day, edition {edition}");
     let log = format!("Log {}", month::log_name(&unscored.inputs, file_name));
     let lines = [unscored.issue.whose(), Some(lease), Some(log)];
     for (y, line) in (88..).step_by(24).zip(lines.iter().flatten()) {

@@ -111,6 +111,14 @@ const WORDS: [&str; 10] = [
     "zz",
 ];
 
+/// How a lease file begins.
+const HEADERS: [&str; 4] = [
+    "station,lessee,log,first day,days,owed,first date\n",
+    "station,lessee,log,first day,days,owed,first date\n",
+    "\u{feff}Station;Lessee;Log files;First_Day;Days;Owed;From\r\n",
+    "station,lesee,log,first day,days\n",
+];
+
 /// Names that a shell, a terminal or a table could stumble over.
 const NAMES: [&[u8]; 10] = [
     b"plain.log",
@@ -169,7 +177,7 @@ impl Made<'_> {
     }
 
     fn line(&mut self) {
-        match self.random.below(20) {
+        match self.random.below(23) {
             0..=5 => self.score(),
             6..=8 => self.replay(),
             9..=11 => self.decode(),
@@ -178,6 +186,7 @@ impl Made<'_> {
             15 | 16 => self.locate(),
             17 => self.tile(),
             18 => self.flow(),
+            19..=21 => self.fleet(),
             _ => self.other(),
         }
     }
@@ -196,6 +205,7 @@ impl Made<'_> {
             };
             self.put(number);
         }
+        self.edition();
         self.valued(3, "--from", &DATES);
         self.valued(6, "--station", &["14", "\u{1b}[2J", "<&\">", ""]);
         self.valued(6, "--lessee", &["Harbour", "a\nb", "\u{202e}x"]);
@@ -207,8 +217,99 @@ impl Made<'_> {
         self.logs();
     }
 
+    fn edition(&mut self) {
+        self.valued(
+            4,
+            "--edition",
+            &["1", "2", "2", "2", "0", "3", "4294967295"],
+        );
+    }
+
+    /// A lease file of the case's own, with logs that stand beside it.
+    fn fleet(&mut self) {
+        self.put("fleet");
+        let mut text = String::from(self.random.one_of(&HEADERS));
+        let parted = if text.contains(';') { ";" } else { "," };
+        for _ in 0..self.random.below(5) {
+            let row = self.row();
+            text += &(row.join(parted) + self.random.one_of(&["\n", "\r\n"]));
+        }
+        let mut bytes = text.into_bytes();
+        if self.random.once_in(4) {
+            self.damage(&mut bytes);
+        }
+        let name = OsString::from_vec(b"leases.csv".to_vec());
+        self.put("own/leases.csv");
+        self.case.files.push((name, bytes));
+        for (times, flag) in [
+            (4, "--json"),
+            (6, "--csv"),
+            (8, "--plain"),
+            (9, "--commands"),
+        ] {
+            self.flag(times, flag);
+        }
+        self.valued(
+            5,
+            "--sort",
+            &["worst", "lease", "station", "lessee", "silent", "best"],
+        );
+        self.valued(7, "--html", &["-"]);
+        self.valued(7, "--edition", &["1", "2", "2", "3"]);
+        self.valued(
+            9,
+            "--from-scores",
+            &["own/leases.csv", "/dev/null", "no-such"],
+        );
+    }
+
+    /// A station, its lessee, its log, first day, days, what it owes, first date.
+    fn row(&mut self) -> [String; 7] {
+        let quoted = |text: &str| format!("\"{}\"", text.replace('"', "\"\""));
+        let station = self.random.one_of(&[
+            "14",
+            "15",
+            "16",
+            "Nord 3/a",
+            "<&\">",
+            "\u{1b}[2J",
+            "a;b,c",
+            "",
+            "=1+1",
+        ]);
+        let lessee = self
+            .random
+            .one_of(&["Harbour", "", "Pier, north", "\u{202e}x"]);
+        let number = self.case.files.len();
+        let log = match self.random.below(8) {
+            0 => "no-such.log".to_string(),
+            1 => self
+                .random
+                .one_of(&[".", "*", "-", "..", "/dev/null", ""])
+                .to_string(),
+            _ => {
+                let name = format!("{number}.log");
+                let bytes = self.bytes(&LOGS);
+                self.case.files.push((name.clone().into(), bytes));
+                name
+            }
+        };
+        let mut number = |good: &str| match self.random.once_in(9) {
+            true => self.random.one_of(&NUMBERS).to_string(),
+            false => good.to_string(),
+        };
+        let numbers = [number("101"), number("30"), number("14,000,000")];
+        let date = self
+            .random
+            .one_of(&["2026-04-01", "2026-04-01", "", "April"]);
+        let [first_day, days, owed] = numbers;
+        let texts = [station, lessee, &log, &first_day, &days, &owed, date];
+        texts.map(quoted)
+    }
+
     fn replay(&mut self) {
         self.put("replay");
+        self.edition();
         for flag in ["--json", "--csv", "--plain"] {
             self.flag(5, flag);
         }
@@ -217,6 +318,7 @@ impl Made<'_> {
 
     fn decode(&mut self) {
         self.put("decode");
+        self.edition();
         for (times, flag) in [
             (3, "--hex"),
             (4, "--summary"),

@@ -90,7 +90,7 @@ impl Run<'_> {
 fn hold(run: &Run, output: &Output) {
     let status = output.status.code().expect("it ends by itself");
     assert!(
-        status <= 2 || (status == 3 && run.is("score")),
+        status <= 2 || (status == 3 && (run.is("score") || run.is("fleet"))),
         "status {status}"
     );
     let errors = complained(output);
@@ -125,10 +125,17 @@ fn hold(run: &Run, output: &Output) {
             assert!(value.is_object(), "{line}");
         }
     }
-    if run.has("--csv") {
+    if run.has("--csv") && run.is("fleet") {
+        // Rows with another number of values than the first are an error there.
+        let mut rows = csv::Reader::from_reader(text.as_bytes());
+        assert!(rows.records().all(|row| row.is_ok()), "{text}");
+    } else if run.has("--csv") {
         let mut rows = text.lines().map(|line| line.split(',').count());
         let head = rows.next().unwrap_or(0);
         assert!(rows.all(|values| values == head), "{text}");
+    }
+    if let Some(page) = text.strip_prefix("<!DOCTYPE html>\n") {
+        assert!(well_formed(page) > 20);
     }
     if text.starts_with("<svg ") {
         assert!(well_formed(&text) > 5);
@@ -137,9 +144,18 @@ fn hold(run: &Run, output: &Output) {
 
 /// The forms of one answer end alike and tell the same.
 fn compare_forms(run: &Run, text: &Output) {
-    let other = ["--json", "--csv", "--svg", "--terse", "--plain", "--work"];
+    let other = [
+        "--json",
+        "--csv",
+        "--svg",
+        "--html",
+        "--terse",
+        "--plain",
+        "--work",
+        "--commands",
+    ];
     let known = [
-        "score", "replay", "decode", "address", "locate", "flow", "tile",
+        "score", "fleet", "replay", "decode", "address", "locate", "flow", "tile",
     ];
     if other.iter().any(|flag| run.has(flag)) || !known.iter().any(|name| run.is(name)) {
         return;
@@ -187,6 +203,16 @@ fn compare_forms(run: &Run, text: &Output) {
                     .find(|line| line.trim_start().starts_with("total"));
                 let total = total.expect("the totals").split_whitespace().nth(2);
                 assert_eq!(total, Some(served.to_string().as_str()));
+            }
+        }
+        name if name == "fleet" => {
+            if let Some(fleet) = lines.last().map(|line| &line["fleet"]) {
+                let (served, owed) = (&fleet["served"], &fleet["owed"]);
+                let due = format!("served {served} of {owed} elements owed");
+                assert!(text.contains(&due), "{due} in {text}");
+                let stations = &fleet["stations"];
+                assert_eq!(*stations, lines.len() - 1);
+                assert!(text.starts_with(&format!("fleet of {stations} station")));
             }
         }
         name if name == "decode" => {
