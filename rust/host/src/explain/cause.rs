@@ -8,7 +8,7 @@ use crate::common::names::{self, FormatWord, Kind, Line};
 use crate::common::settings;
 use crate::common::text;
 use crate::explain::refusals;
-use crate::score::LeaseLine;
+use crate::score::asked::LeaseLine;
 use boundary::{headers, Layout, Session};
 use std::fmt;
 

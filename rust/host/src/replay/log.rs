@@ -87,8 +87,9 @@ impl Log {
     }
 
     /// Reads all inputs, one behind the other. Where one fails on the way, what
-    /// came before that stands. After a stop the rest is only counted.
-    pub fn read(&mut self, sources: Vec<Source>) -> Outcome {
+    /// came before that stands. After a stop the rest is only counted. Each piece is
+    /// handed on as it is read.
+    pub fn read(&mut self, sources: Vec<Source>, also: &mut dyn FnMut(&[u8])) -> Outcome {
         let named = |source: &Source| (source.name.clone(), u64::MAX);
         self.inputs = sources.iter().map(named).collect();
         let mut room = vec![0; PIECE];
@@ -97,7 +98,10 @@ impl Log {
             loop {
                 match source.fill(&mut room)? {
                     0 => break,
-                    count => self.piece(&room[..count]),
+                    count => {
+                        self.piece(&room[..count]);
+                        also(&room[..count]);
+                    }
                 }
             }
             if place == 0 {
