@@ -105,18 +105,18 @@ def tiles(page):
         yield int(found[1]), told[0], [int(word) for word in told[head].split()[3:]], rows
 
 
-def tile(size, said, columns, rows):
-    """A tile: 8 by 8 blocks, each with its place and shaded by it, so that the order shows."""
+def tile(said, columns, rows):
+    """A tile: 8 by 8 blocks, each with its place and shaded by it, and the way from one block to the next in memory."""
     side, left, top = 46, 40, 26
-    parts = [f'<text class="edge" x="{left + place * side + side / 2}" y="16">{x}</text>' for place, x in enumerate(columns)]
-    for line, (y, *blocks) in enumerate(rows):
-        parts.append(f'<text class="edge" x="20" y="{top + line * side + side / 2 + 4}">{y}</text>')
-        for place, number in enumerate(blocks):
-            x = left + place * side
-            parts.append(f'<rect x="{x}" y="{top + line * side}" width="{side}" height="{side}" style="fill:hsl({210 - number * 2.6:.0f} 55% {92 - number * 0.55:.0f}%)"/>'
-                         f'<text x="{x + side / 2}" y="{top + line * side + side / 2 + 4}">{number}</text>')
-    # the way from one block to the next in memory
-    where = {number: (left + place * side + side / 2, top + line * side + side / 2) for line, (_, *blocks) in enumerate(rows) for place, number in enumerate(blocks)}
-    way = " ".join(f"{where[number][0]:g},{where[number][1]:g}" for number in range(64))
-    return (f'<svg class="tile" viewBox="0 0 {left + 8 * side + 4} {top + 8 * side + 4}" role="img" aria-label="{html.escape(said)}">'
-            f'<title>{html.escape(said)}</title>{"".join(parts)}<polyline points="{way}"/></svg>')
+    across = lambda place: left + place * side + side / 2
+    down = lambda line: top + line * side + side / 2
+    blocks = {number: (across(place), down(line)) for line, (_, *numbers) in enumerate(rows) for place, number in enumerate(numbers)}
+    texts = [f'<text class="edge" x="{across(place):g}" y="16">{x}</text>' for place, x in enumerate(columns)]
+    texts += [f'<text class="edge" x="20" y="{down(line) + 4:g}">{y}</text>' for line, (y, *_) in enumerate(rows)]
+    texts += [f'<text x="{x:g}" y="{y + 4:g}">{number}</text>' for number, (x, y) in blocks.items()]
+    shade = lambda number: f"hsl({210 - number * 2.6:.0f} 55% {92 - number * 0.55:.0f}%)"
+    boxes = [f'<rect x="{x - side / 2:g}" y="{y - side / 2:g}" width="{side}" height="{side}" style="fill:{shade(number)}"/>' for number, (x, y) in blocks.items()]
+    way = " ".join(f"{blocks[number][0]:g},{blocks[number][1]:g}" for number in sorted(blocks))
+    said = html.escape(said)
+    return (f'<svg class="tile" viewBox="0 0 {left + 8 * side + 4} {top + 8 * side + 4}" role="img" aria-label="{said}"><title>{said}</title>'
+            f'{"".join(boxes)}<polyline points="{way}"/>{"".join(texts)}</svg>')

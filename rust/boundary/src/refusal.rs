@@ -1,6 +1,6 @@
 //! Document 01's refusals, and those that document 02's requests added: each by
 //! its name, with its number and its cause. `tools/declarations` holds names and
-//! numbers against the product's source.
+//! numbers against the product's source, and causes against the header's table.
 
 use std::error::Error;
 use std::fmt;
@@ -59,12 +59,12 @@ refusals! {
     DomainCrossed = 5, "i0 > i1 or j0 > j1";
     WindowRule = 6, "window rule broken";
     StartUnset = 7, "start without a domain, an instruction format or any output set";
-    DomainOutside = 8, "the domain is not inside every set output's window";
-    SpansShared = 9, "spans of two set outputs share a byte";
+    DomainOutside = 8, "the domain is not inside every set output's window; silent outputs are passed over";
+    SpansShared = 9, "spans of two set outputs share a byte; silent outputs are passed over";
     PairOutside = 10, "a pair is outside its window";
     WrongLength = 11, "room, element data, memory or registers of a wrong length or place";
     Unowned = 12, "no pair of the window owns the address";
-    FlowField = 13, "flow word field, group size, mode or write mask not allowed";
+    FlowField = 13, "flow word field, group size, mode or write mask not allowed; no such integer word, or one with reserved bits; in partial mode an op other than 0 or an A_OP";
     AtLimit = 14, "branch counter, return stack, open loops or aL at their limit, or a close that fits no open loop";
     PastEnd = 15, "a jump past the program's end, or a program of a wrong length";
     Ended = 16, "the program has already ended";

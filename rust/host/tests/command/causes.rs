@@ -1,9 +1,10 @@
 //! Refusals told with their place, their number and both quantities.
 
-use crate::common::{complained, egretfold, Folder};
-use boundary::{Edition, Group, Mode, Program, Session};
+use crate::common::{complained, egretfold, told, Folder};
+use boundary::{Edition, Group, Mode, Program, Refusal, Session};
 use compare::random::Random;
 use compare::{loops, programs, words};
+use serde_json::Value;
 
 /// A stream in hex text, and what is told of its refused word.
 const TOLD: &[(&str, &str)] = &[
@@ -220,4 +221,14 @@ fn refused_runs(kind: u64, mode: Mode, any: fn(&mut Random) -> Vec<u32>) -> [u32
         }
     }
     seen
+}
+
+/// `explain` has just the refusals that the library has, in their order.
+#[test]
+fn every_refusal_of_the_library_is_explained() {
+    let text = told(&egretfold("explain --json", b""));
+    let number = |line| serde_json::from_str::<Value>(line).expect("JSON")["number"].as_u64();
+    let explained: Vec<Option<u64>> = text.lines().map(number).collect();
+    let known = Refusal::ALL.iter().map(|&refusal| Some(refusal.into()));
+    assert_eq!(explained, known.collect::<Vec<Option<u64>>>());
 }
