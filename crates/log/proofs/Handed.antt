@@ -34,8 +34,9 @@ module _ (r : Replay) (v : ReplayValid r) (l m o t s : List ℕ) (h : ReplayHeld
         valid = subst ReplayValid (sym held-same) v;
       }
 
-pub begun-given : {l m o t s : List ℕ} → ReplayHeld newReplay l m o t s → ReplayGiven l m o t s
-begun-given {l} {m} {o} {t} {s} h = held-given newReplay new-replay-valid l m o t s h
+pub begun-given : (edition : ℕ) → isEdition edition ≡ true → {l m o t s : List ℕ} → ReplayHeld (newReplay edition) l m o t s →
+    ReplayGiven l m o t s
+begun-given edition known {l} {m} {o} {t} {s} h = held-given (newReplay edition) (new-replay-valid edition known) l m o t s h
 
 module _ {l m o t s : List ℕ} (g : ReplayGiven l m o t s) {l1 m1 o1 t1 s1 : List ℕ} where
   pub piece-given : (bs : List ℕ) → Bytes8 bs → ReplayHeld (replayOf (replayIn l m o t s) bs .replay) l1 m1 o1 t1 s1 →

@@ -24,10 +24,10 @@ use Rattle.replay.proofs.Midnights.{few, enough}
 use Rattle.log.proofs.Steps.{one-word}
 
 -- a new replay
-pub new-replay-valid : ReplayValid newReplay
+pub new-replay-valid : (edition : ℕ) → isEdition edition ≡ true → ReplayValid (newReplay edition)
 new-replay-valid =
     record {
-      session = new-valid;
+      session = new-valid edition known;
       stops = λ h. absurd (h refl);
       dropped = λ h. refl;
       count-most = omega arith;
