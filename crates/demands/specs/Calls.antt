@@ -20,14 +20,14 @@ use Rattle.group.specs.Group.{Program, Group, stepTold, runTold, beginTold, gro
 use Rattle.kill.specs.Kill.{killTold, killOf}
 use Rattle.flow.specs.Store.{loadTold}
 use Rattle.replay.specs.State.{Replay}
-use Rattle.score.specs.Lease.{Lease, lineTold}
+use Rattle.score.specs.Lease.{Lease}
 use Rattle.score.specs.Score.{scoreOf}
 use Rattle.refusal.specs.Crossing.{Crosses, statusOf}
 use Rattle.command_rooms.specs.Rooms.{parametersOf, namedWriteOf, CommandCrosses}
 use Rattle.element_rooms.specs.Rooms.{inSixteen, SuperfineCrosses, WriteCrosses}
 use Rattle.group_rooms.specs.Rooms.{LoadCrosses, BeginCrosses, StepCrosses, RunCrosses}
 use Rattle.register_rooms.specs.Rooms.{KillCrosses}
-use Rattle.score_rooms.specs.Rooms.{monthTold, MonthCrosses}
+use Rattle.score_rooms.specs.Rooms.{lineTold, monthTold, MonthCrosses}
 use Rattle.setting_rooms.specs.Rooms.{formatOf}
 
 -- a layout's numbers, as every call on addresses and elements takes them
