@@ -93,7 +93,7 @@ fn make(folder: &Path, stations: u64, bytes: usize) -> io::Result<()> {
         let mut log = log(&mut numbers, bytes);
         match station % 97 {
             // Ends early, inside a record.
-            5 => log.truncate(log.len() * 2 / 3),
+            5 => log.truncate(log.len() * 2 / 3 / RECORD * RECORD + 2),
             // Lost the midnight of the 17th.
             11 => log = without(&log, FIRST_DAY + 16),
             _ => {}

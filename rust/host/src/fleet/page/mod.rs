@@ -36,7 +36,8 @@ pub fn of_one(card: &Card) -> String {
     };
     let cards = [(0, card)];
     let parts = [glance::table(&cards), all_cards(&cards)];
-    page(&title, &[told], &parts.concat(), &card.issue().told())
+    let issued = card.issue().told();
+    page("one", &title, &[told], &issued, &parts.concat())
 }
 
 /// The page of a fleet.
@@ -61,7 +62,7 @@ pub fn html(fleet: &Fleet) -> String {
         all_cards(&cards),
     ];
     let issued = format!("Issued {} by egretfold {VERSION}", fleet.date);
-    page(&title(fleet), &told, &parts.concat(), &issued)
+    page("fleet", &title(fleet), &told, &issued, &parts.concat())
 }
 
 /// The month, where all stations have the same.
@@ -79,7 +80,8 @@ fn escaped(text: &str) -> String {
     Drawing::escaped(text)
 }
 
-fn page(title: &str, told: &[String], body: &str, issued: &str) -> String {
+/// A page of this class, headed by this title and what is told below it.
+fn page(class: &str, title: &str, told: &[String], issued: &str, body: &str) -> String {
     let (title, issued) = (escaped(title), escaped(issued));
     let told = told
         .iter()
@@ -96,11 +98,11 @@ fn page(title: &str, told: &[String], body: &str, issued: &str) -> String {
 <style>
 {STYLE}</style>
 </head>
-<body>
+<body class="{class}">
 <svg class="patterns" aria-hidden="true">{PATTERNS}</svg>
 <h1>{title}</h1>
-{told}{body}<footer class="pale">{issued}</footer>
-<script>
+{told}<p class="pale">{issued}</p>
+{body}<script>
 {SCRIPT}</script>
 </body>
 </html>
