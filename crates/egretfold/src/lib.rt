@@ -3,6 +3,7 @@
 // The same functions as C sees them, with their answers and refusals: include/egretfold.h.
 pub mod addresses;
 pub mod commands;
+pub mod conditionals;
 pub mod elements;
 pub mod floats;
 pub mod groups;

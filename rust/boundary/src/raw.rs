@@ -178,6 +178,32 @@ extern "C" {
         count: &mut [u32; 1],
     ) -> u32;
 
+    pub fn egretfold_conditional_test(
+        shared: &[u32; SHARED],
+        value: u32,
+        x: u32,
+        y: u32,
+        memory: *const u8,
+        length: usize,
+        first: u32,
+        passed: &mut [u32; 1],
+    ) -> u32;
+
+    pub fn egretfold_conditional_survey(
+        shared: &[u32; SHARED],
+        value: u32,
+        i0: u32,
+        j0: u32,
+        i1: u32,
+        j1: u32,
+        memory: *const u8,
+        length: usize,
+        first: u32,
+        room: *mut u8,
+        room_length: usize,
+        passed: &mut [u32; 1],
+    ) -> u32;
+
     pub fn egretfold_program_load(
         words: *const u32,
         length: usize,
