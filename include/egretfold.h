@@ -220,6 +220,27 @@ uint32_t egretfold_conditional_survey(const uint32_t shared[EGRETFOLD_SHARED], u
                                       uint32_t i1, uint32_t j1, const uint8_t *memory, size_t length, uint32_t first,
                                       uint8_t *room, size_t room_length, uint32_t passed[1]);
 
+/* ---- Whole rectangles: the pairs of `columns` columns and `rows` rows from (x, y) on ----
+ *
+ * The room has the elements of the rectangle, row by row, and just their columns * rows * size bytes. Memory covers the window's
+ * whole span and may have any length, as long as it ends at 2^32. A rectangle of no pairs is inside every window and moves nothing.
+ * Each of the first two functions returns 3, 6, 10 where any pair is outside, or 11, in this order, and then touches nothing. */
+
+/* Stores the elements of the room at their pairs, and touches no other byte of memory. 3, 6, 10 or 11. */
+uint32_t egretfold_picture_paint(uint32_t base, uint32_t pitch, uint32_t height, uint32_t size, bool tiled, uint32_t x,
+                                 uint32_t y, uint32_t columns, uint32_t rows, uint8_t *memory, size_t length,
+                                 uint32_t first, const uint8_t *room, size_t room_length);
+
+/* Copies the elements of the pairs into the room. 3, 6, 10 or 11. */
+uint32_t egretfold_picture_copy_out(uint32_t base, uint32_t pitch, uint32_t height, uint32_t size, bool tiled, uint32_t x,
+                                    uint32_t y, uint32_t columns, uint32_t rows, const uint8_t *memory, size_t length,
+                                    uint32_t first, uint8_t *room, size_t room_length);
+
+/* addresses: where the elements of `columns` pairs from (x, y) on, in the same row, begin. 3, 6, or 10 where any of these pairs is
+ * outside. */
+uint32_t egretfold_picture_row(uint32_t base, uint32_t pitch, uint32_t height, uint32_t size, bool tiled, uint32_t x,
+                               uint32_t y, uint32_t *addresses, size_t columns);
+
 /* ---- Flow words for one group ---- */
 
 /* Loads a program, two words a slot, into a store of 512 slots. slots: how many of them run. 15. */

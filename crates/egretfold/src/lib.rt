@@ -8,5 +8,6 @@ pub mod elements;
 pub mod floats;
 pub mod groups;
 pub mod logs;
+pub mod pictures;
 pub mod scores;
 pub mod sessions;

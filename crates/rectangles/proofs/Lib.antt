@@ -1,0 +1,9 @@
+pub mod Blocks
+pub mod Inside
+pub mod Moves
+pub mod Plans
+pub mod Rectangles
+pub mod RowMoves
+pub mod RowParts
+pub mod Stretches
+pub mod TileRows
