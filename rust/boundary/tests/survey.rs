@@ -104,7 +104,7 @@ fn refused(session: &Session, domain: [u32; 4], memory: &[u8], first: u32, room:
 fn the_order_is_7_3_5_10_11() {
     let float = [SET_COND_OUT_FMT, BASE, 0x0200_0010, 4];
     let (crossed, outside) = ([1, 0, 0, 9], [0, 0, 16, 0]);
-    for lacking in [Session::new(), fed(&float), fed(&[SET_COND_TEST, 7])] {
+    for lacking in [fed(&[]), fed(&float), fed(&[SET_COND_TEST, 7])] {
         refused(&lacking, crossed, &[], 0, 3, 7);
         assert_eq!(lacking.conditional_test(3, 99, 99, &[], 0), Err(7));
     }

@@ -12,6 +12,7 @@ mod station;
 
 use crate::common::digits::{grouped, Digits};
 use crate::common::failure::{Failure, Outcome};
+use crate::common::replaced::{Kind, Replaced};
 use crate::common::text;
 use crate::common::visible;
 use crate::explain::cause;
@@ -21,7 +22,6 @@ use crate::replay::log::Log;
 use crate::score::civil::Date;
 use crate::score::issue::Issue;
 use crate::score::month::Score;
-use crate::score::picture::file::Replaced;
 use crate::score::picture::unscored::{self, Unscored};
 use boundary::{Lease, Month, Verdict};
 use clap::Args;
@@ -103,7 +103,7 @@ impl Picture {
                 )),
                 false => Ok(Picture::Standard),
             },
-            Some(name) => Ok(Picture::File(Replaced::new(name)?)),
+            Some(name) => Ok(Picture::File(Replaced::new(name, Kind::Svg)?)),
         }
     }
 
@@ -111,7 +111,7 @@ impl Picture {
         match self {
             Picture::None => Ok(()),
             Picture::Standard => Ok(out.write_all(svg().as_bytes())?),
-            Picture::File(file) => file.write(&svg()),
+            Picture::File(file) => file.write(svg().as_bytes()),
         }
     }
 }

@@ -4,18 +4,17 @@
 //! that all of it can be told without colour.
 
 mod cell;
-pub mod file;
 mod foot;
 mod notice;
 mod svg;
 pub mod unscored;
 
 use crate::common::digits::grouped;
+use crate::common::replaced::BEGIN;
 use crate::common::text;
 use crate::score::civil::{Date, WEEKDAYS};
 use crate::score::month::{self, Score, Served};
 use crate::score::picture::cell::bar;
-use crate::score::picture::file::BEGIN;
 use crate::score::picture::notice::Notice;
 use crate::score::picture::svg::{Drawing, Style, FULL, INK, PALE_INK, PAPER, PART};
 use boundary::Verdict;
