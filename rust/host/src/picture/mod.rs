@@ -2,6 +2,7 @@
 //! picture painted into it, byte for byte both ways.
 
 mod netpbm;
+mod refused;
 
 use crate::address::layouts::LayoutOptions;
 use crate::common::failure::{Failure, Outcome};
@@ -11,10 +12,10 @@ use crate::common::settings::{self, Setting, Value};
 use crate::common::text;
 use crate::common::visible;
 use crate::decode::settled;
-use crate::explain::cause;
 use crate::input::numbers;
 use crate::input::source::{self, Source};
 use crate::picture::netpbm::Form;
+use crate::picture::refused::Trouble;
 use boundary::{Layout, Rectangle, Window};
 use clap::Args;
 use serde_json::json;
@@ -28,8 +29,8 @@ row. PPM has channels 0 to 2; channel 3 stays as it stands in memory on the way 
 covers the window's whole span, and may be as long as a frame is.
 
 Examples, from the repository's root:
-  egretfold picture --memory samples/camera.mem --at 800 --stream samples/camera.ctm --window 'output 0' --out frame.ppm --replace
-  egretfold picture --memory samples/camera.mem --at 800 --stream samples/camera.ctm --window 'output 0' --in frame.ppm --to painted.mem --replace
+  egretfold picture --memory samples/camera.mem --at 800 --stream samples/camera.ctm --window output-0 --out frame.ppm --replace
+  egretfold picture --memory samples/camera.mem --at 800 --stream samples/camera.ctm --window output-0 --in frame.ppm --to painted.mem --replace
   egretfold picture --memory samples/camera.mem --at 800 --base 800 --pitch 64 --height 32 --size 4 --tiled --rectangle 20,4,24,16 --out - >part.ppm";
 
 #[derive(Args)]
@@ -40,7 +41,7 @@ pub struct Options {
     #[arg(long, value_name = "FILE",
           conflicts_with_all = ["base", "pitch", "height", "size", "tiled", "format", "decimal"])]
     stream: Option<PathBuf>,
-    /// With --stream: the window's name, such as 'output 0', 'input 3' or 'conditional output'
+    /// With --stream: the window's name, such as output-0, input-3 or conditional-output
     #[arg(long, value_name = "NAME", requires = "stream")]
     window: Option<String>,
     /// With --stream: the file is hex text
@@ -117,10 +118,9 @@ pub fn run(options: &Options, out: &mut dyn Write) -> Outcome {
         ));
     }
     let place = place(options)?;
-    let mut moved = moved(options)?;
-    let (form, bytes) = match &options.r#in {
-        None => copied(options, &moved)?,
-        Some(picture) => painted(options, &mut moved, picture)?,
+    let (moved, form, bytes) = match work(options) {
+        Ok(done) => done,
+        Err(trouble) => return trouble.tell(options.json, out),
     };
     match place {
         None => out.write_all(&bytes)?,
@@ -133,6 +133,16 @@ pub fn run(options: &Options, out: &mut dyn Write) -> Outcome {
         }
     }
     Ok(())
+}
+
+/// Reads what is moved and moves it; gives the bytes of the file to be written.
+fn work(options: &Options) -> Result<(Moved, Form, Vec<u8>), Trouble> {
+    let mut moved = moved(options)?;
+    let (form, bytes) = match &options.r#in {
+        None => copied(options, &moved)?,
+        Some(picture) => painted(options, &mut moved, picture)?,
+    };
+    Ok((moved, form, bytes))
 }
 
 fn one_standard_input(options: &Options) -> Outcome {
@@ -166,18 +176,15 @@ fn place(options: &Options) -> Outcome<Option<Place>> {
     }
 }
 
-fn moved(options: &Options) -> Outcome<Moved> {
+fn moved(options: &Options) -> Result<Moved, Trouble> {
     let at = options.layout.address(&options.at);
     let at = at.map_err(|text| Failure::Wrong(format!("--at: {text}")))?;
     let layout = match &options.stream {
         Some(stream) => of_stream(options, stream)?,
         None => options.layout.layout()?,
     };
-    let window = boundary::layout(&layout).map_err(|number| {
-        let refused = cause::refused(number, cause::of_layout(number, &layout));
-        let told = format!("{}: {refused}", text::layout_words(&layout));
-        Failure::Refused(told).hinted(options.layout.hint(&layout, None))
-    })?;
+    let window = boundary::layout(&layout)
+        .map_err(|number| refused::of_layout(number, &layout, &options.layout))?;
     let [x, y, columns, rows] = match options.rectangle {
         Some(rectangle) => rectangle,
         None => [0, 0, window.step, layout.height],
@@ -213,24 +220,26 @@ fn of_stream(options: &Options, stream: &Path) -> Outcome<Layout> {
         (None, _) => None,
         (Some(name), windows) => windows
             .iter()
-            .find(|(known, _)| *known == name)
+            .find(|(known, _)| hyphened(known) == hyphened(name))
             .map(|(_, layout)| *layout),
     };
     found.ok_or_else(|| {
-        let names: Vec<String> = windows
-            .iter()
-            .map(|(name, _)| format!("'{name}'"))
-            .collect();
+        let names: Vec<String> = windows.iter().map(|(name, _)| hyphened(name)).collect();
         let sets = match names.is_empty() {
             true => "sets no window".to_string(),
             false => format!("sets {}", names.join(", ")),
         };
         let wanted = match wanted {
-            Some(name) => format!("--window '{}': ", visible::line(name)),
+            Some(name) => format!("--window {}: ", visible::line(name)),
             None => "--window is missing: ".to_string(),
         };
         Failure::Wrong(format!("{wanted}{} {sets}", read.name))
     })
+}
+
+/// A name as it may be written without quotes.
+fn hyphened(name: &str) -> String {
+    name.replace(' ', "-")
 }
 
 fn window_of(setting: &Setting) -> Option<(&str, Layout)> {
@@ -254,7 +263,7 @@ fn room(moved: &Moved) -> Vec<u8> {
     }
 }
 
-fn copied(options: &Options, moved: &Moved) -> Outcome<(Form, Vec<u8>)> {
+fn copied(options: &Options, moved: &Moved) -> Result<(Form, Vec<u8>), Trouble> {
     let size = moved.layout.size;
     let form = options.form.unwrap_or_else(|| Form::for_size(size));
     takes(form, size)?;
@@ -264,7 +273,7 @@ fn copied(options: &Options, moved: &Moved) -> Outcome<(Form, Vec<u8>)> {
 }
 
 /// The rectangle's elements, by the product.
-fn copy(moved: &Moved) -> Outcome<Vec<u8>> {
+fn copy(moved: &Moved) -> Result<Vec<u8>, Trouble> {
     let mut elements = room(moved);
     let answer = boundary::copy_out(
         &moved.layout,
@@ -273,12 +282,16 @@ fn copy(moved: &Moved) -> Outcome<Vec<u8>> {
         moved.at,
         &mut elements,
     );
-    answer.map_err(|number| refused(number, moved, None))?;
+    answer.map_err(|number| refused::of_call(number, moved, None))?;
     Ok(elements)
 }
 
 /// The dump with the picture painted into it.
-fn painted(options: &Options, moved: &mut Moved, picture: &Path) -> Outcome<(Form, Vec<u8>)> {
+fn painted(
+    options: &Options,
+    moved: &mut Moved,
+    picture: &Path,
+) -> Result<(Form, Vec<u8>), Trouble> {
     let source = Source::open(Some(picture))?.as_it_stands();
     let name = source.name.clone();
     // More than the largest picture has, with its head.
@@ -299,7 +312,7 @@ fn painted(options: &Options, moved: &mut Moved, picture: &Path) -> Outcome<(For
         &elements,
     );
     let given = Some((&name[..], elements.len()));
-    answer.map_err(|number| refused(number, moved, given))?;
+    answer.map_err(|number| refused::of_call(number, moved, given))?;
     Ok((form, std::mem::take(&mut moved.dump)))
 }
 
@@ -313,74 +326,6 @@ fn takes(form: Form, size: u32) -> Outcome {
             )))
         }
     }
-}
-
-/// A refusal in words, with what to try. A picture is given by its name and the bytes
-/// of its elements.
-fn refused(number: u32, moved: &Moved, picture: Option<(&str, usize)>) -> Failure {
-    let (layout, name) = (&moved.layout, &moved.name);
-    let Rectangle {
-        x,
-        y,
-        columns,
-        rows,
-    } = moved.rectangle;
-    let (step, height) = (moved.window.step, layout.height);
-    let (cause, hint) = match number {
-        10 => {
-            let over = |from: u32, count: u32, most: u32| {
-                u64::from(from) + u64::from(count) > u64::from(most)
-            };
-            let cause = match over(x, columns, step) {
-                true => format!(
-                    "outside the window: {columns} columns from x {x} on go past row step {step}"
-                ),
-                false => {
-                    format!("outside the window: {rows} rows from y {y} on go past height {height}")
-                }
-            };
-            let hint = format!("the whole window is --rectangle 0,0,{step},{height}");
-            (Some(cause), Some(hint))
-        }
-        11 => memory(moved, picture),
-        _ => (cause::of_layout(number, layout), None),
-    };
-    let refused = cause::refused(number, cause);
-    Failure::Refused(format!("{name}: {refused}")).hinted(hint)
-}
-
-/// 11: the dump ends too high or doesn't cover the span, or the picture has another
-/// length.
-fn memory(moved: &Moved, picture: Option<(&str, usize)>) -> (Option<String>, Option<String>) {
-    let (at, base) = (u64::from(moved.at), u64::from(moved.layout.base));
-    let (end, span) = (at + moved.dump.len() as u64, u64::from(moved.window.span));
-    let first = Address(moved.at);
-    if end > 1 << 32 {
-        let cause = format!("memory from {first} on ends above the last address");
-        let hint = "--at is the address of the dump's first byte".to_string();
-        return (Some(cause), Some(hint));
-    }
-    if at > base || end < base + span {
-        let dump = match moved.dump.len() {
-            0 => "the dump is empty".to_string(),
-            _ => format!("the dump has {first} to {:08X}", end - 1),
-        };
-        let cause = format!(
-            "the window's span is {} to {:08X}, all of which is lent, and {dump}",
-            Address(moved.layout.base),
-            base + span - 1
-        );
-        let hint = "give a dump that covers it, or its --at".to_string();
-        return (Some(cause), Some(hint));
-    }
-    let Rectangle { columns, rows, .. } = moved.rectangle;
-    let size = moved.layout.size;
-    let due = u64::from(columns) * u64::from(rows) * u64::from(size);
-    let cause = picture.map(|(name, given)| {
-        let given = text::count(given as u64, "byte");
-        format!("{name} has {given}, and {columns} x {rows} elements of {size} take {due}")
-    });
-    (cause, None)
 }
 
 /// What was moved, once it stands in its file.

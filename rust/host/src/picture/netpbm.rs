@@ -117,7 +117,8 @@ pub fn elements_of(
     if (head.columns, head.rows) != (u64::from(sides.0), u64::from(sides.1)) {
         let Head { columns, rows, .. } = head;
         return Err(format!(
-            "the picture is {columns} x {rows}, and the rectangle {} x {}",
+            "the picture is {columns} x {rows}, and the rectangle {} x {}: give \
+             --rectangle X,Y,{columns},{rows}, or another picture",
             sides.0, sides.1
         ));
     }
