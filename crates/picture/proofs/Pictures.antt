@@ -44,7 +44,7 @@ module _ (l : Layout) (x y first : ℕ) (accepted : Accepted l) (i : Inside l x 
   write-told given m held size =
       answered l accepted _ ∙ pick-yes _ _ test ∙ pick-yes _ _ (and-intro (eq-eqb _ _ size) (tests-held _ _ _ _ held))
 
-  read-told :
+  pub read-told :
       (m : List ℕ) → Held first (length m) (addressOf l x y) (l .size) → readOf l x y first m ≡ gives (elementOf l x y first m)
   unfolding readOf inOrder
   read-told m held = answered l accepted _ ∙ pick-yes _ _ test ∙ pick-yes _ _ (tests-held _ _ _ _ held)
