@@ -19,6 +19,7 @@ elementAt base s tiled e x y i = base + offsetOf tiled s e (x + i) y
 -- `count` pairs of a row from column x on, in a window of the row step stride / s: its runs are such that their addresses follow
 pub record RowAsked (base s : ℕ) (tiled : Bool) (stride x y count : ℕ) : Type 0 where
   pub size : isSize s ≡ true
+  pub least : 0 < s
   pub whole : stride / s * s ≡ stride
   pub step : stride / s ≤ 4096
   pub columns : x + count ≤ stride / s

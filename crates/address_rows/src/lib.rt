@@ -9,7 +9,7 @@ ghost use Rattle.address_rows.specs.Rows.{listed, elementAt, RowAsked};
 
 // Addresses from `at` on, `size` apart.
 fn fill(part: &mut [u32], at: u32, size: u32)
-    requires { ⌜ at + length (now part) * size ≤ 2 ^ 32 ⌝ }
+    requires { ⌜ (at + length (now part) * size ≤ 2 ^ 32) × (length (now part) ≤ 4096) × (0 < size) ⌝ }
     ensures { λ _. ⌜ now (part .exit) ≡ listed (λ j. at + j * size) 0 (length (now (part .entry))) ⌝ }
 {
     let mut j = 0;

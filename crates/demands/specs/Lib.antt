@@ -4,5 +4,6 @@ pub mod Days
 pub mod Flow
 pub mod Painting
 pub mod Pieces
+pub mod Rectangles
 pub mod Refused
 pub mod Windows

@@ -1,6 +1,7 @@
 pub mod Blocks
 pub mod Inside
 pub mod Moves
+pub mod Pictures
 pub mod Plans
 pub mod Rectangles
 pub mod RowMoves

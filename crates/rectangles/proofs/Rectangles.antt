@@ -51,33 +51,41 @@ numbers =
     (from-widths 8 16 16 2 eight (omega arith) refl (omega arith) (omega arith) (omega arith))
     (from-widths 16 16 32 2 sixteenth (omega arith) refl (omega arith) (omega arith) (omega arith))
 
-module _ (out : Bool) (l : Layout) (x y w h first step source target : ℕ) (lent : RectLent out l x y w h first step source target) where
+module _ (out : Bool) (l : Layout) (x y w h first source target : ℕ) (lent : RectLent out l x y w h first source target) where
+  pub size-of : isSize (l .size) ≡ true
+  size-of = form-size (l .base .0) (l .pitch) (l .size) (lent .accepted .form)
+
+  bounds-of : (stepOf l ≤ 4096) × (l .height ≤ 4096)
+  bounds-of =
+      let b = rule-bounds (l .base .0) (l .tiled) (l .size) (stepOf l) (l .height) (lent .accepted .window) in
+      (b .step-most, b .height-most)
+
+  pub columns-most : x + w ≤ 4096
+  columns-most = omega (arith, lent .columns, bounds-of .0)
+
+module _ (out : Bool) (l : Layout) (x y w h first source target step : ℕ) (lent : RectLent out l x y w h first source target) (step-is : step ≡ stepOf l) where
   abbrev s : ℕ
   s = l .size
 
-  pub size : isSize s ≡ true
-  size = form-size (l .base .0) (l .pitch) s (lent .accepted .form)
+  size : isSize s ≡ true
+  size = size-of out l x y w h first source target lent
 
   z : Numbers s
   z = numbers s size
 
   bounds : (stepOf l ≤ 4096) × (l .height ≤ 4096)
-  bounds =
-      let b = rule-bounds (l .base .0) (l .tiled) s (stepOf l) (l .height) (lent .accepted .window) in (b .step-most, b .height-most)
+  bounds = bounds-of out l x y w h first source target lent
 
-  pub step-most : step ≤ 4096
-  step-most = omega (arith, lent .step-is, bounds .0)
+  step-most : step ≤ 4096
+  step-most = omega (arith, step-is, bounds .0)
 
   pub stride-fits : Fits w32 (step * s)
   stride-fits =
       let q : step * s ≤ 4096 * 16 = mul-le-mul step-most (size-most s size) in omega (arith, q)
 
-  pub columns-most : x + w ≤ 4096
-  columns-most = omega (arith, lent .columns, step-most)
-
   -- the row step, as the rows' routine finds it
   same-step : step * s / s ≡ stepOf l
-  same-step = mul-div-cancel step (z .pos) ∙ lent .step-is
+  same-step = mul-div-cancel step (z .pos) ∙ step-is
 
   inside : (c r : ℕ) → c < stepOf l → r < l .height → Inside l c r
   inside c r hc hr = record { column = hc; row = hr }
@@ -103,11 +111,11 @@ module _ (out : Bool) (l : Layout) (x y w h first step source target : ℕ) (len
         let a = longest l (lent .accepted) c r i .at k (omega (arith, run-number l (lent .accepted) c r i, hk)) in
         omega (arith, a)
 
-    place-in :
+    pub place-in :
         (i : ℕ) → i < w → elementPlace (l .tiled) s (stepOf l) (l .base .0 - first) r (x + i) + s ≤ memoryOf out source target
     unfolding addressOf
     place-in i hi =
-        let v = inverse l (lent .accepted) .within (x + i) r (inside (x + i) r (omega (arith, lent .columns, lent .step-is, hi)) below) in
+        let v = inverse l (lent .accepted) .within (x + i) r (inside (x + i) r (omega (arith, lent .columns, step-is, hi)) below) in
         omega (arith, v .1, lent .covers, lent .low)
 
     line-in : 0 + j * (w * s) + w * s ≤ roomOf out source target
@@ -117,7 +125,7 @@ module _ (out : Bool) (l : Layout) (x y w h first step source target : ℕ) (len
 
   room-most : roomOf out source target ≤ 2 ^ 32
   room-most =
-      let a : w ≤ 4096 = omega (arith, columns-most) in
+      let a : w ≤ 4096 = omega (arith, columns-most out l x y w h first source target lent) in
       let b : h ≤ 4096 = omega (arith, lent .rows, bounds .1) in
       let c : w * s ≤ 4096 * 16 = mul-le-mul a (size-most s size) in
       let d : h * (w * s) ≤ 4096 * (4096 * 16) = mul-le-mul b c in
@@ -146,7 +154,7 @@ module _ (out : Bool) (l : Layout) (x y w h first step source target : ℕ) (len
                       most = size-most s size;
                       whole = ap (λ (q : ℕ). q * s) (mul-div-cancel step (z .pos));
                       step = omega (arith, same-step, bounds .0);
-                      columns = omega (arith, same-step, plan .all, lent .columns, lent .step-is);
+                      columns = omega (arith, same-step, plan .all, lent .columns, step-is);
                       row = omega (arith, below j hj, bounds .1);
                       memory-most = lent .high;
                       room-most = room-most;
@@ -173,7 +181,7 @@ module _ (out : Bool) (l : Layout) (x y w h first step source target : ℕ) (len
                 place-most = omega (arith, base-most);
               };
           rows-most = omega (arith, lent .rows, bounds .1);
-          width-most = omega (arith, plan .all, columns-most);
+          width-most = omega (arith, plan .all, columns-most out l x y w h first source target lent);
           size-most = size-most s size;
         }
       where
@@ -195,6 +203,6 @@ module _ (out : Bool) (l : Layout) (x y w h first step source target : ℕ) (len
     pub rect-told :
         (src m m' : List ℕ) →
         m' ≡ moved (rectMoves out (elementPlace (l .tiled) s (step * s / s) (l .base .0 - first)) s x (p .lead + p .inner + p .tail) 0 y h) src m →
-        m' ≡ moved (rectMoves out (elementPlace (l .tiled) s step (l .base .0 - first)) s x w 0 y h) src m
+        m' ≡ moved (rectMoves out (elementPlace (l .tiled) s (stepOf l) (l .base .0 - first)) s x w 0 y h) src m
     rect-told src m m' e =
-        e ∙ ap₂ (λ (a b : ℕ). moved (rectMoves out (elementPlace (l .tiled) s a (l .base .0 - first)) s x b 0 y h) src m) (mul-div-cancel step (z .pos)) (plan .all)
+        e ∙ ap₂ (λ (a b : ℕ). moved (rectMoves out (elementPlace (l .tiled) s a (l .base .0 - first)) s x b 0 y h) src m) same-step (plan .all)
