@@ -3,10 +3,18 @@
 use conditional::Surveyed;
 use conditional::Tested;
 use layout::ByteAddress;
+ghost use mathlib.Core.Path.{_≡_};
+ghost use Rattle.laws.specs.Masks.{digit};
 ghost use Rattle.state.specs.Cells.{sharedOf};
 ghost use Rattle.refusal.specs.Crossing.{Crosses};
 ghost use Rattle.conditional.specs.Conditional.{testOf};
 ghost use Rattle.conditional_rooms.specs.Rooms.{SurveyCrosses};
+
+fn flag_of(passed: bool) -> u32
+    ensures { λ r. ⌜ r ≡ digit passed ⌝ }
+{
+    if passed { 1 } else { 0 }
+}
 
 // Whether the test passes at a pair, as 1 or 0; 7, 3, 10 or 11.
 pub fn test(
@@ -23,7 +31,7 @@ pub fn test(
     match conditional::test(shared, value, x, y, memory, ByteAddress(first)) {
         Tested::Refused(why) => refusal::number(why),
         Tested::Result(result) => {
-            *passed = [if result { 1 } else { 0 }];
+            *passed = [flag_of(result)];
             0
         }
     }
