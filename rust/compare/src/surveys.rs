@@ -2,7 +2,7 @@
 //! or one of them, or neither, and that may be stopped; then surveys and single tests
 //! with one value, with domains, memory and rooms of any shape.
 
-use crate::case::{Agreement, Case};
+use crate::case::{Agreed, Agreement, Case};
 use crate::commands;
 use crate::layouts::{self, one_in};
 use crate::random::Random;
@@ -56,8 +56,8 @@ pub fn run(case: &mut Case) -> Agreement {
     let unit = Unit::of(&both.second);
     let told = |case: &mut Case, asked: &Asked| {
         let text = || format!("{} after the words {words:X?}", about(asked));
-        survey(case, text, &both, &unit, asked)?;
-        single_tests(case, text, &both, &unit, asked)
+        let bytes = survey(case, text, &both, &unit, asked)?;
+        single_tests(case, text, &both, &unit, asked, bytes)
     };
     for _ in 0..case.random.one_of(&[1, 1, 2]) {
         let asked = any_survey(&mut case.random, &unit);
@@ -277,14 +277,15 @@ fn any_room(random: &mut Random, domain: [u32; 4]) -> usize {
     length as usize
 }
 
-/// One survey by both programs: the answer, the room and what stands around it.
+/// One survey by both programs: the answer, the room and what stands around it. Gives
+/// the room's bytes where it is accepted.
 fn survey(
     case: &mut Case,
     text: impl Fn() -> String,
     both: &Both,
     unit: &Unit,
     asked: &Asked,
-) -> Agreement {
+) -> Agreed<Option<Vec<u8>>> {
     let Asked {
         value,
         domain,
@@ -325,13 +326,14 @@ fn survey(
             let sum = room.iter().map(|byte| u64::from(*byte)).sum();
             case.agree(|| format!("the sum of {}", text()), &count, &sum)?;
             count_survey(case, both, unit, (count, room.len() as u64));
+            Ok(Some(room))
         }
         Err(refusal) => {
             case.untouched(&text, &(ours, passed), &(filled, passed_before))?;
             count_causes(case, unit, asked, refusal);
+            Ok(None)
         }
     }
-    Ok(())
 }
 
 /// Marks what an accepted survey was.
@@ -388,14 +390,15 @@ fn count_causes(case: &mut Case, unit: &Unit, asked: &Asked, refusal: u32) {
     }
 }
 
-/// Single tests of some pairs of the domain, and of one anywhere. A survey that was
-/// accepted has a byte for each, by which they are held together in the second program.
+/// Single tests of some pairs of the domain, and of one anywhere. Those of the domain
+/// are the bytes of a survey that was accepted.
 fn single_tests(
     case: &mut Case,
     text: impl Fn() -> String,
     both: &Both,
     unit: &Unit,
     asked: &Asked,
+    bytes: Option<Vec<u8>>,
 ) -> Agreement {
     let [i0, j0, i1, j1] = asked.domain;
     let (layout, _, _) = window_of(unit.buffer);
@@ -428,6 +431,12 @@ fn single_tests(
             .product
             .conditional_test(asked.value, x, y, memory, first);
         case.agree(text, &comfortable, &expected)?;
+        let inside = (i0..=i1).contains(&x) && (j0..=j1).contains(&y);
+        if let Some(bytes) = bytes.as_ref().filter(|_| inside) {
+            let place = (y - j0) as usize * (i1 - i0 + 1) as usize + (x - i0) as usize;
+            case.agree(text, &product, &Ok(u32::from(bytes[place])))?;
+            case.tally.mark("single tests that are a survey's bytes");
+        }
         match expected {
             Ok(true) => case.tally.mark("single tests that pass"),
             Ok(false) => case.tally.mark("single tests that don't"),

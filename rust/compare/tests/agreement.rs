@@ -318,6 +318,8 @@ fn surveys() {
     marks(&tally, &[("surveys of more than 4,096 pairs", 50)]);
     let mixed = "surveys that some pairs pass and some don't";
     marks(&tally, &[(mixed, 10_000)]);
+    let bytes = "single tests that are a survey's bytes";
+    marks(&tally, &[(bytes, 50_000)]);
     let tests = ["single tests that pass", "single tests that don't"];
     marks(&tally, &tests.map(|name| (name, 50_000)));
     for two in [

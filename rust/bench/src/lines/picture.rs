@@ -11,8 +11,8 @@ const BASE: u32 = 0x0100_0000;
 const KB: usize = 1024;
 const MB: usize = 1024 * KB;
 
-/// The windows' bytes; those of size 1 have 16 MB at most.
-const LENGTHS: [(usize, &str); 3] = [(64 * KB, "64 KB"), (4 * MB, "4 MB"), (64 * MB, "64 MB")];
+/// The windows' bytes, as far as a window of the size has so many.
+const LENGTHS: [usize; 3] = [64 * KB, 4 * MB, 64 * MB];
 const SIZES: [u32; 5] = [1, 2, 4, 8, 16];
 
 #[derive(Clone, Copy, PartialEq, Eq)]
@@ -140,9 +140,10 @@ fn noise(length: usize, seed: u64) -> Vec<u8> {
 }
 
 pub fn add(table: &mut Table) {
-    for (length, told) in LENGTHS {
+    for length in LENGTHS {
         for size in SIZES {
-            whole_window(table, size, length, told);
+            // no window has more than 4096 columns and rows
+            whole_window(table, size, length.min(16 * MB * size as usize));
         }
     }
     for (size, tiled) in [(1, true), (4, true), (16, true), (4, false)] {
@@ -156,11 +157,11 @@ pub fn add(table: &mut Table) {
 }
 
 /// A tiled window that is this long, all of it.
-fn whole_window(table: &mut Table, size: u32, length: usize, told: &str) {
-    let most = 4096 * 4096 * size as usize;
-    if length > most {
-        return;
-    }
+fn whole_window(table: &mut Table, size: u32, length: usize) {
+    let told = match length / MB {
+        0 => format!("{} KB", length / KB),
+        count => format!("{count} MB"),
+    };
     // as wide as it is high, more or less, and a whole number of tiles each way
     let (pitch, height) = match length {
         65_536 => (128, 512 / size),
@@ -182,9 +183,11 @@ fn whole_window(table: &mut Table, size: u32, length: usize, told: &str) {
     };
     let name =
         |way: Way, how: &str| format!("{}, tiled, size {size}, {told}{how}, a KB", way.name());
+    // single calls are lent no more than 64 KB
     let hows: &[&str] = match length {
         65_536 => &["", ", beside memcpy", ", beside single calls"],
-        _ => &["", ", beside memcpy"],
+        4_194_304 => &["", ", beside memcpy"],
+        _ => &[""],
     };
     let lines: Vec<(Way, &str, String)> = [Way::Out, Way::In]
         .into_iter()
