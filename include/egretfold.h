@@ -1,5 +1,5 @@
-/* Egretfold: CTM command streams, logs of them over midnight, their monthly score, tile addresses, elements in lent memory, and
- * flow words for one group.
+/* Egretfold: CTM command streams, logs of them over midnight, their monthly score, tile addresses, elements in lent memory,
+ * conditional output tests, and flow words for one group.
  *
  * Every function returns 0, or the number of a refusal of document 01 (egretfold_group_loops and the two functions on
  * registers return nothing, since they refuse nothing); a refusal touches no room and no state except where its function says
@@ -8,11 +8,12 @@
  *
  *      1  the session is stopped
  *      2  a header word stands in no line of the command table
- *      3  a reserved bit or code is set, a layout argument is malformed, or an edition is neither 1 nor 2
+ *      3  a reserved bit or code is set, a layout argument is malformed, or an edition is neither 1 nor 2; a conditional test on
+ *         another format than UINT16_1
  *      4  input number over 15, output number over 3
  *      5  i0 > i1 or j0 > j1
  *      6  window rule broken
- *      7  start without a domain, an instruction format or any output set
+ *      7  start without a domain, an instruction format or any output set; a conditional test without its buffer or its test set
  *      8  the domain is not inside every set output's window; silent outputs are passed over
  *      9  spans of two set outputs share a byte; silent outputs are passed over
  *     10  a pair is outside its window
@@ -267,6 +268,46 @@ uint32_t egretfold_element_write(uint32_t base, uint32_t pitch, uint32_t height,
 uint32_t egretfold_element_superfine(uint32_t base, uint32_t format, uint32_t height, uint32_t x, uint32_t y,
                                      const uint8_t *memory, size_t length, uint32_t first, uint8_t bytes[16],
                                      uint32_t count[1]);
+
+/* ---- Conditional output tests: a value held against the conditional buffer of a session's settings, in lent memory ----
+ *
+ * The settings are those of a session, stopped or not, and are only read; a refusal stops nothing. The test is `value op b`, where op is
+ * the test that is set: 0 never, 1 less, 2 less or equal, 3 equal, 4 at least, 5 greater, 6 not equal, 7 always; and b is the 16-bit
+ * number of the conditional buffer at the pair, low byte first. Asked in this order: 7 where no conditional buffer or no test is set, 3
+ * where the buffer's format isn't UINT16_1, 5 for a domain whose ends are crossed, 10 where a pair is outside the buffer's window, and
+ * 11 for memory that is longer than 65536 bytes, ends above 2^32 or doesn't hold every element asked for, or a room of another length.
+ * 10 and 11 come with the tests 0 and 7 too. */
+
+/* passed: 1 if the test passes at (x, y), else 0. 7, 3, 10 or 11. */
+uint32_t egretfold_conditional_test(const uint32_t shared[EGRETFOLD_SHARED], uint32_t value, uint32_t x, uint32_t y,
+                                    const uint8_t *memory, size_t length, uint32_t first, uint32_t passed[1]);
+
+/* The tests of all pairs from (i0, j0) to (i1, j1), both ends included. room, whose length is the number of these pairs: a byte 1 or 0
+ * for each, row by row. passed: how many pass. 7, 3, 5, 10 or 11. */
+uint32_t egretfold_conditional_survey(const uint32_t shared[EGRETFOLD_SHARED], uint32_t value, uint32_t i0, uint32_t j0,
+                                      uint32_t i1, uint32_t j1, const uint8_t *memory, size_t length, uint32_t first,
+                                      uint8_t *room, size_t room_length, uint32_t passed[1]);
+
+/* ---- Whole rectangles: the pairs of `columns` columns and `rows` rows from (x, y) on ----
+ *
+ * The room has the elements of the rectangle, row by row, and just their columns * rows * size bytes. Memory covers the window's
+ * whole span and may have any length, as long as it ends at 2^32. A rectangle of no pairs is inside every window and moves nothing.
+ * Each of the first two functions returns 3, 6, 10 where any pair is outside, or 11, in this order, and then touches nothing. */
+
+/* Stores the elements of the room at their pairs, and touches no other byte of memory. 3, 6, 10 or 11. */
+uint32_t egretfold_picture_paint(uint32_t base, uint32_t pitch, uint32_t height, uint32_t size, bool tiled, uint32_t x,
+                                 uint32_t y, uint32_t columns, uint32_t rows, uint8_t *memory, size_t length,
+                                 uint32_t first, const uint8_t *room, size_t room_length);
+
+/* Copies the elements of the pairs into the room. 3, 6, 10 or 11. */
+uint32_t egretfold_picture_copy_out(uint32_t base, uint32_t pitch, uint32_t height, uint32_t size, bool tiled, uint32_t x,
+                                    uint32_t y, uint32_t columns, uint32_t rows, const uint8_t *memory, size_t length,
+                                    uint32_t first, uint8_t *room, size_t room_length);
+
+/* addresses: where the elements of `columns` pairs from (x, y) on, in the same row, begin. 3, 6, or 10 where any of these pairs is
+ * outside. */
+uint32_t egretfold_picture_row(uint32_t base, uint32_t pitch, uint32_t height, uint32_t size, bool tiled, uint32_t x,
+                               uint32_t y, uint32_t *addresses, size_t columns);
 
 /* ---- Flow words for one group ---- */
 

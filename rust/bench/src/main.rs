@@ -39,6 +39,8 @@ fn main() {
     lines::writer::add(&mut table);
     lines::address::add(&mut table);
     lines::element::add(&mut table);
+    lines::survey::add(&mut table);
+    lines::picture::add(&mut table);
     lines::flow::add(&mut table);
     lines::kill::add(&mut table);
     table.end();

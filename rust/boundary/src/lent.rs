@@ -19,6 +19,7 @@ use crate::flow::{Group, Program};
 use crate::layout::Layout;
 use crate::lengths::{CELLS, CHANNELS, DAYS, LOG, MARKS, OWN, SHARED, SLOTS, TALLIES};
 use crate::log::Replay;
+use crate::picture::Rectangle;
 use crate::raw;
 use crate::session::Session;
 use crate::{answer, Answer};
@@ -344,6 +345,108 @@ pub fn element_superfine(
     unsafe {
         raw::egretfold_element_superfine(
             base, format, height, x, y, start, length, first, bytes, count,
+        )
+    }
+}
+
+/// passed: 1 if the session's test passes at (x, y), else 0. 7, 3, 10 or 11.
+#[inline]
+pub fn conditional_test(
+    session: &Session,
+    value: u32,
+    (x, y): (u32, u32),
+    memory: &[u8],
+    first: u32,
+    passed: &mut [u32; 1],
+) -> u32 {
+    let shared = &session.shared;
+    let (start, length) = (memory.as_ptr(), memory.len());
+    // SAFETY: the array is a session's that the library gave out; start and length
+    // are one slice's; the room is apart from both.
+    unsafe { raw::egretfold_conditional_test(shared, value, x, y, start, length, first, passed) }
+}
+
+/// The session's test at all pairs of a domain, i0, j0, i1, j1. room: a byte 1 or 0
+/// for each, row by row; passed: how many pass. 7, 3, 5, 10 or 11.
+#[inline]
+pub fn conditional_survey(
+    session: &Session,
+    value: u32,
+    domain: [u32; 4],
+    memory: &[u8],
+    first: u32,
+    room: &mut [u8],
+    passed: &mut [u32; 1],
+) -> u32 {
+    let shared = &session.shared;
+    let [i0, j0, i1, j1] = domain;
+    let (start, length) = (memory.as_ptr(), memory.len());
+    let (bytes, count) = (room.as_mut_ptr(), room.len());
+    // SAFETY: the array is a session's that the library gave out; start and length
+    // are one slice's, bytes and count another's; the two rooms are apart from both
+    // and from each other.
+    unsafe {
+        raw::egretfold_conditional_survey(
+            shared, value, i0, j0, i1, j1, start, length, first, bytes, count, passed,
+        )
+    }
+}
+
+/// The room's elements, row by row, to the rectangle's pairs in the memory. 3, 6, 10
+/// or 11.
+#[inline]
+pub fn picture_paint(
+    layout: &Layout,
+    rectangle: &Rectangle,
+    memory: &mut [u8],
+    first: u32,
+    room: &[u8],
+) -> u32 {
+    let (l, r) = (layout, rectangle);
+    let (start, length) = (memory.as_mut_ptr(), memory.len());
+    let (bytes, count) = (room.as_ptr(), room.len());
+    // SAFETY: start and length are one slice's, which nothing else can share; bytes
+    // and count are another's.
+    unsafe {
+        raw::egretfold_picture_paint(
+            l.base, l.pitch, l.height, l.size, l.tiled, r.x, r.y, r.columns, r.rows, start, length,
+            first, bytes, count,
+        )
+    }
+}
+
+/// room: the elements of the rectangle's pairs, row by row. 3, 6, 10 or 11.
+#[inline]
+pub fn picture_copy_out(
+    layout: &Layout,
+    rectangle: &Rectangle,
+    memory: &[u8],
+    first: u32,
+    room: &mut [u8],
+) -> u32 {
+    let (l, r) = (layout, rectangle);
+    let (start, length) = (memory.as_ptr(), memory.len());
+    let (bytes, count) = (room.as_mut_ptr(), room.len());
+    // SAFETY: start and length are one slice's; bytes and count are another's, which
+    // nothing else can share.
+    unsafe {
+        raw::egretfold_picture_copy_out(
+            l.base, l.pitch, l.height, l.size, l.tiled, r.x, r.y, r.columns, r.rows, start, length,
+            first, bytes, count,
+        )
+    }
+}
+
+/// addresses: where the elements of as many pairs begin, from (x, y) on in the row.
+/// 3, 6 or 10.
+#[inline]
+pub fn picture_row(layout: &Layout, x: u32, y: u32, addresses: &mut [u32]) -> u32 {
+    let l = layout;
+    let (start, columns) = (addresses.as_mut_ptr(), addresses.len());
+    // SAFETY: start and columns are one slice's.
+    unsafe {
+        raw::egretfold_picture_row(
+            l.base, l.pitch, l.height, l.size, l.tiled, x, y, start, columns,
         )
     }
 }

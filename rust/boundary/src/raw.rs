@@ -190,6 +190,78 @@ extern "C" {
         count: &mut [u32; 1],
     ) -> u32;
 
+    pub fn egretfold_conditional_test(
+        shared: &[u32; SHARED],
+        value: u32,
+        x: u32,
+        y: u32,
+        memory: *const u8,
+        length: usize,
+        first: u32,
+        passed: &mut [u32; 1],
+    ) -> u32;
+
+    pub fn egretfold_conditional_survey(
+        shared: &[u32; SHARED],
+        value: u32,
+        i0: u32,
+        j0: u32,
+        i1: u32,
+        j1: u32,
+        memory: *const u8,
+        length: usize,
+        first: u32,
+        room: *mut u8,
+        room_length: usize,
+        passed: &mut [u32; 1],
+    ) -> u32;
+
+    pub fn egretfold_picture_paint(
+        base: u32,
+        pitch: u32,
+        height: u32,
+        size: u32,
+        tiled: bool,
+        x: u32,
+        y: u32,
+        columns: u32,
+        rows: u32,
+        memory: *mut u8,
+        length: usize,
+        first: u32,
+        room: *const u8,
+        room_length: usize,
+    ) -> u32;
+
+    pub fn egretfold_picture_copy_out(
+        base: u32,
+        pitch: u32,
+        height: u32,
+        size: u32,
+        tiled: bool,
+        x: u32,
+        y: u32,
+        columns: u32,
+        rows: u32,
+        memory: *const u8,
+        length: usize,
+        first: u32,
+        room: *mut u8,
+        room_length: usize,
+    ) -> u32;
+
+    pub fn egretfold_picture_row(
+        base: u32,
+        pitch: u32,
+        height: u32,
+        size: u32,
+        tiled: bool,
+        x: u32,
+        y: u32,
+        addresses: *mut u32,
+        columns: usize,
+    ) -> u32;
+
     pub fn egretfold_program_load(
         words: *const u32,
         length: usize,

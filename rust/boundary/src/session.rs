@@ -181,6 +181,47 @@ impl Session {
         set(masks[3], masks[4])
     }
 
+    /// Whether the conditional test passes at the pair (x, y): `value op b`, where op is
+    /// the test that is set and b what the conditional buffer holds there, in memory of
+    /// which the first byte stands at address `first`. The session may be stopped, and
+    /// a refusal stops nothing. 7 where no conditional buffer or no test is set, 3 where
+    /// the buffer isn't UINT16_1; then 10 or 11.
+    #[inline]
+    pub fn conditional_test(
+        &self,
+        value: u32,
+        x: u32,
+        y: u32,
+        memory: &[u8],
+        first: u32,
+    ) -> Answer<bool> {
+        let mut passed = [0];
+        let pair = (x, y);
+        let number = lent::conditional_test(self, value, pair, memory, first, &mut passed);
+        answer(number)?;
+        Ok(passed[0] != 0)
+    }
+
+    /// The conditional test at all pairs of a domain, i0, j0, i1, j1, both ends
+    /// included, with one value: how many pass, and in the room, whose length is the
+    /// number of pairs, a byte 1 or 0 for each, row by row. 7, 3, 5 where the ends are
+    /// crossed, 10 where a pair is outside, or 11.
+    #[inline]
+    pub fn survey(
+        &self,
+        value: u32,
+        domain: [u32; 4],
+        memory: &[u8],
+        first: u32,
+        room: &mut [u8],
+    ) -> Answer<u32> {
+        let mut passed = [0];
+        let number =
+            lent::conditional_survey(self, value, domain, memory, first, room, &mut passed);
+        answer(number)?;
+        Ok(passed[0])
+    }
+
     #[inline]
     fn masks(&self) -> [u32; 5] {
         let mut masks = [0; 5];

@@ -2,7 +2,7 @@
 //! made apart from it, on millions of made-up inputs: good ones, ones at the
 //! edges of the rules, damaged ones and noise.
 //!
-//! There are nine kinds of cases, one module each:
+//! There are eleven kinds of cases, one module each:
 //!
 //! * [`addresses`]: layouts judged, pairs translated, addresses located back;
 //! * [`memory`]: elements read and written in lent memory, superfine reads;
@@ -12,7 +12,9 @@
 //! * [`logs`]: logs of a station over midnight, cut anywhere;
 //! * [`scores`]: months of such logs scored against lease lines;
 //! * [`modes`]: groups in full and in partial mode, side by side;
-//! * [`kills`]: groups killed in part between steps and runs, registers of floats.
+//! * [`kills`]: groups killed in part between steps and runs, registers of floats;
+//! * [`surveys`]: conditional tests and surveys of domains;
+//! * [`pictures`]: rectangles painted into memory and copied out of it.
 //!
 //! Every case is made from its kind, a seed and its number alone, so that any
 //! case can be run again by itself. The tests run fixed cases; the program
@@ -34,6 +36,7 @@ pub mod loops;
 pub mod memory;
 pub mod modes;
 pub mod options;
+pub mod pictures;
 pub mod programs;
 pub mod random;
 pub mod records;
@@ -41,6 +44,7 @@ pub mod scores;
 pub mod settings;
 pub mod starts;
 pub mod streams;
+pub mod surveys;
 pub mod tally;
 pub mod turns;
 pub mod words;
@@ -65,10 +69,12 @@ pub enum Kind {
     Scores,
     Modes,
     Kills,
+    Surveys,
+    Pictures,
 }
 
 impl Kind {
-    pub const ALL: [Kind; 9] = [
+    pub const ALL: [Kind; 11] = [
         Kind::Addresses,
         Kind::Memory,
         Kind::Streams,
@@ -78,6 +84,8 @@ impl Kind {
         Kind::Scores,
         Kind::Modes,
         Kind::Kills,
+        Kind::Surveys,
+        Kind::Pictures,
     ];
 
     pub fn name(self) -> &'static str {
@@ -91,6 +99,8 @@ impl Kind {
             Kind::Scores => "scores",
             Kind::Modes => "modes",
             Kind::Kills => "kills",
+            Kind::Surveys => "surveys",
+            Kind::Pictures => "pictures",
         }
     }
 
@@ -109,6 +119,8 @@ impl Kind {
             Kind::Scores => scores::run(case),
             Kind::Modes => modes::run(case),
             Kind::Kills => kills::run(case),
+            Kind::Surveys => surveys::run(case),
+            Kind::Pictures => pictures::run(case),
         }
     }
 }

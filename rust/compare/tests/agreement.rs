@@ -9,6 +9,7 @@
 use compare::commands::{self, HEADERS};
 use compare::floats::CLASSES;
 use compare::layouts::SHAPES;
+use compare::surveys::TESTS;
 use compare::tally::Tally;
 use compare::{run_cases, Kind};
 use std::ops::Range;
@@ -317,6 +318,80 @@ fn kills_first_half() {
 #[test]
 fn kills_second_half() {
     kills(200_000..400_000);
+}
+
+#[test]
+fn surveys() {
+    let tally = agree(Kind::Surveys, 0..100_000);
+    marks(&tally, &[("pairs surveyed", 1_000_000)]);
+    for test in TESTS {
+        marks(&tally, &[(test, 3_000)]);
+    }
+    for buffer in ["surveys of linear buffers", "surveys of tiled buffers"] {
+        marks(&tally, &[(buffer, 10_000)]);
+    }
+    marks(&tally, &[("surveys of stopped sessions", 10_000)]);
+    marks(&tally, &[("surveys inside an open command", 3_000)]);
+    marks(&tally, &[("surveys of more than 4,096 pairs", 50)]);
+    let mixed = "surveys that some pairs pass and some don't";
+    marks(&tally, &[(mixed, 10_000)]);
+    let bytes = "single tests that are a survey's bytes";
+    marks(&tally, &[(bytes, 50_000)]);
+    let tests = ["single tests that pass", "single tests that don't"];
+    marks(&tally, &tests.map(|name| (name, 50_000)));
+    for two in [
+        "surveys with two causes, of which 7 is first",
+        "surveys with two causes, of which 3 is first",
+        "surveys with two causes, of which 5 is first",
+        "surveys with two causes, of which 10 is first",
+    ] {
+        marks(&tally, &[(two, 2_000)]);
+    }
+    refusals(
+        &tally,
+        &[
+            (3, 20_000),
+            (5, 5_000),
+            (7, 50_000),
+            (10, 30_000),
+            (11, 50_000),
+        ],
+    );
+}
+
+#[test]
+fn pictures() {
+    let tally = agree(Kind::Pictures, 0..100_000);
+    let calls = ["paints accepted", "copies accepted", "rows accepted"];
+    marks(&tally, &calls.map(|name| (name, 30_000)));
+    for shape in SHAPES.concat() {
+        marks(&tally, &[(shape, 4_000)]);
+    }
+    for (kind, least) in [
+        ("rectangles without pairs", 3_000),
+        ("whole windows", 5_000),
+        ("rectangles with whole tile rows", 10_000),
+        ("rectangles with ragged edges", 20_000),
+        ("rectangles with both", 2_000),
+        ("pictures painted in another order", 5_000),
+        ("memory that just covers the span", 20_000),
+        ("memory over 65,536 bytes, accepted", 1_000),
+        ("memory that ends at 2^32, accepted", 2_000),
+        ("pictures refused for their room alone", 5_000),
+        ("pictures refused for the memory's front alone", 5_000),
+        ("pictures refused for the memory's end alone", 5_000),
+        ("pictures refused for memory above 2^32", 1_000),
+        ("pictures refused for memory and room", 2_000),
+        ("pictures with two causes, of which 3 is first", 500),
+        ("pictures with two causes, of which 6 is first", 200),
+        ("pictures with two causes, of which 10 is first", 5_000),
+    ] {
+        marks(&tally, &[(kind, least)]);
+    }
+    refusals(
+        &tally,
+        &[(3, 5_000), (6, 2_000), (10, 20_000), (11, 30_000)],
+    );
 }
 
 fn logs(numbers: Range<u64>) {

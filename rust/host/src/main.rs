@@ -15,6 +15,8 @@
 //! * `replay`: the `log` given to a replay; its forms are in `days`;
 //! * `address`, with `locate` and `tile`: the `work`ing of an address by hand,
 //!   and document 01's `tiles`;
+//! * `picture`: whole windows out of memory and back into it; `survey`: the conditional
+//!   test at all pairs of a domain;
 //! * `flow`: a program's `slots`, and the `steps` of a group;
 //! * `explain`: the table of `refusals`, and the `cause` of one that came;
 //! * `completions` and `manual`: the command line itself, for shells and for man.
@@ -33,8 +35,10 @@ mod fleet;
 mod flow;
 mod input;
 mod manual;
+mod picture;
 mod replay;
 mod score;
+mod survey;
 
 use clap::{CommandFactory, Parser, Subcommand};
 use common::failure::Outcome;
@@ -55,7 +59,7 @@ Words and addresses are hex, with or without 0x; counts are decimal, or hex with
 With no command, a sample month is scored.
 Exit status: 0 fine, 1 something was refused, 2 a wrong command line or file, 3 a short month.";
 
-/// Months scored, logs replayed, command streams decoded, tile addresses worked both ways, flow programs stepped
+/// Months scored, logs replayed, command streams decoded, tile addresses worked both ways, pictures moved, flow programs stepped
 #[derive(Parser)]
 #[command(name = "egretfold", version = env!("EGRETFOLD_VERSION"), long_version = LONG_VERSION, after_help = AFTER)]
 struct Line {
@@ -91,6 +95,12 @@ enum What {
     /// A tile drawn, with the place of each block
     #[command(after_help = address::tile::EXAMPLES)]
     Tile(address::tile::Options),
+    /// A window of memory out to a picture, or a picture into it
+    #[command(after_help = picture::EXAMPLES)]
+    Picture(picture::Options),
+    /// The conditional test of a stream's settings at all pairs of a domain
+    #[command(after_help = survey::EXAMPLES)]
+    Survey(survey::Options),
     /// A flow program listed, or stepped with given masks
     #[command(after_help = flow::EXAMPLES)]
     Flow(flow::Options),
@@ -138,6 +148,10 @@ fn answer(line: &Line) -> Outcome {
             encode::ask_terminal(output.is_terminal())?;
             encode::run(options, &mut output)
         }
+        Some(What::Picture(options)) if options.is_binary() => {
+            picture::ask_terminal(output.is_terminal())?;
+            picture::run(options, &mut output)
+        }
         _ => run(line, &mut output.text()),
     };
     output.end(outcome)
@@ -154,6 +168,8 @@ fn run(line: &Line, out: &mut dyn Write) -> Outcome {
         Some(What::Address(options)) => address::run(options, out),
         Some(What::Locate(options)) => address::locate::run(options, out),
         Some(What::Tile(options)) => address::tile::run(options, out),
+        Some(What::Picture(options)) => picture::run(options, out),
+        Some(What::Survey(options)) => survey::run(options, out),
         Some(What::Flow(options)) => flow::run(options, out),
         Some(What::Explain(options)) => explain::run(options, out),
         Some(What::Completions(options)) => completions::run(options, Line::command(), out),

@@ -100,7 +100,7 @@ fn translate_laid<const HOW: bool>(
 /// The rest of the row where linear. Where tiled, the rest of the elements whose offsets differ in their lowest bits alone: x stands
 /// there with 3, 2, 2, 1 and 2 bits for the five sizes.
 #[inline(always)]
-fn run(shift: u32, tiled: bool, step: u32, x: u32) -> u32 {
+pub(super) fn run(shift: u32, tiled: bool, step: u32, x: u32) -> u32 {
     if !tiled {
         return step - x;
     }
@@ -146,7 +146,7 @@ fn parts(shift: u32, x: u32, y: u32) -> (u32, u32, u32) {
 
 /// Bits 10 to 5 of the place.
 #[inline(always)]
-const fn mixed(u: u32, v: u32) -> u32 {
+pub(super) const fn mixed(u: u32, v: u32) -> u32 {
     let from_u = ((u & 1) << 5) | ((u & 6) << 6);
     let from_v = ((v & 9) << 6) | ((v & 2) << 7) | ((v & 4) << 8);
     from_u ^ ((u & 12) << 7) ^ from_v ^ ((v & 4) << 5)

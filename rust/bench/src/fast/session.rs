@@ -430,6 +430,11 @@ impl Session {
         self.conditional_mask
     }
 
+    #[inline(always)]
+    pub(super) fn conditional(&self) -> Option<Format> {
+        self.conditional
+    }
+
     pub fn test(&self) -> Option<u32> {
         self.test
     }

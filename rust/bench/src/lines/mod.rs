@@ -7,6 +7,8 @@ pub mod feed;
 pub mod flow;
 pub mod kill;
 pub mod log;
+pub mod picture;
+pub mod survey;
 pub mod writer;
 
 use bench::fast::layout::Layout;

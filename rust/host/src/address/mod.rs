@@ -1,7 +1,7 @@
 //! `egretfold address`: a pair of a window to the address of its element and the run
 //! from there on.
 
-mod layouts;
+pub mod layouts;
 pub mod locate;
 mod owners;
 pub mod tile;

@@ -1,5 +1,5 @@
-//! Makes the logs in samples/ and the streams with masked cameras, so that what
-//! stands in them can be read here. From rust/:
+//! Makes the logs in samples/, the streams with masked cameras, and a camera's memory
+//! with its stream, so that what stands in them can be read here. From rust/:
 //!
 //!     cargo run -p host --bin make-samples
 //!
@@ -14,8 +14,10 @@ mod log;
 mod station;
 
 use boundary::headers::{
-    SET_DOMAIN, SET_INST_FMT, SET_OUT_FMT, SET_OUT_MASK, START_PROGRAM, WAIT_FOR_IDLE,
+    SET_COND_OUT_FMT, SET_COND_TEST, SET_DOMAIN, SET_INST_FMT, SET_OUT_FMT, SET_OUT_MASK,
+    START_PROGRAM, WAIT_FOR_IDLE,
 };
+use boundary::{Layout, Rectangle};
 use log::{Log, CAMERAS, FRAME};
 use std::path::{Path, PathBuf};
 use std::{env, fs, io};
@@ -184,13 +186,78 @@ const CHANNELS: [u32; 15] = [
     START_PROGRAM, 0,
 ];
 
+/// One camera of 64 x 32 pixels, UINT8_4 in tiles, and a conditional buffer of 64 x 24
+/// numbers in tiles behind it; test 4, "at least".
+#[rustfmt::skip]
+const CAMERA: [u32; 21] = [
+    SET_INST_FMT, 0x4000, 0x0400_0010,
+    SET_OUT_FMT, 0, FRAME_OF_CAMERA.base, 0x0101_0040, FRAME_OF_CAMERA.height,
+    SET_COND_OUT_FMT, DISTANCES.base, 0x0001_0040, DISTANCES.height,
+    SET_COND_TEST, 4,
+    SET_DOMAIN, 0, 0, 47, 19,
+    START_PROGRAM, 0,
+];
+
+const FRAME_OF_CAMERA: Layout = Layout {
+    base: 0x800,
+    pitch: 64,
+    height: 32,
+    size: 4,
+    tiled: true,
+};
+
+const DISTANCES: Layout = Layout {
+    base: 0x2800,
+    pitch: 64,
+    height: 24,
+    size: 2,
+    tiled: true,
+};
+
+/// What stands where nothing was painted.
+const UNPAINTED: u8 = 0xEE;
+
+/// The camera's memory from its frame on: a frame whose red grows to the right and whose
+/// green grows downwards, with a blue disc; and numbers that grow from the disc's middle
+/// on. The last rows of the buffer's tiles belong to no pair.
+fn camera() -> Vec<u8> {
+    let from_the_middle = |x: u32, y: u32| {
+        let (x, y) = (x.abs_diff(24), y.abs_diff(10));
+        (x * x + 4 * y * y) as u16
+    };
+    let pixel = |x: u32, y: u32| {
+        let blue = if from_the_middle(x, y) < 300 { 255 } else { 0 };
+        vec![(4 * x) as u8, (8 * y) as u8, blue, 128]
+    };
+    let number = |x: u32, y: u32| from_the_middle(x, y).to_le_bytes().to_vec();
+    let mut memory = vec![UNPAINTED; 12_288];
+    paint(&FRAME_OF_CAMERA, &mut memory, pixel);
+    paint(&DISTANCES, &mut memory, number);
+    memory
+}
+
+/// Paints a window whole.
+fn paint(window: &Layout, memory: &mut [u8], element: impl Fn(u32, u32) -> Vec<u8>) {
+    let (columns, rows) = (window.pitch, window.height);
+    let pairs = (0..rows).flat_map(|y| (0..columns).map(move |x| (x, y)));
+    let room: Vec<u8> = pairs.flat_map(|(x, y)| element(x, y)).collect();
+    let whole = Rectangle {
+        x: 0,
+        y: 0,
+        columns,
+        rows,
+    };
+    let painted = boundary::paint(window, &whole, memory, FRAME_OF_CAMERA.base, &room);
+    painted.expect("the memory covers the window");
+}
+
 /// A stream's words, low byte first.
 fn stream(words: &[u32]) -> Vec<u8> {
     words.iter().flat_map(|word| word.to_le_bytes()).collect()
 }
 
 /// The bytes of every file, by its name.
-fn files() -> [(&'static str, Vec<u8>); 9] {
+fn files() -> [(&'static str, Vec<u8>); 11] {
     [
         ("station-14.log", station_14().bytes),
         ("full-month.log", full_month().bytes),
@@ -201,6 +268,8 @@ fn files() -> [(&'static str, Vec<u8>); 9] {
         ("refused.log", refused().bytes),
         ("masked.ctm", stream(&[&SETTINGS[..], &MASKED].concat())),
         ("channels.ctm", stream(&[&SETTINGS[..], &CHANNELS].concat())),
+        ("camera.ctm", stream(&CAMERA)),
+        ("camera.mem", camera()),
     ]
 }
 

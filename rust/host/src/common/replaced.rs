@@ -11,6 +11,7 @@ use std::path::{Path, PathBuf};
 pub enum Kind {
     Svg,
     Html,
+    Pgm,
 }
 
 /// How a picture of ours begins.
@@ -25,6 +26,7 @@ impl Kind {
         match self {
             Kind::Svg => &[SVG_BEGIN, "<?xml"],
             Kind::Html => &[HTML_BEGIN, "<!doctype html>"],
+            Kind::Pgm => &["P5"],
         }
     }
 
@@ -32,6 +34,7 @@ impl Kind {
         match self {
             Kind::Svg => "SVG picture",
             Kind::Html => "HTML page",
+            Kind::Pgm => "PGM picture",
         }
     }
 
@@ -39,6 +42,7 @@ impl Kind {
         match self {
             Kind::Svg => "--svg",
             Kind::Html => "--html",
+            Kind::Pgm => "--pgm",
         }
     }
 
@@ -85,9 +89,9 @@ impl Replaced {
         }
     }
 
-    pub fn write(&self, text: &str) -> Outcome {
+    pub fn write(&self, content: impl AsRef<[u8]>) -> Outcome {
         let mut file = self.place()?.begin()?;
-        let written = file.write_all(text.as_bytes());
+        let written = file.write_all(content.as_ref());
         written.map_err(|error| file.failed(error))?;
         file.put()
     }
@@ -124,7 +128,7 @@ impl Goes {
         match self {
             Goes::Nowhere => Ok(()),
             Goes::Standard => Ok(out.write_all(text().as_bytes())?),
-            Goes::File(file) => file.write(&text()),
+            Goes::File(file) => file.write(text()),
         }
     }
 }

@@ -2,6 +2,7 @@
 
 mod json;
 mod listing;
+pub mod settled;
 pub mod walk;
 
 use crate::common::digits::Digits;

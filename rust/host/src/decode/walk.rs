@@ -79,6 +79,8 @@ pub struct Totals {
     /// What to try where these were no command words.
     pub hint: Option<String>,
     pub ready: Ready,
+    /// The session as the words left it.
+    pub session: Session,
 }
 
 /// A form of output.
@@ -347,6 +349,7 @@ impl Walk {
             settings: settings::all(&self.session),
             hint: words.hint(),
             ready: Ready::of(&self.session),
+            session: self.session.clone(),
         }
     }
 }

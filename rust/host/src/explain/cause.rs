@@ -257,7 +257,8 @@ fn superfine_channels(header: u32, kind: Kind, word: u32) -> Option<String> {
     })
 }
 
-fn crossed(fields: &[u32]) -> Option<String> {
+/// 5 of a domain: the ends that are crossed.
+pub fn crossed(fields: &[u32]) -> Option<String> {
     let [i0, j0, i1, j1] = *<&[u32; 4]>::try_from(fields).ok()?;
     if i0 > i1 {
         Some(format!("i0 {i0} is over i1 {i1}"))

@@ -86,6 +86,27 @@ impl Source {
         Source::new(STANDARD.into(), Box::new(io::stdin()), None)
     }
 
+    /// The input's bytes as they stand: memory may begin as gzip's files do.
+    pub fn as_it_stands(self) -> Source {
+        Source {
+            fresh: false,
+            ..self
+        }
+    }
+
+    /// All bytes, up to so many and one more.
+    pub fn all(mut self, most: u64) -> Outcome<Vec<u8>> {
+        let mut all = Vec::new();
+        let mut room = vec![0; PIECE];
+        while all.len() as u64 <= most {
+            match self.fill(&mut room)? {
+                0 => break,
+                count => all.extend_from_slice(&room[..count]),
+            }
+        }
+        Ok(all)
+    }
+
     /// All of these files; standard input where none is named. All are opened first,
     /// so that none is read where one is missing.
     pub fn open_all(files: &[PathBuf]) -> Outcome<Vec<Source>> {

@@ -382,6 +382,166 @@ const CASES: &[(&str, &str, &str)] = &[
         "locate --stream samples/whole.ctm --json 1000 31BF 0",
         "",
     ),
+    (
+        "survey",
+        "survey --stream samples/camera.ctm --memory samples/camera.mem --at 800 --value 300",
+        "",
+    ),
+    (
+        "survey-json",
+        "survey --stream samples/camera.ctm --memory samples/camera.mem --at 800 --value 300 --domain 38,8,45,10 --json",
+        "",
+    ),
+    (
+        "survey-wide",
+        "survey --stream - --hex --memory samples/station-14.log --at 0 --value 0x1000 --domain 0,0,191,9",
+        "C0020D00 0 C8 A C0001B00 1",
+    ),
+    (
+        "survey-stopped",
+        "survey --stream - --hex --memory samples/camera.mem --at 800 --value 4",
+        "C0020D00 2800 10040 18 C0001B00 3 C0030700 18 8 1F A 7",
+    ),
+    (
+        "survey-missing",
+        "survey --stream samples/whole.ctm --memory samples/camera.mem --at 800 --value 0",
+        "",
+    ),
+    (
+        "survey-no-test",
+        "survey --stream - --hex --memory samples/camera.mem --at 800 --value 0 --domain 0,0,0,0",
+        "C0020D00 2800 10040 18",
+    ),
+    (
+        "survey-no-buffer",
+        "survey --stream - --hex --memory samples/camera.mem --at 800 --value 0 --domain 0,0,0,0",
+        "C0001B00 1",
+    ),
+    (
+        "survey-format",
+        "survey --stream - --hex --memory samples/camera.mem --at 800 --value 0 --domain 0,0,0,0",
+        "C0020D00 2800 2000020 4 C0001B00 1",
+    ),
+    (
+        "survey-crossed",
+        "survey --stream samples/camera.ctm --memory samples/camera.mem --at 800 --value 300 --domain 5,0,4,9",
+        "",
+    ),
+    (
+        "survey-outside",
+        "survey --stream samples/camera.ctm --memory samples/camera.mem --at 800 --value 300 --domain 0,0,64,9",
+        "",
+    ),
+    (
+        "survey-outside-json",
+        "survey --stream samples/camera.ctm --memory samples/camera.mem --at 800 --value 300 --domain 0,0,0,4294967295 --json",
+        "",
+    ),
+    (
+        "survey-memory",
+        "survey --stream samples/camera.ctm --memory samples/camera.mem --at 0 --value 300",
+        "",
+    ),
+    (
+        "survey-above",
+        "survey --stream samples/camera.ctm --memory samples/camera.mem --at FFFFFFFF --value 300",
+        "",
+    ),
+    (
+        "survey-many",
+        "survey --stream - --hex --memory samples/camera.mem --at 800 --value 0 --domain 0,0,4095,15",
+        "C0020D00 0 1000 1000 C0001B00 7",
+    ),
+    (
+        "survey-no-domain",
+        "survey --stream - --hex --memory samples/camera.mem --at 800 --value 0",
+        "C0020D00 2800 10040 18 C0001B00 4",
+    ),
+    (
+        "picture-out",
+        "picture --memory samples/camera.mem --at 800 --stream samples/camera.ctm --window output-0 --out /dev/null",
+        "",
+    ),
+    (
+        "picture-out-json",
+        "picture --memory samples/camera.mem --at 800 --base 800 --pitch 64 --height 32 --size 4 --tiled --rectangle 20,4,24,16 --as raw --out /dev/null --json",
+        "",
+    ),
+    (
+        "picture-in",
+        "picture --memory samples/camera.mem --at 800 --base 800 --pitch 64 --height 32 --size 4 --tiled --in samples/camera.ppm --to /dev/null",
+        "",
+    ),
+    (
+        "picture-in-json",
+        "picture --memory samples/camera.mem --at 800 --base 800 --pitch 64 --height 32 --size 4 --tiled --in samples/camera.ppm --to /dev/null --json",
+        "",
+    ),
+    (
+        "picture-in-sides",
+        "picture --memory samples/camera.mem --at 800 --base 800 --pitch 64 --height 32 --size 4 --tiled --rectangle 0,0,32,32 --in samples/camera.ppm --to /dev/null",
+        "",
+    ),
+    (
+        "picture-in-length",
+        "picture --memory samples/camera.mem --at 800 --base 800 --pitch 64 --height 32 --size 4 --tiled --in samples/whole.ctm --to /dev/null",
+        "",
+    ),
+    (
+        "picture-outside",
+        "picture --memory samples/camera.mem --at 800 --base 800 --pitch 64 --height 32 --size 4 --tiled --rectangle 41,4,24,16 --out /dev/null",
+        "",
+    ),
+    (
+        "picture-outside-json",
+        "picture --memory samples/camera.mem --at 800 --base 800 --pitch 64 --height 32 --size 4 --tiled --rectangle 41,4,24,16 --out /dev/null --json",
+        "",
+    ),
+    (
+        "picture-below",
+        "picture --memory samples/camera.mem --at 800 --base 800 --pitch 64 --height 32 --size 4 --tiled --rectangle 0,1,24,4294967295 --out /dev/null",
+        "",
+    ),
+    (
+        "picture-span",
+        "picture --memory samples/camera.mem --at 1000 --base 800 --pitch 64 --height 32 --size 4 --tiled --out /dev/null",
+        "",
+    ),
+    (
+        "picture-above",
+        "picture --memory samples/camera.mem --at FFFFF800 --base 800 --pitch 64 --height 32 --size 4 --tiled --out /dev/null",
+        "",
+    ),
+    (
+        "picture-rule",
+        "picture --memory samples/camera.mem --at 800 --base 800 --pitch 28 --height 32 --size 4 --tiled --out /dev/null",
+        "",
+    ),
+    (
+        "picture-form",
+        "picture --memory samples/camera.mem --at 800 --base 800 --pitch 32 --height 4 --size 8 --as ppm --out /dev/null",
+        "",
+    ),
+    (
+        "picture-window",
+        "picture --memory samples/camera.mem --at 800 --stream samples/camera.ctm --out /dev/null",
+        "",
+    ),
+    (
+        "picture-no-window",
+        "picture --memory samples/camera.mem --at 800 --stream samples/camera.ctm --window output-3 --out /dev/null",
+        "",
+    ),
+    (
+        "picture-stands",
+        "picture --memory samples/camera.mem --at 800 --base 800 --pitch 64 --height 32 --size 4 --tiled --out samples/camera.ppm",
+        "",
+    ),
+    (
+        "picture-neither",
+        "picture --memory samples/camera.mem --at 800 --base 800 --pitch 64 --height 32 --size 4 --tiled",
+        "",
+    ),
     ("flow-list", "flow --hex samples/branch.hex", ""),
     ("flow-list-json", "flow --hex --json samples/branch.hex", ""),
     (
@@ -538,6 +698,9 @@ const CASES: &[(&str, &str, &str)] = &[
     ),
     ("explain", "explain", ""),
     ("explain-3", "explain 3", ""),
+    ("explain-5", "explain 5", ""),
+    ("explain-10", "explain 10", ""),
+    ("explain-11", "explain 11", ""),
     ("explain-6", "explain 6", ""),
     ("explain-7", "explain 7", ""),
     ("explain-8", "explain 8", ""),

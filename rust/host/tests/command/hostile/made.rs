@@ -16,7 +16,7 @@ pub struct Case {
 /// Stands in a line for a file of the case's own; the driver puts its folder before it.
 pub const OWN: &str = "own/";
 
-const SAMPLES: [&str; 12] = [
+const SAMPLES: [&str; 15] = [
     "whole.ctm",
     "whole.hex",
     "several.ctm",
@@ -29,6 +29,29 @@ const SAMPLES: [&str; 12] = [
     "branch.hex",
     "branch.masks",
     "loops.hex",
+    "camera.ctm",
+    "camera.mem",
+    "camera.ppm",
+];
+
+const STREAMS: [&str; 4] = ["camera.ctm", "camera.ctm", "masked.ctm", "several.ctm"];
+
+const MEMORY: [&str; 4] = ["camera.mem", "camera.mem", "camera.mem", "whole.ctm"];
+
+const PICTURES: [&str; 3] = ["camera.ppm", "camera.ppm", "camera.mem"];
+
+/// Domains and rectangles.
+const FOURS: [&str; 10] = [
+    "0,0,63,23",
+    "0,0,64,32",
+    "20,4,24,16",
+    "1,1,0,0",
+    "0,0,4294967295,4294967295",
+    "4294967295,4294967295,4294967295,4294967295",
+    "0,0,0,0",
+    "5,0,4,4294967295",
+    "1,2,3",
+    "a,b,c,d",
 ];
 
 const LOGS: [&str; 4] = [
@@ -177,7 +200,9 @@ impl Made<'_> {
     }
 
     fn line(&mut self) {
-        match self.random.below(23) {
+        match self.random.below(27) {
+            23 | 24 => self.survey(),
+            25 | 26 => self.picture(),
             0..=5 => self.score(),
             6..=8 => self.replay(),
             9..=11 => self.decode(),
@@ -380,6 +405,87 @@ impl Made<'_> {
             self.put(word);
         }
         self.case.input = self.random.one_of(&WORDS).into();
+    }
+
+    fn survey(&mut self) {
+        self.put("survey");
+        self.put("--stream");
+        self.file(&STREAMS);
+        self.put("--memory");
+        match self.random.once_in(6) {
+            true => self.put("-"),
+            false => self.file(&MEMORY),
+        }
+        self.put("--at");
+        let at = self.at();
+        self.put(at);
+        self.put("--value");
+        let value = self
+            .random
+            .one_of(&["300", "300", "0", "65535", "65536", "-1", "x"]);
+        self.put(value);
+        self.valued(2, "--domain", &FOURS);
+        self.flag(8, "--hex");
+        self.numbered(8, "--words");
+        self.flag(3, "--json");
+        self.case.input = self.bytes(&MEMORY);
+    }
+
+    fn picture(&mut self) {
+        self.put("picture");
+        self.put("--memory");
+        self.file(&MEMORY);
+        self.put("--at");
+        let at = self.at();
+        self.put(at);
+        match self.random.below(4) {
+            0 => self.layout(),
+            1 => {
+                self.put("--stream");
+                self.file(&STREAMS);
+                let names = [
+                    "output-0",
+                    "conditional-output",
+                    "instructions",
+                    "\u{1b}[2J",
+                ];
+                self.valued(1, "--window", &names);
+            }
+            _ => {
+                for (option, value) in [
+                    ("--base", "800"),
+                    ("--pitch", "64"),
+                    ("--height", "32"),
+                    ("--size", "4"),
+                ] {
+                    self.put(option);
+                    self.put(value);
+                }
+                self.put("--tiled");
+            }
+        }
+        self.valued(2, "--rectangle", &FOURS);
+        self.valued(4, "--as", &["pgm", "ppm", "raw", "RAW", "gif"]);
+        if self.random.coin() {
+            self.valued(1, "--out", &["/dev/null", "/dev/null", "-", "samples"]);
+        } else {
+            self.put("--in");
+            match self.random.once_in(4) {
+                true => self.put("-"),
+                false => self.file(&PICTURES),
+            }
+            self.valued(1, "--to", &["/dev/null", "/dev/null", "-", "samples"]);
+        }
+        self.flag(4, "--json");
+        self.case.input = self.bytes(&PICTURES);
+    }
+
+    /// The address of a dump's first byte: the camera's mostly.
+    fn at(&mut self) -> &'static str {
+        match self.random.once_in(4) {
+            true => self.random.one_of(&WORDS),
+            false => "800",
+        }
     }
 
     fn tile(&mut self) {

@@ -111,7 +111,8 @@ fn hold(run: &Run, output: &Output) {
         0 | 3 => assert!(only_checks, "{errors}"),
         _ => assert!(!errors.is_empty()),
     }
-    if run.is("encode") && !run.has("--hex") {
+    // Binary, which goes through as it is.
+    if run.is("encode") && !run.has("--hex") || run.is("picture") && run.has("-") {
         return;
     }
     let text = told(output);
@@ -155,9 +156,11 @@ fn compare_forms(run: &Run, text: &Output) {
         "--commands",
     ];
     let known = [
-        "score", "fleet", "replay", "decode", "address", "locate", "flow", "tile",
+        "score", "fleet", "replay", "decode", "address", "locate", "flow", "tile", "survey", "picture",
     ];
-    if other.iter().any(|flag| run.has(flag)) || !known.iter().any(|name| run.is(name)) {
+    // Bytes on standard output leave no room for another form.
+    let binary = run.is("picture") && run.has("-");
+    if binary || other.iter().any(|flag| run.has(flag)) || !known.iter().any(|name| run.is(name)) {
         return;
     }
     let json = run.output(&["--json"]);
@@ -220,6 +223,14 @@ fn compare_forms(run: &Run, text: &Output) {
             if let Some(claims) = summary.and_then(|summary| summary["claims"].as_u64()) {
                 let words = claims.to_string();
                 assert!(text.contains(&format!(" {words} element")), "{text}");
+            }
+        }
+        name if name == "survey" => {
+            let survey = lines.last().map(|line| &line["survey"]);
+            if let Some(passed) = survey.and_then(|survey| survey["passed"].as_u64()) {
+                let pairs = survey.and_then(|survey| survey["pairs"].as_u64());
+                let due = format!("  passed  {passed} of {}\n", pairs.unwrap_or(0));
+                assert!(text.contains(&due), "{text}");
             }
         }
         name if name == "address" || name == "locate" => {

@@ -1,0 +1,141 @@
+-- `rectangles::runs::by_runs` meets its contract: each run is one stretch. Assumes nothing.
+use mathlib.Core.Path.{_∙_}
+use Prim.Native.Nat.{ℕ, _-_, _/_, _≤_}
+use native.Mathlib.Omega.{arith}
+use borrow.Author.Needs.{needs}
+use Rattle.rectangles.specs.Moves.{elementPlace}
+use Rattle.rectangles.proofs.RowMoves.{RowGoing}
+use Rattle.rectangles.proofs.Stretches.{runs-start, runs-done, column-asked, column-small, place-small, some, bytes-small, run-asked, runs-next}
+use Rattle.rectangles.proofs.runs.by_runs.Statement.{statement}
+use Rattle.rectangles.proofs.runs.by_runs.Tie as tie
+
+abbrev Inv-loop : tie.InvT-loop
+Inv-loop out tiled size stride at x y count line from to₀ i₀ here₀ to i here =
+    (i ≤ count) × RowGoing out (elementPlace tiled size (stride / size) at y) size x line from to₀ i here to
+
+abbrev μ-loop : tie.MeasureT-loop
+μ-loop out tiled size stride at x y count line from to₀ i₀ here₀ to i here = count - i
+
+loop-holds : tie.Need-loop-holds Inv-loop μ-loop
+loop-holds c = runs-start _ _ _ _ _ _ _ _ _ _ _ (c .before .before .pre)
+
+add-column : tie.Need-add-column Inv-loop μ-loop
+add-column c = omega (arith, c .before .before .before .before .pre .columns, c .before .before .before .before .pre .step, c .loop-test .taken)
+
+offset-requires : tie.Need-offset-requires Inv-loop μ-loop
+offset-requires c κs =
+    (column-asked _ _ _ _ _ _ _ _ _ (c .before .before .before .before .args .from .now) (c .before .before .before .before .args .to .now) (c .before .before .before .before .pre) _ (c .loop-test .taken), c .before .before .before .before .pre .whole)
+
+cast-place : tie.Need-cast-place Inv-loop μ-loop
+cast-place c = search needs
+
+add-place : tie.Need-add-place Inv-loop μ-loop
+add-place c =
+    place-small _ _ _ _ _ _ _ _ _ (c .before .before .before .before .before .args .from .now)
+    (c .before .before .before .before .before .args .to .now) (c .before .before .before .before .before .pre) _
+    (c .before .loop-test .taken) _ (c .offset .ensures)
+
+run-from-requires : tie.Need-run-from-requires Inv-loop μ-loop
+run-from-requires c κs =
+    (c .before .before .before .before .before .pre .size, column-small _ _ _ _ _ _ _ _ _ (c .before .before .before .before .before .args .from .now) (c .before .before .before .before .before .args .to .now) (c .before .before .before .before .before .pre) _ (c .before .loop-test .taken), c .before .before .before .before .before .pre .whole)
+
+sub-smaller : tie.Need-sub-smaller Inv-loop μ-loop
+sub-smaller c = omega (arith, c .before .before .loop-test .taken)
+
+smaller-requires : tie.Need-smaller-requires Inv-loop μ-loop
+smaller-requires c κs = search needs
+
+mul-bytes : tie.Need-mul-bytes Inv-loop μ-loop
+mul-bytes c =
+    let before-1 = c .before .before .before .before .before in
+    let at-pre = before-1 .before .before in
+    omega
+    (arith, bytes-small _ _ _ _ _ _ _ _ _ _ _ (at-pre .pre) _ (c .before .before .before .loop-test .taken) _ _ _ _ _ (c .before .before .before .before .loop .inv) (c .before .before .offset .ensures) (c .before .run-from .ensures) (c .smaller .ensures) .0)
+
+cast-bytes : tie.Need-cast-bytes Inv-loop μ-loop
+cast-bytes c =
+    let before-1 = c .before .before .before .before .before in
+    let at-pre = before-1 .before .before in
+    omega
+    (arith, bytes-small _ _ _ _ _ _ _ _ _ _ _ (at-pre .pre) _ (c .before .before .before .loop-test .taken) _ _ _ _ _ (c .before .before .before .before .loop .inv) (c .before .before .offset .ensures) (c .before .run-from .ensures) (c .smaller .ensures) .0)
+
+stretch-requires : tie.Need-stretch-requires Inv-loop μ-loop
+stretch-requires c κs =
+    let before-1 = c .before .before .before .before .before in
+    let at-pre = before-1 .before .before .before in
+    run-asked _ _ _ _ _ _ _ _ _ _ _ (at-pre .pre) _
+    (c .before .before .before .before .loop-test .taken) _ _ _ _ _ (c .before .before .before .before .before .loop .inv)
+    (c .before .before .before .offset .ensures) (c .before .before .run-from .ensures) (c .before .smaller .ensures)
+
+add-here : tie.Need-add-here Inv-loop μ-loop
+add-here c =
+    let before-1 = c .before .before .before .before .before in
+    let at-offset = before-1 .before in
+    let at-loop-test = at-offset .before in
+    let at-loop = at-loop-test .before in
+    let at-pre = at-loop .before .before .before in
+    omega
+    (arith, bytes-small _ _ _ _ _ _ _ _ _ _ _ (at-pre .pre) _ (at-loop-test .loop-test .taken) _ _ _ _ _ (at-loop .loop .inv) (at-offset .offset .ensures) (c .before .before .before .before .before .run-from .ensures) (c .before .before .before .before .smaller .ensures) .1)
+
+add-i : tie.Need-add-i Inv-loop μ-loop
+add-i c =
+    let before-1 = c .before .before .before .before .before in
+    let at-offset = before-1 .before in
+    let at-loop-test = at-offset .before in
+    let at-loop = at-loop-test .before in
+    let at-pre = at-loop .before .before .before in
+    omega
+    (arith, bytes-small _ _ _ _ _ _ _ _ _ _ _ (at-pre .pre) _ (at-loop-test .loop-test .taken) _ _ _ _ _ (at-loop .loop .inv) (at-offset .offset .ensures) (c .before .before .before .before .before .run-from .ensures) (c .before .before .before .before .smaller .ensures) .2)
+
+loop-less : tie.Need-loop-less Inv-loop μ-loop
+loop-less c =
+    let before-1 = c .before .before .before .before .before in
+    let at-offset = before-1 .before in
+    let at-loop-test = at-offset .before in
+    let at-loop = at-loop-test .before in
+    let at-pre = at-loop .before .before .before in
+    omega
+    (arith, some _ _ _ _ _ _ _ _ _ _ _ (at-pre .pre) _ (at-loop-test .loop-test .taken) _ _ _ _ _ (at-loop .loop .inv) (at-offset .offset .ensures) (c .before .before .before .before .before .run-from .ensures) (c .before .before .before .before .smaller .ensures), c .before .before .before .before .smaller .ensures .1, at-loop-test .loop-test .taken)
+
+loop-again : tie.Need-loop-again Inv-loop μ-loop
+loop-again c =
+    let before-1 = c .before .before .before .before .before in
+    let at-offset = before-1 .before in
+    let at-loop-test = at-offset .before in
+    let at-loop = at-loop-test .before in
+    let at-pre = at-loop .before .before .before in
+    runs-next _ _ _ _ _ _ _ _ _ _ _ (at-pre .pre) _
+    (at-loop-test .loop-test .taken) _ _ _ _ _
+    (at-loop .loop .inv)
+    (at-offset .offset .ensures) (c .before .before .before .before .before .run-from .ensures)
+    (c .before .before .before .before .smaller .ensures) _ (c .before .to .given) (c .before .before .stretch .ensures)
+
+same-length : tie.Need-same-length Inv-loop μ-loop
+same-length c = c .before .loop .inv .1 .long
+
+returns : tie.Need-returns Inv-loop μ-loop
+returns c = runs-done _ _ _ _ _ _ _ _ _ _ _ (c .before .before .before .before .pre) _ _ _ (c .before .loop .inv) (c .loop-test .left)
+
+pub by-runs-spec : {M : Type 1} → statement M
+by-runs-spec =
+    tie.close
+    (tie.spec
+    Inv-loop
+    μ-loop
+    loop-holds
+    add-column
+    offset-requires
+    cast-place
+    add-place
+    run-from-requires
+    sub-smaller
+    smaller-requires
+    mul-bytes
+    cast-bytes
+    stretch-requires
+    add-here
+    add-i
+    loop-less
+    loop-again
+    same-length
+    returns)
