@@ -26,10 +26,12 @@ mod layout;
 pub mod lengths;
 pub mod lent;
 mod log;
+mod pair;
 mod raw;
 mod register;
 mod score;
 mod session;
+mod view;
 
 pub use command::{parameters, write_command, Command};
 pub use edition::Edition;
@@ -37,9 +39,11 @@ pub use element::{read, superfine, write, Element};
 pub use flow::{Group, Loop, Loops, Mode, Program, Report, Stepped};
 pub use layout::{layout, locate, translate, Layout, Translated, Window};
 pub use log::{BytesFed, Day, LogStatus, Part, RefusedWord, Replay};
+pub use pair::{Owned, Owners, Pair, Party};
 pub use register::{choice, maximum, Register};
 pub use score::{Lease, Month, ScoredDay, Verdict};
 pub use session::{Fed, Format, Reply, Session, Status};
+pub use view::View;
 
 /// What a call answers: its result, or document 01's refusal number.
 pub type Answer<T> = Result<T, u32>;

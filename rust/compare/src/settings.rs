@@ -90,7 +90,7 @@ impl Both {
             case.tally.mark("questions refused");
             let filled = [case.random.word(); 4];
             let mut room = filled;
-            lent::session_format(&self.product, header, number, &mut room);
+            lent::session_format(self.product.view(), header, number, &mut room);
             case.untouched(asked, &room, &filled)?;
         }
         Ok(())
