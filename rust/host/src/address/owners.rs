@@ -3,7 +3,7 @@
 use crate::common::failure::{Failure, Outcome};
 use crate::common::kinds::{Address, Position};
 use crate::common::settings::{self, Setting, Value};
-use crate::decode::walk::{Quiet, Walk};
+use crate::decode::walk::{self, Quiet};
 use crate::explain::cause;
 use crate::input::source::Source;
 use crate::input::words::Words;
@@ -33,7 +33,7 @@ pub fn read(
     if let Some(most) = most {
         words = words.first(most);
     }
-    let totals = Walk::new(Edition::First, false).run(words, &mut Quiet)?;
+    let totals = walk::one(Edition::First, false, words, &mut Quiet)?;
     if let Some((Position(at), refused)) = &totals.refused {
         if as_json {
             let refusal =

@@ -34,7 +34,7 @@ fn the_samples_are_what_their_program_makes() {
         assert_eq!(fs::read(&file).expect("a file"), sample(&name), "{name}");
         count += 1;
     }
-    assert_eq!(count, 9);
+    assert_eq!(count, 13);
 }
 
 #[test]
