@@ -11,17 +11,19 @@
 //!   an empty slice's pointer is not null);
 //! * nothing written overlaps anything else: every array that is written comes
 //!   as a `&mut`, which nothing else can share;
-//! * states as the library left them: [`Session`], [`Replay`] and [`Group`] keep
-//!   their arrays private and are made only by a begin that was accepted. A
+//! * states as the library left them: [`Session`], [`Pair`], [`Replay`] and [`Group`]
+//!   keep their arrays private and are made only by a begin that was accepted. A
 //!   replay's session is shown but never handed out to be changed.
 
 use crate::flow::{Group, Program};
 use crate::layout::Layout;
 use crate::lengths::{CELLS, CHANNELS, DAYS, LOG, MARKS, OWN, SHARED, SLOTS, TALLIES};
 use crate::log::Replay;
+use crate::pair::{Owners, Pair, Party};
 use crate::picture::Rectangle;
 use crate::raw;
 use crate::session::Session;
+use crate::view::View;
 use crate::{answer, Answer};
 
 /// Arrays that no begin has filled yet.
@@ -82,39 +84,122 @@ pub fn session_feed(session: &mut Session, words: &[u32], fed: &mut [u64; 2]) ->
 /// status: words taken, 1 if stopped, the open command's header and how many of
 /// its parameters were taken, what the settings give a start, and the edition.
 #[inline]
-pub fn session_status(session: &Session, status: &mut [u32; 6]) -> u32 {
-    // SAFETY: the array is a session's that the library gave out.
-    unsafe { raw::egretfold_session_status(&session.own, status) }
+pub fn session_status(party: View, status: &mut [u32; 6]) -> u32 {
+    // SAFETY: the array is a party's that the library gave out.
+    unsafe { raw::egretfold_session_status(party.own, status) }
 }
 
 /// counts: runs and claimed elements.
 #[inline]
-pub fn session_tallies(session: &Session, counts: &mut [u64; 2]) -> u32 {
-    // SAFETY: the array is a session's that the library gave out.
-    unsafe { raw::egretfold_session_tallies(&session.tallies, counts) }
+pub fn session_tallies(party: View, counts: &mut [u64; 2]) -> u32 {
+    // SAFETY: the array is a party's that the library gave out.
+    unsafe { raw::egretfold_session_tallies(party.tallies, counts) }
 }
 
 /// domain: 1 if it is set, then i0, j0, i1, j1.
 #[inline]
-pub fn session_domain(session: &Session, domain: &mut [u32; 5]) -> u32 {
-    // SAFETY: the array is a session's that the library gave out.
-    unsafe { raw::egretfold_session_domain(&session.own, domain) }
+pub fn session_domain(party: View, domain: &mut [u32; 5]) -> u32 {
+    // SAFETY: the array is a party's that the library gave out.
+    unsafe { raw::egretfold_session_domain(party.own, domain) }
 }
 
 /// format: 1 if it is set, then base, format word and height. 2, 4.
 #[inline]
-pub fn session_format(session: &Session, header: u32, number: u32, format: &mut [u32; 4]) -> u32 {
-    let Session { own, shared, .. } = session;
-    // SAFETY: the arrays are a session's that the library gave out.
+pub fn session_format(party: View, header: u32, number: u32, format: &mut [u32; 4]) -> u32 {
+    let View { own, shared, .. } = party;
+    // SAFETY: the arrays are a party's that the library gave out.
     unsafe { raw::egretfold_session_format(own, shared, header, number, format) }
 }
 
 /// masks: the output mask; 1 if the conditional mask is set, and the mask; 1 if
 /// the test is set, and the test.
 #[inline]
-pub fn session_masks(session: &Session, masks: &mut [u32; 5]) -> u32 {
-    // SAFETY: the array is a session's that the library gave out.
-    unsafe { raw::egretfold_session_masks(&session.shared, masks) }
+pub fn session_masks(party: View, masks: &mut [u32; 5]) -> u32 {
+    // SAFETY: the array is a party's that the library gave out.
+    unsafe { raw::egretfold_session_masks(party.shared, masks) }
+}
+
+/// A new session of two parties under the edition with this number. 3.
+#[inline]
+pub fn pair_begin(edition: u32, owners: Owners) -> Answer<Pair> {
+    let mut pair = Pair {
+        owners,
+        own: [[0; OWN]; 2],
+        tallies: [[0; TALLIES]; 2],
+        shared: [0; SHARED],
+    };
+    answer(pair_begin_anew(&mut pair, edition, owners))?;
+    Ok(pair)
+}
+
+/// A new session of two parties in the arrays of this one, under the edition with this number. 3: then it stays as it was.
+#[inline]
+pub fn pair_begin_anew(pair: &mut Pair, edition: u32, owners: Owners) -> u32 {
+    let (own0, tallies0, own1, tallies1, shared) = arrays_of_both(pair);
+    let Owners { inputs, outputs } = owners;
+    // SAFETY: five separate arrays of the right lengths; no state is read.
+    let number = unsafe {
+        raw::egretfold_pair_begin(
+            own0, tallies0, own1, tallies1, shared, inputs, outputs, edition,
+        )
+    };
+    if number == 0 {
+        pair.owners = owners;
+    }
+    number
+}
+
+/// The arrays of both parties, then the settings.
+type ArraysOfBoth<'a> = (
+    &'a mut [u32; OWN],
+    &'a mut [u64; TALLIES],
+    &'a mut [u32; OWN],
+    &'a mut [u64; TALLIES],
+    &'a mut [u32; SHARED],
+);
+
+#[inline]
+fn arrays_of_both(pair: &mut Pair) -> ArraysOfBoth<'_> {
+    let [own0, own1] = &mut pair.own;
+    let [tallies0, tallies1] = &mut pair.tallies;
+    (own0, tallies0, own1, tallies1, &mut pair.shared)
+}
+
+/// One word of a party, as [`session_word`]. 1 to 9, 17 or 20.
+#[inline]
+pub fn pair_word(pair: &mut Pair, party: Party, word: u32, command: &mut [u32; 6]) -> u32 {
+    let own = &mut pair.own[party.place()];
+    let tallies = &mut pair.tallies[party.place()];
+    // SAFETY: the arrays are a party's that the library gave out, with the settings
+    // that it shares; the room is apart from them.
+    unsafe { raw::egretfold_session_word(own, tallies, &mut pair.shared, word, command) }
+}
+
+/// A piece of one party's words, as [`session_feed`].
+#[inline]
+pub fn pair_party_feed(pair: &mut Pair, party: Party, words: &[u32], fed: &mut [u64; 2]) -> u32 {
+    let own = &mut pair.own[party.place()];
+    let tallies = &mut pair.tallies[party.place()];
+    let (start, length) = (words.as_ptr(), words.len());
+    // SAFETY: as for a party's word; start and length are one slice's.
+    unsafe { raw::egretfold_session_feed(own, tallies, &mut pair.shared, start, length, fed) }
+}
+
+/// A piece of both parties' words. parties: bit k of number i is the party of word 32
+/// i + k. fed: of party 0 the words taken, the commands completed and the first
+/// refusal in this piece, 0 for none; then the same of party 1. 11.
+#[inline]
+pub fn pair_feed(pair: &mut Pair, words: &[u32], parties: &[u32], fed: &mut [u64; 6]) -> u32 {
+    let (own0, tallies0, own1, tallies1, shared) = arrays_of_both(pair);
+    let (start, length) = (words.as_ptr(), words.len());
+    let (bits, groups) = (parties.as_ptr(), parties.len());
+    // SAFETY: the arrays are a pair's that the library gave out; both pointers come
+    // with their own slice's length; the room is apart from all of them.
+    unsafe {
+        raw::egretfold_pair_feed(
+            own0, tallies0, own1, tallies1, shared, start, length, bits, groups, fed,
+        )
+    }
 }
 
 /// A replay's five arrays, its session's last.

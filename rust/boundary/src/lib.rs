@@ -51,12 +51,14 @@ mod layout;
 pub mod lengths;
 pub mod lent;
 mod log;
+mod pair;
 mod picture;
 mod raw;
 mod refusal;
 mod register;
 mod score;
 mod session;
+mod view;
 
 pub use command::{parameters, write_command, Command};
 pub use edition::Edition;
@@ -64,11 +66,13 @@ pub use element::{read, superfine, write, Element};
 pub use flow::{Group, Loop, Loops, Mode, Program, Report, Stepped};
 pub use layout::{layout, locate, translate, Layout, Translated, Window};
 pub use log::{BytesFed, Day, LogStatus, Part, RefusedWord, Replay};
+pub use pair::{Owned, Owners, Pair, Party};
 pub use picture::{copy_out, paint, translate_row, Rectangle};
 pub use refusal::Refusal;
 pub use register::{choice, maximum, Register};
 pub use score::{Lease, Month, ScoredDay, Verdict};
 pub use session::{Fed, Format, Reply, Session, Status};
+pub use view::View;
 
 /// What a call answers: its result, or why it was refused.
 pub type Answer<T> = Result<T, Refusal>;

@@ -2,7 +2,7 @@
 //! writes, reads and translations; refusals, and what they leave alone.
 
 use boundary::{copy_out, layout, paint, read, translate, translate_row, write};
-use boundary::{Layout, Rectangle};
+use boundary::{Layout, Rectangle, Refusal};
 
 const SIZES: [u32; 5] = [1, 2, 4, 8, 16];
 
@@ -110,7 +110,10 @@ fn the_addresses_of_a_row_are_its_pairs() {
         }
         for (x, y, columns) in [(0, 0, step + 1), (step, 0, 1), (0, 21, 1), (u32::MAX, 0, 2)] {
             let mut row = vec![7; columns as usize];
-            assert_eq!(translate_row(&window, x, y, &mut row), Err(10));
+            assert_eq!(
+                translate_row(&window, x, y, &mut row),
+                Err(Refusal::PairOutside)
+            );
             assert!(row.iter().all(|address| *address == 7));
         }
     }
@@ -122,9 +125,17 @@ fn refused(window: &Layout, area: &Rectangle, lent: (usize, u32), room: usize, n
     let mut memory = vec![3; length];
     let mut bytes = vec![5; room];
     let painted = paint(window, area, &mut memory, first, &bytes);
-    assert_eq!(painted, Err(number), "{window:?} {area:?}");
+    assert_eq!(
+        painted.map_err(u32::from),
+        Err(number),
+        "{window:?} {area:?}"
+    );
     let copied = copy_out(window, area, &memory, first, &mut bytes);
-    assert_eq!(copied, Err(number), "{window:?} {area:?}");
+    assert_eq!(
+        copied.map_err(u32::from),
+        Err(number),
+        "{window:?} {area:?}"
+    );
     assert!(memory.iter().all(|byte| *byte == 3));
     assert!(bytes.iter().all(|byte| *byte == 5));
 }

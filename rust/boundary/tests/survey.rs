@@ -2,7 +2,7 @@
 //! functions: single tests, surveys, their refusals and what they leave alone.
 
 use boundary::headers::{SET_COND_OUT_FMT, SET_COND_TEST, SET_DOMAIN};
-use boundary::{lent, Session};
+use boundary::{lent, Edition, Refusal, Session};
 
 /// UINT16_1, linear, E 16, H 4: 128 bytes from 2,048 on.
 const ROWS: [u32; 4] = [SET_COND_OUT_FMT, BASE, 16, 4];
@@ -12,7 +12,7 @@ const ALL: [u32; 4] = [0, 0, 15, 3];
 const PAIRS: usize = 64;
 
 fn fed(words: &[u32]) -> Session {
-    let mut session = Session::new();
+    let mut session = Session::new(Edition::First);
     assert_eq!(session.feed(words).refusal, None, "{words:X?}");
     session
 }
@@ -106,12 +106,18 @@ fn the_order_is_7_3_5_10_11() {
     let (crossed, outside) = ([1, 0, 0, 9], [0, 0, 16, 0]);
     for lacking in [fed(&[]), fed(&float), fed(&[SET_COND_TEST, 7])] {
         refused(&lacking, crossed, &[], 0, 3, 7);
-        assert_eq!(lacking.conditional_test(3, 99, 99, &[], 0), Err(7));
+        assert_eq!(
+            lacking.conditional_test(3, 99, 99, &[], 0),
+            Err(Refusal::StartUnset)
+        );
     }
     for code in 1..5 {
         let other = unit([SET_COND_OUT_FMT, BASE, code << 24 | 0x20, 4], 7);
         refused(&other, crossed, &[], 0, 3, 3);
-        assert_eq!(other.conditional_test(3, 99, 99, &[], 0), Err(3));
+        assert_eq!(
+            other.conditional_test(3, 99, 99, &[], 0),
+            Err(Refusal::Malformed)
+        );
     }
     let session = unit(ROWS, 7);
     refused(&session, [1, 0, 0, 9], &[], 0, 3, 5);
@@ -121,7 +127,10 @@ fn the_order_is_7_3_5_10_11() {
         refused(&session, domain, &[], 0, 3, 10);
         refused(&session, domain, &vec![0; 65_537], 0, 3, 10);
     }
-    assert_eq!(session.conditional_test(3, 16, 0, &[], 0), Err(10));
+    assert_eq!(
+        session.conditional_test(3, 16, 0, &[], 0),
+        Err(Refusal::PairOutside)
+    );
     refused(&session, ALL, &memory(), BASE, PAIRS - 1, 11);
     refused(&session, ALL, &memory(), BASE, PAIRS + 1, 11);
     refused(&session, ALL, &memory()[..127], BASE, PAIRS, 11);
@@ -131,7 +140,7 @@ fn the_order_is_7_3_5_10_11() {
     // Never and always read the buffer too.
     for test in [0, 7] {
         let none = unit(ROWS, test).conditional_test(3, 0, 0, &[], BASE);
-        assert_eq!(none, Err(11), "test {test}");
+        assert_eq!(none, Err(Refusal::WrongLength), "test {test}");
     }
 }
 
@@ -149,14 +158,17 @@ fn a_stopped_session_is_asked_all_the_same_and_stays() {
     let mut session = unit(ROWS, 2);
     session.feed(&[SET_DOMAIN, 0]);
     let open = session.clone();
-    assert_eq!(session.word(u32::MAX), Err(3));
+    assert_eq!(session.word(u32::MAX), Err(Refusal::Malformed));
     assert!(session.status().stopped);
     for session in [open, session] {
         let before = session.clone();
         let mut room = [7; PAIRS];
         let answer = session.survey(302, ALL, &memory(), BASE, &mut room);
         assert_eq!(answer, Ok(14 + 32));
-        assert_eq!(session.conditional_test(0, 16, 0, &[], 0), Err(10));
+        assert_eq!(
+            session.conditional_test(0, 16, 0, &[], 0),
+            Err(Refusal::PairOutside)
+        );
         assert_eq!(session, before);
     }
 }

@@ -193,6 +193,82 @@ static void check_editions(void)
     agree("session_begin, settings after a refusal", memcmp(s.shared, before.shared, sizeof s.shared) == 0, 1);
 }
 
+struct pair {
+    struct session zero;
+    uint32_t own1[EGRETFOLD_OWN];
+    uint64_t tallies1[EGRETFOLD_TALLIES];
+};
+
+static uint32_t begin_pair(struct pair *p, uint32_t inputs, uint32_t outputs, uint32_t edition)
+{
+    return egretfold_pair_begin(p->zero.own, p->zero.tallies, p->own1, p->tallies1, p->zero.shared, inputs, outputs, edition);
+}
+
+static uint32_t feed_pair(struct pair *p, const uint32_t *words, size_t length, const uint32_t *parties, size_t groups,
+                          uint64_t fed[6])
+{
+    return egretfold_pair_feed(p->zero.own, p->zero.tallies, p->own1, p->tallies1, p->zero.shared, words, length, parties, groups,
+                               fed);
+}
+
+static void check_fed(const char *call, const uint64_t fed[6], const uint64_t expected[6])
+{
+    for (unsigned i = 0; i < 6; i++)
+        agree(call, fed[i], expected[i]);
+}
+
+/* What that leaves: two runs of party 0, and party 1 stopped after three words. */
+static void check_parties(const struct pair *p)
+{
+    const uint32_t ended[6] = {3, 1, 0, 0, 7, 1};
+    uint32_t status[6] = {9, 9, 9, 9, 9, 9};
+    uint64_t counts[2] = {9, 9};
+    agree("session_status of party 1", egretfold_session_status(p->own1, status), 0);
+    agree_words("session_status of party 1", status, ended, 6);
+    agree("session_tallies of party 1", egretfold_session_tallies(p->tallies1, counts), 0);
+    agree("session_tallies of party 1, runs", counts[0], 0);
+    agree("session_tallies of party 0", egretfold_session_tallies(p->zero.tallies, counts), 0);
+    agree("session_tallies of party 0, runs", counts[0], 2);
+    agree("session_tallies of party 0, elements", counts[1], 2 * 1728);
+}
+
+static void check_pair_begin(struct pair *p)
+{
+    memset(p, 7, sizeof *p);
+    agree("pair_begin, input 16", begin_pair(p, 0x10000, 2, 1), 3);
+    agree("pair_begin, output 4", begin_pair(p, 0, 16, 1), 3);
+    agree("pair_begin, edition 3", begin_pair(p, 0, 2, 3), 3);
+    agree("pair_begin, party 0's numbers after a refusal", p->zero.own[0], 0x07070707);
+    agree("pair_begin, party 1's numbers after a refusal", p->own1[0], 0x07070707);
+    agree("pair_begin, settings after a refusal", p->zero.shared[0], 0x07070707);
+    agree("pair_begin", begin_pair(p, 0, 2, 1), 0);
+}
+
+/* Party 0 owns output 0 and sends the whole stream; party 1, which owns output 1, sends a word before each of the first three. Then
+ * party 0 begins a start, and party 1 names output 0: it gets 20, and party 0's run goes on. */
+static void check_pair(void)
+{
+    uint32_t words[18] = {0xC0000900, 0xC0010A00, 0, 0x1000, 0xC0030C00, 0x4000010};
+    const uint32_t start[2] = {0xC0000800, 0}, parties[1] = {0xFFFC0015}, second[1] = {2}, first[1] = {0};
+    const uint64_t filled[6] = {9, 9, 9, 9, 9, 9}, both[6] = {15, 4, 0, 3, 1, 0};
+    const uint64_t refused[6] = {1, 0, 0, 0, 0, 20}, alone[6] = {1, 1, 0, 0, 0, 0}, stopped[6] = {1, 0, 0, 0, 0, 1};
+    uint64_t fed[6] = {9, 9, 9, 9, 9, 9};
+    struct pair p;
+    memcpy(words + 6, stream + 3, 12 * sizeof *words);
+    check_pair_begin(&p);
+    agree("pair_feed, too few groups", feed_pair(&p, words, 18, parties, 0, fed), 11);
+    check_fed("pair_feed, room after a refusal", fed, filled);
+    agree("pair_feed", feed_pair(&p, words, 18, parties, 1, fed), 0);
+    check_fed("pair_feed, both parties", fed, both);
+    agree("pair_feed, another's output", feed_pair(&p, start, 2, second, 1, fed), 0);
+    check_fed("pair_feed, another's output", fed, refused);
+    agree("pair_feed, no word of party 1", feed_pair(&p, start + 1, 1, first, 1, fed), 0);
+    check_fed("pair_feed, no word of party 1", fed, alone);
+    agree("pair_feed, party 1 is stopped", feed_pair(&p, start, 2, second, 1, fed), 0);
+    check_fed("pair_feed, party 1 is stopped", fed, stopped);
+    check_parties(&p);
+}
+
 struct replay {
     uint32_t log[EGRETFOLD_LOG];
     uint64_t marks[EGRETFOLD_MARKS];
@@ -728,6 +804,7 @@ int main(void)
     check_refused_piece();
     check_silent();
     check_editions();
+    check_pair();
     check_log();
     check_log_days();
     check_lease_lines();

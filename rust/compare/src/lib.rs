@@ -2,7 +2,7 @@
 //! made apart from it, on millions of made-up inputs: good ones, ones at the
 //! edges of the rules, damaged ones and noise.
 //!
-//! There are eleven kinds of cases, one module each:
+//! There are twelve kinds of cases, one module each:
 //!
 //! * [`addresses`]: layouts judged, pairs translated, addresses located back;
 //! * [`memory`]: elements read and written in lent memory, superfine reads;
@@ -13,6 +13,7 @@
 //! * [`scores`]: months of such logs scored against lease lines;
 //! * [`modes`]: groups in full and in partial mode, side by side;
 //! * [`kills`]: groups killed in part between steps and runs, registers of floats;
+//! * [`lessees`]: words of two parties on one card, mixed, and one party's replaced;
 //! * [`surveys`]: conditional tests and surveys of domains;
 //! * [`pictures`]: rectangles painted into memory and copied out of it.
 //!
@@ -31,11 +32,14 @@ pub mod flow;
 pub mod groups;
 pub mod kills;
 pub mod layouts;
+pub mod lessees;
 pub mod logs;
 pub mod loops;
 pub mod memory;
+pub mod mixture;
 pub mod modes;
 pub mod options;
+pub mod owned;
 pub mod pictures;
 pub mod programs;
 pub mod random;
@@ -69,12 +73,13 @@ pub enum Kind {
     Scores,
     Modes,
     Kills,
+    Lessees,
     Surveys,
     Pictures,
 }
 
 impl Kind {
-    pub const ALL: [Kind; 11] = [
+    pub const ALL: [Kind; 12] = [
         Kind::Addresses,
         Kind::Memory,
         Kind::Streams,
@@ -84,6 +89,7 @@ impl Kind {
         Kind::Scores,
         Kind::Modes,
         Kind::Kills,
+        Kind::Lessees,
         Kind::Surveys,
         Kind::Pictures,
     ];
@@ -99,6 +105,7 @@ impl Kind {
             Kind::Scores => "scores",
             Kind::Modes => "modes",
             Kind::Kills => "kills",
+            Kind::Lessees => "lessees",
             Kind::Surveys => "surveys",
             Kind::Pictures => "pictures",
         }
@@ -119,6 +126,7 @@ impl Kind {
             Kind::Scores => scores::run(case),
             Kind::Modes => modes::run(case),
             Kind::Kills => kills::run(case),
+            Kind::Lessees => lessees::run(case),
             Kind::Surveys => surveys::run(case),
             Kind::Pictures => pictures::run(case),
         }

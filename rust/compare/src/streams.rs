@@ -84,7 +84,7 @@ pub fn word_by_word(case: &mut Case, mut both: Both, words: &[u32]) -> Agreed<Bo
     Ok(both)
 }
 
-fn reply_of_product(reply: boundary::Reply) -> Reply {
+pub fn reply_of_product(reply: boundary::Reply) -> Reply {
     match reply {
         boundary::Reply::Open => Reply::Open,
         boundary::Reply::Done(command) => Reply::Done(Command {

@@ -320,6 +320,52 @@ fn kills_second_half() {
     kills(200_000..400_000);
 }
 
+fn lessees(numbers: Range<u64>) {
+    let tally = agree(Kind::Lessees, numbers);
+    editions(&tally, 0);
+    // For each case, of both parties, with the other's words replaced.
+    marks(&tally, &[("views that stayed the same", 2 * tally.cases)]);
+    let changed = "views that stayed while the other's changed";
+    marks(&tally, &[(changed, 90_000)]);
+    marks(&tally, &[("begins refused", tally.cases)]);
+    marks(&tally, &[("pieces refused for their groups", tally.cases)]);
+    marks(&tally, &[("pieces of both parties", 1_000_000)]);
+    marks(&tally, &[("pieces of one party alone", 1_000_000)]);
+    marks(&tally, &[("sessions of one party that owns all", 10_000)]);
+    marks(&tally, &[("starts of party 0", 100_000)]);
+    marks(&tally, &[("starts of party 1", 100_000)]);
+    marks(&tally, &[("starts beside a stopped party", 100_000)]);
+    marks(&tally, &[("words taken beside a stopped party", 1_000_000)]);
+    let shared = "starts with two outputs that share a byte";
+    marks(&tally, &[(shared, 30_000)]);
+    // 20 in each of its ways, and what comes before it.
+    marks(&tally, &[("headers of party 0's by party 1", 1_000)]);
+    marks(&tally, &[("inputs of party 0's by party 1", 300)]);
+    marks(&tally, &[("inputs of party 1's by party 0", 300)]);
+    marks(&tally, &[("outputs of party 0's by party 1", 3_000)]);
+    marks(&tally, &[("outputs of party 1's by party 0", 3_000)]);
+    marks(&tally, &[("numbers that nobody has", 2_000)]);
+    marks(&tally, &[("masks that leave another's bits", 30_000)]);
+    let both_ways = "masks that leave another's bits and change one's own";
+    marks(&tally, &[(both_ways, 30_000)]);
+    let words_at_fault = [(2, 10_000), (3, 10_000), (4, 2_000), (20, 10_000)];
+    let last_parameters = [(5, 500), (6, 500), (7, 1_000), (8, 5_000), (9, 500)];
+    let mut expected = vec![(1, 1_000_000)];
+    expected.extend(words_at_fault);
+    expected.extend(last_parameters);
+    refusals(&tally, &expected);
+}
+
+#[test]
+fn lessees_first_half() {
+    lessees(0..50_000);
+}
+
+#[test]
+fn lessees_second_half() {
+    lessees(50_000..100_000);
+}
+
 #[test]
 fn surveys() {
     let tally = agree(Kind::Surveys, 0..100_000);

@@ -359,7 +359,10 @@ fn row_line(table: &mut Table, size: u32, tiled: bool) {
     let (mut ours, mut theirs) = (vec![0; 1001], vec![0; 1001]);
     for (x, y) in [(7, 0), (7, 63), (0, 33), (24, 5)] {
         let product = boundary::translate_row(&lent(&layout), x, y, &mut ours);
-        assert_eq!(product.map_err(u32::from), translate_row(&layout, x, y, &mut theirs));
+        assert_eq!(
+            product.map_err(u32::from),
+            translate_row(&layout, x, y, &mut theirs)
+        );
         assert_eq!(ours, theirs, "row from ({x}, {y}) on");
     }
     let product_layout = lent(&layout);

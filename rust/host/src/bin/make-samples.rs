@@ -14,8 +14,8 @@ mod log;
 mod station;
 
 use boundary::headers::{
-    SET_COND_OUT_FMT, SET_COND_TEST, SET_DOMAIN, SET_INST_FMT, SET_OUT_FMT, SET_OUT_MASK,
-    START_PROGRAM, WAIT_FOR_IDLE,
+    SET_COND_OUT_FMT, SET_COND_TEST, SET_CONSTF_FMT, SET_DOMAIN, SET_INST_FMT, SET_OUT_FMT,
+    SET_OUT_MASK, START_PROGRAM, WAIT_FOR_IDLE,
 };
 use boundary::{Layout, Rectangle};
 use log::{Log, CAMERAS, FRAME};
@@ -251,13 +251,67 @@ fn paint(window: &Layout, memory: &mut [u8], element: impl Fn(u32, u32) -> Vec<u
     painted.expect("the memory covers the window");
 }
 
+/// Two lessees of which each runs: party 1 owns output 1, which lies over the bytes of party 0's
+/// output 0. Its mask leaves its own output nothing, and then all again; party 0's output has its
+/// channels all the while. Last party 1 names output 0.
+#[rustfmt::skip]
+const SECOND_LESSEE: [u32; 22] = [
+    SET_INST_FMT, 0x2000, 0x0400_0010,
+    SET_OUT_FMT, 1, 0x800, 0x0201_0064, 18,
+    SET_DOMAIN, 0, 0, 47, 17,
+    SET_OUT_MASK, 0,
+    START_PROGRAM, 0,
+    SET_OUT_MASK, 0x00F0,
+    START_PROGRAM, 0,
+    SET_OUT_FMT,
+];
+/// Both of which party 0 sends: a start before what is refused and one behind it.
+const FIRST_STARTS: [u32; 4] = [START_PROGRAM, 0, START_PROGRAM, 0];
+
+/// An intruder: party 1, which owns output 1 alone, sets float constants, which are party 0's. It is
+/// stopped at that word, and nothing of what it sends then is taken: neither that output 0 be moved nor
+/// that it be masked off.
+#[rustfmt::skip]
+const INTRUDER: [u32; 10] = [
+    SET_CONSTF_FMT, 0x1000, 0x0400_0010,
+    SET_OUT_FMT, 0, 0x8000, 0x0201_0064, 1,
+    SET_OUT_MASK, 0,
+];
+
+/// Two parties' words, one of each in turn as long as both have any, and whose they are, in lines of
+/// sixteen.
+fn two_parties(zero: &[u32], one: &[u32]) -> (Vec<u8>, Vec<u8>) {
+    let (mut words, mut parties) = (Vec::new(), String::new());
+    for place in 0..zero.len().max(one.len()) {
+        for (party, list) in [('0', zero), ('1', one)] {
+            if let Some(word) = list.get(place) {
+                words.push(*word);
+                parties.push(party);
+            }
+        }
+    }
+    let digits: Vec<char> = parties.chars().collect();
+    let lines: Vec<String> = digits
+        .chunks(16)
+        .map(|line| line.iter().collect())
+        .collect();
+    (stream(&words), (lines.join("\n") + "\n").into_bytes())
+}
+
 /// A stream's words, low byte first.
 fn stream(words: &[u32]) -> Vec<u8> {
     words.iter().flat_map(|word| word.to_le_bytes()).collect()
 }
 
 /// The bytes of every file, by its name.
-fn files() -> [(&'static str, Vec<u8>); 11] {
+fn files() -> [(&'static str, Vec<u8>); 15] {
+    let whole = [&SETTINGS[..], &FIRST_STARTS].concat();
+    let second = [&SECOND_LESSEE[..], &[0]].concat();
+    let (lessees, of_lessees) = two_parties(
+        &[&[WAIT_FOR_IDLE, 0].repeat(4), &whole[..]].concat(),
+        &second,
+    );
+    let (intruder, of_intruder) = two_parties(&whole, &INTRUDER);
     [
         ("station-14.log", station_14().bytes),
         ("full-month.log", full_month().bytes),
@@ -267,6 +321,10 @@ fn files() -> [(&'static str, Vec<u8>); 11] {
         ("three-days.log", three_days().bytes),
         ("refused.log", refused().bytes),
         ("masked.ctm", stream(&[&SETTINGS[..], &MASKED].concat())),
+        ("lessees.ctm", lessees),
+        ("lessees.parties", of_lessees),
+        ("intruder.ctm", intruder),
+        ("intruder.parties", of_intruder),
         ("channels.ctm", stream(&[&SETTINGS[..], &CHANNELS].concat())),
         ("camera.ctm", stream(&CAMERA)),
         ("camera.mem", camera()),

@@ -3,10 +3,10 @@
 use crate::common::failure::{Failure, Outcome};
 use crate::common::kinds::Position;
 use crate::common::settings::Setting;
-use crate::decode::walk::{Quiet, Walk};
+use crate::decode::walk::{self, Quiet};
 use crate::input::source::Source;
 use crate::input::words::Words;
-use boundary::Session;
+use boundary::{Edition, Session};
 use serde_json::json;
 use std::io::Write;
 use std::path::Path;
@@ -34,7 +34,8 @@ pub fn read(
     if let Some(most) = most {
         words = words.first(most);
     }
-    let totals = Walk::new(false).run(words, &mut Quiet)?;
+    let mut session = Session::new(Edition::First);
+    let totals = walk::through(&mut session, false, words, &mut Quiet)?;
     if let Some((Position(at), refused)) = &totals.refused {
         if as_json {
             let refusal =
@@ -54,7 +55,7 @@ pub fn read(
     });
     Ok(Settled {
         name,
-        session: totals.session,
+        session,
         settings: totals.settings,
         refused,
     })

@@ -13,7 +13,7 @@ pub struct Refusal {
     pub given: &'static str,
 }
 
-const STOPS: &[u32] = &[2, 3, 4, 5, 6, 7, 8, 9, 17];
+const STOPS: &[u32] = &[2, 3, 4, 5, 6, 7, 8, 9, 17, 20];
 
 /// Whether a session that gives this number to a word is stopped by it.
 pub fn stops(number: u32) -> bool {
@@ -28,6 +28,11 @@ pub fn stops_replay(number: u32) -> bool {
 /// Whether it refuses a lease line.
 pub fn is_of_a_lease(number: u32) -> bool {
     number == 21
+}
+
+/// Whether it refuses a word of one of two parties.
+pub fn is_of_a_party(number: u32) -> bool {
+    number == 20
 }
 
 pub fn refusal(number: u32) -> Option<&'static Refusal> {
@@ -102,7 +107,7 @@ const SILENCE: &[&str] = &[
     "The channels are one, four, one, two and four for codes 0 to 4.",
 ];
 
-pub const ALL: [Refusal; 20] = [
+pub const ALL: [Refusal; 21] = [
     entry(
         1,
         "the session is stopped",
@@ -282,6 +287,17 @@ pub const ALL: [Refusal; 20] = [
         &[
             "The first midnight may name any day; each later one is one more than the last, and at most 400 come in all, else refusal 19 at its last byte",
             "Both stop the replay and drop the open record. What came before stands; later bytes get that number again.",
+        ],
+    ),
+    added(
+        20,
+        "a party's word sets what it doesn't own",
+        "of two parties on one card, party 1's header that sets what is party 0's; the first parameter of set_inp_fmt and set_out_fmt",
+        &[
+            "Each number is owned by party 0 or 1, fixed when the session begins; masks go with their outputs.",
+            "Constant formats and the conditional buffer, mask and test belong to party 0; party 1's header setting them gets 20.",
+            "A number one doesn't own gets 20 at its word, after 4. Like 2 to 9, 20 drops the open command and stops.",
+            "a stop stops only its party",
         ],
     ),
     added(

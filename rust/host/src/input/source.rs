@@ -94,19 +94,6 @@ impl Source {
         }
     }
 
-    /// All bytes, up to so many and one more.
-    pub fn all(mut self, most: u64) -> Outcome<Vec<u8>> {
-        let mut all = Vec::new();
-        let mut room = vec![0; PIECE];
-        while all.len() as u64 <= most {
-            match self.fill(&mut room)? {
-                0 => break,
-                count => all.extend_from_slice(&room[..count]),
-            }
-        }
-        Ok(all)
-    }
-
     /// All of these files; standard input where none is named. All are opened first,
     /// so that none is read where one is missing.
     pub fn open_all(files: &[PathBuf]) -> Outcome<Vec<Source>> {
@@ -164,21 +151,26 @@ impl Source {
         }
     }
 
-    /// The whole input, of which that much is taken.
-    pub fn all(&mut self, most: usize) -> Outcome<Vec<u8>> {
+    /// All bytes, up to so many and a piece more.
+    pub fn up_to(&mut self, most: u64) -> Outcome<Vec<u8>> {
         let mut all = Vec::new();
         loop {
             let begin = all.len();
             all.resize(begin + PIECE, 0);
             let count = self.fill(&mut all[begin..])?;
             all.truncate(begin + count);
-            match count {
-                0 => return Ok(all),
-                _ if all.len() > most => {
-                    return Err(self.wrong(format!("is longer than {most} bytes")));
-                }
-                _ => {}
+            if count == 0 || all.len() as u64 > most {
+                return Ok(all);
             }
+        }
+    }
+
+    /// The whole input, of which that much is taken.
+    pub fn all(&mut self, most: usize) -> Outcome<Vec<u8>> {
+        let all = self.up_to(most as u64)?;
+        match all.len() > most {
+            true => Err(self.wrong(format!("is longer than {most} bytes"))),
+            false => Ok(all),
         }
     }
 

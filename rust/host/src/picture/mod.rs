@@ -184,12 +184,12 @@ fn moved(options: &Options) -> Result<Moved, Trouble> {
         None => options.layout.layout()?,
     };
     let window = boundary::layout(&layout)
-        .map_err(|number| refused::of_layout(number, &layout, &options.layout))?;
+        .map_err(|refusal| refused::of_layout(refusal, &layout, &options.layout))?;
     let [x, y, columns, rows] = match options.rectangle {
         Some(rectangle) => rectangle,
         None => [0, 0, window.step, layout.height],
     };
-    let source = Source::open(Some(&options.memory))?.as_it_stands();
+    let mut source = Source::open(Some(&options.memory))?.as_it_stands();
     let name = source.name.clone();
     Ok(Moved {
         layout,
@@ -202,7 +202,7 @@ fn moved(options: &Options) -> Result<Moved, Trouble> {
         },
         name,
         // Memory that ends above 2^32 isn't read to its end.
-        dump: source.all((1 << 32) - u64::from(at))?,
+        dump: source.up_to((1 << 32) - u64::from(at))?,
         at,
     })
 }
@@ -282,7 +282,7 @@ fn copy(moved: &Moved) -> Result<Vec<u8>, Trouble> {
         moved.at,
         &mut elements,
     );
-    answer.map_err(|number| refused::of_call(number, moved, None))?;
+    answer.map_err(|refusal| refused::of_call(refusal, moved, None))?;
     Ok(elements)
 }
 
@@ -292,10 +292,10 @@ fn painted(
     moved: &mut Moved,
     picture: &Path,
 ) -> Result<(Form, Vec<u8>), Trouble> {
-    let source = Source::open(Some(picture))?.as_it_stands();
+    let mut source = Source::open(Some(picture))?.as_it_stands();
     let name = source.name.clone();
     // More than the largest picture has, with its head.
-    let file = source.all(1 << 29)?;
+    let file = source.up_to(1 << 29)?;
     let form = options.form.unwrap_or_else(|| Form::of_begin(&file));
     let size = moved.layout.size;
     takes(form, size)?;
@@ -312,7 +312,7 @@ fn painted(
         &elements,
     );
     let given = Some((&name[..], elements.len()));
-    answer.map_err(|number| refused::of_call(number, moved, given))?;
+    answer.map_err(|refusal| refused::of_call(refusal, moved, given))?;
     Ok((form, std::mem::take(&mut moved.dump)))
 }
 

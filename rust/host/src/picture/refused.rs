@@ -6,7 +6,7 @@ use crate::common::kinds::Address;
 use crate::common::text;
 use crate::explain::cause::{self, Refused};
 use crate::picture::Moved;
-use boundary::{Layout, Rectangle};
+use boundary::{Layout, Rectangle, Refusal};
 use serde_json::json;
 use std::io::Write;
 
@@ -41,7 +41,8 @@ impl Trouble {
 }
 
 /// 3 or 6 of the window.
-pub fn of_layout(number: u32, layout: &Layout, options: &LayoutOptions) -> Trouble {
+pub fn of_layout(refusal: Refusal, layout: &Layout, options: &LayoutOptions) -> Trouble {
+    let number = refusal.number();
     let refused = cause::refused(number, cause::of_layout(number, layout));
     let hint = options.hint(layout, None);
     Trouble::Refused(text::layout_words(layout), refused, hint)
@@ -49,7 +50,8 @@ pub fn of_layout(number: u32, layout: &Layout, options: &LayoutOptions) -> Troub
 
 /// 10 or 11 of a copy or a painting. A picture is given by its name and the bytes of
 /// its elements.
-pub fn of_call(number: u32, moved: &Moved, picture: Option<(&str, usize)>) -> Trouble {
+pub fn of_call(refusal: Refusal, moved: &Moved, picture: Option<(&str, usize)>) -> Trouble {
+    let number = refusal.number();
     let told = |at: &str, cause, hint: String| {
         Trouble::Refused(
             at.to_string(),

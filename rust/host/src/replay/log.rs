@@ -161,7 +161,7 @@ impl Log {
             .open
             .map_or(0, |(_, taken)| 1 + taken as usize);
         let words = self.near(piece).words(word.record, earlier + 1);
-        let cause = cause::of_word(word.refusal, session, &words);
+        let cause = cause::of_word(word.refusal, session.view(), &words);
         let place = self.place(byte, day_after(&status, word.midnights));
         Some((place, cause::refused(word.refusal, cause)))
     }

@@ -89,7 +89,7 @@ pub fn run(options: &Options, out: &mut dyn Write) -> Outcome {
     let draw = |file: &Option<PathBuf>, kind| file.as_deref().map(|f| Replaced::new(f, kind));
     let pgm = draw(&options.pgm, Kind::Pgm).transpose()?;
     let svg = draw(&options.svg, Kind::Svg).transpose()?;
-    let memory = Source::open(Some(&options.memory))?.as_it_stands();
+    let mut memory = Source::open(Some(&options.memory))?.as_it_stands();
     let memory_name = memory.name.clone();
     let json = options.json;
     let settled = settled::read(&options.stream, options.hex, options.words, json, out)?;
@@ -101,7 +101,7 @@ pub fn run(options: &Options, out: &mut dyn Write) -> Outcome {
         ))
     })?;
     // Memory that ends above 2^32 isn't read to its end.
-    let dump = memory.all((1 << 32) - u64::from(options.at))?;
+    let dump = memory.up_to((1 << 32) - u64::from(options.at))?;
     let asked = Asked {
         session,
         buffer: session.format(headers::SET_COND_OUT_FMT, 0).ok().flatten(),
@@ -149,7 +149,7 @@ fn made(asked: &Asked) -> Result<(u32, Vec<u8>), (Refused, Option<String>)> {
         .survey(asked.value, asked.domain, memory, first, &mut room);
     match answer {
         Ok(passed) => Ok((passed, room)),
-        Err(number) => Err(refused::told(number, asked)),
+        Err(refusal) => Err(refused::told(refusal, asked)),
     }
 }
 

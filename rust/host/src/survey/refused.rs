@@ -5,12 +5,14 @@ use crate::common::names::FormatWord;
 use crate::common::text;
 use crate::explain::cause::{self, Refused};
 use crate::survey::{Asked, MOST_BYTES, MOST_PAIRS};
+use boundary::Refusal;
 
 const SET: &str = "put set_cond_out_fmt BASE FORMAT HEIGHT and set_cond_test TEST into the stream";
 const UINT16: &str = "UINT16_1 has code 0 in bits 26:24 of the format word";
 const ENDS: &str = "a domain is I0,J0,I1,J1, both ends included";
 
-pub fn told(number: u32, asked: &Asked) -> (Refused, Option<String>) {
+pub fn told(refusal: Refusal, asked: &Asked) -> (Refused, Option<String>) {
+    let number = refusal.number();
     let (cause, hint) = match number {
         7 => (Some(missing(asked)), Some(SET.to_string())),
         3 => (format(asked), Some(UINT16.to_string())),

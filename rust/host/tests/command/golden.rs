@@ -235,6 +235,51 @@ const CASES: &[(&str, &str, &str)] = &[
         "decode --edition 2 --summary samples/channels.ctm",
         "",
     ),
+ (
+        "decode-lessees",
+        "decode --parties samples/lessees.parties --owners FF00:2 samples/lessees.ctm",
+        "",
+    ),
+    (
+        "decode-lessees-json",
+        "decode --parties samples/lessees.parties --owners FF00:2 --json samples/lessees.ctm",
+        "",
+    ),
+    (
+        "decode-lessees-summary",
+        "decode --parties samples/lessees.parties --owners FF00:2 --summary samples/lessees.ctm",
+        "",
+    ),
+    (
+        "decode-lessees-ready",
+        "decode --ready --edition 2 --parties samples/lessees.parties --owners FF00:2 samples/lessees.ctm",
+        "",
+    ),
+    (
+        "decode-intruder",
+        "decode --parties samples/intruder.parties --owners 0:2 samples/intruder.ctm",
+        "",
+    ),
+    (
+        "decode-intruder-json",
+        "decode --parties samples/intruder.parties --owners 0:2 --json samples/intruder.ctm",
+        "",
+    ),
+    (
+        "decode-owners",
+        "decode --parties samples/nothing.parties --owners 10000:2 samples/intruder.ctm",
+        "",
+    ),
+    (
+        "decode-parties-short",
+        "decode --hex --parties - --owners 0:F --summary samples/refused.hex",
+        "0110 # four words\n",
+    ),
+    (
+        "decode-parties-digit",
+        "decode --hex --parties - --owners 0:F --summary samples/refused.hex",
+        "01\n012\n",
+    ),
     ("decode-edition-0", "decode --edition 0 samples/nothing.ctm", ""),
     ("decode-open", "decode --hex", "C0030700 0 0\n"),
     ("decode-nothing", "decode", ""),

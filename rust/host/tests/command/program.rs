@@ -189,7 +189,7 @@ fn the_examples_of_the_help_texts_run() {
                 .stdin(Stdio::null());
             let output = shell.output().expect("the line runs");
             let status = match () {
-                _ if line.contains("/refused.") => 1,
+                _ if line.contains("/refused.") || line.contains("/intruder.") => 1,
                 _ if line.contains(" score ") && line.contains("/station-14.") => 3,
                 _ => 0,
             };

@@ -242,6 +242,24 @@ impl Made<'_> {
         self.logs();
     }
 
+    fn two_parties(&mut self) {
+        if !self.random.once_in(4) {
+            return;
+        }
+        let parties = [
+            "samples/lessees.parties",
+            "samples/intruder.parties",
+            "samples/whole.hex",
+        ];
+        let owners = [
+            "0:2", "FF00:2", "0:0", "FFFF:F", "10000:0", "0:10", "2", ":", "0:-1",
+        ];
+        let (parties, owners) = (self.random.one_of(&parties), self.random.one_of(&owners));
+        for argument in ["--parties", parties, "--owners", owners] {
+            self.put(argument);
+        }
+    }
+
     fn edition(&mut self) {
         self.valued(
             4,
@@ -344,6 +362,7 @@ impl Made<'_> {
     fn decode(&mut self) {
         self.put("decode");
         self.edition();
+        self.two_parties();
         for (times, flag) in [
             (3, "--hex"),
             (4, "--summary"),

@@ -156,7 +156,8 @@ fn compare_forms(run: &Run, text: &Output) {
         "--commands",
     ];
     let known = [
-        "score", "fleet", "replay", "decode", "address", "locate", "flow", "tile", "survey", "picture",
+        "score", "fleet", "replay", "decode", "address", "locate", "flow", "tile", "survey",
+        "picture",
     ];
     // Bytes on standard output leave no room for another form.
     let binary = run.is("picture") && run.has("-");
