@@ -59,6 +59,30 @@ def statement(text, at):
     return last
 
 
+def heads(text, at):
+    """The lines that begin what a line stands in, the innermost first: modules, whose arguments a statement asks for, and records."""
+    level, found = indent(text[at - 1]), []
+    for number in range(at - 1, 0, -1):
+        line = text[number - 1]
+        if indent(line) < level and re.match(r" *(?:pub )?(?:module|record|data)\b", line):
+            level = indent(line)
+            found.append(number)
+    return found
+
+
+def parts(file, at, kind):
+    """The lines to be shown of what stands at a line, as their first and last: of definitions and statements with the heads of the modules
+    that they stand in; a field's whole record."""
+    text = lines(file)
+    if file.suffix != ".antt":
+        return [(1, len(text)) if kind == "edit" else extent(file, at, kind)]
+    around = heads(text, at)
+    records = [number for number in around if "module" not in text[number - 1].split()]
+    at = records[-1] if records else at
+    modules = [number for number in reversed(around) if number < at and number not in records]
+    return [(above(text, number, "--"), until(text, number, "where")) for number in modules] + [extent(file, at, kind)]
+
+
 def until(text, at, ends):
     """The first line from here on that ends so."""
     return next((number for number in range(at, len(text) + 1) if text[number - 1].rstrip().endswith(ends)), at)
