@@ -312,6 +312,18 @@ pub fn score_month(
     }
 }
 
+/// Of the number of an edition, logs that stand one behind the other, and four numbers a
+/// station: its log's length, first day, days and elements owed a day. room, of 4
+/// numbers: served, owed, silent days and the station with the smallest part, 64 where
+/// none owes anything. 3, 11, 22; then the first station's 21, 18 or 19.
+#[inline]
+pub fn fleet_report(edition: u32, logs: &[u8], numbers: &[u64], room: &mut [u64]) -> u32 {
+    let (length, count, room_length) = (logs.len(), numbers.len(), room.len());
+    let (logs, numbers, room) = (logs.as_ptr(), numbers.as_ptr(), room.as_mut_ptr());
+    // SAFETY: each pointer comes with its slice's length; the room is apart from both.
+    unsafe { raw::egretfold_fleet_report(edition, logs, length, numbers, count, room, room_length) }
+}
+
 /// count: how many parameters a header announces. 2.
 #[inline]
 pub fn command_parameters(header: u32, count: &mut [u32; 1]) -> u32 {

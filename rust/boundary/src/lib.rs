@@ -45,6 +45,7 @@
 mod command;
 mod edition;
 mod element;
+mod fleet;
 mod flow;
 pub mod headers;
 mod layout;
@@ -63,6 +64,7 @@ mod view;
 pub use command::{parameters, write_command, Command};
 pub use edition::Edition;
 pub use element::{read, superfine, write, Element};
+pub use fleet::{fleet_report, FleetReport, MOST_STATIONS};
 pub use flow::{Group, Loop, Loops, Mode, Program, Report, Stepped};
 pub use layout::{layout, locate, translate, Layout, Translated, Window};
 pub use log::{BytesFed, Day, LogStatus, Part, RefusedWord, Replay};

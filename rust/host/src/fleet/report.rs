@@ -4,10 +4,7 @@
 //! the report's own comparison.
 
 use crate::score::month::{Score, Served};
-use boundary::{Answer, Edition, Lease, Replay};
-
-/// The most logs that the report takes at once.
-pub const MOST_STATIONS: usize = 64;
+use boundary::{fleet_report, Answer, Edition, Lease, MOST_STATIONS};
 
 /// The four numbers of some stations.
 #[derive(Clone, Copy, Debug, Default, PartialEq, Eq)]
@@ -164,48 +161,17 @@ impl Group {
             .iter()
             .map(|kept| (kept.length, kept.lease))
             .collect();
-        let told =
-            report(self.edition, logs, &stations).map(|[served, owed, silent_days, station]| {
-                Four {
-                    served,
-                    owed,
-                    silent_days,
-                    smallest: self.kept.get(station as usize).map(|kept| kept.part),
-                }
-            });
+        let told = fleet_report(self.edition, logs, &stations).map(|report| Four {
+            served: report.served,
+            owed: report.owed,
+            silent_days: report.silent_days,
+            smallest: report.station.map(|station| self.kept[station].part),
+        });
         self.join(told);
         self.kept.clear();
         self.bytes.drain(..self.begin);
         self.begin = 0;
     }
-}
-
-/// Request 14's report over these logs, which stand one behind the other.
-fn report(edition: Edition, logs: &[u8], stations: &[(usize, Lease)]) -> Answer<[u64; 4]> {
-    let mut told = [0, 0, 0, MOST_STATIONS as u64];
-    let mut smallest: Option<Part> = None;
-    let mut rest = logs;
-    for (place, (length, lease)) in stations.iter().enumerate() {
-        let (log, behind) = rest.split_at(*length);
-        rest = behind;
-        let mut replay = Replay::new(edition);
-        replay.feed(log);
-        let month = replay.score(lease)?;
-        told[0] += month.served;
-        told[1] += month.owed;
-        let silent = month.days.iter().filter(|day| day.served == 0).count();
-        told[2] += if month.owed > 0 { silent as u64 } else { 0 };
-        let part = Part {
-            place,
-            served: month.served,
-            owed: month.owed,
-        };
-        if part.owed > 0 && smallest.map_or(true, |other| part.is_before(&other)) {
-            told[3] = place as u64;
-            smallest = Some(part);
-        }
-    }
-    Ok(told)
 }
 
 #[cfg(test)]

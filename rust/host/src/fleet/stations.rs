@@ -3,10 +3,10 @@
 use crate::common::failure::{Failure, Outcome};
 use crate::explain::cause;
 use crate::fleet::leases::Row;
-use crate::fleet::report::{Four, Group, MOST_STATIONS};
+use crate::fleet::report::{Four, Group};
 use crate::input::progress;
 use crate::score::asked::Card;
-use boundary::{Answer, Edition, Refusal};
+use boundary::{Answer, Edition, Refusal, MOST_STATIONS};
 use rayon::prelude::*;
 use std::fs;
 
