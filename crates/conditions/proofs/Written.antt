@@ -124,3 +124,16 @@ pub bit-is :
     boolByte passed ≡ spanBit low top outside m at
 unfolding spanBit
 bit-is low top outside m at b passed eb ep = byte-digit passed ∙ ap digit (ep ∙ ap (inSpan low top outside) eb)
+
+-- what a call writes and counts after what was before
+module _ (f g : ℕ → ℕ) (i n k : ℕ) (same : (j : ℕ) → j < n → g j ≡ f (i + j)) (all : k ≡ i + n) where
+  pub written-next :
+      (line at : ℕ) (before room after : List ℕ) → room ≡ written line f i before → at ≡ line + i → after ≡ written at g n room →
+      after ≡ written line f k before
+  written-next line at before room after er ea ew =
+      ew ∙ ap₂ (λ (p : ℕ) (q : List ℕ). written p g n q) ea er ∙ written-more line f g i n before same ∙
+      ap (λ (z : ℕ). written line f z before) (sym all)
+
+  pub counted-next : (passed r : ℕ) → passed ≡ sum i f → r ≡ sum n g → passed + r ≡ sum k f
+  counted-next passed r ep er =
+      ap₂ (λ (p q : ℕ). p + q) ep er ∙ sum-more f g i n same ∙ ap (λ (z : ℕ). sum z f) (sym all)

@@ -1,7 +1,7 @@
 //! The report of several stations: its numbers, the order of its refusals, and that a
 //! refusal touches no room.
 
-use boundary::{fleet_report, lent, Edition, FleetReport, Lease};
+use boundary::{fleet_report, lent, Answer, Edition, FleetReport, Lease};
 
 /// Document 01's whole stream up to its start; a start then claims 96 x 18 elements.
 #[rustfmt::skip]
@@ -30,7 +30,7 @@ fn station(days: &[u32], owed: u64) -> (Vec<u8>, Lease) {
     (log(days), lease.expect("a lease"))
 }
 
-fn told(stations: &[(Vec<u8>, Lease)]) -> Result<FleetReport, u32> {
+fn told(stations: &[(Vec<u8>, Lease)]) -> Answer<FleetReport> {
     let logs: Vec<u8> = stations.iter().flat_map(|(log, _)| log.clone()).collect();
     let lengths: Vec<(usize, Lease)> = stations
         .iter()

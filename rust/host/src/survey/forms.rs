@@ -18,11 +18,16 @@ const WIDEST: usize = 96;
 const SIDE: usize = 960;
 const LARGEST_PAIR: usize = 16;
 
-pub struct Survey<'a> {
-    pub asked: &'a Asked<'a>,
-    /// The names of the stream and the dump.
+/// The names of the stream and the dump.
+pub struct Names<'a> {
     pub stream: &'a str,
     pub memory: &'a str,
+}
+
+/// A survey that was made.
+pub struct Survey<'a> {
+    pub asked: &'a Asked<'a>,
+    pub names: Names<'a>,
     /// A byte 1 or 0 a pair, row by row.
     pub room: Vec<u8>,
     pub passed: u32,
@@ -39,47 +44,11 @@ impl Survey<'_> {
     }
 
     pub fn text(&self, out: &mut dyn Write) -> Outcome {
-        self.head(out)?;
+        head(self.asked, &self.names, out)?;
         let (passed, pairs) = (self.passed, self.room.len());
         writeln!(out, "  passed  {passed} of {pairs}")?;
         writeln!(out)?;
         self.picture(out)
-    }
-
-    /// What is asked of what.
-    fn head(&self, out: &mut dyn Write) -> Outcome {
-        let asked = self.asked;
-        let (stream, memory) = (self.stream, self.memory);
-        writeln!(out, "survey of {memory} by the settings of {stream}")?;
-        if let Some(buffer) = asked.buffer {
-            let setting = Setting {
-                name: String::new(),
-                value: Value::Array(buffer),
-            };
-            writeln!(out, "  buffer  {}", setting.words())?;
-        }
-        let value = asked.value;
-        if let Some(number) = asked.session.test() {
-            let named = names::conditional_test(number);
-            let name = named.map_or("unknown", |test| test.name);
-            match named.and_then(|test| test.sign) {
-                Some(sign) => writeln!(out, "  test    {number}, {name}: {value} {sign} b")?,
-                None => writeln!(out, "  test    {number}, {name}, whatever b is")?,
-            }
-        }
-        let (at, length) = (Address(asked.at), asked.dump.len());
-        writeln!(out, "  memory  {length} bytes from {at} on")?;
-        let [i0, j0, i1, j1] = asked.domain;
-        write!(out, "  domain  ({i0}, {j0}) to ({i1}, {j1})")?;
-        match asked.sides() {
-            Some((columns, rows)) => {
-                let pairs = u128::from(columns) * u128::from(rows);
-                let ending = if pairs == 1 { "" } else { "s" };
-                writeln!(out, ", {columns} x {rows} = {pairs} pair{ending}")?;
-            }
-            None => writeln!(out)?,
-        }
-        Ok(())
     }
 
     /// A character a pair, or a square of them where the rows are long.
@@ -106,33 +75,6 @@ impl Survey<'_> {
         Ok(())
     }
 
-    pub fn refused(&self, refused: &Refused, as_json: bool, out: &mut dyn Write) -> Outcome {
-        if as_json {
-            let mut value = self.summary();
-            value["refused"] = json!(refused.number);
-            value["cause"] = json!(refused.cause);
-            writeln!(out, "{}", json!({ "survey": value }))?;
-        } else {
-            self.head(out)?;
-            writeln!(out, "  {refused}")?;
-        }
-        Ok(())
-    }
-
-    fn summary(&self) -> serde_json::Value {
-        let asked = self.asked;
-        let test = asked.session.test();
-        let name = test.and_then(names::conditional_test).map(|test| test.name);
-        json!({
-            "value": asked.value,
-            "test": test,
-            "name": name,
-            "domain": asked.domain,
-            "at": Address(asked.at).to_string(),
-            "bytes": asked.dump.len(),
-        })
-    }
-
     pub fn json(&self, out: &mut dyn Write) -> Outcome {
         let [_, j0, _, _] = self.asked.domain;
         for (row, pairs) in (u64::from(j0)..).zip(self.rows()) {
@@ -141,7 +83,7 @@ impl Survey<'_> {
             let line = json!({"row": row, "passed": passed, "pairs": bits});
             writeln!(out, "{line}")?;
         }
-        let mut value = self.summary();
+        let mut value = summary(self.asked);
         value["pairs"] = json!(self.room.len());
         value["passed"] = json!(self.passed);
         writeln!(out, "{}", json!({ "survey": value }))?;
@@ -180,6 +122,74 @@ impl Survey<'_> {
         text += "</svg>\n";
         text
     }
+}
+
+/// What is asked of what.
+fn head(asked: &Asked, names: &Names, out: &mut dyn Write) -> Outcome {
+    let Names { stream, memory } = names;
+    writeln!(out, "survey of {memory} by the settings of {stream}")?;
+    if let Some(buffer) = asked.buffer {
+        let setting = Setting {
+            name: String::new(),
+            value: Value::Array(buffer),
+        };
+        writeln!(out, "  buffer  {}", setting.words())?;
+    }
+    let value = asked.value;
+    if let Some(number) = asked.session.test() {
+        let named = names::conditional_test(number);
+        let name = named.map_or("unknown", |test| test.name);
+        match named.and_then(|test| test.sign) {
+            Some(sign) => writeln!(out, "  test    {number}, {name}: {value} {sign} b")?,
+            None => writeln!(out, "  test    {number}, {name}, whatever b is")?,
+        }
+    }
+    let (at, length) = (Address(asked.at), asked.dump.len());
+    writeln!(out, "  memory  {length} bytes from {at} on")?;
+    let [i0, j0, i1, j1] = asked.domain;
+    write!(out, "  domain  ({i0}, {j0}) to ({i1}, {j1})")?;
+    match asked.sides() {
+        Some((columns, rows)) => {
+            let pairs = u128::from(columns) * u128::from(rows);
+            let ending = if pairs == 1 { "" } else { "s" };
+            writeln!(out, ", {columns} x {rows} = {pairs} pair{ending}")?;
+        }
+        None => writeln!(out)?,
+    }
+    Ok(())
+}
+
+/// Tells a survey that was refused.
+pub fn refused(
+    asked: &Asked,
+    names: &Names,
+    refused: &Refused,
+    as_json: bool,
+    out: &mut dyn Write,
+) -> Outcome {
+    if as_json {
+        let mut value = summary(asked);
+        value["refused"] = json!(refused.number);
+        value["cause"] = json!(refused.cause);
+        writeln!(out, "{}", json!({ "survey": value }))?;
+    } else {
+        head(asked, names, out)?;
+        writeln!(out, "  {refused}")?;
+    }
+    Ok(())
+}
+
+fn summary(asked: &Asked) -> serde_json::Value {
+    let test = asked.session.test();
+    let name = test.and_then(names::conditional_test).map(|test| test.name);
+    json!({
+        "value": asked.value,
+        "test": test,
+        "name": name,
+        "domain": asked.domain,
+        "at": Address(asked.at).to_string(),
+        "bytes": asked.dump.len(),
+    })
 }
 
 /// The character for these pairs.

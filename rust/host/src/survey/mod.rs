@@ -10,7 +10,7 @@ use crate::decode::settled;
 use crate::explain::cause::Refused;
 use crate::input::numbers;
 use crate::input::source::{self, Source};
-use crate::survey::forms::Survey;
+use crate::survey::forms::{Names, Survey};
 use boundary::{headers, Format, Layout, Session};
 use clap::Args;
 use std::io::Write;
@@ -86,13 +86,11 @@ pub fn run(options: &Options, out: &mut dyn Write) -> Outcome {
             "stream and memory can't both be on standard input",
         ));
     }
-    let draw = |file: &Option<PathBuf>, kind| file.as_deref().map(|f| Replaced::new(f, kind));
-    let pgm = draw(&options.pgm, Kind::Pgm).transpose()?;
-    let svg = draw(&options.svg, Kind::Svg).transpose()?;
+    let drawings = Drawings::asked(options)?;
     let mut memory = Source::open(Some(&options.memory))?.as_it_stands();
-    let memory_name = memory.name.clone();
-    let json = options.json;
-    let settled = settled::read(&options.stream, options.hex, options.words, json, out)?;
+    let name = memory.name.clone();
+    let (hex, json) = (options.hex, options.json);
+    let settled = settled::read(&options.stream, hex, options.words, json, out)?;
     let session = &settled.session;
     let domain = options.domain.or(session.domain()).ok_or_else(|| {
         let name = &settled.name;
@@ -110,32 +108,73 @@ pub fn run(options: &Options, out: &mut dyn Write) -> Outcome {
         dump: &dump,
         at: options.at,
     };
-    let mut survey = Survey {
-        asked: &asked,
+    let names = Names {
         stream: &settled.name,
-        memory: &memory_name,
-        room: Vec::new(),
-        passed: 0,
+        memory: &name,
     };
-    match made(&asked) {
+    answer(&asked, names, json, &drawings, out)?;
+    settled.refused.map_or(Ok(()), Err)
+}
+
+/// Makes the survey, tells it and draws it; or tells why it is refused.
+fn answer(
+    asked: &Asked,
+    names: Names,
+    json: bool,
+    drawings: &Drawings,
+    out: &mut dyn Write,
+) -> Outcome {
+    match made(asked) {
         Ok((passed, room)) => {
-            survey.passed = passed;
-            survey.room = room;
+            let survey = Survey {
+                asked,
+                names,
+                room,
+                passed,
+            };
+            match json {
+                true => survey.json(out)?,
+                false => survey.text(out)?,
+            }
+            drawings.draw(&survey)
         }
         Err((refused, hint)) => {
-            survey.refused(&refused, json, out)?;
-            let [i0, j0, i1, j1] = domain;
-            let told = format!("{memory_name}: survey of ({i0}, {j0}) to ({i1}, {j1}): {refused}");
-            return Err(Failure::Refused(told).hinted(hint));
+            forms::refused(asked, &names, &refused, json, out)?;
+            let ([i0, j0, i1, j1], memory) = (asked.domain, names.memory);
+            let told = format!("{memory}: survey of ({i0}, {j0}) to ({i1}, {j1}): {refused}");
+            Err(Failure::Refused(told).hinted(hint))
         }
     }
-    match json {
-        true => survey.json(out)?,
-        false => survey.text(out)?,
+}
+
+/// Where the drawings go.
+struct Drawings {
+    pgm: Option<Replaced>,
+    svg: Option<Replaced>,
+}
+
+impl Drawings {
+    /// Asked for before anything is read.
+    fn asked(options: &Options) -> Outcome<Drawings> {
+        let place = |file: &Option<PathBuf>, kind| {
+            let file = file.as_deref();
+            file.map(|file| Replaced::new(file, kind)).transpose()
+        };
+        Ok(Drawings {
+            pgm: place(&options.pgm, Kind::Pgm)?,
+            svg: place(&options.svg, Kind::Svg)?,
+        })
     }
-    pgm.map_or(Ok(()), |file| file.write(&survey.pgm()))?;
-    svg.map_or(Ok(()), |file| file.write(survey.svg().as_bytes()))?;
-    settled.refused.map_or(Ok(()), Err)
+
+    fn draw(&self, survey: &Survey) -> Outcome {
+        if let Some(file) = &self.pgm {
+            file.write(&survey.pgm())?;
+        }
+        if let Some(file) = &self.svg {
+            file.write(survey.svg().as_bytes())?;
+        }
+        Ok(())
+    }
 }
 
 /// The product's survey: how many pass, and a byte a pair; or its refusal in words,
