@@ -54,11 +54,11 @@ macro_rules! refusals {
 refusals! {
     Stopped = 1, "the session is stopped";
     UnknownHeader = 2, "a header word stands in no line of the command table";
-    Malformed = 3, "a reserved bit or code is set, or a layout argument is malformed";
+    Malformed = 3, "a reserved bit or code is set, a layout argument is malformed, or an edition is neither 1 nor 2; a conditional test on another format than UINT16_1";
     NumberTooHigh = 4, "input number over 15, output number over 3";
     DomainCrossed = 5, "i0 > i1 or j0 > j1";
     WindowRule = 6, "window rule broken";
-    StartUnset = 7, "start without a domain, an instruction format or any output set";
+    StartUnset = 7, "start without a domain, an instruction format or any output set; a conditional test without its buffer or its test set";
     DomainOutside = 8, "the domain is not inside every set output's window; silent outputs are passed over";
     SpansShared = 9, "spans of two set outputs share a byte; silent outputs are passed over";
     PairOutside = 10, "a pair is outside its window";
@@ -71,9 +71,9 @@ refusals! {
     WordLimit = 17, "the session has taken 1,000,000,000 words";
     RecordKind = 18, "the kind byte of a log's record is neither 1 nor 2";
     MidnightDay = 19, "a midnight's day isn't one more than the last, or it is the 401st midnight";
-    NotOwned = 20, "a number, or what belongs to party 0, that the party doesn't own";
+    NotOwned = 20, "a party's word names an input or output, or sets something of party 0's, that the party doesn't own";
     LeaseLine = 21, "a lease line out of its bounds";
-    TooManyLogs = 22, "more than 64 logs";
+    TooManyLogs = 22, "a report over more than 64 logs";
 }
 
 impl Refusal {
