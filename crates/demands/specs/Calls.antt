@@ -78,15 +78,15 @@ pub data Call : Told → ℕ → List (List ℕ) → List (List ℕ) → Type 0 
   format : (p : Party) (h : Shared) (header number r : ℕ) (room room' : List ℕ) →
       Crosses (formatOf p h header number) r room room' → Call (formatOf p h header number) r (room ∷ []) (room' ∷ [])
   -- egretfold_session_begin
-  session : (edition r : ℕ) (own tallies shared own' tallies' shared' : List ℕ) →
+  sessionBegin : (edition r : ℕ) (own tallies shared own' tallies' shared' : List ℕ) →
       sessions.Begins edition r own tallies shared own' tallies' shared' →
       Call (editionTold edition) r (own ∷ tallies ∷ shared ∷ []) (own' ∷ tallies' ∷ shared' ∷ [])
   -- egretfold_log_begin
-  replay : (edition r : ℕ) (log marks own tallies shared log' marks' own' tallies' shared' : List ℕ) →
+  logBegin : (edition r : ℕ) (log marks own tallies shared log' marks' own' tallies' shared' : List ℕ) →
       logs.Begins edition r log marks own tallies shared log' marks' own' tallies' shared' →
       Call (editionTold edition) r (log ∷ marks ∷ own ∷ tallies ∷ shared ∷ []) (log' ∷ marks' ∷ own' ∷ tallies' ∷ shared' ∷ [])
   -- egretfold_score_lease
-  lease : (edition : ℕ) (l : Lease) (r : ℕ) → r ≡ statusOf (lineTold edition l) → Call (lineTold edition l) r [] []
+  scoreLease : (edition : ℕ) (l : Lease) (r : ℕ) → r ≡ statusOf (lineTold edition l) → Call (lineTold edition l) r [] []
   -- egretfold_program_load
   load : (words : List ℕ) (r : ℕ) (firsts firsts' seconds seconds' slots slots' : List ℕ) →
       LoadCrosses words r firsts firsts' seconds seconds' slots slots' →

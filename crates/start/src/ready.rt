@@ -224,10 +224,26 @@ fn by_channel(shared: &[u32; state::SHARED_CELLS]) -> u32
     ensures { λ r. ⌜ r ≡ channelsIn (sharedOf (now (shared .entry)) .mask) (sharedOf (now (shared .entry)) .outputs) ⌝ }
 {
     let mask = shared[settings::MASK];
-    let a = channels(mask, shared[settings::OUTPUT_0], shared[settings::OUTPUT_0 + 2]);
-    let b = channels(mask / 16, shared[settings::OUTPUT_1], shared[settings::OUTPUT_1 + 2]);
-    let c = channels(mask / 256, shared[settings::OUTPUT_2], shared[settings::OUTPUT_2 + 2]);
-    let d = channels(mask / 4096, shared[settings::OUTPUT_3], shared[settings::OUTPUT_3 + 2]);
+    let a = channels(
+        mask,
+        shared[settings::OUTPUT_0],
+        shared[settings::OUTPUT_0 + 2],
+    );
+    let b = channels(
+        mask / 16,
+        shared[settings::OUTPUT_1],
+        shared[settings::OUTPUT_1 + 2],
+    );
+    let c = channels(
+        mask / 256,
+        shared[settings::OUTPUT_2],
+        shared[settings::OUTPUT_2 + 2],
+    );
+    let d = channels(
+        mask / 4096,
+        shared[settings::OUTPUT_3],
+        shared[settings::OUTPUT_3 + 2],
+    );
     a + b + c + d
 }
 
