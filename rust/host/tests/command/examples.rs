@@ -68,12 +68,13 @@ fn all_hold(document: &str) -> usize {
 
 #[test]
 fn the_documents_print_what_the_examples_print() {
-    // The samples, the tour, a card, and a tile and an address for each of the five sizes.
+    // The samples, the tour, a card, a tile and an address for each of the five sizes, and a lease file.
     for (document, least) in [
         ("samples/README.md", 8),
         ("README.md", 1),
         ("docs/TOUR.md", 7),
         ("docs/ADDRESSES.md", 10),
+        ("docs/FLEET.md", 2),
     ] {
         let count = all_hold(document);
         assert!(count >= least, "{document} has {count} examples");
