@@ -8,7 +8,7 @@
  *
  *      1  the session is stopped
  *      2  a header word stands in no line of the command table
- *      3  a reserved bit or code is set, or a layout argument is malformed
+ *      3  a reserved bit or code is set, a layout argument is malformed, or an edition is neither 1 nor 2
  *      4  input number over 15, output number over 3
  *      5  i0 > i1 or j0 > j1
  *      6  window rule broken

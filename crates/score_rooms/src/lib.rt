@@ -7,26 +7,33 @@ use score::month::Scored;
 use score::month::Verdict;
 use state::edition;
 ghost use mathlib.Core.Path.{_≡_};
-ghost use Rattle.score.specs.Lease.{lineTold};
+ghost use Rattle.score.specs.Lease.{leaseTold};
 ghost use Rattle.score.specs.Answers.{leaseLine};
 ghost use Rattle.refusal.specs.Crossing.{statusOf};
-ghost use Rattle.score_rooms.specs.Rooms.{ScoreCrosses, verdictNumber};
+ghost use Rattle.score_rooms.specs.Rooms.{ScoreCrosses, lineTold, verdictNumber};
 
 // The length of a month's room: what was served and owed in all, and the verdict.
 pub const MONTH_NUMBERS: usize = 3;
 
-// Whether an edition is one of the two and a lease line within its bounds; 3, then 21.
-pub fn lease(edition: u32, first_day: u32, days: u32, owed: u32) -> u32
-    ensures { λ r. ⌜ r ≡ statusOf (lineTold edition (leaseLine «first_day» days owed)) ⌝ }
+// Whether a lease line is within its bounds; 21.
+fn line_status(first_day: u32, days: u32, owed: u32) -> u32
+    ensures { λ r. ⌜ r ≡ statusOf (leaseTold (leaseLine «first_day» days owed)) ⌝ }
 {
-    if !edition::is_known(edition) {
-        return refusal::number(Refusal::Malformed);
-    }
     let judged = line::judge(first_day, days, owed);
     match judged {
         Judged::Accepted => 0,
         Judged::Refused(why) => refusal::number(why),
     }
+}
+
+// Whether an edition is one of the two and a lease line within its bounds; 3, then 21.
+pub fn lease(edition: u32, first_day: u32, days: u32, owed: u32) -> u32
+    ensures { λ r. ⌜ r ≡ statusOf (lineTold edition (leaseLine «first_day» days owed)) ⌝ }
+{
+    if edition::is_known(edition) {
+        return line_status(first_day, days, owed);
+    }
+    refusal::number(Refusal::Malformed)
 }
 
 fn verdict_number(verdict: Verdict) -> u64

@@ -1,6 +1,7 @@
 -- What is kept of readiness in a new session is what its settings give: 7, and no output asks anything of a domain. Assumes nothing.
 use mathlib.Core.Path.{_≡_, refl, sym, ap}
-use Rattle.laws.specs.Below.{some, every, sum, count}
+use Prim.Native.Nat.{ℕ}
+use Rattle.laws.specs.Below.{some, every, sum}
 use Rattle.laws.specs.Choice.{_and_, pick, placeOf}
 use Rattle.laws.specs.Masks.{_or_, digit}
 use Rattle.layout.specs.Sizes.{isSize}
@@ -19,6 +20,8 @@ use Rattle.state.specs.Start.{
   readyOf,
   numberTold,
   readinessOf,
+  creditAt,
+  creditOf,
 }
 use Rattle.state.specs.Effects.{windowFrom}
 use Rattle.state.specs.Readiness.{lesser, leastExtent, windowFor, columnsLeft, rowsLeft, gaugeOf, workedOut, readinessFor}
@@ -32,9 +35,9 @@ unset-kept : windowFor unset ≡ noWindow
 unfolding windowFor stepOfBuffer spanOfBuffer valueOf
 unset-kept = ap (λ (t : Told). windowFrom (valueOf t 0) (valueOf t 1)) unset-window
 
-pub new-kept : newReadiness ≡ readinessFor newParty newShared
-unfolding workedOut readinessOf readyOf numberTold complete gaugeOf leastExtent lesser columnsLeft rowsLeft counts isSet output some every sum count digit disjoint pick _and_ _or_
-new-kept =
+pub new-kept : (edition : ℕ) → newReadiness ≡ readinessFor (newParty edition) newShared
+unfolding workedOut readinessOf readyOf numberTold complete gaugeOf leastExtent lesser columnsLeft rowsLeft counts isSet output some every sum creditOf creditAt digit disjoint pick _and_ _or_
+new-kept edition =
     λ k.
     record {
       number = 7;

@@ -12,7 +12,6 @@ use borrow.Author.Tests.{eq-eqb, ne-eqb, lt-ltb, le-ltb}
 use Rattle.laws.specs.Below.{some, every, sum, count}
 use Rattle.laws.specs.Choice.{_and_, pick}
 use Rattle.laws.specs.Masks.{_or_, digit}
-use Rattle.laws.proofs.Below.{count-bounded}
 use Rattle.laws.proofs.Choice.{pick-yes, pick-no, and-yes, and-no-left}
 use Rattle.refusal.specs.Number.{IsNumber}
 use Rattle.refusal.specs.Told.{Told, gives, refuses}
@@ -33,8 +32,10 @@ use Rattle.state.specs.Start.{
   numberTold,
   readinessOf,
   pairsOf,
+  creditOf,
   claimOf,
   mostClaim,
+  mostCredit,
   mostPairs,
 }
 use Rattle.state.specs.Readiness.{lesser, leastExtent, windowFor, columnsLeft, rowsLeft, gaugeOf, workedOut}
@@ -51,10 +52,14 @@ use Rattle.start.specs.Windows.{
   eachApart,
   columnsBy,
   rowsBy,
+  channelsBy,
+  channelsIn,
+  countBy,
   creditBy,
   firstOf,
 }
-use Rattle.start.proofs.Channels.{from-own}
+use Rattle.start.proofs.Channels.{from-own, channels-own}
+use Rattle.start.proofs.Editions.{credit-by, credit-bounded}
 use Rattle.start.proofs.Gauge.{readiness-gauged}
 
 -- four tests, taken as the code takes them
@@ -152,10 +157,20 @@ module _ (a b c d : Output) where
   unfolding rowsBy
   rows-told e f g h i j k l = cc
 
-  pub credit-told : {w x y z : ℕ} → (w ≡ digit (a .counts)) × (w ≤ 1) → (x ≡ digit (b .counts)) × (x ≤ 1) →
-      (y ≡ digit (c .counts)) × (y ≤ 1) → (z ≡ digit (d .counts)) × (z ≤ 1) → w + x + y + z ≡ creditBy a b c d
-  unfolding creditBy
-  credit-told e f g h = omega (arith, e .0, f .0, g .0, h .0)
+  pub count-told : {w x y z : ℕ} → (w ≡ digit (a .counts)) × (w ≤ 1) → (x ≡ digit (b .counts)) × (x ≤ 1) →
+      (y ≡ digit (c .counts)) × (y ≤ 1) → (z ≡ digit (d .counts)) × (z ≤ 1) → w + x + y + z ≡ countBy a b c d
+  unfolding countBy
+  count-told e f g h = omega (arith, e .0, f .0, g .0, h .0)
+
+  -- what a pair is credited, by the edition
+  module _ (edition channels : ℕ) {n : ℕ} where
+    pub credit-channels : edition ≡ 2 → n ≡ channels → n ≡ creditBy a b c d edition channels
+    unfolding creditBy
+    credit-channels e h = h ∙ sym (pick-yes _ _ (eq-eqb edition 2 e))
+
+    pub credit-outputs : (edition ≡ 2 → ⊥) → n ≡ countBy a b c d → n ≡ creditBy a b c d edition channels
+    unfolding creditBy
+    credit-outputs e h = h ∙ sym (pick-no _ _ (ne-eqb edition 2 e))
 
 -- the four outputs that the shared cells hold, each with the mask's bits from its own on and with the window that is kept of it, and
 -- what they ask of a domain and give for a pair
@@ -228,9 +243,29 @@ module _ (shared : List ℕ) where
   unfolding rowsBy extentLeft leastExtent rowsLeft output sharedOf
   rows-seen = rw (counts-0, counts-1, counts-2, counts-3) refl
 
-  credit-seen : creditBy a b c d ≡ count 4 (counts mask outputs)
-  unfolding creditBy count sum
-  credit-seen = rw (counts-0, counts-1, counts-2, counts-3) refl
+  count-seen : countBy a b c d ≡ count 4 (counts mask outputs)
+  unfolding countBy count sum
+  count-seen = rw (counts-0, counts-1, counts-2, counts-3) refl
+
+  credit-seen : (edition : ℕ) → creditBy a b c d edition (channelsIn mask outputs) ≡ creditOf edition mask outputs
+  unfolding creditBy
+  credit-seen edition =
+      ap (λ (n : ℕ). pick (eqb edition 2) (channelsIn mask outputs) n) count-seen ∙ sym (credit-by edition mask outputs)
+
+  -- the unmasked channels that the code sums up, output by output
+  pub channels-told : {w x y z : ℕ} → (w ≡ channelsBy m0 (getD shared 21 0) (getD shared 23 0)) × (w ≤ 4) →
+      (x ≡ channelsBy m1 (getD shared 25 0) (getD shared 27 0)) × (x ≤ 4) →
+      (y ≡ channelsBy m2 (getD shared 29 0) (getD shared 31 0)) × (y ≤ 4) →
+      (z ≡ channelsBy m3 (getD shared 33 0) (getD shared 35 0)) × (z ≤ 4) → w + x + y + z ≡ channelsIn mask outputs
+  unfolding channelsBy channelsIn sum isSet output sharedOf
+  channels-told e f g h =
+      omega (
+        arith,
+        e .0,
+        f .0 ∙ ap (λ (n : ℕ). pick (eqb (getD shared 25 0) 1) n 0) (channels-own m0 1 (getD shared 27 0)),
+        g .0 ∙ ap (λ (n : ℕ). pick (eqb (getD shared 29 0) 1) n 0) (channels-own m0 2 (getD shared 31 0)),
+        h .0 ∙ ap (λ (n : ℕ). pick (eqb (getD shared 33 0) 1) n 0) (channels-own m0 3 (getD shared 35 0)),
+      )
 
   module _ (own : List ℕ) (asked : RenewAsked own shared) where
     abbrev party : Party
@@ -258,9 +293,9 @@ module _ (shared : List ℕ) where
         e ≡ outputBy m0 (at 21) (windowAt own 25) → f ≡ outputBy m1 (at 25) (windowAt own 27) →
         g ≡ outputBy m2 (at 29) (windowAt own 29) → h ≡ outputBy m3 (at 33) (windowAt own 31) →
         some ≡ someSet e f g h → s ≡ digit some → x ≡ columnsBy e f g h → y ≡ rowsBy e f g h →
-        apart ≡ eachApart e f g h → z ≡ digit apart → w ≡ creditBy e f g h →
-        gaugeFrom s x y z w ≡ gaugeOf mask outputs
-    unfolding gaugeOf
+        apart ≡ eachApart e f g h → z ≡ digit apart → w ≡ creditBy e f g h (getD own 18 0) (channelsIn mask outputs) →
+        gaugeFrom s x y z w ≡ gaugeOf mask outputs (party .birth .edition)
+    unfolding gaugeOf partyOf
     gauge-told ea eb ec ed es e1 e2 e3 ep e4 e5 =
         let ka = window-0 ea in
         let kb = window-1 eb in
@@ -272,26 +307,26 @@ module _ (shared : List ℕ) where
         ((e2 ∙ (λ j. columnsBy (ka j) (kb j) (kc j) (kd j)) ∙ columns-seen) k)
         ((e3 ∙ (λ j. rowsBy (ka j) (kb j) (kc j) (kd j)) ∙ rows-seen) k)
         ((e4 ∙ ap digit (ep ∙ (λ j. eachApart (ka j) (kb j) (kc j) (kd j)) ∙ disjoint-seen)) k)
-        ((e5 ∙ (λ j. creditBy (ka j) (kb j) (kc j) (kd j)) ∙ credit-seen) k)
+        ((e5 ∙ (λ j. creditBy (ka j) (kb j) (kc j) (kd j) (party .birth .edition) (channelsIn mask outputs)) ∙ credit-seen (party .birth .edition)) k)
 
     abbrev gauging : Gauge → Readiness
     gauging g = withNumber (readyBy (party .domain) (party .instructions) g) (withGauge g (party .readiness))
 
     -- so what is kept is what the settings give
-    gauged-kept : gauging (gaugeOf mask outputs) ≡ workedOut (party .domain) (party .instructions) mask outputs
+    gauged-kept : gauging (gaugeOf mask outputs (party .birth .edition)) ≡ workedOut (party .birth .edition) (party .domain) (party .instructions) mask outputs
     unfolding workedOut
     gauged-kept =
         λ k.
         record {
-          number = readiness-gauged mask outputs (party .domain) (party .instructions) (asked .domain .column-most) (asked .domain .row-most) k;
-          gauge = gaugeOf mask outputs;
+          number = readiness-gauged (party .birth .edition) mask outputs (party .domain) (party .instructions) (asked .domain .column-most) (asked .domain .row-most) k;
+          gauge = gaugeOf mask outputs (party .birth .edition);
           window0 = asked .windows .first k;
           window1 = asked .windows .second k;
           window2 = asked .windows .third k;
           window3 = asked .windows .fourth k;
         }
 
-    pub renew-told : {g : Gauge} → g ≡ gaugeOf mask outputs → (l1 : List ℕ) →
+    pub renew-told : {g : Gauge} → g ≡ gaugeOf mask outputs (party .birth .edition) → (l1 : List ℕ) →
         l1 ≡ partyCells (withReadiness (withGauge g (party .readiness)) party) → (l2 : List ℕ) →
         l2 ≡ partyCells (settled (partyOf l1 [])) → l2 ≡ partyCells (renewed (sharedOf shared) party)
     renew-told e l1 e1 l2 e2 =
@@ -391,10 +426,10 @@ pub pairs-most : (i0 j0 i1 j1 : ℕ) → ((i0 ≤ i1) × (i1 < 4096)) × ((j0 �
     (i1 - i0 + 1) * (j1 - j0 + 1) ≤ mostPairs
 pairs-most i0 j0 i1 j1 h = mul-le-mul {n₂ = 4096} {m₂ = 4096} (omega (arith, h)) (omega (arith, h))
 
-pub claim-fits : {p n : ℕ} → p ≤ mostPairs → n ≤ 4 → p * n ≤ mostClaim
-claim-fits h k = mul-le-mul {n₂ = mostPairs} {m₂ = 4} h k
+pub claim-fits : {p n : ℕ} → p ≤ mostPairs → n ≤ mostCredit → p * n ≤ mostClaim
+claim-fits h k = mul-le-mul {n₂ = mostPairs} {m₂ = mostCredit} h k
 
-pub claim-told : (own : List ℕ) {p : ℕ} → partyOf own [] .readiness .gauge .credit ≤ 4 →
+pub claim-told : (own : List ℕ) {p : ℕ} → partyOf own [] .readiness .gauge .credit ≤ mostCredit →
     (p ≡ (getD own 11 0 - getD own 9 0 + 1) * (getD own 12 0 - getD own 10 0 + 1)) × (p ≤ mostPairs) →
     (p * getD own 24 0 ≡ pairsOf (partyOf own [] .domain) * partyOf own [] .readiness .gauge .credit) × (p * getD own 24 0 ≤ mostClaim)
 unfolding pairsOf partyOf
@@ -414,26 +449,26 @@ pub readiness-answer : (d : Domain) (i : Buffer) (m : ℕ) (o : List Buffer) →
 unfolding readinessOf readyOf
 readiness-answer d i m o = first-answer _ _ _
 
--- the credit that is kept is the number of outputs that count, so that the claim is the settings'
+-- the credit that is kept is the settings', so that the claim is
 module _ (own tallies shared : List ℕ) (asked : OwnAsked own tallies shared) where
-  abbrev counted : ℕ
-  counted = count 4 (counts (sharedOf shared .mask) (sharedOf shared .outputs))
+  abbrev edition : ℕ
+  edition = partyOf own [] .birth .edition
 
-  credit-kept : partyOf own [] .readiness .gauge .credit ≡ counted
+  credit-kept : partyOf own [] .readiness .gauge .credit ≡ creditOf edition (sharedOf shared .mask) (sharedOf shared .outputs)
   unfolding partyOf workedOut gaugeOf
   credit-kept = ap (λ (r : Readiness). r .gauge .credit) (asked .kept)
 
   pub claim-asked :
-      (length own ≡ ownLength) × ((partyOf own [] .readiness .gauge .credit ≤ 4) × DomainValid (partyOf own [] .domain))
+      (length own ≡ ownLength) × ((partyOf own [] .readiness .gauge .credit ≤ mostCredit) × DomainValid (partyOf own [] .domain))
   claim-asked =
-      (asked .sized .own-length, (rw credit-kept (count-bounded 4 (counts (sharedOf shared .mask) (sharedOf shared .outputs))), unfold partyOf in asked .domain))
+      (asked .sized .own-length, (rw credit-kept (credit-bounded edition (sharedOf shared .mask) (sharedOf shared .outputs)), unfold partyOf in asked .domain))
 
   pub claim-kept : {n : ℕ} → n ≡ pairsOf (partyOf own [] .domain) * partyOf own [] .readiness .gauge .credit →
-      n ≡ claimOf (partyOf own [] .domain) (sharedOf shared .mask) (sharedOf shared .outputs)
+      n ≡ claimOf edition (partyOf own [] .domain) (sharedOf shared .mask) (sharedOf shared .outputs)
   unfolding claimOf
   claim-kept e = e ∙ ap (λ (x : ℕ). pairsOf (partyOf own [] .domain) * x) credit-kept
 
-pub credit-most : (own : List ℕ) → partyOf own [] .readiness .gauge .credit ≤ 4 → getD own 24 0 ≤ 4
+pub credit-most : (own : List ℕ) → partyOf own [] .readiness .gauge .credit ≤ mostCredit → getD own 24 0 ≤ mostCredit
 unfolding partyOf
 credit-most own k = k
 

@@ -15,9 +15,9 @@ ghost use Rattle.command.specs.Format.{channelsOf};
 ghost use Rattle.state.specs.Cells.{bufferAt, partyOf, partyCells, sharedOf, ownLength, sharedLength};
 ghost use Rattle.state.specs.Effects.{renewed, windowFrom};
 ghost use Rattle.state.specs.Readiness.{lesser as lesserOf};
-ghost use Rattle.state.specs.Start.{creditOf, unmasked};
+ghost use Rattle.state.specs.Start.{unmasked};
 ghost use Rattle.start.specs.Gauge.{RenewAsked, settled};
-ghost use Rattle.start.specs.Windows.{columnsBy, countsBy, creditBy, eachApart, extentLeft, firstOf, keepsApart, onesIn, outputBy, rowsBy, someSet, spansApart};
+ghost use Rattle.start.specs.Windows.{channelsBy, channelsIn, columnsBy, countBy, countsBy, creditBy, eachApart, extentLeft, firstOf, keepsApart, onesIn, outputBy, rowsBy, someSet, spansApart};
 
 // The most columns and the most rows that a window has.
 pub const MOST_EXTENT: u32 = 4096;
@@ -82,18 +82,16 @@ fn ones(four: u32) -> u32
     ((ONES >> (4 * four)) % 16) as u32
 }
 
-// What a pair is credited for an output that counts, by its unmasked channels; 0 for another.
-fn pair_credit(edition: u32, bits: u32, flag: u32, format: u32) -> u32
-    ensures value { λ r. ⌜ r ≡ creditBy edition bits flag format ⌝ }
+// The unmasked channels of an output, none of one that isn't set.
+fn channels(bits: u32, flag: u32, format: u32) -> u32
+    ensures value { λ r. ⌜ r ≡ channelsBy bits flag format ⌝ }
     ensures most { λ r. ⌜ r ≤ 4 ⌝ }
 {
-    if !is_counted(bits, flag, format) {
-        return 0;
+    if flag == 1 {
+        ones(channel_bits(bits, format::code(format)))
+    } else {
+        0
     }
-    if edition == edition::BY_CHANNEL {
-        return ones(channel_bits(bits, format::code(format)));
-    }
-    1
 }
 
 // The output whose cells begin at a place, with the row step and span that are kept of it.
@@ -213,36 +211,59 @@ fn rows(a: Output, b: Output, c: Output, d: Output) -> u32
     lesser(extent_left(a.counts, a.height), latest)
 }
 
-// What a pair is credited for all outputs: what it claims.
-fn credit(edition: u32, shared: &[u32; state::SHARED_CELLS]) -> u32
+// The number of outputs that count.
+fn by_output(a: Output, b: Output, c: Output, d: Output) -> u32
+    ensures { λ r. ⌜ r ≡ countBy a b c d ⌝ }
+{
+    digit(a.counts) + digit(b.counts) + digit(c.counts) + digit(d.counts)
+}
+
+// The number of their unmasked channels.
+fn by_channel(shared: &[u32; state::SHARED_CELLS]) -> u32
     requires { ⌜ length (now shared) ≡ sharedLength ⌝ }
-    ensures { λ r. ⌜ r ≡ creditOf edition (sharedOf (now (shared .entry)) .mask) (sharedOf (now (shared .entry)) .outputs) ⌝ }
+    ensures { λ r. ⌜ r ≡ channelsIn (sharedOf (now (shared .entry)) .mask) (sharedOf (now (shared .entry)) .outputs) ⌝ }
 {
     let mask = shared[settings::MASK];
-    pair_credit(
-        edition,
+    let a = channels(
         mask,
         shared[settings::OUTPUT_0],
         shared[settings::OUTPUT_0 + 2],
-    )
-        + pair_credit(
-            edition,
-            mask / 16,
-            shared[settings::OUTPUT_1],
-            shared[settings::OUTPUT_1 + 2],
-        )
-        + pair_credit(
-            edition,
-            mask / 256,
-            shared[settings::OUTPUT_2],
-            shared[settings::OUTPUT_2 + 2],
-        )
-        + pair_credit(
-            edition,
-            mask / 4096,
-            shared[settings::OUTPUT_3],
-            shared[settings::OUTPUT_3 + 2],
-        )
+    );
+    let b = channels(
+        mask / 16,
+        shared[settings::OUTPUT_1],
+        shared[settings::OUTPUT_1 + 2],
+    );
+    let c = channels(
+        mask / 256,
+        shared[settings::OUTPUT_2],
+        shared[settings::OUTPUT_2 + 2],
+    );
+    let d = channels(
+        mask / 4096,
+        shared[settings::OUTPUT_3],
+        shared[settings::OUTPUT_3 + 2],
+    );
+    a + b + c + d
+}
+
+// What a pair is credited, and so claims. The outputs are those of the shared settings.
+fn credit(
+    edition: u32,
+    a: Output,
+    b: Output,
+    c: Output,
+    d: Output,
+    shared: &[u32; state::SHARED_CELLS],
+) -> u32
+    requires { ⌜ length (now shared) ≡ sharedLength ⌝ }
+    ensures { λ r. ⌜ r ≡ creditBy a b c d edition (channelsIn (sharedOf (now (shared .entry)) .mask) (sharedOf (now (shared .entry)) .outputs)) ⌝ }
+{
+    if edition == edition::BY_CHANNEL {
+        by_channel(shared)
+    } else {
+        by_output(a, b, c, d)
+    }
 }
 
 // The first of 7, 8 and 9 that is given, 0 where none is.
@@ -319,7 +340,7 @@ pub fn renew(own: &mut [u32; state::OWN_CELLS], shared: &[u32; state::SHARED_CEL
         columns(a, b, c, d),
         rows(a, b, c, d),
         apart,
-        credit(edition, shared),
+        credit(edition, a, b, c, d, shared),
     );
     settle(own);
 }

@@ -47,7 +47,7 @@ module _ (l : List ℕ) (h : length l ≡ ownLength) where
     unfolding partyOf tallyCells
     second-tally v = ap (λ (x : List ℕ). getD (set x 0 v) 1 0) (sym (tally-canon l t k))
 
-    pub start-tallies : (s : Shared) (c : ℕ) → c ≡ claimOf (partyOf l [] .domain) (s .mask) (s .outputs) →
+    pub start-tallies : (s : Shared) (c : ℕ) → c ≡ claimOf (partyOf l [] .birth .edition) (partyOf l [] .domain) (s .mask) (s .outputs) →
         set (set t 0 (getD t 0 0 + 1)) 1 (getD (set t 0 (getD t 0 0 + 1)) 1 0 + c) ≡ tallyCells (ownAfter command.Start s p)
     unfolding partyOf tallyCells ownAfter
     start-tallies s c e =

@@ -13,6 +13,9 @@ use Rattle.start.proofs.ready.settle.Reads as settle-reads
 use Rattle.start.proofs.ready.some_set.Reads as some-set-reads
 use Rattle.state.proofs.own.set_gauge.Reads as set-gauge-reads
 
+element-copy-out-edition : tie.Need-element-copy-out-edition
+element-copy-out-edition c = search needs
+
 element-copy-out-mask : tie.Need-element-copy-out-mask
 element-copy-out-mask c = search needs
 
@@ -71,7 +74,14 @@ rows-requires : tie.Need-rows-requires
 rows-requires c κs = search needs
 
 credit-requires : tie.Need-credit-requires
-credit-requires c κs = search needs
+credit-requires c κs =
+    let earlier = c .before .before .before .before in
+    let at-output-at4 = earlier .before .before .before in
+    let at-output-at3 = at-output-at4 .before .before .before in
+    let at-output-at2 = at-output-at3 .before .before .before in
+    let at-output-at = at-output-at2 .before .before .before in
+    let at-start = at-output-at .before .before .before .before .before in
+    at-start .pre .shared-length
 
 set-gauge-requires : tie.Need-set-gauge-requires
 set-gauge-requires c κs =
@@ -80,7 +90,7 @@ set-gauge-requires c κs =
     let at-output-at3 = at-output-at4 .before .before .before in
     let at-output-at2 = at-output-at3 .before .before .before in
     let at-output-at = at-output-at2 .before .before .before in
-    let at-start = at-output-at .before .before .before .before in
+    let at-start = at-output-at .before .before .before .before .before in
     at-start .pre .own-length
 
 settle-requires : tie.Need-settle-requires
@@ -99,7 +109,7 @@ returns c =
     let at-output-at3 = at-output-at4 .before .before .before in
     let at-output-at2 = at-output-at3 .before .before .before in
     let at-output-at = at-output-at2 .before .before .before in
-    let at-start = at-output-at .before .before .before .before in
+    let at-start = at-output-at .before .before .before .before .before in
     let gauge =
     gauge-told (at-start .args .shared .now) (at-start .args .own .now) (at-start .pre) (at-output-at .output-at .ensures)
     (at-output-at2 .output-at2 .ensures) (at-output-at3 .output-at3 .ensures) (at-output-at4 .output-at4 .ensures)
@@ -113,6 +123,7 @@ pub renew-spec : {M : Type 1} → statement M
 renew-spec =
     tie.close
     (tie.spec
+    element-copy-out-edition
     element-copy-out-mask
     element-copy-out-output-at
     element-copy-out-output-at-2

@@ -4,7 +4,7 @@ use Prim.Native.Nat.{_-_}
 use borrow.Author.Needs.{needs}
 use Rattle.state.specs.Asked.{Given}
 use Rattle.session.specs.Step.{stepOf}
-use Rattle.session.proofs.Handed.{begun-given, word-given}
+use Rattle.session.proofs.Handed.{first-given, word-given}
 use Rattle.stream_worked.proofs.streams.by_word.Statement.{statement}
 use Rattle.stream_worked.proofs.streams.by_word.Tie as tie
 
@@ -18,7 +18,7 @@ begin-requires : tie.Need-begin-requires Inv-loop μ-loop
 begin-requires c κs = search needs
 
 loop-holds : tie.Need-loop-holds Inv-loop μ-loop
-loop-holds c = begun-given (c .begin .ensures)
+loop-holds c = first-given (c .begin .ensures)
 
 mul-word : tie.Need-mul-word Inv-loop μ-loop
 mul-word c = search needs
@@ -63,11 +63,11 @@ word-requires-2 c κs = c .before .before .before .before .loop .inv
 number-of-requires-2 : tie.Need-number-of-requires-2 Inv-loop μ-loop
 number-of-requires-2 c κs = search needs
 
-array-read-t32 : tie.Need-array-read-t32 Inv-loop μ-loop
-array-read-t32 c = search needs
+array-read-t31 : tie.Need-array-read-t31 Inv-loop μ-loop
+array-read-t31 c = search needs
 
-array-read-t35 : tie.Need-array-read-t35 Inv-loop μ-loop
-array-read-t35 c = search needs
+array-read-t34 : tie.Need-array-read-t34 Inv-loop μ-loop
+array-read-t34 c = search needs
 
 returns : tie.Need-returns Inv-loop μ-loop
 returns c = search needs
@@ -93,6 +93,6 @@ by-word-spec =
     array-read-taken
     word-requires-2
     number-of-requires-2
-    array-read-t32
-    array-read-t35
+    array-read-t31
+    array-read-t34
     returns)
