@@ -206,7 +206,7 @@ fn take_mask(
 {
     if mask < 65536 {
         own::count_words(own, words);
-        shared[settings::MASK] = mask;
+        shared[settings::MASK] = owners::blended(own[own::MINE], mask, shared[settings::MASK]);
         ready::renew(own, shared); // the mask tells which outputs count
         words
     } else {
@@ -342,15 +342,20 @@ pub fn take(
     }
     match table::line_of(words[at]) {
         Line::Unknown => 0,
-        Line::At(line) => take_line(
-            own,
-            tallies,
-            shared,
-            line,
-            words[at + 1],
-            words[at + 2],
-            words[at + 3],
-            words[at + 4],
-        ),
+        Line::At(line) => {
+            if owners::owns_settings(own[own::MINE], line, words[at + 1]) {
+                return take_line(
+                    own,
+                    tallies,
+                    shared,
+                    line,
+                    words[at + 1],
+                    words[at + 2],
+                    words[at + 3],
+                    words[at + 4],
+                );
+            }
+            0
+        }
     }
 }

@@ -41,6 +41,8 @@ const UNKNOWN_HEADER: u32 = 2;
 
 const FULL: u32 = 17;
 
+const NOT_OWNED: u32 = 20;
+
 // What a word is answered: the command is still open, the command that the word completed, or the refusal.
 pub enum Answer {
     Open,
@@ -117,7 +119,11 @@ fn parameter(
     let line = own[own::LINE];
     let count = own[own::COUNT];
     if kinds::place_allowed(line, count, word) {
-        return placed(own, tallies, shared, word);
+        if owners::may_name(own[own::MINE], line, count, word) {
+            return placed(own, tallies, shared, word);
+        }
+        own::stop(own);
+        return NOT_OWNED;
     }
     let kind = kinds::kind_at(line, count);
     own::stop(own);
@@ -150,8 +156,12 @@ fn read(
             UNKNOWN_HEADER
         }
         Line::At(line) => {
-            own::open_line(own, line);
-            OPEN
+            if owners::may_open(own[own::MINE], line) {
+                own::open_line(own, line);
+                return OPEN;
+            }
+            own::stop(own);
+            NOT_OWNED
         }
     }
 }
@@ -212,7 +222,33 @@ pub fn word(
     }
 }
 
-// A new session: nothing set, mask 65535; a start would get 7, and no output asks anything of a domain.
+// A new party that owns so much: no word taken; a start would get 7, and no output asks anything of a domain.
+pub fn begin_party(
+    own: &mut [u32; state::OWN_CELLS],
+    tallies: &mut [u64; state::TALLIES],
+    mine: u32,
+)
+    ensures { λ _. ⌜ HeldOwn (newPartyOf mine) (now (own .exit)) (now (tallies .exit)) ⌝ }
+{
+    *own = [0; state::OWN_CELLS];
+    own[own::LINE] = own::NO_LINE;
+    own[own::MINE] = mine;
+    own[own::READINESS] = ready::UNSET;
+    own[own::COLUMNS] = ready::MOST_EXTENT;
+    own[own::ROWS] = ready::MOST_EXTENT;
+    own[own::APART] = 1;
+    *tallies = [0; state::TALLIES];
+}
+
+// New settings: nothing set, mask 65535.
+pub fn begin_settings(shared: &mut [u32; state::SHARED_CELLS])
+    ensures { λ _. ⌜ now (shared .exit) ≡ sharedCells newShared ⌝ }
+{
+    *shared = [0; state::SHARED_CELLS];
+    shared[settings::MASK] = 65535;
+}
+
+// A new session of one party, which owns every number.
 pub fn begin(
     own: &mut [u32; state::OWN_CELLS],
     tallies: &mut [u64; state::TALLIES],
@@ -220,15 +256,8 @@ pub fn begin(
 )
     ensures { λ _. ⌜ Held newSession (now (own .exit)) (now (tallies .exit)) (now (shared .exit)) ⌝ }
 {
-    *own = [0; state::OWN_CELLS];
-    own[own::LINE] = own::NO_LINE;
-    own[own::READINESS] = ready::UNSET;
-    own[own::COLUMNS] = ready::MOST_EXTENT;
-    own[own::ROWS] = ready::MOST_EXTENT;
-    own[own::APART] = 1;
-    *tallies = [0; state::TALLIES];
-    *shared = [0; state::SHARED_CELLS];
-    shared[settings::MASK] = 65535;
+    begin_party(own, tallies, owners::EVERYTHING);
+    begin_settings(shared);
 }
 
 // The first refusal of a piece, or none.

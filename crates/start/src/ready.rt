@@ -69,8 +69,9 @@ pub fn is_counted(bits: u32, flag: u32, format: u32) -> bool
     }
 }
 
-// The output whose cells begin at a place, with the row step and span that are kept of it.
+// The output whose cells begin at a place, with the row step and span that are kept of it; another party's is as if it weren't set.
 fn output_at(
+    owned: bool,
     bits: u32,
     shared: &[u32; state::SHARED_CELLS],
     at: usize,
@@ -80,6 +81,16 @@ fn output_at(
     requires { ⌜ (length (now shared) ≡ sharedLength) × (at < 98) ⌝ }
     ensures { λ r. ⌜ r ≡ outputBy bits (bufferAt (now (shared .entry)) at) (windowFrom step span) ⌝ }
 {
+    if !owned {
+        return Output {
+            set: false,
+            counts: false,
+            base: 0,
+            step,
+            height: 0,
+            span,
+        };
+    }
     let flag = shared[at];
     let counts = is_counted(bits, flag, shared[at + 2]);
     Output {
@@ -229,8 +240,10 @@ pub fn renew(own: &mut [u32; state::OWN_CELLS], shared: &[u32; state::SHARED_CEL
     requires { ⌜ RenewAsked (now own) (now shared) ⌝ }
     ensures { λ _. ⌜ now (own .exit) ≡ partyCells (renewed (sharedOf (now (shared .entry))) (partyOf (now (own .entry)) [])) ⌝ }
 {
+    let mine = own[own::MINE];
     let mask = shared[settings::MASK];
     let a = output_at(
+        owners::is_on(mine, 16),
         mask,
         shared,
         settings::OUTPUT_0,
@@ -238,6 +251,7 @@ pub fn renew(own: &mut [u32; state::OWN_CELLS], shared: &[u32; state::SHARED_CEL
         own[own::SPAN_0],
     );
     let b = output_at(
+        owners::is_on(mine, 17),
         mask / 16,
         shared,
         settings::OUTPUT_1,
@@ -245,6 +259,7 @@ pub fn renew(own: &mut [u32; state::OWN_CELLS], shared: &[u32; state::SHARED_CEL
         own[own::SPAN_1],
     );
     let c = output_at(
+        owners::is_on(mine, 18),
         mask / 256,
         shared,
         settings::OUTPUT_2,
@@ -252,6 +267,7 @@ pub fn renew(own: &mut [u32; state::OWN_CELLS], shared: &[u32; state::SHARED_CEL
         own[own::SPAN_2],
     );
     let d = output_at(
+        owners::is_on(mine, 19),
         mask / 4096,
         shared,
         settings::OUTPUT_3,

@@ -48,6 +48,9 @@ pub const INSTRUCTIONS_FORMAT: usize = 15;
 
 pub const INSTRUCTIONS_HEIGHT: usize = 16;
 
+// What the party owns, a bit for each number.
+pub const MINE: usize = 17;
+
 // The number that the settings alone give a start: 0, 7, 8 or 9.
 pub const READINESS: usize = 19;
 
