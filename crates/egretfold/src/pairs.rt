@@ -11,8 +11,7 @@ pub extern "C" fn egretfold_pair_begin(
     shared: &mut [u32; state::SHARED_CELLS],
     inputs: u32,
     outputs: u32,
-) -> u32
-{
+) -> u32 {
     lessees::begin(own0, tallies0, own1, tallies1, shared, inputs, outputs)
 }
 
@@ -27,7 +26,6 @@ pub extern "C" fn egretfold_pair_feed(
     words: &[u32],
     parties: &[u32],
     fed: &mut [u64; lessees::PARTS],
-) -> u32
-{
+) -> u32 {
     lessees::feed(own0, tallies0, own1, tallies1, shared, words, parties, fed)
 }

@@ -26,8 +26,7 @@ pub fn begin(
     shared: &mut [u32; state::SHARED_CELLS],
     inputs: u32,
     outputs: u32,
-) -> u32
-{
+) -> u32 {
     if INPUTS <= inputs {
         return MALFORMED;
     }
@@ -42,14 +41,12 @@ pub fn begin(
 }
 
 // The party of a word: bit k of number i is word 32 i + k's.
-fn party_of(parties: &[u32], at: usize) -> bool
-{
+fn party_of(parties: &[u32], at: usize) -> bool {
     owners::is_on(parties[at / 32], (at % 32) as u32)
 }
 
 // Where the run of one party's words ends that goes on at a place.
-fn run_end(parties: &[u32], length: usize, from: usize, party: bool) -> usize
-{
+fn run_end(parties: &[u32], length: usize, from: usize, party: bool) -> usize {
     let mut at = from;
     while at < length {
         if party_of(parties, at) != party {
@@ -61,8 +58,7 @@ fn run_end(parties: &[u32], length: usize, from: usize, party: bool) -> usize
 }
 
 // The earlier of two refusals, 0 for none.
-fn earlier(before: u64, now: u64) -> u64
-{
+fn earlier(before: u64, now: u64) -> u64 {
     if before == 0 { now } else { before }
 }
 
@@ -74,8 +70,7 @@ fn take_run(
     words: &[u32],
     fed: &mut [u64; PARTS],
     part: usize,
-)
-{
+) {
     let piece = stream::feed(own, tallies, shared, words);
     let first = piece.refusal;
     let number = match first {
@@ -97,8 +92,7 @@ pub fn feed(
     words: &[u32],
     parties: &[u32],
     fed: &mut [u64; PARTS],
-) -> u32
-{
+) -> u32 {
     let length = words.len();
     let last = if length % 32 == 0 { 0 } else { 1 };
     if parties.len() != length / 32 + last {

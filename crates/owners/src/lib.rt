@@ -1,12 +1,13 @@
 // Document 02, request 9: what a party of a session owns, in one word of 21 bits: bit n for input n, bit 16 + n for output n with its
 // four mask bits, and bit 20 for what belongs to party 0, the constants and the conditional unit.
 ghost use mathlib.Core.Path.{_≡_};
-ghost use mathlib.Core.Bool.{true};
-ghost use Prim.Native.Nat.{_<_};
-ghost use Rattle.laws.specs.Choice.{pick};
+ghost use mathlib.Core.Bool.{true, false};
+ghost use Prim.Native.Nat.{ℕ, _%_, _<_};
+ghost use lib.Dec.{leb};
+ghost use Rattle.laws.specs.Choice.{_and_, pick};
 ghost use Rattle.laws.specs.Masks.{on};
 ghost use Rattle.command.specs.Kinds.{allowed, kindOf};
-ghost use Rattle.owners.specs.Owners.{blend, mayName, mayOpen, ownsOutput, settingsOwned, FirstFits};
+ghost use Rattle.owners.specs.Owners.{faultAt, maskBy, mayName, mayOpen};
 
 // All sixteen inputs, all four outputs and what belongs to party 0.
 pub const EVERYTHING: u32 = 2097151;
@@ -14,11 +15,18 @@ pub const EVERYTHING: u32 = 2097151;
 // The bit of output 0, and that of what belongs to party 0.
 pub const FIRST_OUTPUT: u32 = 16;
 
-const COMMON: u32 = 20;
+pub const COMMON: u32 = 20;
 
 // The lines of the table that set what belongs to party 0, a bit each: the conditional output's format, mask and test, and the formats
 // of the three kinds of constants.
 const COMMON_LINES: u32 = 0x1803C0;
+
+// The refusals: a reserved bit or code, a number that there isn't, and one that the party doesn't own.
+const MALFORMED: u32 = 3;
+
+const TOO_HIGH: u32 = 4;
+
+pub const NOT_OWNED: u32 = 20;
 
 // Whether a bit is set.
 pub fn is_on(bits: u32, place: u32) -> bool
@@ -51,19 +59,22 @@ pub fn may_name(mine: u32, line: u32, k: u32, word: u32) -> bool
     }
 }
 
-// Whether a command of a line sets nothing but what the party owns, by its first parameter. Where this is a number that is too high,
-// either answer will do: the command isn't accepted.
-pub fn owns_settings(mine: u32, line: u32, first: u32) -> bool
-    requires { ⌜ line < 21 ⌝ }
-    ensures { λ r. ⌜ FirstFits line first → r ≡ settingsOwned mine line first ⌝ }
+// The refusal of an input's or output's number that isn't taken, by the highest that there is.
+fn number_fault(word: u32, most: u32) -> u32
+    ensures { λ r. ⌜ r ≡ pick (leb word most) 20 4 ⌝ }
 {
-    if mine == EVERYTHING {
-        return true;
-    }
-    match line {
-        4 => is_on(mine, first % 16),
-        5 => is_on(mine, FIRST_OUTPUT + first % 4),
-        _ => may_open(mine, line),
+    if word <= most { NOT_OWNED } else { TOO_HIGH }
+}
+
+// The refusal of a word that isn't taken as parameter `k` of a line: 3 or 4 by its kind, and 20 where that allows it.
+pub fn fault_at(line: u32, k: u32, word: u32) -> u32
+    requires { ⌜ (line < 21) × (k < 4) ⌝ }
+    ensures { λ r. ⌜ ((mine : ℕ) → (allowed (kindOf line k) word and mayName mine (kindOf line k) word) ≡ false → r ≡ faultAt (kindOf line k) word) ⌝ }
+{
+    match line * 4 + k {
+        16 => number_fault(word, 15),
+        20 => number_fault(word, 3),
+        _ => MALFORMED,
     }
 }
 
@@ -77,7 +88,7 @@ fn chosen(owned: bool, new: u32, old: u32) -> u32
 
 // A new mask's bits for the party's own outputs, an old one's for the others.
 pub fn blended(mine: u32, new: u32, old: u32) -> u32
-    ensures { λ r. ⌜ r ≡ blend 4 (ownsOutput mine) new old ⌝ }
+    ensures { λ r. ⌜ r ≡ maskBy mine new old ⌝ }
 {
     let first = chosen(is_on(mine, 16), new, old);
     let second = chosen(is_on(mine, 17), new / 16, old / 16);

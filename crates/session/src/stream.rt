@@ -41,8 +41,6 @@ const UNKNOWN_HEADER: u32 = 2;
 
 const FULL: u32 = 17;
 
-const NOT_OWNED: u32 = 20;
-
 // What a word is answered: the command is still open, the command that the word completed, or the refusal.
 pub enum Answer {
     Open,
@@ -122,12 +120,10 @@ fn parameter(
         if owners::may_name(own[own::MINE], line, count, word) {
             return placed(own, tallies, shared, word);
         }
-        own::stop(own);
-        return NOT_OWNED;
     }
-    let kind = kinds::kind_at(line, count);
+    let fault = owners::fault_at(line, count, word);
     own::stop(own);
-    refusal::number(kinds::fault(kind))
+    fault
 }
 
 // One word up to a command's end. 1 comes before 17, and 17 before the word is looked at.
@@ -161,7 +157,7 @@ fn read(
                 return OPEN;
             }
             own::stop(own);
-            NOT_OWNED
+            owners::NOT_OWNED
         }
     }
 }

@@ -81,17 +81,7 @@ fn output_at(
     requires { ⌜ (length (now shared) ≡ sharedLength) × (at < 98) ⌝ }
     ensures { λ r. ⌜ r ≡ outputBy bits (bufferAt (now (shared .entry)) at) (windowFrom step span) ⌝ }
 {
-    if !owned {
-        return Output {
-            set: false,
-            counts: false,
-            base: 0,
-            step,
-            height: 0,
-            span,
-        };
-    }
-    let flag = shared[at];
+    let flag = if owned { shared[at] } else { 0 };
     let counts = is_counted(bits, flag, shared[at + 2]);
     Output {
         set: flag == 1,

@@ -2,6 +2,7 @@
 -- is all zeros. Assumes nothing.
 use mathlib.Core.List.{List, [], _∷_}
 use Prim.Native.Nat.{ℕ}
+use Rattle.owners.specs.Owners.{everything}
 
 -- a buffer as it was set: base, format word and height
 pub record Buffer : Type 0 where
@@ -61,7 +62,7 @@ pub record Readiness : Type 0 where
   pub window2 : Window
   pub window3 : Window
 
--- a party's own part; what is fixed at the beginning is all zeros until a request uses it
+-- a party's own part
 pub record Party : Type 0 where
   pub stopped : ℕ
   pub taken : ℕ
@@ -101,8 +102,8 @@ atLine line = record { line = line; count = 0; p0 = 0; p1 = 0; p2 = 0; p3 = 0 }
 abbrev pub none : Open
 none = atLine 21
 
-abbrev pub unborn : Birth
-unborn = record { mine = 0; edition = 0 }
+abbrev pub born : ℕ → Birth
+born mine = record { mine = mine; edition = 0 }
 
 abbrev pub noWindow : Window
 noWindow = record { step = 0; span = 0 }
@@ -123,19 +124,23 @@ newReadiness =
       window3 = noWindow;
     }
 
--- "A new session has nothing set and mask 65535."
-abbrev pub newParty : Party
-newParty =
+-- "A new session has nothing set and mask 65535.": a party that owns so much
+abbrev pub newPartyOf : ℕ → Party
+newPartyOf mine =
     record {
       stopped = 0;
       taken = 0;
       opened = none;
       domain = record { isSet = 0; i0 = 0; j0 = 0; i1 = 0; j1 = 0 };
       instructions = unset;
-      birth = unborn;
+      birth = born mine;
       readiness = newReadiness;
       tally = record { runs = 0; claims = 0 };
     }
+
+-- the one party of a session, which owns every number
+abbrev pub newParty : Party
+newParty = newPartyOf everything
 
 abbrev pub newShared : Shared
 newShared =
