@@ -13,6 +13,10 @@ use Rattle.state.specs.Readiness.{lesser}
 unfoldable pub countsBy : ℕ → ℕ → ℕ → Bool
 countsBy bits flag format = eqb flag 1 and unmasked bits 0 format
 
+-- a buffer that is shown as not set where it is another party's: nothing else of it is then looked at
+abbrev pub muted : Bool → Buffer → Buffer
+muted owned b = record { isSet = pick owned (b .isSet) 0; base = b .base; format = b .format; height = b .height }
+
 -- a buffer with the window that is kept of it
 abbrev pub outputBy : ℕ → Buffer → Window → Output
 outputBy bits b w =

@@ -16,7 +16,7 @@ ghost use Rattle.state.specs.Effects.{renewed, windowFrom};
 ghost use Rattle.state.specs.Readiness.{lesser as lesserOf};
 ghost use Rattle.state.specs.Start.{unmasked};
 ghost use Rattle.start.specs.Gauge.{RenewAsked, settled};
-ghost use Rattle.start.specs.Windows.{columnsBy, countsBy, creditBy, eachApart, extentLeft, firstOf, keepsApart, outputBy, rowsBy, someSet, spansApart};
+ghost use Rattle.start.specs.Windows.{columnsBy, countsBy, creditBy, eachApart, extentLeft, firstOf, keepsApart, muted, outputBy, rowsBy, someSet, spansApart};
 
 // The most columns and the most rows that a window has.
 pub const MOST_EXTENT: u32 = 4096;
@@ -69,6 +69,13 @@ pub fn is_counted(bits: u32, flag: u32, format: u32) -> bool
     }
 }
 
+// A flag, where it is one's own to see.
+fn shown(owned: bool, flag: u32) -> u32
+    ensures { λ r. ⌜ r ≡ pick owned flag 0 ⌝ }
+{
+    if owned { flag } else { 0 }
+}
+
 // The output whose cells begin at a place, with the row step and span that are kept of it; another party's is as if it weren't set.
 fn output_at(
     owned: bool,
@@ -79,9 +86,9 @@ fn output_at(
     span: u32,
 ) -> Output
     requires { ⌜ (length (now shared) ≡ sharedLength) × (at < 98) ⌝ }
-    ensures { λ r. ⌜ r ≡ outputBy bits (bufferAt (now (shared .entry)) at) (windowFrom step span) ⌝ }
+    ensures { λ r. ⌜ r ≡ outputBy bits (muted owned (bufferAt (now (shared .entry)) at)) (windowFrom step span) ⌝ }
 {
-    let flag = if owned { shared[at] } else { 0 };
+    let flag = shown(owned, shared[at]);
     let counts = is_counted(bits, flag, shared[at + 2]);
     Output {
         set: flag == 1,
