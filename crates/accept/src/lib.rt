@@ -221,8 +221,9 @@ fn take_mask(
     ensures { λ r. ⌜ SharedTried (Command.OutputMask mask) (headerOf 18 ∷ mask ∷ []) words r (now (own .entry)) (now (shared .entry)) (now (own .exit)) (now (shared .exit)) ⌝ }
 {
     if mask < 65536 {
+        let own_bits = owners::blended(own[own::MINE], mask, shared[settings::MASK]);
         own::count_words(own, words);
-        shared[settings::MASK] = owners::blended(own[own::MINE], mask, shared[settings::MASK]);
+        shared[settings::MASK] = own_bits;
         ready::renew(own, shared); // the mask tells which outputs count
         words
     } else {
