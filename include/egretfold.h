@@ -72,9 +72,10 @@ enum { EGRETFOLD_DAYS = 31 };
 
 /* ---- Sessions ---- */
 
-/* A new session: nothing set, mask 65535. Returns 0. */
+/* A new session: nothing set, mask 65535. Its edition of the lease rule, 1 or 2, is fixed now and only changes what a start
+ * claims (egretfold_session_tallies). 3 for another edition. */
 uint32_t egretfold_session_begin(uint32_t own[EGRETFOLD_OWN], uint64_t tallies[EGRETFOLD_TALLIES],
-                                 uint32_t shared[EGRETFOLD_SHARED]);
+                                 uint32_t shared[EGRETFOLD_SHARED], uint32_t edition);
 
 /* One word. command: 0 where a command is still open, else 1; then the completed command's header and its four parameters,
  * 0 past its last (and all 0 where a command is open). 1 to 9, 17 or 20; all but 1 stop the session and drop the open command. */
@@ -87,13 +88,14 @@ uint32_t egretfold_session_feed(uint32_t own[EGRETFOLD_OWN], uint64_t tallies[EG
                                 uint32_t shared[EGRETFOLD_SHARED], const uint32_t *words, size_t length, uint64_t fed[2]);
 
 /* status: the words taken since the session began; 1 if it is stopped, else 0; the open command's header, 0 if none is open;
- * how many of its parameters were taken; and what the settings alone give a start, 0, 7, 8 or 9, which the session keeps: a
- * stop, the words taken and the open command don't change it. Returns 0. */
-uint32_t egretfold_session_status(const uint32_t own[EGRETFOLD_OWN], uint32_t status[5]);
+ * how many of its parameters were taken; what the settings alone give a start, 0, 7, 8 or 9, which the session keeps: a
+ * stop, the words taken and the open command don't change it; and the edition. Returns 0. */
+uint32_t egretfold_session_status(const uint32_t own[EGRETFOLD_OWN], uint32_t status[6]);
 
 /* counts: runs (starts that passed) and the elements that they claimed: the pairs of the domain, times the set outputs that
- * are not silent at the start. An output is silent when no mask bit is set for a channel that its format has: bit 4n + c is
- * for output n, channel c, and codes 0 to 4 have one, four, one, two and four channels. Returns 0. */
+ * are not silent at the start by edition 1, times their unmasked channels by edition 2. A channel is unmasked when its mask bit is
+ * set, bit 4n + c for output n, channel c; codes 0 to 4 have one, four, one, two and four channels, and bits of others don't
+ * count. An output is silent when none of its channels is unmasked. Returns 0. */
 uint32_t egretfold_session_tallies(const uint64_t tallies[EGRETFOLD_TALLIES], uint64_t counts[2]);
 
 /* domain: 1 if it is set, else 0; then i0, j0, i1, j1, both ends included. Returns 0. */
@@ -120,10 +122,10 @@ uint32_t egretfold_session_masks(const uint32_t shared[EGRETFOLD_SHARED], uint32
  * own. A session from egretfold_session_begin, and a replay's, is one party that owns every number. */
 
 /* A new session of two parties: nothing set, mask 65535. Bit n of inputs (16 bits) and of outputs (4 bits) is set where input or
- * output n is party 1's, and not where it is party 0's. 3 where a bit above these is set. */
+ * output n is party 1's, and not where it is party 0's. 3 where the edition is neither 1 nor 2, then where a bit above these is set. */
 uint32_t egretfold_pair_begin(uint32_t own0[EGRETFOLD_OWN], uint64_t tallies0[EGRETFOLD_TALLIES], uint32_t own1[EGRETFOLD_OWN],
                               uint64_t tallies1[EGRETFOLD_TALLIES], uint32_t shared[EGRETFOLD_SHARED], uint32_t inputs,
-                              uint32_t outputs);
+                              uint32_t outputs, uint32_t edition);
 
 /* A piece of both parties' words, one after another to its end: it runs on past a refused word. Bit k of parties[i] is the party of
  * word 32 i + k; bits past the last word are not looked at. fed: of party 0 the words taken, the commands that they completed, and
@@ -137,9 +139,9 @@ uint32_t egretfold_pair_feed(uint32_t own0[EGRETFOLD_OWN], uint64_t tallies0[EGR
  * Kind 1 is a command word, kind 2 a midnight with the number of the day that begins. The words go to one session across all
  * midnights, which lies in own, tallies and shared: the functions above that change nothing may be asked about it. */
 
-/* A new replay, with a new session. Returns 0. */
+/* A new replay, with a new session of an edition. 3 for another edition than 1 and 2. */
 uint32_t egretfold_log_begin(uint32_t log[EGRETFOLD_LOG], uint64_t marks[EGRETFOLD_MARKS], uint32_t own[EGRETFOLD_OWN],
-                             uint64_t tallies[EGRETFOLD_TALLIES], uint32_t shared[EGRETFOLD_SHARED]);
+                             uint64_t tallies[EGRETFOLD_TALLIES], uint32_t shared[EGRETFOLD_SHARED], uint32_t edition);
 
 /* A piece of bytes, one after another up to the first refused one; it may be cut inside a record. Returns that byte's
  * refusal, or 0. taken, written in any case: the bytes taken (where a byte is refused, its place in the piece). 18 for a
@@ -170,8 +172,9 @@ uint32_t egretfold_log_part(const uint32_t log[EGRETFOLD_LOG], const uint64_t ma
  * A lease line is the number of its first day, its days, and the elements owed on each of them. A score has no state of its own:
  * the log is fed by egretfold_log_begin and egretfold_log_feed, and may be scored at any time. */
 
-/* Judges a lease line: 1 to 31 days, at most 100,000,000 elements owed a day, and first_day + days - 1 below 2^32. 21. */
-uint32_t egretfold_score_lease(uint32_t first_day, uint32_t days, uint32_t owed);
+/* Judges an edition, 1 or 2, and a lease line: 1 to 31 days, at most 100,000,000 elements owed a day, and first_day + days - 1
+ * below 2^32. 3 for the edition, then 21. */
+uint32_t egretfold_score_lease(uint32_t edition, uint32_t first_day, uint32_t days, uint32_t owed);
 
 /* claimed and served: a number for each day of the lease, 0 past its last day. claimed[k] is what was claimed on the day numbered
  * first_day + k, 0 where the log has no midnight of that number; what ended before the first midnight is of no day, and the

@@ -27,7 +27,7 @@ use Rattle.command.specs.declared.commands.Command.the-variants as command
 use Rattle.rules.proofs.Fitting.{start-fits, effectless-fits, store-decided, mask-decided, conditional-mask-decided, test-decided, given-fine}
 use Rattle.command.proofs.Headers.{accepted-listed}
 use Rattle.rules.proofs.Readable.{readable}
-use Rattle.state.specs.State.{Open, Tally, Readiness, Party, Shared, Session, mostExtent}
+use Rattle.state.specs.State.{Open, Birth, Tally, Readiness, Party, Shared, Session, mostExtent}
 use Rattle.state.specs.Seen.{seenOutputs}
 use Rattle.state.specs.Start.{readyOf, readinessOf}
 use Rattle.state.specs.Readiness.{readinessFor, workedOut}
@@ -201,13 +201,14 @@ module _ (l l1 : List ℕ) (m : ℕ) (e : l1 ≡ partyCells (tookWords m (partyO
   sized = counted-length l l1 m e
 
   -- what is kept after the words were counted
-  abbrev keptIn : List ℕ → List ℕ → ℕ → Readiness
-  keptIn t h mine = workedOut (partyOf l t .domain) (partyOf l t .instructions) (sharedOf h .mask) (seenOutputs mine (sharedOf h .outputs))
+  abbrev keptIn : List ℕ → List ℕ → Birth → Readiness
+  keptIn t h b =
+      workedOut (b .edition) (partyOf l t .domain) (partyOf l t .instructions) (sharedOf h .mask) (seenOutputs (b .mine) (sharedOf h .outputs))
 
-  kept-counted : (t h : List ℕ) → OwnAsked l t h → partyOf l1 t .readiness ≡ keptIn t h (partyOf l1 t .birth .mine)
+  kept-counted : (t h : List ℕ) → OwnAsked l t h → partyOf l1 t .readiness ≡ keptIn t h (partyOf l1 t .birth)
   unfolding partyOf partyCells
   kept-counted t h a =
-      ap (λ (x : List ℕ). partyOf x t .readiness) e ∙ a .kept ∙ ap (λ (x : List ℕ). keptIn t h (partyOf x t .birth .mine)) (sym e)
+      ap (λ (x : List ℕ). partyOf x t .readiness) e ∙ a .kept ∙ ap (λ (x : List ℕ). keptIn t h (partyOf x t .birth)) (sym e)
 
   domain-counted : (t h : List ℕ) → OwnAsked l t h → DomainValid (partyOf l1 t .domain)
   unfolding partyOf partyCells
@@ -234,7 +235,7 @@ module _ (l l1 : List ℕ) (m : ℕ) (e : l1 ≡ partyCells (tookWords m (partyO
     domain-held t h z l2 l3 e2 e3 =
         subst (λ (p : Party). HeldOwn p l3 t)
         (settled-kept (domainSet t) (sharedOf h) (partyOf l t .domain) (partyOf l t .instructions) (last-column i0 j0 i1 j1 fine)
-        (last-row i0 j0 i1 j1 fine) (kept-counted t h z))
+        (last-row i0 j0 i1 j1 fine) (kept-born t h z))
         (settled-own (domainSet t) t l2 l3 (z .sized .tallies-length) refl (e2 ∙ unfold partyOf partyCells in refl) e3)
 
     pub domain-tried : (l2 : List ℕ) → l2 ≡ partyCells (domainSet []) → (l3 : List ℕ) → l3 ≡ partyCells (settled (partyOf l2 [])) →
@@ -264,7 +265,7 @@ module _ (l l1 : List ℕ) (m : ℕ) (e : l1 ≡ partyCells (tookWords m (partyO
     instructions-held t h z l2 l3 e2 e3 =
         subst (λ (p : Party). HeldOwn p l3 t)
         (settled-kept (formatSet t) (sharedOf h) (partyOf l t .domain) (partyOf l t .instructions) (domain-counted t h z .column-most)
-        (domain-counted t h z .row-most) (kept-counted t h z))
+        (domain-counted t h z .row-most) (kept-born t h z))
         (settled-own (formatSet t) t l2 l3 (z .sized .tallies-length) refl (e2 ∙ unfold partyOf partyCells in refl) e3)
 
     pub instructions-tried : (l2 : List ℕ) → l2 ≡ partyCells (formatSet []) → (l3 : List ℕ) → l3 ≡ partyCells (settled (partyOf l2 [])) →

@@ -7,6 +7,7 @@ use rules::writer;
 use rules::writer::Written;
 use session::stream;
 use session::stream::Answer;
+use state::edition;
 use worked::streams::whole_stream;
 use worked::tally::Tally;
 
@@ -15,7 +16,7 @@ fn last_answer(words: &[u32]) -> Answer {
     let mut own: [u32; state::OWN_CELLS] = [0; state::OWN_CELLS];
     let mut tallies: [u64; state::TALLIES] = [0; state::TALLIES];
     let mut shared: [u32; state::SHARED_CELLS] = [0; state::SHARED_CELLS];
-    stream::begin(&mut own, &mut tallies, &mut shared);
+    stream::begin(&mut own, &mut tallies, &mut shared, edition::BY_OUTPUT);
     let mut answer = Answer::Open;
     let mut i: usize = 0;
     while i < words.len() {

@@ -69,6 +69,6 @@ module _ (midnights last : ℕ) where
   unfolding firstDay
   first-day ne day e = e ∙ sym (pick-no _ _ (ne-eqb midnights 0 ne))
 
-pub standing : (l : List ℕ) (day : ℕ) → day ≡ firstDay (getD l 3 0) (getD l 4 0) → with-first l day ≡ standingOf (viewed l [] newSession)
+pub standing : (l : List ℕ) (day : ℕ) → day ≡ firstDay (getD l 3 0) (getD l 4 0) → with-first l day ≡ standingOf (viewed l [] (newSession 1))
 unfolding viewed
 standing l day e = ap (with-first l) e

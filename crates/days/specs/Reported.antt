@@ -18,7 +18,7 @@ nowIn tallies = partyOf [] tallies .tally
 
 -- the midnights among a replay's own numbers
 abbrev pub midnightsIn : List ℕ → ℕ
-midnightsIn log = viewed log [] newSession .midnights
+midnightsIn log = viewed log [] (newSession 1) .midnights
 
 abbrev pub standingOf : Replay → Standing
 standingOf r =

@@ -119,7 +119,7 @@ fn first_day(midnights: u32, last: u32) -> u32
 }
 
 pub fn standing_of(log: &[u32; replay::LOG_CELLS]) -> Standing
-    ensures { λ r. ⌜ r ≡ standingOf (viewed (now (log .entry)) [] newSession) ⌝ }
+    ensures { λ r. ⌜ r ≡ standingOf (viewed (now (log .entry)) [] (newSession 1)) ⌝ }
 {
     let midnights = log[own::MIDNIGHTS];
     let last = log[own::LAST_DAY];

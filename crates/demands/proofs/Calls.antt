@@ -18,6 +18,7 @@ use Rattle.group.specs.Cells.{stepLeaves, runLeaves, beginLeaves}
 use Rattle.kill.specs.Kill as kills
 use Rattle.kill.specs.Kill.{killTold, killLeaves, killOf}
 use Rattle.flow.specs.Store.{isProgram, loadTold, firstsLeft, secondsLeft}
+use Rattle.state.specs.Start.{isEdition, editionTold}
 use Rattle.score.specs.Score.{Score, scored, refused, scoreOf}
 use Rattle.refusal.specs.Crossing.{Crosses, statusOf, roomOf}
 use Rattle.command.specs.Known.{onLine}
@@ -35,6 +36,8 @@ use Rattle.demands.proofs.Numbers.{
   parameters-number,
   command-number,
   format-number,
+  edition-number,
+  line-number,
   load-number,
   begin-number,
   step-number,
@@ -53,6 +56,9 @@ use Rattle.demands.specs.Calls.{
   parameters,
   command,
   format,
+  session,
+  replay,
+  lease,
   load,
   begin,
   step,
@@ -131,7 +137,7 @@ served-refused (scored m) n e = given-refuses e
 served-refused (refused m) n e = e
 
 pub refused-call : {t : Told} {r : ℕ} {lent left : Lists} → Call t r lent left → (n : ℕ) → t ≡ refuses n → Untouched n r lent left
-unfolding memoryAfter loadTold firstsLeft secondsLeft beginTold beginLeaves
+unfolding memoryAfter editionTold loadTold firstsLeft secondsLeft beginTold beginLeaves
 refused-call (layout l r a b c) n e = one-room c n e (judged-number l)
 refused-call (translate l x y r a b c) n e = one-room c n e (translated-number (layoutIn l) x y)
 refused-call (locate l address r a b c) n e = one-room c n e (located-number (layoutIn l) address)
@@ -163,6 +169,25 @@ refused-call (command header fields r a b p q c) n e =
       arrays = two (c .room ∙ named-room (lineWith header) header fields a refl n e) (room (c .answer) n e);
     }
 refused-call (format p h header k r a b c) n e = one-room c n e (format-number p h header k)
+refused-call (session edition r a b c a' b' c' k) n e =
+    let same = k .untouched (denied (isEdition edition) [] 3 n e) in
+    record {
+      number = k .status ∙ ap statusOf e;
+      not-zero = edition-number edition n e;
+      arrays = three (same .own-cells) (same .tally-cells) (same .shared-cells);
+    }
+refused-call (replay edition r l m a b c l' m' a' b' c' k) n e =
+    let same = k .untouched (denied (isEdition edition) [] 3 n e) in
+    let session = same .session-cells in
+    record {
+      number = k .status ∙ ap statusOf e;
+      not-zero = edition-number edition n e;
+      arrays =
+          λ i.
+          same .log-cells i ∷ same .mark-cells i ∷ session .own-cells i ∷ session .tally-cells i ∷ session .shared-cells i ∷ [];
+    }
+refused-call (lease edition l r k) n e =
+    record { number = k ∙ ap statusOf e; not-zero = line-number edition l n e; arrays = refl }
 refused-call (load words r f f' s s' k k' c) n e =
     let no = denied (isProgram words) _ 15 n e in
     record {

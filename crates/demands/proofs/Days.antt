@@ -15,6 +15,7 @@ use Rattle.laws.specs.Masks.{_or_}
 use Rattle.laws.proofs.Choice.{Tested, tested, holds, fails, pick-yes, pick-no, by-pick, and-left}
 use Rattle.laws.proofs.Table.{each, _&_}
 use Rattle.state.specs.State.{Tally}
+use Rattle.state.specs.Start.{isEdition}
 use Rattle.session.specs.Feed.{feedOf}
 use Rattle.session.proofs.Tallies.{tallied}
 use Rattle.replay.specs.State.{Replay, newReplay}
@@ -107,15 +108,15 @@ module _ (r u : Replay) (f : Follows r u) (k : ℕ) (h : k < r .midnights) where
       sym (part-is (r .marks) (r .midnights) _ k (omega arith))
 
 -- two pieces
-pub gone-on : (a b : List ℕ) → replayed (a ++ b) ≡ goneOn (replayed a) b
+pub gone-on : (edition : ℕ) (a b : List ℕ) → replayed edition (a ++ b) ≡ goneOn (replayed edition a) b
 unfolding joined
-gone-on a b = ap (λ (f : Fed). f .replay) (cut newReplay a b)
+gone-on edition a b = ap (λ (f : Fed). f .replay) (cut (newReplay edition) a b)
 
 -- "What came before stands": the days that have ended never change, whatever bytes come
-pub days-stand : (before later : List ℕ) (k : ℕ) → k < replayed before .midnights → partAt (replayed (before ++ later)) k ≡ partAt (replayed before) k
-days-stand before later k h =
-    ap (λ (r : Replay). partAt r k) (gone-on before later) ∙
-    stands (replayed before) (goneOn (replayed before) later) (bytes-follow (replayed before) later) k h
+pub days-stand : (edition : ℕ) (before later : List ℕ) (k : ℕ) → k < replayed edition before .midnights → partAt (replayed edition (before ++ later)) k ≡ partAt (replayed edition before) k
+days-stand edition before later k h =
+    ap (λ (r : Replay). partAt r k) (gone-on edition before later) ∙
+    stands (replayed edition before) (goneOn (replayed edition before) later) (bytes-follow (replayed edition before) later) k h
 
 -- the last part grows by what the words add, where no midnight comes
 module _ (r : Replay) (v : ReplayValid r) (bs : List ℕ) (same : goneOn r bs .midnights ≡ r .midnights) where
@@ -215,45 +216,46 @@ unfolding replayOf
 midnight-valid r day v a =
     subst ReplayValid (ap (goneOn r) (sym (append-nil (recordBytes 2 day))) ∙ midnight-read r day [] a) (piece-valid r v (recordBytes 2 day) (record-bytes day))
 
-module _ (before : List ℕ) (day : ℕ) (during : List ℕ) (b : Bytes8 before) (a : AtMidnight (replayed before) day) where
+module _ (edition : ℕ) (known : isEdition edition ≡ true) (before : List ℕ) (day : ℕ) (during : List ℕ) (b : Bytes8 before)
+    (a : AtMidnight (replayed edition before) day) where
   abbrev r₀ : Replay
-  r₀ = replayed before
+  r₀ = replayed edition before
 
   v₀ : ReplayValid r₀
-  v₀ = piece-valid newReplay new-replay-valid before b
+  v₀ = piece-valid (newReplay edition) (new-replay-valid edition known) before b
 
-  v₁ : ReplayValid (begun before day)
+  v₁ : ReplayValid (begun edition before day)
   v₁ = midnight-valid r₀ day v₀ a
 
-  pub to-day : replayed (withDay before day during) ≡ goneOn (begun before day) during
-  to-day = gone-on before (recordBytes 2 day ++ during) ∙ midnight-read r₀ day during a
+  pub to-day : replayed edition (withDay before day during) ≡ goneOn (begun edition before day) during
+  to-day = gone-on edition before (recordBytes 2 day ++ during) ∙ midnight-read r₀ day during a
 
   -- a part is what the words since its midnight added, while its day goes on
-  module _ (same : goneOn (begun before day) during .midnights ≡ begun before day .midnights) where
-    during-part : partAt (goneOn (begun before day) during) (r₀ .midnights + 1) ≡ added (r₀ .session) (wordsIn (begun before day) during)
+  module _ (same : goneOn (begun edition before day) during .midnights ≡ begun edition before day .midnights) where
+    during-part : partAt (goneOn (begun edition before day) during) (r₀ .midnights + 1) ≡ added (r₀ .session) (wordsIn (begun edition before day) during)
     unfolding afterMidnight
     during-part =
-        grows-by (begun before day) v₁ during same ∙
+        grows-by (begun edition before day) v₁ during same ∙
         ap (λ (t : Tally).
         record {
-          runs = t .runs + added (r₀ .session) (wordsIn (begun before day) during) .runs;
-          claims = t .claims + added (r₀ .session) (wordsIn (begun before day) during) .claims;
+          runs = t .runs + added (r₀ .session) (wordsIn (begun edition before day) during) .runs;
+          claims = t .claims + added (r₀ .session) (wordsIn (begun edition before day) during) .claims;
         })
         (begins-empty r₀ v₀ day (a .may-begin)) ∙
         ap₂ {C = Tally} (λ (i j : ℕ). record { runs = i; claims = j }) (zero-add _) (zero-add _)
 
-    pub day-so-far : partAt (replayed (withDay before day during)) (r₀ .midnights + 1) ≡ added (r₀ .session) (wordsIn (begun before day) during)
+    pub day-so-far : partAt (replayed edition (withDay before day during)) (r₀ .midnights + 1) ≡ added (r₀ .session) (wordsIn (begun edition before day) during)
     day-so-far = ap (λ (r : Replay). partAt r (r₀ .midnights + 1)) to-day ∙ during-part
 
     -- and once the next midnight has come it is what the words between the two midnights added, whatever bytes come later
-    module _ (b' : Bytes8 during) (next : ℕ) (later : List ℕ) (a' : AtMidnight (goneOn (begun before day) during) next) where
+    module _ (b' : Bytes8 during) (next : ℕ) (later : List ℕ) (a' : AtMidnight (goneOn (begun edition before day) during) next) where
       abbrev r₂ : Replay
-      r₂ = goneOn (begun before day) during
+      r₂ = goneOn (begun edition before day) during
 
-      at-next : replayed (withDay before day during ++ recordBytes 2 next) ≡ afterMidnight r₂ next
+      at-next : replayed edition (withDay before day during ++ recordBytes 2 next) ≡ afterMidnight r₂ next
       unfolding replayOf
       at-next =
-          gone-on (withDay before day during) (recordBytes 2 next) ∙
+          gone-on edition (withDay before day during) (recordBytes 2 next) ∙
           ap (λ (r : Replay). goneOn r (recordBytes 2 next)) to-day ∙
           ap (goneOn r₂) (sym (append-nil (recordBytes 2 next))) ∙ midnight-read r₂ next [] a'
 
@@ -266,25 +268,25 @@ module _ (before : List ℕ) (day : ℕ) (during : List ℕ) (b : Bytes8 before)
       up-to = omega (arith, same)
 
       pub day-ended :
-          partAt (replayed ((withDay before day during ++ recordBytes 2 next) ++ later)) (r₀ .midnights + 1) ≡
-          added (r₀ .session) (wordsIn (begun before day) during)
+          partAt (replayed edition ((withDay before day during ++ recordBytes 2 next) ++ later)) (r₀ .midnights + 1) ≡
+          added (r₀ .session) (wordsIn (begun edition before day) during)
       day-ended =
-          days-stand (withDay before day during ++ recordBytes 2 next) later (r₀ .midnights + 1)
+          days-stand edition (withDay before day during ++ recordBytes 2 next) later (r₀ .midnights + 1)
           (subst (λ (r : Replay). r₀ .midnights + 1 < r .midnights) (sym at-next) two-more) ∙
           ap (λ (r : Replay). partAt r (r₀ .midnights + 1)) at-next ∙
-          closes r₂ (piece-valid (begun before day) v₁ during b') next (a' .may-begin) (r₀ .midnights + 1) up-to ∙ during-part
+          closes r₂ (piece-valid (begun edition before day) v₁ during b') next (a' .may-begin) (r₀ .midnights + 1) up-to ∙ during-part
 
 -- what ends before the first midnight: the words before it
-none-yet : partAt newReplay 0 ≡ noTally
-none-yet = part-is (newReplay .marks) 0 (newReplay .session .party .tally) 0 (omega arith) ∙ unfold endedWith beganWith pick in refl
+none-yet : (edition : ℕ) → partAt (newReplay edition) 0 ≡ noTally
+none-yet edition = part-is (newReplay edition .marks) 0 (newReplay edition .session .party .tally) 0 (omega arith) ∙ unfold endedWith beganWith pick in refl
 
-pub before-first : (bytes : List ℕ) → replayed bytes .midnights ≡ 0 → partAt (replayed bytes) 0 ≡ added (newReplay .session) (wordsIn newReplay bytes)
-before-first bytes e =
-    grows-by newReplay new-replay-valid bytes e ∙
+pub before-first : (edition : ℕ) → isEdition edition ≡ true → (bytes : List ℕ) → replayed edition bytes .midnights ≡ 0 → partAt (replayed edition bytes) 0 ≡ added (newReplay edition .session) (wordsIn (newReplay edition) bytes)
+before-first edition known bytes e =
+    grows-by (newReplay edition) (new-replay-valid edition known) bytes e ∙
     ap (λ (t : Tally).
     record {
-      runs = t .runs + added (newReplay .session) (wordsIn newReplay bytes) .runs;
-      claims = t .claims + added (newReplay .session) (wordsIn newReplay bytes) .claims;
+      runs = t .runs + added (newReplay edition .session) (wordsIn (newReplay edition) bytes) .runs;
+      claims = t .claims + added (newReplay edition .session) (wordsIn (newReplay edition) bytes) .claims;
     })
-    none-yet ∙
+    (none-yet edition) ∙
     ap₂ {C = Tally} (λ (i j : ℕ). record { runs = i; claims = j }) (zero-add _) (zero-add _)

@@ -1,4 +1,4 @@
--- The page of top theorems, in the order of the demands: 1, 2, 3, then elements, flow, and the requests 1 to 8, 11 and 13. Each statement has
+-- The page of top theorems, in the order of the demands: 1, 2, 3, then elements, flow, and the requests 1 to 8, 10, 11 and 13. Each statement has
 -- its sentence above it and a proof that only cites the file that has it. What a statement asks for is what its sentence says or what an
 -- entry asks for: a session, a replay or a group's cells that came from the entries (`Reached`, `Handed`), and bytes that are bytes.
 -- Assumes nothing.
@@ -11,7 +11,7 @@ use lib.Ieee.{Float, lt}
 use lib.ListN.{length, take, getD}
 use Rattle.laws.specs.Bits.{xor}
 use Rattle.laws.specs.Choice.{_and_, pick, placeOf}
-use Rattle.laws.specs.Below.{some, every, sum, least}
+use Rattle.laws.specs.Below.{some, every, sum, count, least}
 use Rattle.laws.specs.Masks.{_or_, differ, digit, on, pack}
 use Rattle.refusal.specs.Told.{Told, gives, refuses}
 use Rattle.layout.specs.Sizes.{isSize, widthOf, heightOf}
@@ -40,8 +40,10 @@ use Rattle.superfine.specs.InLine.{joined}
 use Rattle.superfine.specs.Superfine.{superfineWord, superfineReadOf, formatLayout}
 use Rattle.superfine.proofs.FourReads.{four-reads}
 use Rattle.command.specs.declared.commands.Command.the-variants as command
-use Rattle.state.specs.State.{Session, newSession}
-use Rattle.state.specs.Start.{readinessOf}
+use Rattle.state.specs.State.{Buffer, Domain as StartDomain, Session, newSession}
+use Rattle.command.specs.Format.{channelsOf, codeOf as formatCode}
+use Rattle.state.specs.Start.{output, counts, isEdition, readinessOf, creditAt, pairsOf, claimOf, mostClaim}
+use Rattle.start.proofs.Editions.{first-claim, one-channel, claim-least, claim-four}
 use Rattle.state.specs.Readiness.{readinessFor}
 use Rattle.state.specs.Effects.{limit}
 use Rattle.state.specs.Asked.{Given}
@@ -54,7 +56,12 @@ use Rattle.session.specs.Again.{Idle, SameSettings}
 use Rattle.session.specs.Reached.{Reached, mostWords, allByWriter, ReadInFull}
 use Rattle.session.specs.Silent.{SilentSettings, startWords, EmptyRun, AsBefore}
 use Rattle.session.specs.Stored.{toldBy, forgotten, SameAnswers}
+use Rattle.session.specs.Editions.{SameButClaims}
 use Rattle.session.proofs.Cut.{cut-anywhere}
+use Rattle.session.proofs.Editions.{editions-agree as session-editions}
+use Rattle.session.proofs.Tallies.{born}
+use Rattle.log.specs.Editions.{SameButClaims as ReplaysAgree}
+use Rattle.log.proofs.Editions.{replays-agree as replay-editions, part-runs}
 use Rattle.session.proofs.Reached.{reached-valid, by-writer, back-by-writer, read-in-full, read-here}
 use Rattle.session.proofs.Refusals.{refused-word, refused-piece, stopped-for-good, stopped-piece}
 use Rattle.session.proofs.Silent.{silent-start, as-before}
@@ -74,7 +81,7 @@ use Rattle.log.proofs.Days.{all-runs, all-claims, unfinished}
 use Rattle.log.proofs.Kept.{new-replay-valid, piece-valid}
 use Rattle.log.proofs.Records.{Ready, later-words}
 use Rattle.log.proofs.Words.{one-session, first-refusal}
-use Rattle.score.specs.Lease.{Lease, isLease}
+use Rattle.score.specs.Lease.{Lease, isLease, lineTold}
 use Rattle.score.specs.Midnights.{among, daysIn}
 use Rattle.score.specs.Promises.{AllServed, Calling, Claimed, Refusing, Scoring}
 use Rattle.score.specs.Score.{servedAt, verdictOf, Month, monthOf, scored, refused as refusedScore, scoreOf, scoreOfLog}
@@ -135,8 +142,7 @@ use Rattle.element_rooms.specs.Rooms.{WriteCrosses}
 use Rattle.session_rooms.specs.Rooms.{WordCrosses, FeedCrosses}
 use Rattle.replay.specs.Cells.{ReplayHeld, ReplayGiven}
 use Rattle.log.proofs.Handed.{begun-given}
-use Rattle.log_rooms.specs.Rooms.{BeginCrosses}
-use Rattle.log_rooms.specs.Pieces.{Arrays, replayAt, GivenAt, FedAt, Pieces}
+use Rattle.log_rooms.specs.Pieces.{Arrays, replayAt, GivenAt, BeginsAt, FedAt, Pieces}
 use Rattle.log_rooms.proofs.Cut.{any-pieces, pieces-given}
 use Rattle.score_rooms.specs.Rooms.{MonthCrosses, ScoreCrosses}
 use Rattle.score_rooms.proofs.FromLog.{score-from-log}
@@ -152,6 +158,8 @@ use Rattle.demands.specs.Windows.{Fits, PairOutside, ByteShared}
 use Rattle.demands.proofs.Calls.{refused-call}
 use Rattle.demands.proofs.Days.{day-so-far, day-ended, before-first, days-stand}
 use Rattle.demands.proofs.Elements.{write-done}
+use Rattle.demands.specs.Editions.{FitTallies}
+use Rattle.demands.proofs.Editions.{before-line, greatest, fit-tallies}
 use Rattle.demands.proofs.Flow.{step-made, step-refused, run-walks, same-step, same-run, handed-made, begun-mode, step-mode, run-mode}
 use Rattle.demands.proofs.Painting.{every-order}
 use Rattle.demands.proofs.Pieces.{handed-reached, handed-given, word-refused, as-one}
@@ -366,7 +374,9 @@ pub log-given :
     (a : Arrays) → GivenAt a → (ps : List (List ℕ)) (status taken : ℕ) (a' : Arrays) → Pieces a ps status taken a' → GivenAt a'
 log-given = pieces-given
 
-pub log-begun : {log marks own tallies shared : List ℕ} → ReplayHeld newReplay log marks own tallies shared → ReplayGiven log marks own tallies shared
+pub log-begun :
+    (edition : ℕ) → isEdition edition ≡ true → {log marks own tallies shared : List ℕ} →
+    ReplayHeld (newReplay edition) log marks own tallies shared → ReplayGiven log marks own tallies shared
 log-begun = begun-given
 
 -- 18 and 19 "stop the replay and drop the open record. What came before stands; later bytes get that number again."
@@ -394,46 +404,50 @@ log-later-words = later-words
 -- The header's sentence: the first refused word stands in the record whose number, counted from 0, is the words that the session has
 -- taken plus the midnights before that word.
 pub log-refused-place :
-    (before : List ℕ) (w n : ℕ) → FirstRefused before w n → (later : List ℕ) →
-    Reported before n (replayed (before ++ (recordBytes 1 w ++ later)))
+    (edition : ℕ) → isEdition edition ≡ true → (before : List ℕ) (w n : ℕ) → FirstRefused edition before w n → (later : List ℕ) →
+    Reported before n (replayed edition (before ++ (recordBytes 1 w ++ later)))
 log-refused-place = refused-place
 
 -- "gives runs and claimed elements for each day; what ends before the first midnight is given apart": a part is what the words since its
 -- midnight added, and once the next midnight has come it is what the words between the two added, whatever bytes come later.
 pub log-before-days :
-    (bytes : List ℕ) → replayed bytes .midnights ≡ 0 → partAt (replayed bytes) 0 ≡ added (newReplay .session) (wordsIn newReplay bytes)
+    (edition : ℕ) → isEdition edition ≡ true → (bytes : List ℕ) → replayed edition bytes .midnights ≡ 0 →
+    partAt (replayed edition bytes) 0 ≡ added (newReplay edition .session) (wordsIn (newReplay edition) bytes)
 log-before-days = before-first
 
 pub log-day-so-far :
-    (before : List ℕ) (day : ℕ) (during : List ℕ) → Bytes8 before → AtMidnight (replayed before) day →
-    goneOn (begun before day) during .midnights ≡ begun before day .midnights →
-    partAt (replayed (withDay before day during)) (replayed before .midnights + 1) ≡
-    added (replayed before .session) (wordsIn (begun before day) during)
+    (edition : ℕ) → isEdition edition ≡ true →
+    (before : List ℕ) (day : ℕ) (during : List ℕ) → Bytes8 before → AtMidnight (replayed edition before) day →
+    goneOn (begun edition before day) during .midnights ≡ begun edition before day .midnights →
+    partAt (replayed edition (withDay before day during)) (replayed edition before .midnights + 1) ≡
+    added (replayed edition before .session) (wordsIn (begun edition before day) during)
 log-day-so-far = day-so-far
 
 pub log-day :
-    (before : List ℕ) (day : ℕ) (during : List ℕ) → Bytes8 before → AtMidnight (replayed before) day →
-    goneOn (begun before day) during .midnights ≡ begun before day .midnights → Bytes8 during →
-    (next : ℕ) (later : List ℕ) → AtMidnight (goneOn (begun before day) during) next →
-    partAt (replayed ((withDay before day during ++ recordBytes 2 next) ++ later)) (replayed before .midnights + 1) ≡
-    added (replayed before .session) (wordsIn (begun before day) during)
+    (edition : ℕ) → isEdition edition ≡ true →
+    (before : List ℕ) (day : ℕ) (during : List ℕ) → Bytes8 before → AtMidnight (replayed edition before) day →
+    goneOn (begun edition before day) during .midnights ≡ begun edition before day .midnights → Bytes8 during →
+    (next : ℕ) (later : List ℕ) → AtMidnight (goneOn (begun edition before day) during) next →
+    partAt (replayed edition ((withDay before day during ++ recordBytes 2 next) ++ later)) (replayed edition before .midnights + 1) ≡
+    added (replayed edition before .session) (wordsIn (begun edition before day) during)
 log-day = day-ended
 
 -- Days that have ended never change, whatever bytes come.
 pub log-days-stand :
-    (before later : List ℕ) (k : ℕ) → k < replayed before .midnights → partAt (replayed (before ++ later)) k ≡ partAt (replayed before) k
+    (edition : ℕ) (before later : List ℕ) (k : ℕ) → k < replayed edition before .midnights →
+    partAt (replayed edition (before ++ later)) k ≡ partAt (replayed edition before) k
 log-days-stand = days-stand
 
 -- What ended before the first midnight and on each day adds up to the session's runs and claims.
 pub log-runs :
-    (bytes : List ℕ) → Bytes8 bytes →
-    sum (replayed bytes .midnights + 1) (λ k. partAt (replayed bytes) k .runs) ≡ replayed bytes .session .party .tally .runs
-log-runs bytes b = all-runs (replayed bytes) (piece-valid newReplay new-replay-valid bytes b)
+    (edition : ℕ) → isEdition edition ≡ true → (bytes : List ℕ) → Bytes8 bytes →
+    sum (replayed edition bytes .midnights + 1) (λ k. partAt (replayed edition bytes) k .runs) ≡ replayed edition bytes .session .party .tally .runs
+log-runs edition known bytes b = all-runs (replayed edition bytes) (piece-valid (newReplay edition) (new-replay-valid edition known) bytes b)
 
 pub log-claims :
-    (bytes : List ℕ) → Bytes8 bytes →
-    sum (replayed bytes .midnights + 1) (λ k. partAt (replayed bytes) k .claims) ≡ replayed bytes .session .party .tally .claims
-log-claims bytes b = all-claims (replayed bytes) (piece-valid newReplay new-replay-valid bytes b)
+    (edition : ℕ) → isEdition edition ≡ true → (bytes : List ℕ) → Bytes8 bytes →
+    sum (replayed edition bytes .midnights + 1) (λ k. partAt (replayed edition bytes) k .claims) ≡ replayed edition bytes .session .party .tally .claims
+log-claims edition known bytes b = all-claims (replayed edition bytes) (piece-valid (newReplay edition) (new-replay-valid edition known) bytes b)
 
 -- "an unfinished last record is reported as such and counted nowhere": up to four bytes of a record change the open record alone.
 pub log-unfinished :
@@ -449,8 +463,10 @@ pub silent-run :
     (s : Session) → Idle s → s .party .taken + 2 ≤ limit → SilentSettings s → EmptyRun s (feedOf s startWords)
 silent-run = silent-start
 
--- Whatever words a new session was fed, where its mask is 65535 it judges a start, and counts its claim, as document 01 does.
-pub full-mask : (ws : List ℕ) → feedOf newSession ws .session .shared .mask ≡ 65535 → AsBefore (feedOf newSession ws .session)
+-- Whatever words a new session of edition 1 was fed, where its mask is 65535 it judges a start, and counts its claim, as document 01
+-- does.
+pub full-mask :
+    (ws : List ℕ) → feedOf (newSession 1) ws .session .shared .mask ≡ 65535 → AsBefore (feedOf (newSession 1) ws .session)
 full-mask = as-before
 
 -- REQUEST 3, "The mask count in the stepper's hot path"
@@ -518,20 +534,21 @@ score-line = line-first
 
 -- Where the lease line is taken, a log whose bytes are refused gives that number, and any other log is scored.
 pub score-log :
-    (l : Lease) → isLease l ≡ true → (bytes : List ℕ) (n : ℕ) → replayOf newReplay bytes .refusal ≡ first n →
-    scoreOfLog l bytes ≡ refusedScore n
+    (l : Lease) (edition : ℕ) → isLease l ≡ true → (bytes : List ℕ) (n : ℕ) → replayOf (newReplay edition) bytes .refusal ≡ first n →
+    scoreOfLog edition l bytes ≡ refusedScore n
 score-log = log-refused
 
 pub score-month :
-    (l : Lease) → isLease l ≡ true → (bytes : List ℕ) → replayOf newReplay bytes .refusal ≡ nothing →
-    scoreOfLog l bytes ≡ scored (monthOf l (replayOf newReplay bytes .replay))
+    (l : Lease) (edition : ℕ) → isLease l ≡ true → (bytes : List ℕ) → replayOf (newReplay edition) bytes .refusal ≡ nothing →
+    scoreOfLog edition l bytes ≡ scored (monthOf l (replayOf (newReplay edition) bytes .replay))
 score-month = log-scored
 
 -- No other numbers refuse a score: 21 for the lease line, or else the 18 or 19 that stopped the replay of its log.
 pub score-refusals :
-    (l : Lease) (bytes : List ℕ) → Bytes8 bytes → (n : ℕ) → scoreOfLog l bytes ≡ refusedScore n →
-    Refusing l (replayOf newReplay bytes .replay) n
-score-refusals l bytes b n = refused-with l (replayOf newReplay bytes .replay) (piece-valid newReplay new-replay-valid bytes b) n
+    (edition : ℕ) → isEdition edition ≡ true → (l : Lease) (bytes : List ℕ) → Bytes8 bytes → (n : ℕ) →
+    scoreOfLog edition l bytes ≡ refusedScore n → Refusing l (replayOf (newReplay edition) bytes .replay) n
+score-refusals edition known l bytes b n =
+    refused-with l (replayOf (newReplay edition) bytes .replay) (piece-valid (newReplay edition) (new-replay-valid edition known) bytes b) n
 
 -- A score is of a lease line that was taken and of a replay that wasn't stopped, and served ≤ owed, day by day and in
 -- the month.
@@ -540,14 +557,18 @@ score-given = scored-as
 
 -- A day's claimed number is that of the day's part of the log, which began at a midnight with its number, or 0 where
 -- there is no such part. So what ended before the first midnight serves no day.
-pub score-days : (bytes : List ℕ) → Bytes8 bytes → (day : ℕ) → Claimed (replayOf newReplay bytes .replay) day
-score-days bytes b day = claimed-from (replayOf newReplay bytes .replay) (piece-valid newReplay new-replay-valid bytes b) day
+pub score-days :
+    (edition : ℕ) → isEdition edition ≡ true → (bytes : List ℕ) → Bytes8 bytes → (day : ℕ) →
+    Claimed (replayOf (newReplay edition) bytes .replay) day
+score-days edition known bytes b day =
+    claimed-from (replayOf (newReplay edition) bytes .replay) (piece-valid (newReplay edition) (new-replay-valid edition known) bytes b) day
 
 -- A day without a midnight record in the log is served 0: where its number is among none of the log's midnights.
 pub score-dark :
-    (l : Lease) (bytes : List ℕ) (k : ℕ) → among (l .firstDay + k) (daysIn newReplay bytes) ≡ false →
-    servedAt l (replayOf newReplay bytes .replay) k ≡ 0
-score-dark l bytes k e = dark-day l (replayOf newReplay bytes .replay) k (midnight-records bytes (l .firstDay + k) ∙ e)
+    (edition : ℕ) (l : Lease) (bytes : List ℕ) (k : ℕ) → among (l .firstDay + k) (daysIn (newReplay edition) bytes) ≡ false →
+    servedAt l (replayOf (newReplay edition) bytes .replay) k ≡ 0
+score-dark edition l bytes k e =
+    dark-day l (replayOf (newReplay edition) bytes .replay) k (midnight-records edition bytes (l .firstDay + k) ∙ e)
 
 -- A station is called full exactly when every day owes more than 0 and is served in full.
 pub score-full-when : (l : Lease) (r : Replay) → AllServed l r → verdictOf l r ≡ Full
@@ -561,16 +582,17 @@ pub score-verdict : (l : Lease) → isLease l ≡ true → (r : Replay) → Call
 score-verdict l e r = calling l r (bounds l e .some-days)
 
 -- A log fed in pieces, cut anywhere, has the score of the uncut log.
-pub score-cut : (l : Lease) (ps : List (List ℕ)) → scoreOf l (replayPieces newReplay ps .replay) ≡ scoreOfLog l (uncut ps)
+pub score-cut :
+    (l : Lease) (edition : ℕ) (ps : List (List ℕ)) → scoreOf l (replayPieces (newReplay edition) ps .replay) ≡ scoreOfLog edition l (uncut ps)
 score-cut = in-pieces
 
 -- From a replay that was begun, through the pieces of a log, cut anywhere, to a month's rooms: they hold the score of the uncut bytes.
 pub score-calls :
-    (l : Lease) (a : Arrays) (b : ℕ) → BeginCrosses b (a .log) (a .marks) (a .own) (a .tallies) (a .shared) →
+    (edition : ℕ) → isEdition edition ≡ true → (l : Lease) (a₀ a : Arrays) (b : ℕ) → BeginsAt edition b a₀ a →
     (ps : List (List ℕ)) (status taken : ℕ) (a' : Arrays) → Pieces a ps status taken a' →
     (r : ℕ) (claimed served month claimed' served' month' : List ℕ) →
     ScoreCrosses l (a' .log) (a' .marks) (a' .tallies) r claimed served month claimed' served' month' →
-    MonthCrosses (scoreOfLog l (uncut ps)) r claimed served month claimed' served' month'
+    MonthCrosses (scoreOfLog edition l (uncut ps)) r claimed served month claimed' served' month'
 score-calls = score-from-log
 
 -- REQUEST 6, "Keep readiness instead of asking again"
@@ -666,6 +688,57 @@ pub run-back :
     (l : Layout) → Accepted l → (x y : ℕ) → Inside l x y → (k place : ℕ) → k < runOf l x y → place < l .size →
     locateOf l (addressOf l x y + k * l .size + place) ≡ gives ((x + k) ∷ y ∷ place ∷ [])
 run-back = leads-back
+
+-- REQUEST 10, "Lease rule, second edition"
+
+-- The edition, 1 or 2, is judged before all else and then fixed: no word changes it.
+pub edition-first : (edition : ℕ) → isEdition edition ≡ false → (l : Lease) → lineTold edition l ≡ refuses 3
+edition-first = before-line
+
+pub edition-fixed : (s : Session) (ws : List ℕ) → feedOf s ws .session .party .birth ≡ s .party .birth
+edition-fixed = born
+
+-- "all answers but claimed totals, and what is reckoned from those, agree": new sessions of two editions answer every piece alike, and
+-- what they leave differs in nothing but the edition, the claimed elements and what a pair is credited.
+pub editions-agree : (a b : ℕ) (ws : List ℕ) → SameButClaims (feedOf (newSession a) ws) (feedOf (newSession b) ws)
+editions-agree = session-editions
+
+-- So do replays of the same bytes, whose parts have the same runs.
+pub replays-agree : (a b : ℕ) (bytes : List ℕ) → ReplaysAgree (replayOf (newReplay a) bytes) (replayOf (newReplay b) bytes)
+replays-agree = replay-editions
+
+pub replays-runs :
+    (a b : ℕ) (bytes : List ℕ) (k : ℕ) →
+    partAt (replayOf (newReplay a) bytes .replay) k .runs ≡ partAt (replayOf (newReplay b) bytes .replay) k .runs
+replays-runs a b bytes =
+    part-runs (replayOf (newReplay a) bytes .replay) (replayOf (newReplay b) bytes .replay) (replay-editions a b bytes .replay)
+
+-- Edition 1 is what stood before: the pairs of the domain, times the set outputs that aren't silent.
+pub edition-1 :
+    (d : StartDomain) (mask : ℕ) (outputs : List Buffer) → claimOf 1 d mask outputs ≡ pairsOf d * count 4 (counts mask outputs)
+edition-1 = first-claim
+
+-- Under edition 2 an output with one channel is credited as under edition 1.
+pub edition-one-channel :
+    (mask : ℕ) (outputs : List Buffer) (n : ℕ) → channelsOf (formatCode (output outputs n .format)) ≡ 1 →
+    creditAt 2 mask outputs n ≡ creditAt 1 mask outputs n
+edition-one-channel = one-channel
+
+-- A start claims by edition 2 at least what it claims by edition 1, and at most four times it.
+pub edition-least : (d : StartDomain) (mask : ℕ) (outputs : List Buffer) → claimOf 1 d mask outputs ≤ claimOf 2 d mask outputs
+edition-least = claim-least
+
+pub edition-four : (d : StartDomain) (mask : ℕ) (outputs : List Buffer) → claimOf 2 d mask outputs ≤ 4 * claimOf 1 d mask outputs
+edition-four = claim-four
+
+-- In every session that the entries give out a start claims at most 268,435,456 elements, so that 64 bits hold what the 1,000,000,000
+-- words of a session can claim, and every tally on the way.
+pub edition-greatest :
+    (s : Session) → Reached s → claimOf (s .party .birth .edition) (s .party .domain) (s .shared .mask) (s .shared .outputs) ≤ mostClaim
+edition-greatest = greatest
+
+pub edition-bits : (s : Session) → Reached s → FitTallies s
+edition-bits = fit-tallies
 
 -- REQUEST 11, "Kill test on float registers"
 

@@ -1,6 +1,7 @@
 pub mod Calls
 pub mod Days
 pub mod Demands
+pub mod Editions
 pub mod Elements
 pub mod Flow
 pub mod Numbers

@@ -25,7 +25,8 @@ use Rattle.group.specs.Modes.{Mode}
 use Rattle.group.specs.Group.{Program, Group, Outcome, Steps, Fails, Run, Makes, Breaks, onceMore, stepTold, runTold, beginTold, groupStep, groupRun}
 use Rattle.flow.specs.Store.{loadTold}
 use Rattle.replay.specs.State.{Replay}
-use Rattle.score.specs.Lease.{Lease}
+use Rattle.state.specs.Start.{editionTold}
+use Rattle.score.specs.Lease.{Lease, leaseTold, lineTold}
 use Rattle.score.specs.Score.{Score, scoreOf}
 use Rattle.command.specs.Known.{onLine}
 use Rattle.command_rooms.specs.Rooms.{parametersOf, namedWriteOf, commandWith}
@@ -134,6 +135,14 @@ writer-number c room =
 pub command-number : (header : ℕ) (fields room : List ℕ) → Nonzero (namedWriteOf header fields room)
 command-number header fields room =
     on-line (lineWith header) _ _ (λ line. writer-number (commandWith fields line) (length room)) (numbered 2 (omega arith))
+
+pub edition-number : (edition : ℕ) → Nonzero (editionTold edition)
+unfolding editionTold
+edition-number edition = either _ _ _ (given _) (numbered 3 (omega arith))
+
+pub line-number : (edition : ℕ) (l : Lease) → Nonzero (lineTold edition l)
+unfolding lineTold leaseTold
+line-number edition l = then-told _ _ (edition-number edition) (either _ _ _ (given _) (numbered 21 (omega arith)))
 
 pub format-number : (p : Party) (h : Shared) (header number : ℕ) → Nonzero (formatOf p h header number)
 unfolding formatAt

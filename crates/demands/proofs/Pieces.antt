@@ -28,8 +28,9 @@ use Rattle.demands.specs.Pieces.{Handed, begun, word, piece, WordRefused
 
 -- the arrays show a session that the entries reached
 pub handed-reached : {o t s : List ℕ} → Handed o t s → Reached (sessionOf o t s)
-handed-reached {o} {t} {s} (begun r a b c h) =
-    subst Reached (sym (held-view newSession (reached-valid reached.begun) o t s (h .held))) reached.begun
+handed-reached {o} {t} {s} (begun edition known r a b c a' b' c' h) =
+    let new = reached.begun edition known in
+    subst Reached (sym (held-view (newSession edition) (reached-valid new) o t s (h .held known))) new
 handed-reached {o} {t} {s} (word {own = o₀} {tallies = t₀} {shared = s₀} h w r a b c d e k) =
     let from = handed-reached h in
     subst Reached (sym (held-view (stepOf (sessionOf o₀ t₀ s₀) w .session) (kept (sessionOf o₀ t₀ s₀) w (reached-valid from)) o t s (k .held)))
@@ -41,7 +42,8 @@ handed-reached {o} {t} {s} (piece {own = o₀} {tallies = t₀} {shared = s₀} 
 
 -- so they are what the calls ask for: nothing that a host got from them is refused to be taken
 pub handed-given : {o t s : List ℕ} → Handed o t s → Given o t s
-handed-given {o} {t} {s} (begun r a b c h) = held-given newSession (reached-valid reached.begun) o t s (h .held)
+handed-given {o} {t} {s} (begun edition known r a b c a' b' c' h) =
+    held-given (newSession edition) (reached-valid (reached.begun edition known)) o t s (h .held known)
 handed-given {o} {t} {s} (word {own = o₀} {tallies = t₀} {shared = s₀} h w r a b c d e k) =
     held-given (stepOf (sessionOf o₀ t₀ s₀) w .session) (kept (sessionOf o₀ t₀ s₀) w (reached-valid (handed-reached h))) o t s (k .held)
 handed-given {o} {t} {s} (piece {own = o₀} {tallies = t₀} {shared = s₀} h ws r a b c d k) =

@@ -9,6 +9,7 @@ use lib.ListN.{length}
 use borrow.Author.Tests.{eqb-true, eqb-false, eq-eqb, ne-eqb, ltb-false}
 use Rattle.laws.proofs.Choice.{Tested, tested, holds, fails, pick-yes, pick-no, by-pick}
 use Rattle.state.specs.State.{Session}
+use Rattle.state.specs.Start.{isEdition}
 use Rattle.session.specs.Step.{stillOpen, completed, stepOf}
 use Rattle.session.specs.Step as stream
 use Rattle.session.specs.Feed.{First, nothing, first, feedOf}
@@ -172,46 +173,46 @@ same-taken : {s u : Session} {n : ℕ} → RefusedTo s n u → u .party .taken �
 same-taken (unchanged e) = refl
 same-taken (stopping e) = refl
 
-pub refused-place : (before : List ℕ) (w n : ℕ) → FirstRefused before w n → (later : List ℕ) →
-    Reported before n (replayed (before ++ (recordBytes 1 w ++ later)))
-refused-place before w n f later = subst (Reported before n) (sym whole) told
+pub refused-place : (edition : ℕ) → isEdition edition ≡ true → (before : List ℕ) (w n : ℕ) → FirstRefused edition before w n → (later : List ℕ) →
+    Reported before n (replayed edition (before ++ (recordBytes 1 w ++ later)))
+refused-place edition known before w n f later = subst (Reported before n) (sym whole) told
   where
-    whole : replayed (before ++ (recordBytes 1 w ++ later)) ≡ goneOn (afterWord (replayed before) w) later
+    whole : replayed edition (before ++ (recordBytes 1 w ++ later)) ≡ goneOn (afterWord (replayed edition before) w) later
     whole =
-        gone-on before (recordBytes 1 w ++ later) ∙
-        ap (λ (g : Fed). g .replay) (word-read (replayed before) (record { going = f .going; unopened = f .unopened }) w later (f .word))
+        gone-on edition before (recordBytes 1 w ++ later) ∙
+        ap (λ (g : Fed). g .replay) (word-read (replayed edition before) (record { going = f .going; unopened = f .unopened }) w later (f .word))
 
-    nothing-refused : replayOf newReplay before .refusal ≡ nothing
-    nothing-refused = go (replayOf newReplay before .refusal) refl
+    nothing-refused : replayOf (newReplay edition) before .refusal ≡ nothing
+    nothing-refused = go (replayOf (newReplay edition) before .refusal) refl
       where
-        go : (x : First) → replayOf newReplay before .refusal ≡ x → replayOf newReplay before .refusal ≡ nothing
+        go : (x : First) → replayOf (newReplay edition) before .refusal ≡ x → replayOf (newReplay edition) before .refusal ≡ nothing
         go nothing e = e
-        go (first m) e = absurd (stops newReplay before .not-none m e (sym (stops newReplay before .by-number m e) ∙ f .going))
+        go (first m) e = absurd (stops (newReplay edition) before .not-none m e (sym (stops (newReplay edition) before .by-number m e) ∙ f .going))
 
-    place-is : length before ≡ 5 * (replayed before .session .party .taken + replayed before .midnights)
+    place-is : length before ≡ 5 * (replayed edition before .session .party .taken + replayed edition before .midnights)
     place-is =
         omega
-        (arith, bytes-place newReplay new-replay-valid before (f .bytes) nothing-refused (f .unrefused), ap (λ o. o .count) (f .unopened))
+        (arith, bytes-place (newReplay edition) (new-replay-valid edition known) before (f .bytes) nothing-refused (f .unrefused), ap (λ o. o .count) (f .unopened))
 
-    noted-now : afterWord (replayed before) w .refused ≡ record { number = n; midnights = replayed before .midnights }
+    noted-now : afterWord (replayed edition before) w .refused ≡ record { number = n; midnights = replayed edition before .midnights }
     noted-now =
         unfold afterWord in
-        (ap (λ (y : stream.Reply). notedReply y (replayed before .midnights) (replayed before .refused)) (f .refuses) ∙
-        pick-yes _ _ (eq-eqb (replayed before .refused .number) 0 (f .unrefused)))
+        (ap (λ (y : stream.Reply). notedReply y (replayed edition before .midnights) (replayed edition before .refused)) (f .refuses) ∙
+        pick-yes _ _ (eq-eqb (replayed edition before .refused .number) 0 (f .unrefused)))
 
-    nonzero : afterWord (replayed before) w .refused .number ≡ 0 → ⊥
-    nonzero e = not-zero (refused-word (replayed before .session) w n (f .refuses)) (sym (ap (λ (x : WordRefused). x .number) noted-now) ∙ e)
+    nonzero : afterWord (replayed edition before) w .refused .number ≡ 0 → ⊥
+    nonzero e = not-zero (refused-word (replayed edition before .session) w n (f .refuses)) (sym (ap (λ (x : WordRefused). x .number) noted-now) ∙ e)
 
-    report : goneOn (afterWord (replayed before) w) later .refused ≡ record { number = n; midnights = replayed before .midnights }
-    report = bytes-report (afterWord (replayed before) w) later nonzero ∙ noted-now
+    report : goneOn (afterWord (replayed edition before) w) later .refused ≡ record { number = n; midnights = replayed edition before .midnights }
+    report = bytes-report (afterWord (replayed edition before) w) later nonzero ∙ noted-now
 
-    session-is : goneOn (afterWord (replayed before) w) later .session .party .taken ≡ replayed before .session .party .taken
+    session-is : goneOn (afterWord (replayed edition before) w) later .session .party .taken ≡ replayed edition before .session .party .taken
     session-is =
         ap (λ (s : Session). s .party .taken)
-        (one-session (afterWord (replayed before) w) later ∙ stays (replayed before) w n (f .refuses) (wordsIn (afterWord (replayed before) w) later)) ∙
-        same-taken (refused-word (replayed before .session) w n (f .refuses))
+        (one-session (afterWord (replayed edition before) w) later ∙ stays (replayed edition before) w n (f .refuses) (wordsIn (afterWord (replayed edition before) w) later)) ∙
+        same-taken (refused-word (replayed edition before .session) w n (f .refuses))
 
-    told : Reported before n (goneOn (afterWord (replayed before) w) later)
+    told : Reported before n (goneOn (afterWord (replayed edition before) w) later)
     told =
         record {
           number = ap (λ (x : WordRefused). x .number) report;

@@ -27,7 +27,7 @@ use Rattle.rules.specs.Rules.{domainKept, windowKept, lastRuleOf}
 use Rattle.command.specs.declared.commands.Stored.the-variants as stored
 use Rattle.command.specs.declared.commands.Command.{Command}
 use Rattle.command.specs.declared.commands.Command.the-variants as command
-use Rattle.state.specs.State.{Buffer, Domain, Shared, Session, unset, newSession}
+use Rattle.state.specs.State.{Buffer, Domain, Shared, Session, unset, newShared}
 use Rattle.state.specs.Start.{
   stepOfBuffer,
   spanOfBuffer,
@@ -139,18 +139,18 @@ windowed-piece s (w ∷ ws) v a =
     windowed-on (wordStep s w .reply) (wordStep s w .session) (feedOf (wordStep s w .session) ws) b
     (windowed-piece (wordStep s w .session) ws (kept s w v) b)
 
-none-windowed : Windowed (newSession .shared .outputs)
+none-windowed : Windowed (newShared .outputs)
 unfolding isSet output
 none-windowed =
     record {
       each-accepted =
           λ n h e.
-          no-way (sym (each (λ n. eqb (getD (newSession .shared .outputs) n unset .isSet) 1 ≡ false) 4 (tt & refl & refl & refl & refl) n h) ∙ e);
+          no-way (sym (each (λ n. eqb (getD (newShared .outputs) n unset .isSet) 1 ≡ false) 4 (tt & refl & refl & refl & refl) n h) ∙ e);
     }
 
 -- every set output of a session that the entries give out has an accepted window
 pub reached-windowed : {s : Session} → Reached s → Windowed (s .shared .outputs)
-reached-windowed begun = none-windowed
+reached-windowed (begun edition known) = none-windowed
 reached-windowed (word {s} r w) = windowed-word s w (reached-valid r) (reached-windowed r) (wordStep s w) (way s w)
 reached-windowed (piece {s} r ws) = windowed-piece s ws (reached-valid r) (reached-windowed r)
 

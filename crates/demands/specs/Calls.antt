@@ -1,4 +1,4 @@
--- The calls of the C boundary that may be refused and keep no session: each with what document 01's definition tells, its status, and
+-- The calls of the C boundary that may be refused, all but those that take a session's words or a log's bytes: each with what document 01's definition tells, its status, and
 -- every array that it is lent for writing, before and after. A constructor is a function of include/egretfold.h with its contract.
 -- Assumes nothing.
 use mathlib.Core.Path.{_≡_}
@@ -12,14 +12,17 @@ use Rattle.address.specs.Address.{layoutOf, translateOf, locateOf}
 use Rattle.memory.specs.Elements.{readOf, writeOf}
 use Rattle.superfine.specs.Superfine.{superfineReadOf}
 use Rattle.state.specs.State.{Party, Shared}
+use Rattle.state.specs.Start.{editionTold}
+use Rattle.session.specs.Answers as sessions
+use Rattle.log.specs.Asked as logs
 use Rattle.group.specs.Modes.{Mode}
 use Rattle.group.specs.Group.{Program, Group, stepTold, runTold, beginTold, groupStep, groupRun}
 use Rattle.kill.specs.Kill.{killTold, killOf}
 use Rattle.flow.specs.Store.{loadTold}
 use Rattle.replay.specs.State.{Replay}
-use Rattle.score.specs.Lease.{Lease}
+use Rattle.score.specs.Lease.{Lease, lineTold}
 use Rattle.score.specs.Score.{scoreOf}
-use Rattle.refusal.specs.Crossing.{Crosses}
+use Rattle.refusal.specs.Crossing.{Crosses, statusOf}
 use Rattle.command_rooms.specs.Rooms.{parametersOf, namedWriteOf, CommandCrosses}
 use Rattle.element_rooms.specs.Rooms.{inSixteen, SuperfineCrosses, WriteCrosses}
 use Rattle.group_rooms.specs.Rooms.{LoadCrosses, BeginCrosses, StepCrosses, RunCrosses}
@@ -74,6 +77,16 @@ pub data Call : Told → ℕ → List (List ℕ) → List (List ℕ) → Type 0 
   -- egretfold_session_format
   format : (p : Party) (h : Shared) (header number r : ℕ) (room room' : List ℕ) →
       Crosses (formatOf p h header number) r room room' → Call (formatOf p h header number) r (room ∷ []) (room' ∷ [])
+  -- egretfold_session_begin
+  session : (edition r : ℕ) (own tallies shared own' tallies' shared' : List ℕ) →
+      sessions.Begins edition r own tallies shared own' tallies' shared' →
+      Call (editionTold edition) r (own ∷ tallies ∷ shared ∷ []) (own' ∷ tallies' ∷ shared' ∷ [])
+  -- egretfold_log_begin
+  replay : (edition r : ℕ) (log marks own tallies shared log' marks' own' tallies' shared' : List ℕ) →
+      logs.Begins edition r log marks own tallies shared log' marks' own' tallies' shared' →
+      Call (editionTold edition) r (log ∷ marks ∷ own ∷ tallies ∷ shared ∷ []) (log' ∷ marks' ∷ own' ∷ tallies' ∷ shared' ∷ [])
+  -- egretfold_score_lease
+  lease : (edition : ℕ) (l : Lease) (r : ℕ) → r ≡ statusOf (lineTold edition l) → Call (lineTold edition l) r [] []
   -- egretfold_program_load
   load : (words : List ℕ) (r : ℕ) (firsts firsts' seconds seconds' slots slots' : List ℕ) →
       LoadCrosses words r firsts firsts' seconds seconds' slots slots' →

@@ -10,17 +10,17 @@ use Rattle.replay.specs.State.{Replay, newReplay, noRecord}
 use Rattle.replay.specs.Step.{mayBegin, afterMidnight}
 use Rattle.log.specs.Feed.{replayOf, recordBytes}
 
--- what words add to a session's tallies: the starts among the commands that they complete, and what these claim
+-- what words add to a session's tallies: the starts among the commands that they complete, and what these claim by its edition
 unfoldable pub added : Session → List ℕ → Tally
 added s ws =
     record {
       runs = runsOf (feedOf s ws .commands);
-      claims = claimsOf (feedOf s ws .commands) (s .party .domain) (s .shared .mask) (s .shared .outputs);
+      claims = claimsOf (s .party .birth .edition) (feedOf s ws .commands) (s .party .domain) (s .shared .mask) (s .shared .outputs);
     }
 
--- the replay of a log, and of more bytes from there
-abbrev pub replayed : List ℕ → Replay
-replayed bytes = replayOf newReplay bytes .replay
+-- the replay of a log by an edition, and of more bytes from there
+abbrev pub replayed : ℕ → List ℕ → Replay
+replayed edition bytes = replayOf (newReplay edition) bytes .replay
 
 abbrev pub goneOn : Replay → List ℕ → Replay
 goneOn r bytes = replayOf r bytes .replay
@@ -37,5 +37,5 @@ abbrev pub withDay : List ℕ → ℕ → List ℕ → List ℕ
 withDay before day during = before ++ (recordBytes 2 day ++ during)
 
 -- the replay at the beginning of the day, and after it
-abbrev pub begun : List ℕ → ℕ → Replay
-begun before day = afterMidnight (replayed before) day
+abbrev pub begun : ℕ → List ℕ → ℕ → Replay
+begun edition before day = afterMidnight (replayed edition before) day

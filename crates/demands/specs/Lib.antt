@@ -1,6 +1,7 @@
 pub mod Calls
 pub mod Cases
 pub mod Days
+pub mod Editions
 pub mod Flow
 pub mod Painting
 pub mod Pieces

@@ -1,19 +1,23 @@
 -- Sessions as a host has them: three lent arrays, and the calls of egretfold_session_begin, egretfold_session_word and
 -- egretfold_session_feed with their contracts. Assumes nothing.
 use mathlib.Core.Path.{_≡_}
+use mathlib.Core.Bool.{true}
 use mathlib.Core.List.{List, [], _∷_}
 use Prim.Native.Nat.{ℕ, _+_}
 use lib.Dec.{eqb}
 use Rattle.laws.specs.Choice.{pick}
+use Rattle.state.specs.Start.{isEdition}
 use Rattle.state.specs.Cells.{sessionOf}
 use Rattle.session.specs.Step.{stepOf}
 use Rattle.session.specs.Feed.{feedOf}
 use Rattle.session.specs.Refusals.{RefusedTo}
-use Rattle.session_rooms.specs.Rooms.{BeginCrosses, WordCrosses, FeedCrosses}
+use Rattle.session.specs.Answers.{Begins}
+use Rattle.session_rooms.specs.Rooms.{WordCrosses, FeedCrosses}
 
 -- arrays that came from these calls
 pub data Handed : List ℕ → List ℕ → List ℕ → Type 0 where
-  begun : (r : ℕ) (own tallies shared : List ℕ) → BeginCrosses r own tallies shared → Handed own tallies shared
+  begun : (edition : ℕ) → isEdition edition ≡ true → (r : ℕ) (own tallies shared own' tallies' shared' : List ℕ) →
+      Begins edition r own tallies shared own' tallies' shared' → Handed own' tallies' shared'
   word : {own tallies shared : List ℕ} → Handed own tallies shared →
       (w r : ℕ) (own' tallies' shared' command command' : List ℕ) →
       WordCrosses (stepOf (sessionOf own tallies shared) w) r own' tallies' shared' command command' → Handed own' tallies' shared'

@@ -10,13 +10,13 @@ use Rattle.log.specs.Asked.{Bytes8}
 use Rattle.demands.specs.Days.{replayed}
 
 -- the records before the first refused word, and that word
-pub record FirstRefused (before : List ℕ) (w n : ℕ) : Type 0 where
+pub record FirstRefused (edition : ℕ) (before : List ℕ) (w n : ℕ) : Type 0 where
   pub bytes : Bytes8 before
-  pub going : replayed before .stoppedBy ≡ 0
-  pub unopened : replayed before .opened ≡ noRecord
-  pub unrefused : replayed before .refused .number ≡ 0
+  pub going : replayed edition before .stoppedBy ≡ 0
+  pub unopened : replayed edition before .opened ≡ noRecord
+  pub unrefused : replayed edition before .refused .number ≡ 0
   pub word : w < 4294967296
-  pub refuses : stepOf (replayed before .session) w .reply ≡ refused n
+  pub refuses : stepOf (replayed edition before .session) w .reply ≡ refused n
 
 -- what the replay of the whole log reports of it, whatever bytes come later
 pub record Reported (before : List ℕ) (n : ℕ) (r : Replay) : Type 0 where

@@ -3,16 +3,16 @@
 use log::stream;
 ghost use mathlib.Core.List.{[], _∷_};
 ghost use Rattle.state.specs.State.{newSession};
-ghost use Rattle.log.specs.Asked.{ByteLeft};
+ghost use Rattle.log.specs.Asked.{Begins, ByteLeft};
 ghost use Rattle.log.specs.Feed.{replayOf};
 ghost use Rattle.replay.specs.Report.{partOf};
 ghost use Rattle.replay.specs.Cells.{ReplayGiven, replayIn, viewed};
 ghost use Rattle.days.specs.Reported.{midnightsIn, nowIn, standingOf};
 ghost use Rattle.refusal.specs.Crossing.{Shows};
 ghost use Rattle.setting_rooms.specs.Rooms.{tallyNumbers};
-ghost use Rattle.log_rooms.specs.Rooms.{BeginCrosses, FeedCrosses, standingNumbers};
+ghost use Rattle.log_rooms.specs.Rooms.{FeedCrosses, standingNumbers};
 
-// A replay that has read nothing, over a new session.
+// A replay that has read nothing, over a new session of an edition; 3.
 #[no_mangle]
 pub extern "C" fn egretfold_log_begin(
     log: &mut [u32; replay::LOG_CELLS],
@@ -20,11 +20,11 @@ pub extern "C" fn egretfold_log_begin(
     own: &mut [u32; state::OWN_CELLS],
     tallies: &mut [u64; state::TALLIES],
     shared: &mut [u32; state::SHARED_CELLS],
+    edition: u32,
 ) -> u32
-    ensures { λ r. ⌜ BeginCrosses r (now (log .exit)) (now (marks .exit)) (now (own .exit)) (now (tallies .exit)) (now (shared .exit)) ⌝ }
+    ensures { λ r. ⌜ Begins edition r (now (log .entry)) (now (marks .entry)) (now (own .entry)) (now (tallies .entry)) (now (shared .entry)) (now (log .exit)) (now (marks .exit)) (now (own .exit)) (now (tallies .exit)) (now (shared .exit)) ⌝ }
 {
-    stream::begin(log, marks, own, tallies, shared);
-    0
+    stream::begin(log, marks, own, tallies, shared, edition)
 }
 
 // One byte: 0 where it was taken, else 18 or 19.
@@ -67,7 +67,7 @@ pub extern "C" fn egretfold_log_status(
     log: &[u32; replay::LOG_CELLS],
     status: &mut [u32; log_rooms::STANDING_NUMBERS],
 ) -> u32
-    ensures { λ r. ⌜ Shows (standingNumbers (standingOf (viewed (now (log .entry)) [] newSession))) r (now (status .exit)) ⌝ }
+    ensures { λ r. ⌜ Shows (standingNumbers (standingOf (viewed (now (log .entry)) [] (newSession 1)))) r (now (status .exit)) ⌝ }
 {
     log_rooms::standing(log, status)
 }

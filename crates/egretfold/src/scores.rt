@@ -1,16 +1,16 @@
 // A station's monthly score, by its lease line and the replay of its log. A score has no state of its own.
 ghost use mathlib.Core.Path.{_≡_};
-ghost use Rattle.score.specs.Lease.{leaseTold};
+ghost use Rattle.score.specs.Lease.{lineTold};
 ghost use Rattle.score.specs.Answers.{leaseLine};
 ghost use Rattle.refusal.specs.Crossing.{statusOf};
 ghost use Rattle.score_rooms.specs.Rooms.{ScoreCrosses};
 
-// Whether a lease line is within its bounds; 21.
+// Whether an edition is one of the two and a lease line within its bounds; 3, then 21.
 #[no_mangle]
-pub extern "C" fn egretfold_score_lease(first_day: u32, days: u32, owed: u32) -> u32
-    ensures { λ r. ⌜ r ≡ statusOf (leaseTold (leaseLine «first_day» days owed)) ⌝ }
+pub extern "C" fn egretfold_score_lease(edition: u32, first_day: u32, days: u32, owed: u32) -> u32
+    ensures { λ r. ⌜ r ≡ statusOf (lineTold edition (leaseLine «first_day» days owed)) ⌝ }
 {
-    score_rooms::lease(first_day, days, owed)
+    score_rooms::lease(edition, first_day, days, owed)
 }
 
 // The score of a replay: the claimed and the served number of each day of the lease, 0 past its last day; and the month's

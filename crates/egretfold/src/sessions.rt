@@ -7,20 +7,21 @@ ghost use Rattle.state.specs.Cells.{partyOf, sessionOf, sharedOf};
 ghost use Rattle.session.specs.Feed.{feedOf};
 ghost use Rattle.session.specs.Step.{stepOf};
 ghost use Rattle.refusal.specs.Crossing.{Crosses, Shows};
-ghost use Rattle.session_rooms.specs.Rooms.{BeginCrosses, FeedCrosses, WordCrosses};
+ghost use Rattle.session.specs.Answers.{Begins};
+ghost use Rattle.session_rooms.specs.Rooms.{FeedCrosses, WordCrosses};
 ghost use Rattle.setting_rooms.specs.Rooms.{domainNumbers, formatOf, maskNumbers, standingNumbers, tallyNumbers};
 
-// A new session: nothing set, mask 65535.
+// A new session of an edition: nothing set, mask 65535; 3.
 #[no_mangle]
 pub extern "C" fn egretfold_session_begin(
     own: &mut [u32; state::OWN_CELLS],
     tallies: &mut [u64; state::TALLIES],
     shared: &mut [u32; state::SHARED_CELLS],
+    edition: u32,
 ) -> u32
-    ensures { λ r. ⌜ BeginCrosses r (now (own .exit)) (now (tallies .exit)) (now (shared .exit)) ⌝ }
+    ensures { λ r. ⌜ Begins edition r (now (own .entry)) (now (tallies .entry)) (now (shared .entry)) (now (own .exit)) (now (tallies .exit)) (now (shared .exit)) ⌝ }
 {
-    stream::begin(own, tallies, shared);
-    0
+    stream::begin(own, tallies, shared, edition)
 }
 
 // One word: whether it completed a command, and that command's header and parameters; 1 to 9 or 17.
@@ -53,8 +54,8 @@ pub extern "C" fn egretfold_session_feed(
     session_rooms::feed(own, tallies, shared, words, fed)
 }
 
-// Words taken, stopped or not, the open command's header and how many of its parameters were taken, and which of 0, 7, 8 and 9 the
-// settings alone give a start.
+// Words taken, stopped or not, the open command's header and how many of its parameters were taken, which of 0, 7, 8 and 9 the
+// settings alone give a start, and the edition.
 #[no_mangle]
 pub extern "C" fn egretfold_session_status(
     own: &[u32; state::OWN_CELLS],

@@ -3,6 +3,7 @@
 // told it, in a room that the caller lends.
 use session::stream;
 use session::stream::First;
+use state::edition;
 
 // What a piece tells each of the two parties: words taken, commands completed, first refusal.
 pub const PARTS: usize = 6;
@@ -17,7 +18,8 @@ const MALFORMED: u32 = 3;
 
 const WRONG_LENGTH: u32 = 11;
 
-// A new session of two parties: bit n of `inputs` or `outputs` is set where input or output n is party 1's. 3.
+// A new session of two parties and an edition: bit n of `inputs` or `outputs` is set where input or output n is party 1's. 3, for the
+// edition before the bits.
 pub fn begin(
     own0: &mut [u32; state::OWN_CELLS],
     tallies0: &mut [u64; state::TALLIES],
@@ -26,7 +28,11 @@ pub fn begin(
     shared: &mut [u32; state::SHARED_CELLS],
     inputs: u32,
     outputs: u32,
+    edition: u32,
 ) -> u32 {
+    if !edition::is_known(edition) {
+        return MALFORMED;
+    }
     if INPUTS <= inputs {
         return MALFORMED;
     }
@@ -34,8 +40,8 @@ pub fn begin(
         return MALFORMED;
     }
     let owners = inputs + INPUTS * outputs;
-    stream::begin_party(own0, tallies0, owners::EVERYTHING - owners);
-    stream::begin_party(own1, tallies1, owners);
+    stream::begin_party(own0, tallies0, owners::EVERYTHING - owners, edition);
+    stream::begin_party(own1, tallies1, owners, edition);
     stream::begin_settings(shared);
     0
 }

@@ -1,18 +1,25 @@
 -- The entries give out only replays that they take: a new replay's arrays, and the arrays after any byte or piece, may be handed in
 -- again, and hold just the replay that the definitions leave. Assumes nothing.
 use mathlib.Core.Path.{_≡_, refl, sym, ap, ap₂, _∙_, subst}
+use mathlib.Core.Bool.{true, false}
 use mathlib.Core.List.{List, [], _∷_}
 use Prim.Native.Nat.{ℕ, zero, suc, _<_, suc-le-suc}
 use native.Mathlib.Omega.{arith}
-use lib.ListN.{length, getD}
+use lib.ListN.{length, getD, replicate}
+use Rattle.laws.proofs.Choice.{pick-yes, pick-no}
+use Rattle.refusal.specs.Told.{gives, refuses}
+use Rattle.refusal.specs.Crossing.{statusOf}
 use Rattle.state.specs.State.{Session}
+use Rattle.state.specs.Start.{isEdition, editionTold}
 use Rattle.state.specs.Cells.{sessionOf}
 use Rattle.state.proofs.Cells as cells
-use Rattle.replay.specs.State.{Replay, newReplay}
+use Rattle.session.specs.Answers as session
+use Rattle.replay.specs.State.{Replay, newReplay, marksLength}
+use Rattle.replay.specs.Places.{logLength}
 use Rattle.replay.specs.Cells.{viewed, replayIn, logCells, ReplayHeld, ReplayValid, ReplayGiven}
 use Rattle.replay.proofs.Changes.{log-back}
 use Rattle.log.specs.Feed.{Fed, replayOf}
-use Rattle.log.specs.Asked.{ByteLeft, Bytes8}
+use Rattle.log.specs.Asked.{Begins, ByteLeft, Bytes8}
 use Rattle.log.proofs.Kept.{new-replay-valid, piece-valid}
 
 -- arrays that hold a valid replay are that replay's, and may be handed in
@@ -34,8 +41,9 @@ module _ (r : Replay) (v : ReplayValid r) (l m o t s : List ℕ) (h : ReplayHeld
         valid = subst ReplayValid (sym held-same) v;
       }
 
-pub begun-given : {l m o t s : List ℕ} → ReplayHeld newReplay l m o t s → ReplayGiven l m o t s
-begun-given {l} {m} {o} {t} {s} h = held-given newReplay new-replay-valid l m o t s h
+pub begun-given : (edition : ℕ) → isEdition edition ≡ true → {l m o t s : List ℕ} → ReplayHeld (newReplay edition) l m o t s →
+    ReplayGiven l m o t s
+begun-given edition known {l} {m} {o} {t} {s} h = held-given (newReplay edition) (new-replay-valid edition known) l m o t s h
 
 module _ {l m o t s : List ℕ} (g : ReplayGiven l m o t s) {l1 m1 o1 t1 s1 : List ℕ} where
   pub piece-given : (bs : List ℕ) → Bytes8 bs → ReplayHeld (replayOf (replayIn l m o t s) bs .replay) l1 m1 o1 t1 s1 →
@@ -50,3 +58,30 @@ module _ {l m o t s : List ℕ} (g : ReplayGiven l m o t s) {l1 m1 o1 t1 s1 : Li
       one-byte : (x : ℕ) → x < 256 → Bytes8 (x ∷ [])
       one-byte x e zero le = e
       one-byte x e (suc k) le = absurd (omega arith)
+
+-- a replay begins where its session does, and else nothing is touched
+module _ (edition : ℕ) {n : ℕ} {o t s o1 t1 s1 : List ℕ} (b : session.Begins edition n o t s o1 t1 s1) where
+  refused-with : isEdition edition ≡ false → n ≡ 3
+  refused-with e = b .status ∙ unfold editionTold in ap statusOf (pick-no (gives []) (refuses 3) e)
+
+  begun-with : isEdition edition ≡ true → n ≡ 0
+  begun-with e = b .status ∙ unfold editionTold in ap statusOf (pick-yes (gives []) (refuses 3) e)
+
+  pub begins : {l m : List ℕ} → n ≡ 0 → Begins edition n l m o t s (replicate logLength 0) (replicate marksLength 0) o1 t1 s1
+  begins z =
+      record {
+        status = b .status;
+        held = λ k. record { log-cells = unfold logCells in refl; mark-cells = refl; session-cells = b .held k };
+        untouched = λ k. absurd (clash (refused-with k));
+      }
+    where
+      clash : n ≡ 3 → ⊥
+      clash k = omega arith
+
+  pub begins-not : {l m : List ℕ} → (n ≡ 0 → ⊥) → Begins edition n l m o t s l m o1 t1 s1
+  begins-not z =
+      record {
+        status = b .status;
+        held = λ k. absurd (z (begun-with k));
+        untouched = λ k. record { log-cells = refl; mark-cells = refl; session-cells = b .untouched k };
+      }

@@ -8,6 +8,7 @@ use lib.ListN.{replicate, length-set, length-replicate}
 use borrow.Author.Tests.{ltb-true, eqb-true}
 use Rattle.laws.specs.Choice.{pick}
 use Rattle.laws.proofs.Choice.{by-pick}
+use Rattle.state.specs.Start.{isEdition}
 use Rattle.session.proofs.Kept.{new-valid}
 use Rattle.session.proofs.Refusals.{fed-valid}
 use Rattle.session.proofs.Tallies.{tallied}
@@ -24,10 +25,10 @@ use Rattle.replay.proofs.Midnights.{few, enough}
 use Rattle.log.proofs.Steps.{one-word}
 
 -- a new replay
-pub new-replay-valid : ReplayValid newReplay
-new-replay-valid =
+pub new-replay-valid : (edition : ℕ) → isEdition edition ≡ true → ReplayValid (newReplay edition)
+new-replay-valid edition known =
     record {
-      session = new-valid;
+      session = new-valid edition known;
       stops = λ h. absurd (h refl);
       dropped = λ h. refl;
       count-most = omega arith;

@@ -1,5 +1,6 @@
 pub mod Cut
 pub mod Days
+pub mod Editions
 pub mod Feeding
 pub mod Handed
 pub mod Kept

@@ -4,12 +4,15 @@ use mathlib.Core.Bool.{Bool, true, false}
 use mathlib.Core.List.{List, _++_}
 use Prim.Native.Nat.{ℕ, _*_, _≤_, _<_}
 use lib.ListN.{length, take, drop, getD}
+use Rattle.refusal.specs.Crossing.{statusOf}
+use Rattle.state.specs.Start.{isEdition, editionTold}
 use Rattle.state.specs.Asked.{Given}
 use Rattle.state.specs.Cells.{Sized}
 use Rattle.session.specs.Feed.{firstStatus}
 use Rattle.session.specs.Answers.{firstOf}
+use Rattle.session.specs.Answers as session
 use Rattle.replay.specs.Step.{Reply, taken, Stepped}
-use Rattle.replay.specs.State.{marksLength}
+use Rattle.replay.specs.State.{newReplay, marksLength}
 use Rattle.replay.specs.Places.{logLength, stoppedByPlace, countPlace}
 use Rattle.replay.specs.Own.{Answered}
 use Rattle.log.specs.Bytes.{byteStep}
@@ -23,6 +26,19 @@ pub record PieceLeft (f : piece.Fed) (r : Fed) (log marks own tallies shared : L
   pub taken : r .taken .0 ≡ f .taken
   pub refusal : firstOf (r .refusal) ≡ f .refusal
   pub held : ReplayHeld (f .replay) log marks own tallies shared
+
+-- arrays that are as they were
+pub record Untouched (log marks own tallies shared log' marks' own' tallies' shared' : List ℕ) : Type 0 where
+  pub log-cells : log' ≡ log
+  pub mark-cells : marks' ≡ marks
+  pub session-cells : session.Untouched own tallies shared own' tallies' shared'
+
+-- "A session's edition (1 or 2, else 3 before all else) is fixed at its birth, also for replay": a new replay of the edition, or a
+-- refusal that touches nothing
+pub record Begins (edition r : ℕ) (log marks own tallies shared log' marks' own' tallies' shared' : List ℕ) : Type 0 where
+  pub status : r ≡ statusOf (editionTold edition)
+  pub held : isEdition edition ≡ true → ReplayHeld (newReplay edition) log' marks' own' tallies' shared'
+  pub untouched : isEdition edition ≡ false → Untouched log marks own tallies shared log' marks' own' tallies' shared'
 
 -- arrays of the right lengths
 pub record ReplaySized (log marks own tallies shared : List ℕ) : Type 0 where

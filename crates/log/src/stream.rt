@@ -10,13 +10,12 @@ ghost use mathlib.Core.List.{[], _∷_};
 ghost use Prim.Native.Nat.{_<_, _≤_};
 ghost use lib.ListN.{length, drop};
 ghost use Rattle.refusal.specs.Number.{numberOf};
-ghost use Rattle.replay.specs.State.{newReplay};
 ghost use Rattle.replay.specs.Places.{logLength};
 ghost use Rattle.log.specs.Bytes.{byteStep, openStep};
 ghost use Rattle.log.specs.Feed.{replayOf};
-ghost use Rattle.replay.specs.Cells.{ReplayGiven, ReplayHeld, replayIn};
+ghost use Rattle.replay.specs.Cells.{ReplayGiven, replayIn};
 ghost use Rattle.replay.specs.Step.{StopNumber};
-ghost use Rattle.log.specs.Asked.{Became, ByteLeft, batch, Gathered, Grew, OpenAsked, PieceLeft, RecordsLeft, WordsAsked, WordsLeft};
+ghost use Rattle.log.specs.Asked.{Became, Begins, ByteLeft, batch, Gathered, Grew, OpenAsked, PieceLeft, RecordsLeft, WordsAsked, WordsLeft};
 ghost use Rattle.replay.specs.Own.{replyOf};
 
 // Words of records that are fed to the session in one piece.
@@ -31,19 +30,24 @@ const WORD_KIND: u8 = 1;
 // A place in a log, in bytes.
 pub struct BytePosition(pub u64);
 
-// A replay that has read nothing, over a new session.
+// Begins a replay that has read nothing, over a new session of an edition, 0; 3 where it is neither 1 nor 2, and nothing is
+// touched then.
 pub fn begin(
     log: &mut [u32; replay::LOG_CELLS],
     marks: &mut [u64; replay::MARKS],
     own: &mut [u32; state::OWN_CELLS],
     tallies: &mut [u64; state::TALLIES],
     shared: &mut [u32; state::SHARED_CELLS],
-)
-    ensures { λ _. ⌜ ReplayHeld newReplay (now (log .exit)) (now (marks .exit)) (now (own .exit)) (now (tallies .exit)) (now (shared .exit)) ⌝ }
+    edition: u32,
+) -> u32
+    ensures { λ r. ⌜ Begins edition r (now (log .entry)) (now (marks .entry)) (now (own .entry)) (now (tallies .entry)) (now (shared .entry)) (now (log .exit)) (now (marks .exit)) (now (own .exit)) (now (tallies .exit)) (now (shared .exit)) ⌝ }
 {
-    stream::begin(own, tallies, shared);
-    *log = [0; replay::LOG_CELLS];
-    *marks = [0; replay::MARKS];
+    let number = stream::begin(own, tallies, shared, edition);
+    if number == 0 {
+        *log = [0; replay::LOG_CELLS];
+        *marks = [0; replay::MARKS];
+    }
+    number
 }
 
 // Words of records, fed to the session in one piece. A refused one stops the session, so that later ones add nothing.

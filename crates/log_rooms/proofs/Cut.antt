@@ -2,11 +2,13 @@
 -- joined piece leaves, with the sum of what they took and the first refusal; so does any list of pieces. A byte through `take_byte` is a
 -- piece of one byte. Assumes nothing.
 use mathlib.Core.Path.{_≡_, refl, sym, ap, ap₂, _∙_, subst}
+use mathlib.Core.Bool.{true}
 use mathlib.Core.List.{List, [], _∷_, _++_}
 use Prim.Native.Nat.{ℕ, _+_}
 use borrow.Author.Tests.{ne-eqb}
 use Rattle.laws.specs.Choice.{pick}
 use Rattle.laws.proofs.Choice.{pick-no}
+use Rattle.state.specs.Start.{isEdition}
 use Rattle.session.specs.Feed.{First, nothing, first, earlier, uncut, firstStatus}
 use Rattle.replay.specs.State.{Replay, newReplay}
 use Rattle.replay.specs.Step.{Reply}
@@ -18,8 +20,7 @@ use Rattle.log.proofs.Cut.{Stopping, stopping, cut, cut-anywhere}
 use Rattle.log.proofs.Feeding.{held-view}
 use Rattle.log.proofs.Handed.{held-same, begun-given, piece-given}
 use Rattle.log.proofs.Kept.{new-replay-valid, piece-valid}
-use Rattle.log_rooms.specs.Pieces.{Arrays, replayAt, GivenAt, FedAt, ByteAt, takenBy, firstOfTwo, Pieces, none, more}
-use Rattle.log_rooms.specs.Rooms.{BeginCrosses}
+use Rattle.log_rooms.specs.Pieces.{Arrays, replayAt, GivenAt, BeginsAt, FedAt, ByteAt, takenBy, firstOfTwo, Pieces, none, more}
 
 -- the status of two pieces: a refusal's number is never 0
 first-status : (r : Replay) (f : Fed) (y : First) → Stopping r f → firstOfTwo (firstStatus (f .refusal)) (firstStatus y) ≡
@@ -116,10 +117,11 @@ pieces-leave a g ps status taken a1 (more b p s n b1 qs s1 n1 b2 small c rest) =
     ap (λ (r : Replay). replayPieces r qs .replay) (after-piece a g p small s n b1 c)
 
 -- from `begin` through any pieces: the replay of the uncut bytes
-pub from-begin : (a : Arrays) (r : ℕ) → BeginCrosses r (a .log) (a .marks) (a .own) (a .tallies) (a .shared) →
+pub from-begin : (edition : ℕ) → isEdition edition ≡ true → (a0 a : Arrays) (r : ℕ) → BeginsAt edition r a0 a →
     (ps : List (List ℕ)) (status taken : ℕ) (a1 : Arrays) → Pieces a ps status taken a1 →
-    replayAt a1 ≡ replayOf newReplay (uncut ps) .replay
-from-begin a r b ps status taken a1 h =
-    pieces-leave a (begun-given (b .held)) ps status taken a1 h ∙
-    ap (λ (u : Replay). replayPieces u ps .replay) (held-same newReplay new-replay-valid (a .log) (a .marks) (a .own) (a .tallies) (a .shared) (b .held)) ∙
-    ap (λ (f : Fed). f .replay) (cut-anywhere newReplay ps)
+    replayAt a1 ≡ replayOf (newReplay edition) (uncut ps) .replay
+from-begin edition known a0 a r b ps status taken a1 h =
+    pieces-leave a (begun-given edition known (b .held known)) ps status taken a1 h ∙
+    ap (λ (u : Replay). replayPieces u ps .replay)
+    (held-same (newReplay edition) (new-replay-valid edition known) (a .log) (a .marks) (a .own) (a .tallies) (a .shared) (b .held known)) ∙
+    ap (λ (f : Fed). f .replay) (cut-anywhere (newReplay edition) ps)

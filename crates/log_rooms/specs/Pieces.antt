@@ -5,7 +5,7 @@ use lib.Dec.{eqb}
 use Rattle.laws.specs.Choice.{pick}
 use Rattle.replay.specs.State.{Replay}
 use Rattle.replay.specs.Cells.{ReplayGiven, replayIn}
-use Rattle.log.specs.Asked.{ByteLeft, Bytes8}
+use Rattle.log.specs.Asked.{Begins, ByteLeft, Bytes8}
 use Rattle.log.specs.Feed.{Fed, replayOf}
 use Rattle.log_rooms.specs.Rooms.{FeedCrosses}
 
@@ -22,6 +22,11 @@ replayAt a = replayIn (a .log) (a .marks) (a .own) (a .tallies) (a .shared)
 
 abbrev pub GivenAt : Arrays → Type 0
 GivenAt a = ReplayGiven (a .log) (a .marks) (a .own) (a .tallies) (a .shared)
+
+-- what one call of `begin` answers and leaves, of the arrays that it was lent
+abbrev pub BeginsAt : ℕ → ℕ → Arrays → Arrays → Type 0
+BeginsAt edition r a0 a =
+    Begins edition r (a0 .log) (a0 .marks) (a0 .own) (a0 .tallies) (a0 .shared) (a .log) (a .marks) (a .own) (a .tallies) (a .shared)
 
 -- what one call of `feed` answers and leaves: its status, the bytes taken, and the arrays at return
 abbrev pub FedAt : Fed → ℕ → ℕ → Arrays → Type 0

@@ -2,16 +2,10 @@
 use mathlib.Core.Path.{_≡_}
 use mathlib.Core.List.{List, [], _∷_}
 use Prim.Native.Nat.{ℕ}
-use Rattle.replay.specs.State.{newReplay}
 use Rattle.replay.specs.Cells.{ReplayHeld}
 use Rattle.session.specs.Feed.{firstStatus}
 use Rattle.log.specs.Feed.{Fed}
 use Rattle.days.specs.declared.report.Standing.{Standing}
-
--- a replay that has read nothing
-pub record BeginCrosses (r : ℕ) (log marks own tallies shared : List ℕ) : Type 0 where
-  pub status : r ≡ 0
-  pub held : ReplayHeld newReplay log marks own tallies shared
 
 -- a piece: the refusal of its first refused byte or 0, and in any case the bytes taken
 pub record FeedCrosses (f : Fed) (r : ℕ) (log marks own tallies shared taken : List ℕ) : Type 0 where

@@ -44,7 +44,7 @@ pub fn feed(
 // Where a replay stands: the number that stopped it; the first refused word's number and the midnights before it; the
 // midnights so far, the first and the last day; how many bytes of an unfinished record stand. What isn't there is 0.
 pub fn standing(log: &[u32; replay::LOG_CELLS], status: &mut [u32; STANDING_NUMBERS]) -> u32
-    ensures { λ r. ⌜ Shows (standingNumbers (standingOf (viewed (now (log .entry)) [] newSession))) r (now (status .exit)) ⌝ }
+    ensures { λ r. ⌜ Shows (standingNumbers (standingOf (viewed (now (log .entry)) [] (newSession 1)))) r (now (status .exit)) ⌝ }
 {
     let standing = report::standing_of(log);
     *status = [

@@ -53,6 +53,13 @@ pub fn readiness(own: &[u32; state::OWN_CELLS]) -> u32
     own[own::READINESS]
 }
 
+// The edition of the lease rule, as it was fixed when the session began.
+pub fn edition(own: &[u32; state::OWN_CELLS]) -> u32
+    ensures { λ r. ⌜ r ≡ partyOf (now (own .entry)) [] .birth .edition ⌝ }
+{
+    own[own::EDITION]
+}
+
 pub fn domain(own: &[u32; state::OWN_CELLS]) -> Bounds
     ensures { λ r. ⌜ r ≡ boundsOf (partyOf (now (own .entry)) [] .domain) ⌝ }
 {

@@ -1,5 +1,5 @@
 -- Document 02, request 1: the replay of a station's log, as the request speaks of it. A replay that has read nothing is all
--- zeros beside a new session. Assumes nothing.
+-- zeros beside a new session, whose edition it has. Assumes nothing.
 use mathlib.Core.List.{List}
 use Prim.Native.Nat.{ℕ, _*_}
 use lib.ListN.{replicate}
@@ -42,10 +42,10 @@ mostMidnights = 400
 abbrev pub marksLength : ℕ
 marksLength = 2 * mostMidnights
 
-abbrev pub newReplay : Replay
-newReplay =
+abbrev pub newReplay : ℕ → Replay
+newReplay edition =
     record {
-      session = newSession;
+      session = newSession edition;
       opened = noRecord;
       stoppedBy = 0;
       refused = record { number = 0; midnights = 0 };

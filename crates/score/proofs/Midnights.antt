@@ -188,12 +188,12 @@ days-read r (b ∷ bs) d =
     byte-days r d bs (byteStep r b) (dayBy r b) (began r b) (days-read (byteStep r b .replay) bs d)
 
 -- so a day has a midnight record in a log exactly where a score finds one
-pub midnight-records : (bytes : List ℕ) (d : ℕ) →
-    hasMidnight (replayOf newReplay bytes .replay .midnights) (replayOf newReplay bytes .replay .lastDay) d ≡
-    among d (daysIn newReplay bytes)
-midnight-records bytes d =
-    days-read newReplay bytes d ∙ ap (λ (x : Bool). among d (daysIn newReplay bytes) or x) none ∙
-    or-none (among d (daysIn newReplay bytes))
+pub midnight-records : (edition : ℕ) (bytes : List ℕ) (d : ℕ) →
+    hasMidnight (replayOf (newReplay edition) bytes .replay .midnights) (replayOf (newReplay edition) bytes .replay .lastDay) d ≡
+    among d (daysIn (newReplay edition) bytes)
+midnight-records edition bytes d =
+    days-read (newReplay edition) bytes d ∙ ap (λ (x : Bool). among d (daysIn (newReplay edition) bytes) or x) none ∙
+    or-none (among d (daysIn (newReplay edition) bytes))
   where
     none : hasMidnight 0 0 d ≡ false
     none = go (tested (hasMidnight 0 0 d))

@@ -97,16 +97,16 @@ module _ (l : Lease) where
             subst (Scoring l r) is (scoring t running)
 
   -- "then 18 or 19 from the log": a log that is refused gives its number, and any other is scored
-  module _ (e : isLease l ≡ true) (bytes : List ℕ) where
-    pub log-refused : (n : ℕ) → replayOf newReplay bytes .refusal ≡ first n → scoreOfLog l bytes ≡ refused n
+  module _ (edition : ℕ) (e : isLease l ≡ true) (bytes : List ℕ) where
+    pub log-refused : (n : ℕ) → replayOf (newReplay edition) bytes .refusal ≡ first n → scoreOfLog edition l bytes ≡ refused n
     log-refused n f =
-        let by : replayOf newReplay bytes .replay .stoppedBy ≡ n = stopping newReplay bytes .by-number n f in
-        then-log (replayOf newReplay bytes .replay) e (λ z. stopping newReplay bytes .not-none n f (sym by ∙ z)) ∙ ap refused by
+        let by : replayOf (newReplay edition) bytes .replay .stoppedBy ≡ n = stopping (newReplay edition) bytes .by-number n f in
+        then-log (replayOf (newReplay edition) bytes .replay) e (λ z. stopping (newReplay edition) bytes .not-none n f (sym by ∙ z)) ∙ ap refused by
 
     pub log-scored :
-        replayOf newReplay bytes .refusal ≡ nothing → scoreOfLog l bytes ≡ scored (monthOf l (replayOf newReplay bytes .replay))
-    log-scored f = then-month (replayOf newReplay bytes .replay) e (stopping newReplay bytes .goes-on f)
+        replayOf (newReplay edition) bytes .refusal ≡ nothing → scoreOfLog edition l bytes ≡ scored (monthOf l (replayOf (newReplay edition) bytes .replay))
+    log-scored f = then-month (replayOf (newReplay edition) bytes .replay) e (stopping (newReplay edition) bytes .goes-on f)
 
   -- a log in pieces, cut anywhere
-  pub in-pieces : (ps : List (List ℕ)) → scoreOf l (replayPieces newReplay ps .replay) ≡ scoreOfLog l (uncut ps)
-  in-pieces ps = ap (λ (f : piece.Fed). scoreOf l (f .replay)) (cut-anywhere newReplay ps)
+  pub in-pieces : (edition : ℕ) (ps : List (List ℕ)) → scoreOf l (replayPieces (newReplay edition) ps .replay) ≡ scoreOfLog edition l (uncut ps)
+  in-pieces edition ps = ap (λ (f : piece.Fed). scoreOf l (f .replay)) (cut-anywhere (newReplay edition) ps)

@@ -80,6 +80,6 @@ pub data Score : Type 0 where
 unfoldable pub scoreOf : Lease → Replay → Score
 scoreOf l r = pick (isLease l) (pick (eqb (r .stoppedBy) 0) (scored (monthOf l r)) (refused (r .stoppedBy))) (refused 21)
 
--- the whole product: "reads a station's log and lease line"
-abbrev pub scoreOfLog : Lease → List ℕ → Score
-scoreOfLog l bytes = scoreOf l (replayOf newReplay bytes .replay)
+-- the whole product: "reads a station's log and lease line", by an edition
+abbrev pub scoreOfLog : ℕ → Lease → List ℕ → Score
+scoreOfLog edition l bytes = scoreOf l (replayOf (newReplay edition) bytes .replay)

@@ -1,2 +1,3 @@
 pub mod FromLog
+pub mod Lines
 pub mod Months

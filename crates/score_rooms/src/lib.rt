@@ -1,11 +1,13 @@
-// A station's monthly score over numbers, by its lease line and the replay of its log: a status, 0 or a refusal's number (18, 19
-// or 21), with its numbers in rooms that the caller lends. A refusal touches no room.
+// A station's monthly score over numbers, by its lease line and the replay of its log: a status, 0 or a refusal's number (3, 18,
+// 19 or 21), with its numbers in rooms that the caller lends. A refusal touches no room.
+use refusal::Refusal;
 use score::line;
 use score::line::Judged;
 use score::month::Scored;
 use score::month::Verdict;
+use state::edition;
 ghost use mathlib.Core.Path.{_≡_};
-ghost use Rattle.score.specs.Lease.{leaseTold};
+ghost use Rattle.score.specs.Lease.{leaseTold, lineTold};
 ghost use Rattle.score.specs.Answers.{leaseLine};
 ghost use Rattle.refusal.specs.Crossing.{statusOf};
 ghost use Rattle.score_rooms.specs.Rooms.{ScoreCrosses, verdictNumber};
@@ -14,7 +16,7 @@ ghost use Rattle.score_rooms.specs.Rooms.{ScoreCrosses, verdictNumber};
 pub const MONTH_NUMBERS: usize = 3;
 
 // Whether a lease line is within its bounds; 21.
-pub fn lease(first_day: u32, days: u32, owed: u32) -> u32
+fn line_status(first_day: u32, days: u32, owed: u32) -> u32
     ensures { λ r. ⌜ r ≡ statusOf (leaseTold (leaseLine «first_day» days owed)) ⌝ }
 {
     let judged = line::judge(first_day, days, owed);
@@ -22,6 +24,16 @@ pub fn lease(first_day: u32, days: u32, owed: u32) -> u32
         Judged::Accepted => 0,
         Judged::Refused(why) => refusal::number(why),
     }
+}
+
+// Whether an edition is one of the two and a lease line within its bounds; 3, then 21.
+pub fn lease(edition: u32, first_day: u32, days: u32, owed: u32) -> u32
+    ensures { λ r. ⌜ r ≡ statusOf (lineTold edition (leaseLine «first_day» days owed)) ⌝ }
+{
+    if edition::is_known(edition) {
+        return line_status(first_day, days, owed);
+    }
+    refusal::number(Refusal::Malformed)
 }
 
 fn verdict_number(verdict: Verdict) -> u64

@@ -10,7 +10,6 @@ use lib.ListN.{length, getD, take, set, length-set}
 use lib.Seq.{getD-take}
 use borrow.Author.Tests.{eqb-true, eqb-false, ltb-true, ltb-false, leb-true, leb-false, ne-eqb, eq-eqb}
 use Rattle.laws.specs.Choice.{_and_, pick, placeOf}
-use Rattle.laws.proofs.Below.{count-bounded}
 use Rattle.laws.proofs.Choice.{pick-yes, pick-no, by-pick, and-left, and-right, Tested, tested, holds, fails}
 use Rattle.laws.proofs.Table.{each, _&_}
 use Rattle.refusal.specs.Told.{Told, gives, refuses}
@@ -25,16 +24,17 @@ use Rattle.command.specs.declared.kinds.Kind.the-variants.{Coordinate}
 use Rattle.command.proofs.Headers.{count-least, count-most}
 use Rattle.rules.proofs.Rule.{rule-five}
 use Rattle.command.proofs.WriteBack.{made}
-use Rattle.state.specs.State.{Buffer, Open, Domain, Tally, Party, Shared, Session, none, newSession}
+use Rattle.state.specs.State.{Buffer, Open, Domain, Tally, Birth, Party, Shared, Session, none, newSession}
+use Rattle.start.proofs.Editions.{credit-bounded}
 use Rattle.start.proofs.New.{new-kept}
-use Rattle.state.specs.Start.{counts, pairsOf, claimOf, mostClaim, mostPairs}
+use Rattle.state.specs.Start.{isEdition, pairsOf, claimOf, mostClaim, mostCredit, mostPairs}
 use Rattle.state.specs.Effects.{limit, opening, took, stop, withParameter, buffer, ownAfter, sharedAfter, after}
 use Rattle.session.specs.Step.{Reply, stillOpen, completed, refused, Stepped, refusing, startRuleOf, stepOf}
 use Rattle.state.specs.Valid.{parametersOf, OpenValid, DomainValid, TallyValid, Valid}
 use Rattle.session.proofs.Ways.{whole, begun, goingOn, Running, Placed, Way, wasStopped, stops, opens, fills, ends, way}
 
-pub new-valid : Valid newSession
-new-valid =
+pub new-valid : (edition : ℕ) → isEdition edition ≡ true → Valid (newSession edition)
+new-valid edition known =
     record {
       flag = omega arith;
       full = omega arith;
@@ -45,7 +45,8 @@ new-valid =
       domain = omega arith;
       tally = omega arith;
       birth = refl;
-      readiness = new-kept;
+      edition = known;
+      readiness = new-kept edition;
       outputs = refl;
       inputs = refl;
     }
@@ -100,12 +101,12 @@ set-domain i0 j0 i1 j1 a k =
       row-most = coordinate j1 (a 3 (omega arith));
     }
 
--- no start claims more than 4,096 · 4,096 pairs of four outputs
-claim-most : (d : Domain) (mask : ℕ) (outputs : List Buffer) → DomainValid d → claimOf d mask outputs ≤ mostClaim
+-- no start claims more than 4,096 · 4,096 pairs of four outputs with four channels
+pub claim-most : (edition : ℕ) (d : Domain) (mask : ℕ) (outputs : List Buffer) → DomainValid d → claimOf edition d mask outputs ≤ mostClaim
 unfolding claimOf pairsOf
-claim-most d mask outputs v =
-    mul-le-mul {n₂ = mostPairs} {m₂ = 4} (mul-le-mul {n₂ = 4096} {m₂ = 4096} (omega (arith, v)) (omega (arith, v)))
-    (count-bounded 4 (counts mask outputs))
+claim-most edition d mask outputs v =
+    mul-le-mul {n₂ = mostPairs} {m₂ = mostCredit} (mul-le-mul {n₂ = 4096} {m₂ = 4096} (omega (arith, v)) (omega (arith, v)))
+    (credit-bounded edition mask outputs)
 
 -- what a whole command leaves of a session: the open command, the count and the flag stand; what it sets is valid
 pub record Effects (c : Command) (h : Shared) (p : Party) (n : ℕ) : Type 0 where
@@ -159,7 +160,7 @@ module _ (h : Shared) (p : Party) (n : ℕ) (d : DomainValid (p .domain)) (t : T
         same-count = refl;
         same-open = refl;
         domain = d;
-        tally = omega (arith, t, claim-most (p .domain) (h .mask) (h .outputs) d);
+        tally = omega (arith, t, claim-most (p .birth .edition) (p .domain) (h .mask) (h .outputs) d);
         same-birth = refl;
         outputs = refl;
         inputs = refl;
@@ -218,6 +219,7 @@ goes-on s o v r h b =
       domain = v .domain;
       tally = omega (arith, v .tally);
       birth = v .birth;
+      edition = v .edition;
       readiness = v .readiness;
       outputs = v .outputs;
       inputs = v .inputs;
@@ -276,6 +278,7 @@ module _ (s : Session) (w : ℕ) (v : Valid s) where
         domain = v .domain;
         tally = v .tally;
         birth = v .birth;
+        edition = v .edition;
         readiness = v .readiness;
         outputs = v .outputs;
         inputs = v .inputs;
@@ -300,7 +303,8 @@ module _ (s : Session) (w : ℕ) (v : Valid s) where
             opened = rw (f .same-open) (λ k. absurd (no-line k));
             domain = f .domain;
             tally = rw (f .same-count) (f .tally);
-            birth = f .same-birth ∙ v .birth;
+            birth = ap (λ (b : Birth). b .mine) (f .same-birth) ∙ v .birth;
+            edition = ap (λ (b : Birth). isEdition (b .edition)) (f .same-birth) ∙ v .edition;
             readiness = refl;
             outputs = f .outputs ∙ v .outputs;
             inputs = f .inputs ∙ v .inputs;

@@ -1,13 +1,14 @@
 pub mod Cut
+pub mod Editions
 pub mod Feeding
 pub mod Handed
 pub mod Kept
 pub mod LastWords
 pub mod Numbers
 pub mod Parameters
+pub mod Reached
 pub mod ReadAgain
 pub mod ReadBack
-pub mod Reached
 pub mod Refusals
 pub mod Silent
 pub mod Stepping

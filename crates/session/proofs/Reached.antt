@@ -33,7 +33,7 @@ use Rattle.session.proofs.Tallies.{Tallied, tallied, counted}
 
 -- a new session is valid, and every word and every piece keeps it so
 pub reached-valid : {s : Session} → Reached s → Valid s
-reached-valid begun = new-valid
+reached-valid (begun edition e) = new-valid edition e
 reached-valid (word {s} r w) = kept s w (reached-valid r)
 reached-valid (piece {s} r ws) = fed-valid s ws (reached-valid r)
 
@@ -159,9 +159,9 @@ module _
         let first-time = tallied s ws in
         let second-time = subst (λ (d : List Command). Tallied u d (f .session)) (again .commands) (tallied u (written cs)) in
         let claimed :
-        claimsOf cs (u .party .domain) (u .shared .mask) (u .shared .outputs) ≡
-        claimsOf cs (s .party .domain) (s .shared .mask) (s .shared .outputs)
-        = λ j. claimsOf cs (sym (same .domain) j) (sym (same .shared) j .mask) (sym (same .shared) j .outputs)
+        claimsOf (u .party .birth .edition) cs (u .party .domain) (u .shared .mask) (u .shared .outputs) ≡
+        claimsOf (u .party .birth .edition) cs (s .party .domain) (s .shared .mask) (s .shared .outputs)
+        = λ j. claimsOf (u .party .birth .edition) cs (sym (same .domain) j) (sym (same .shared) j .mask) (sym (same .shared) j .outputs)
         in
         record {
           again = again;

@@ -11,9 +11,9 @@ use lib.ListN.{length, getD, set}
 use lib.Seq.{getD-set-same, getD-set-other}
 use borrow.Author.Tests.{eq-eqb, eqb-true, eqb-false, leb-true}
 use Rattle.laws.specs.Choice.{_and_, pick}
-use Rattle.laws.specs.Below.{some, every}
+use Rattle.laws.specs.Below.{some, every, sum}
 use Rattle.laws.specs.Masks.{_or_, on}
-use Rattle.laws.proofs.Below.{every-at, every-of, every-same, some-at, count-none, count-same}
+use Rattle.laws.proofs.Below.{every-at, every-of, every-same, some-at, sum-same, count-same}
 use Rattle.laws.proofs.Choice.{Tested, holds, fails, tested, pick-yes, pick-no, and-intro, and-yes, and-right, and-no-left, pick-same}
 use Rattle.laws.proofs.Table.{each, _&_}
 use Rattle.refusal.specs.Told.{gives}
@@ -26,8 +26,9 @@ use Rattle.rules.specs.Writer.{unrefused, allUnrefused, fieldsUnrefused, judgeC
 use Rattle.command.specs.declared.commands.Stored.the-variants as stored
 use Rattle.command.specs.declared.commands.Command.{Command}
 use Rattle.command.specs.declared.commands.Command.the-variants as command
-use Rattle.state.specs.State.{Buffer, Domain, Shared, Session, unset, none, newSession}
-use Rattle.state.specs.Start.{output, isSet, unmasked, silent, counts, containsDomain, apart, complete, covered, disjoint, readyOf, pairsOf, claimOf}
+use Rattle.start.proofs.Editions.{first-claim}
+use Rattle.state.specs.State.{Buffer, Domain, Birth, Shared, Session, unset, none, newShared, newSession}
+use Rattle.state.specs.Start.{output, isSet, unmasked, silent, counts, containsDomain, apart, complete, covered, disjoint, readyOf, isEdition, creditAt, creditOf, pairsOf, claimOf}
 use Rattle.state.specs.Effects.{limit, buffer, ownAfter, sharedAfter, after}
 use Rattle.state.specs.Valid.{Valid}
 use Rattle.session.specs.Step.{Reply, stillOpen, completed, refused, Stepped, startRuleOf, stepOf}
@@ -49,6 +50,7 @@ use Rattle.session.specs.Silent.{
 use Rattle.session.proofs.Ways.{Way, wasStopped, stops, opens, fills, ends, way}
 use Rattle.session.proofs.Kept.{new-valid, each-allowed, kept}
 use Rattle.session.proofs.ReadBack.{reads-back}
+use Rattle.session.proofs.Tallies.{born}
 
 -- settings with every set output silent: none counts, so 8 and 9 have nothing to refuse and nothing is claimed
 module _ (mask : ℕ) (outputs : List Buffer) (a : AllSilent mask outputs) where
@@ -73,9 +75,11 @@ module _ (mask : ℕ) (outputs : List Buffer) (a : AllSilent mask outputs) where
   disjoint-silent =
       every-of 4 _ (λ n h. every-of n _ (λ m k. pick-no _ true (and-no-left _ (none-counts n h))))
 
-  pub claim-silent : (d : Domain) → claimOf d mask outputs ≡ 0
-  unfolding claimOf
-  claim-silent d = ap (λ (n : ℕ). pairsOf d * n) (count-none 4 _ none-counts) ∙ mul-zero (pairsOf d)
+  pub claim-silent : (edition : ℕ) (d : Domain) → claimOf edition d mask outputs ≡ 0
+  unfolding claimOf creditOf creditAt
+  claim-silent edition d =
+      ap (λ (n : ℕ). pairsOf d * n) (sum-same 4 _ (λ n. 0) (λ n h. pick-no _ 0 (none-counts n h))) ∙
+      unfold sum in mul-zero (pairsOf d)
 
   pub ready-silent : (d : Domain) (instructions : Buffer) → complete d instructions outputs ≡ true →
       readyOf d instructions mask outputs ≡ gives []
@@ -113,7 +117,7 @@ module _ (s : Session) (i : Idle s) (room : s .party .taken + 2 ≤ limit) (q : 
         unrefused = refl;
         runs = refl;
         claims =
-            ap (λ (n : ℕ). s .party .tally .claims + n) (claim-silent (s .shared .mask) (s .shared .outputs) (q .all-silent) (s .party .domain)) ∙
+            ap (λ (n : ℕ). s .party .tally .claims + n) (claim-silent (s .shared .mask) (s .shared .outputs) (q .all-silent) (s .party .birth .edition) (s .party .domain)) ∙
             add-zero _;
       })
 
@@ -150,9 +154,9 @@ module _ (outputs : List Buffer) (a : Coded outputs) where
   unfolding readyOf readyInFull
   ready-in-full d instructions = cc (covered-in-full d, disjoint-in-full)
 
-  pub claim-in-full : (d : Domain) → claimOf d 65535 outputs ≡ claimInFull d outputs
-  unfolding claimOf claimInFull
-  claim-in-full d = ap (λ (n : ℕ). pairsOf d * n) (count-same 4 _ _ counts-in-full)
+  pub claim-in-full : (d : Domain) → claimOf 1 d 65535 outputs ≡ claimInFull d outputs
+  unfolding claimInFull
+  claim-in-full d = first-claim d 65535 outputs ∙ ap (λ (n : ℕ). pairsOf d * n) (count-same 4 _ _ counts-in-full)
 
 -- a command that was accepted keeps every set output's code among 0 to 4
 allowed-code : (w : ℕ) → formatAllowed w ≡ true → codeOf w ≤ 4
@@ -219,25 +223,27 @@ coded-fed s (w ∷ ws) v a =
     let b : Coded (stepOf s w .session .shared .outputs) = coded-way s w v a (stepOf s w) (way s w) in
     coded-proceed (stepOf s w) (feedOf (stepOf s w .session) ws) b (coded-fed (stepOf s w .session) ws (kept s w v) b)
 
-none-set : Coded (newSession .shared .outputs)
+none-set : Coded (newShared .outputs)
 unfolding isSet output codeOf
 none-set = record {
-  code-most = λ n h e. each (λ n. codeOf (getD (newSession .shared .outputs) n unset .format) ≤ 4) 4
+  code-most = λ n h e. each (λ n. codeOf (getD (newShared .outputs) n unset .format) ≤ 4) 4
       (tt & unset-code & unset-code & unset-code & unset-code) n h;
 }
   where
     unset-code : codeOf 0 ≤ 4
     unset-code = omega arith
 
--- whatever words a new session was fed, where its mask is 65535 a start is document 01's
-pub as-before : (ws : List ℕ) → feedOf newSession ws .session .shared .mask ≡ 65535 → AsBefore (feedOf newSession ws .session)
+-- whatever words a new session of edition 1 was fed, where its mask is 65535 a start is document 01's
+pub as-before : (ws : List ℕ) → feedOf (newSession 1) ws .session .shared .mask ≡ 65535 → AsBefore (feedOf (newSession 1) ws .session)
 as-before ws e =
-    let s : Session = feedOf newSession ws .session in
-    let a : Coded (s .shared .outputs) = coded-fed newSession ws new-valid none-set in
+    let s : Session = feedOf (newSession 1) ws .session in
+    let known : isEdition 1 ≡ true = unfold isEdition pick in refl in
+    let a : Coded (s .shared .outputs) = coded-fed (newSession 1) ws (new-valid 1 known) none-set in
     record {
       judged-so =
           ap (λ (m : ℕ). readyOf (s .party .domain) (s .party .instructions) m (s .shared .outputs)) e ∙
           ready-in-full (s .shared .outputs) a (s .party .domain) (s .party .instructions);
       claims-so =
-          ap (λ (m : ℕ). claimOf (s .party .domain) m (s .shared .outputs)) e ∙ claim-in-full (s .shared .outputs) a (s .party .domain);
+          ap (λ (b : Birth). claimOf (b .edition) (s .party .domain) (s .shared .mask) (s .shared .outputs)) (born (newSession 1) ws) ∙
+          ap (λ (m : ℕ). claimOf 1 (s .party .domain) m (s .shared .outputs)) e ∙ claim-in-full (s .shared .outputs) a (s .party .domain);
     }

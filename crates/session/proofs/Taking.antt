@@ -8,18 +8,22 @@ use lib.Dec.{eqb, leb, ltb}
 use lib.ListN.{length, getD, replicate, set}
 use borrow.Author.Tests.{eq-eqb, ne-eqb, le-leb, lt-leb, lt-ltb}
 use Rattle.laws.specs.Choice.{pick, placeOf}
+use Rattle.laws.specs.Masks.{digit}
 use Rattle.laws.proofs.Choice.{pick-yes, pick-no, Tested, tested, holds, fails}
 use Rattle.refusal.specs.Told.{Told, gives, refuses}
+use Rattle.refusal.specs.Crossing.{statusOf}
 use Rattle.command.specs.Table.{headers, lineWith}
 use Rattle.command.specs.Kinds.{allowed, faultOf, kindOf}
 use Rattle.command.specs.declared.kinds.Kind.{Kind}
 use Rattle.command.proofs.Headers.{count-most}
 use Rattle.state.specs.State.{Open, Party, Session, atLine, none, newSession}
+use Rattle.state.specs.Start.{isEdition, editionTold}
 use Rattle.state.specs.Effects.{limit, opening, took, stop, withParameter}
 use Rattle.session.specs.Step.{stillOpen, refused, Stepped, refusing, placing, parameterStep, headerStep, stepOf}
 use Rattle.state.specs.Valid.{Valid}
 use Rattle.state.specs.Asked.{Held, Given}
 use Rattle.session.specs.Asked.{Left, Read, OpenAsked, ParameterAsked}
+use Rattle.session.specs.Answers.{Begins}
 use Rattle.state.specs.Cells.{Sized, partyOf, partyCells, tallyCells, sharedOf, sharedCells, sessionOf, ownLength}
 use Rattle.state.proofs.Cells.{own-canon, tally-canon, shared-canon}
 use Rattle.session.proofs.Stepping.{refusing-left}
@@ -151,7 +155,32 @@ module _ (l t s : List ℕ) (w : ℕ) (g : Given l t s) where
 
 -- a new session's cells
 pub begun :
-    Held newSession (set (set (set (set (set (replicate ownLength 0) 2 21) 19 7) 21 4096) 22 4096) 23 1) (replicate 2 0)
-    (set (replicate 101 0) 0 65535)
+    (edition : ℕ) →
+    Held (newSession edition) (set (set (set (set (set (set (replicate ownLength 0) 18 edition) 2 21) 19 7) 21 4096) 22 4096) 23 1)
+    (replicate 2 0) (set (replicate 101 0) 0 65535)
 unfolding partyCells tallyCells sharedCells
-begun = record { own-cells = refl; tally-cells = refl; shared-cells = refl }
+begun edition = record { own-cells = refl; tally-cells = refl; shared-cells = refl }
+
+yes-no : true ≡ false → ⊥
+unfolding digit
+yes-no e = let z : digit true ≡ digit false = ap digit e in omega arith
+
+-- a session begins where the edition is one of the two, and else nothing is touched
+module _ (edition : ℕ) {known : Bool} (told : known ≡ isEdition edition) where
+  pub begins : {l t s l1 t1 s1 : List ℕ} → known ≡ true → Held (newSession edition) l1 t1 s1 → Begins edition 0 l t s l1 t1 s1
+  unfolding editionTold
+  begins e h =
+      record {
+        status = sym (ap statusOf (pick-yes (gives []) (refuses 3) (sym told ∙ e)));
+        held = λ k. h;
+        untouched = λ k. absurd (yes-no (sym e ∙ told ∙ k));
+      }
+
+  pub begins-not : {n : ℕ} {l t s : List ℕ} → known ≡ false → n ≡ 3 → Begins edition n l t s l t s
+  unfolding editionTold
+  begins-not e k =
+      record {
+        status = k ∙ sym (ap statusOf (pick-no (gives []) (refuses 3) (sym told ∙ e)));
+        held = λ z. absurd (yes-no (sym z ∙ sym told ∙ e));
+        untouched = λ z. record { own-cells = refl; tally-cells = refl; shared-cells = refl };
+      }

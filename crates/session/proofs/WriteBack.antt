@@ -17,6 +17,7 @@ use Rattle.rules.specs.Rules.{lastRuleOf}
 use Rattle.command.specs.declared.commands.Command.{Command}
 use Rattle.command.proofs.Headers.{listed}
 use Rattle.state.specs.State.{Open, Session, none, newSession}
+use Rattle.state.specs.Start.{isEdition}
 use Rattle.state.specs.Effects.{took, withParameter, after}
 use Rattle.session.specs.Step.{Reply, stillOpen, completed, refused, Stepped, stepOf}
 use Rattle.session.specs.Feed.{nothing, first, Fed, onward, proceed, feedOf, written, accepts, emitted}
@@ -127,9 +128,10 @@ fed-back s (w ∷ ws) v e =
 
 -- so from the beginning
 pub all-back :
-    (ws : List ℕ) → feedOf newSession ws .refusal ≡ nothing →
-    ws ≡ written (feedOf newSession ws .commands) ++ heldOf (feedOf newSession ws .session .party .opened)
-all-back ws e = sym (ap (λ (h : List ℕ). h ++ ws) (none-held none refl)) ∙ fed-back newSession ws new-valid e
+    (edition : ℕ) → isEdition edition ≡ true → (ws : List ℕ) → feedOf (newSession edition) ws .refusal ≡ nothing →
+    ws ≡ written (feedOf (newSession edition) ws .commands) ++ heldOf (feedOf (newSession edition) ws .session .party .opened)
+all-back edition known ws e =
+    sym (ap (λ (h : List ℕ). h ++ ws) (none-held none refl)) ∙ fed-back (newSession edition) ws (new-valid edition known) e
 
 -- a piece without a refusal took all its words
 all-word : (r : Reply) (u : Session) (f : Fed) (n : ℕ) → (f .refusal ≡ nothing → f .taken ≡ n) → proceed r u f .refusal ≡ nothing →

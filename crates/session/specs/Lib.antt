@@ -1,6 +1,7 @@
 pub mod Again
 pub mod Answers
 pub mod Asked
+pub mod Editions
 pub mod Feed
 pub mod Reached
 pub mod Refusals

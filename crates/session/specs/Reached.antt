@@ -1,6 +1,7 @@
 -- "Statements may assume that a session .. handed in came from these entries": the sessions that the entries give out, and what the
 -- statements on the writer and on reading again say of them. Assumes nothing.
 use mathlib.Core.Path.{_≡_}
+use mathlib.Core.Bool.{true}
 use mathlib.Core.List.{List, [], _∷_, _++_}
 use Prim.Native.Nat.{ℕ, _+_}
 use lib.ListN.{length, take}
@@ -8,14 +9,15 @@ use Rattle.refusal.specs.Told.{Told, gives, refuses}
 use Rattle.rules.specs.Writer.{writeOf, roomAfter}
 use Rattle.command.specs.declared.commands.Command.{Command}
 use Rattle.state.specs.State.{Session, newSession}
+use Rattle.state.specs.Start.{isEdition}
 use Rattle.session.specs.Step.{stepOf}
 use Rattle.session.specs.Feed.{Fed, feedOf}
 use Rattle.session.specs.Again.{Idle, ReadAgain}
 use Rattle.session.specs.Tallies.{runsOf, claimsOf}
 
--- a new session, and a session that a word or a piece left of such a one, refused or not
+-- a new session of one of the editions, and a session that a word or a piece left of such a one, refused or not
 pub data Reached : Session → Type 0 where
-  begun : Reached newSession
+  begun : (edition : ℕ) → isEdition edition ≡ true → Reached (newSession edition)
   word : {s : Session} → Reached s → (w : ℕ) → Reached (stepOf s w .session)
   piece : {s : Session} → Reached s → (ws : List ℕ) → Reached (feedOf s ws .session)
 
@@ -42,14 +44,14 @@ allByWriter (c ∷ cs) room = byWriter c room ++ allByWriter cs room
 pub record ReadInFull (s : Session) (cs : List Command) (t u : Session) (f : Fed) : Type 0 where
   -- the same commands, no refusal, and the same settings
   pub again : ReadAgain cs t f
-  -- the tallies grow by the same runs and claims
+  -- the tallies grow by the same runs, and by the same claims where the editions are the same
   pub runs : f .session .party .tally .runs ≡ u .party .tally .runs + runsOf cs
   pub runs-first : t .party .tally .runs ≡ s .party .tally .runs + runsOf cs
   pub claims :
       f .session .party .tally .claims ≡
-      u .party .tally .claims + claimsOf cs (s .party .domain) (s .shared .mask) (s .shared .outputs)
+      u .party .tally .claims + claimsOf (u .party .birth .edition) cs (s .party .domain) (s .shared .mask) (s .shared .outputs)
   pub claims-first :
       t .party .tally .claims ≡
-      s .party .tally .claims + claimsOf cs (s .party .domain) (s .shared .mask) (s .shared .outputs)
+      s .party .tally .claims + claimsOf (s .party .birth .edition) cs (s .party .domain) (s .shared .mask) (s .shared .outputs)
   -- and it ends between two commands
   pub idle : Idle (f .session)

@@ -74,4 +74,4 @@ pub record AsBefore (s : Session) : Type 0 where
   pub judged-so :
       readyOf (s .party .domain) (s .party .instructions) (s .shared .mask) (s .shared .outputs) ≡
       readyInFull (s .party .domain) (s .party .instructions) (s .shared .outputs)
-  pub claims-so : claimOf (s .party .domain) (s .shared .mask) (s .shared .outputs) ≡ claimInFull (s .party .domain) (s .shared .outputs)
+  pub claims-so : claimOf (s .party .birth .edition) (s .party .domain) (s .shared .mask) (s .shared .outputs) ≡ claimInFull (s .party .domain) (s .shared .outputs)

@@ -1,6 +1,6 @@
 -- Document 01: runs and claimed elements, from the list of accepted commands alone. "A start that passes adds one to the runs, and
 -- to the claimed elements the number of pairs in the domain times the number of set outputs", of which the silent ones claim
--- nothing. Assumes nothing.
+-- nothing; by edition 2 times their unmasked channels. Assumes nothing.
 use mathlib.Core.List.{List, [], _∷_}
 use Prim.Native.Nat.{ℕ, _+_}
 use lib.ListN.{set}
@@ -23,18 +23,18 @@ runOf (command.OutputMask mask) = 0
 runOf (command.ConditionalMask mask) = 0
 runOf (command.Test test) = 0
 
--- what a command claims where this domain, this mask and these outputs are set
-unfoldable pub claimBy : Command → Domain → ℕ → List Buffer → ℕ
-claimBy (command.Domain i0 j0 i1 j1) d mask outputs = 0
-claimBy command.Start d mask outputs = claimOf d mask outputs
-claimBy (command.Effectless what) d mask outputs = 0
-claimBy (command.Store what base format) d mask outputs = 0
-claimBy (command.Input number base format height) d mask outputs = 0
-claimBy (command.Output number base format height) d mask outputs = 0
-claimBy (command.Conditional base format height) d mask outputs = 0
-claimBy (command.OutputMask new) d mask outputs = 0
-claimBy (command.ConditionalMask new) d mask outputs = 0
-claimBy (command.Test test) d mask outputs = 0
+-- what a command claims by an edition where this domain, this mask and these outputs are set
+unfoldable pub claimBy : ℕ → Command → Domain → ℕ → List Buffer → ℕ
+claimBy edition (command.Domain i0 j0 i1 j1) d mask outputs = 0
+claimBy edition command.Start d mask outputs = claimOf edition d mask outputs
+claimBy edition (command.Effectless what) d mask outputs = 0
+claimBy edition (command.Store what base format) d mask outputs = 0
+claimBy edition (command.Input number base format height) d mask outputs = 0
+claimBy edition (command.Output number base format height) d mask outputs = 0
+claimBy edition (command.Conditional base format height) d mask outputs = 0
+claimBy edition (command.OutputMask new) d mask outputs = 0
+claimBy edition (command.ConditionalMask new) d mask outputs = 0
+claimBy edition (command.Test test) d mask outputs = 0
 
 -- the domain, the mask and the outputs after a command
 unfoldable pub domainAfter : Command → Domain → Domain
@@ -78,8 +78,8 @@ unfoldable pub runsOf : List Command → ℕ
 runsOf [] = 0
 runsOf (c ∷ cs) = runOf c + runsOf cs
 
--- what commands claim, each start by the domain, the mask and the outputs that those before it left
-unfoldable pub claimsOf : List Command → Domain → ℕ → List Buffer → ℕ
-claimsOf [] d mask outputs = 0
-claimsOf (c ∷ cs) d mask outputs =
-    claimBy c d mask outputs + claimsOf cs (domainAfter c d) (maskAfter c mask) (outputsAfter c outputs)
+-- what commands claim by an edition, each start by the domain, the mask and the outputs that those before it left
+unfoldable pub claimsOf : ℕ → List Command → Domain → ℕ → List Buffer → ℕ
+claimsOf edition [] d mask outputs = 0
+claimsOf edition (c ∷ cs) d mask outputs =
+    claimBy edition c d mask outputs + claimsOf edition cs (domainAfter c d) (maskAfter c mask) (outputsAfter c outputs)

@@ -7,6 +7,7 @@ use command::table::Line;
 use refusal;
 use refusal::Refusal;
 use start::ready;
+use state::edition;
 use state::own;
 use state::own::WordPosition;
 use state::settings;
@@ -19,7 +20,7 @@ ghost use Rattle.session.specs.Step.{completing, parameterStep, placing,
 ghost use Rattle.state.specs.Cells.{Sized, partyOf, sessionOf};
 ghost use Rattle.state.specs.Asked.{Given, Held};
 ghost use Rattle.session.specs.Asked.{CompleteAsked, Left, Numbered, OpenAsked, ParameterAsked, Read, RefusalAsked, refusalAt, storedIn};
-ghost use Rattle.session.specs.Answers.{PieceLeft, replyOf};
+ghost use Rattle.session.specs.Answers.{Begins, PieceLeft, replyOf};
 ghost use Rattle.session.specs.Feed.{feedOf};
 
 // Words that a session takes before it answers 17.
@@ -218,17 +219,19 @@ pub fn word(
     }
 }
 
-// A new party that owns so much: no word taken; a start would get 7, and no output asks anything of a domain.
+// A new party of an edition, that owns so much: no word taken; a start would get 7, and no output asks anything of a domain.
 pub fn begin_party(
     own: &mut [u32; state::OWN_CELLS],
     tallies: &mut [u64; state::TALLIES],
     mine: u32,
+    edition: u32,
 )
-    ensures { λ _. ⌜ HeldOwn (newPartyOf mine) (now (own .exit)) (now (tallies .exit)) ⌝ }
+    ensures { λ _. ⌜ HeldOwn (newPartyOf mine edition) (now (own .exit)) (now (tallies .exit)) ⌝ }
 {
     *own = [0; state::OWN_CELLS];
-    own[own::LINE] = own::NO_LINE;
     own[own::MINE] = mine;
+    own[own::EDITION] = edition;
+    own[own::LINE] = own::NO_LINE;
     own[own::READINESS] = ready::UNSET;
     own[own::COLUMNS] = ready::MOST_EXTENT;
     own[own::ROWS] = ready::MOST_EXTENT;
@@ -244,16 +247,33 @@ pub fn begin_settings(shared: &mut [u32; state::SHARED_CELLS])
     shared[settings::MASK] = 65535;
 }
 
-// A new session of one party, which owns every number.
+// A new session of an edition, of one party that owns every number.
+fn make(
+    own: &mut [u32; state::OWN_CELLS],
+    tallies: &mut [u64; state::TALLIES],
+    shared: &mut [u32; state::SHARED_CELLS],
+    edition: u32,
+)
+    ensures { λ _. ⌜ Held (newSession edition) (now (own .exit)) (now (tallies .exit)) (now (shared .exit)) ⌝ }
+{
+    begin_party(own, tallies, owners::EVERYTHING, edition);
+    begin_settings(shared);
+}
+
+// Begins a session of an edition, 0; 3 where it is neither 1 nor 2, and nothing is touched then.
 pub fn begin(
     own: &mut [u32; state::OWN_CELLS],
     tallies: &mut [u64; state::TALLIES],
     shared: &mut [u32; state::SHARED_CELLS],
-)
-    ensures { λ _. ⌜ Held newSession (now (own .exit)) (now (tallies .exit)) (now (shared .exit)) ⌝ }
+    edition: u32,
+) -> u32
+    ensures { λ r. ⌜ Begins edition r (now (own .entry)) (now (tallies .entry)) (now (shared .entry)) (now (own .exit)) (now (tallies .exit)) (now (shared .exit)) ⌝ }
 {
-    begin_party(own, tallies, owners::EVERYTHING);
-    begin_settings(shared);
+    if edition::is_known(edition) {
+        make(own, tallies, shared, edition);
+        return 0;
+    }
+    refusal::number(Refusal::Malformed)
 }
 
 // The first refusal of a piece, or none.

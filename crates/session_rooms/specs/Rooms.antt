@@ -1,4 +1,4 @@
--- Sessions as a status and rooms: a new one, and what a word and a piece are answered. Assumes nothing.
+-- Sessions as a status and rooms: what a word and a piece are answered. Assumes nothing.
 use mathlib.Core.Path.{_≡_}
 use mathlib.Core.List.{List, [], _∷_}
 use Prim.Native.Nat.{ℕ}
@@ -7,14 +7,9 @@ use Rattle.refusal.specs.Told.{Told, gives, refuses}
 use Rattle.refusal.specs.Crossing.{Crosses}
 use Rattle.command.specs.Table.{headerOf}
 use Rattle.command.specs.Commands.{lineOf, fieldsOf}
-use Rattle.state.specs.State.{newSession}
 use Rattle.state.specs.Asked.{Held}
 use Rattle.session.specs.Step.{Reply, Stepped, stillOpen, completed, refused}
 use Rattle.session.specs.Feed.{Fed, firstStatus}
-
-pub record BeginCrosses (r : ℕ) (own tallies shared : List ℕ) : Type 0 where
-  pub status : r ≡ 0
-  pub held : Held newSession own tallies shared
 
 -- a word's answer in six numbers: 0s where the command is open, else 1, its header and its parameters, 0 past the last
 abbrev pub replyTold : Reply → Told

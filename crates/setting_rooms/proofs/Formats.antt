@@ -23,12 +23,12 @@ unfolding headerOf
 no-header line past = List·getD-eq-default headers 0 past
 
 pub standing-shows :
-    (p : Party) (taken stopped header count line ready : ℕ) (s : Bool) →
+    (p : Party) (taken stopped header count line ready edition : ℕ) (s : Bool) →
     taken ≡ p .taken → stopped ≡ flag s → s ≡ eqb (p .stopped) 1 → header ≡ openHeader line → line ≡ p .opened .line →
-    count ≡ p .opened .count → ready ≡ p .readiness .number →
-    Shows (standingNumbers p) 0 (taken ∷ stopped ∷ header ∷ count ∷ ready ∷ [])
+    count ≡ p .opened .count → ready ≡ p .readiness .number → edition ≡ p .birth .edition →
+    Shows (standingNumbers p) 0 (taken ∷ stopped ∷ header ∷ count ∷ ready ∷ edition ∷ [])
 unfolding standingNumbers
-standing-shows p taken stopped header count line ready s e1 e2 e3 e4 e5 e6 e7 = record { status = refl; room = cc }
+standing-shows p taken stopped header count line ready edition s e1 e2 e3 e4 e5 e6 e7 e8 = record { status = refl; room = cc }
 
 pub domain-shows :
     (p : Party) (b : Bounds) (set : ℕ) → b ≡ boundsOf (p .domain) → set ≡ flag (b .present) →

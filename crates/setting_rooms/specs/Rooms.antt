@@ -19,11 +19,12 @@ use Rattle.setting_rooms.specs.declared.Found.the-variants as found
 abbrev pub openHeader : ℕ → ℕ
 openHeader line = headerOf line
 
--- where a session stands: words taken, stopped or not, the open command's header and how many of its parameters were taken, and
--- which of 0, 7, 8 and 9 the settings alone give a start
+-- where a session stands: words taken, stopped or not, the open command's header and how many of its parameters were taken,
+-- which of 0, 7, 8 and 9 the settings alone give a start, and the edition
 unfoldable pub standingNumbers : Party → List ℕ
 standingNumbers p =
-    p .taken ∷ flag (eqb (p .stopped) 1) ∷ openHeader (p .opened .line) ∷ p .opened .count ∷ p .readiness .number ∷ []
+    p .taken ∷ flag (eqb (p .stopped) 1) ∷ openHeader (p .opened .line) ∷ p .opened .count ∷ p .readiness .number ∷
+    p .birth .edition ∷ []
 
 abbrev pub tallyNumbers : Tally → List ℕ
 tallyNumbers t = t .runs ∷ t .claims ∷ []

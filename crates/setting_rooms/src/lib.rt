@@ -12,9 +12,9 @@ ghost use Rattle.refusal.specs.Crossing.{Crosses, Shows, flag};
 ghost use Rattle.setting_rooms.specs.Rooms.{domainNumbers, formatAt, formatOf, maskNumbers, openHeader, standingNumbers, tallyNumbers, toldFound};
 
 // Lengths of rooms: words taken, stopped or not, the open command's header and parameters so far, what a start would get of the
-// settings; runs and claims; set or not and four bounds; the output mask, then the conditional mask and the test behind a flag each;
+// settings, the edition; runs and claims; set or not and four bounds; the output mask, then the conditional mask and the test behind a flag each;
 // set or not, base, format word and height.
-pub const STANDING_NUMBERS: usize = 5;
+pub const STANDING_NUMBERS: usize = 6;
 
 pub const TALLY_NUMBERS: usize = 2;
 
@@ -46,8 +46,8 @@ fn open_header(line: u32) -> u32
     }
 }
 
-// Words taken, stopped or not, the open command's header and how many of its parameters were taken, and which of 0, 7, 8 and 9 the
-// settings alone give a start.
+// Words taken, stopped or not, the open command's header and how many of its parameters were taken, which of 0, 7, 8 and 9 the
+// settings alone give a start, and the edition.
 pub fn standing(own: &[u32; state::OWN_CELLS], status: &mut [u32; STANDING_NUMBERS]) -> u32
     ensures { λ r. ⌜ Shows (standingNumbers (partyOf (now (own .entry)) [])) r (now (status .exit)) ⌝ }
 {
@@ -59,6 +59,7 @@ pub fn standing(own: &[u32; state::OWN_CELLS], status: &mut [u32; STANDING_NUMBE
         header,
         queries::open_count(own),
         queries::readiness(own),
+        queries::edition(own),
     ];
     0
 }

@@ -2,6 +2,7 @@
 // UINT8_4 whose own nibble is 15 or 0. Then starts with every output silent, with none set, and under masks that change.
 use session::stream;
 use session::stream::First;
+use state::edition;
 use worked::tally::Tally;
 
 // Where the two windows and the domain lie: apart with the domain inside both, the domain past the first window alone, or both
@@ -31,7 +32,7 @@ fn come(words: &[u32]) -> Came {
     let mut own: [u32; state::OWN_CELLS] = [0; state::OWN_CELLS];
     let mut tallies: [u64; state::TALLIES] = [0; state::TALLIES];
     let mut shared: [u32; state::SHARED_CELLS] = [0; state::SHARED_CELLS];
-    stream::begin(&mut own, &mut tallies, &mut shared);
+    stream::begin(&mut own, &mut tallies, &mut shared, edition::BY_OUTPUT);
     let fed = stream::feed(&mut own, &mut tallies, &mut shared, words);
     let refused = fed.refusal;
     Came {

@@ -78,8 +78,8 @@ numbers true true false = refl
 numbers true false z = refl
 numbers false y z = refl
 
-module _ (mask : ℕ) (outputs : List Buffer) (d : Domain) (i : Buffer) (column : d .i1 < mostExtent) (row : d .j1 < mostExtent) where
-  covered-gauged : (ltb (d .i1) (gaugeOf mask outputs .columns) and ltb (d .j1) (gaugeOf mask outputs .rows)) ≡ covered mask outputs d
+module _ (edition mask : ℕ) (outputs : List Buffer) (d : Domain) (i : Buffer) (column : d .i1 < mostExtent) (row : d .j1 < mostExtent) where
+  covered-gauged : (ltb (d .i1) (gaugeOf mask outputs edition .columns) and ltb (d .j1) (gaugeOf mask outputs edition .rows)) ≡ covered mask outputs d
   unfolding gaugeOf columnsLeft rowsLeft covered containsDomain
   covered-gauged =
       ap₂ _and_ (below-least 4 (d .i1) _ column) (below-least 4 (d .j1) _ row) ∙
@@ -88,23 +88,23 @@ module _ (mask : ℕ) (outputs : List Buffer) (d : Domain) (i : Buffer) (column 
       (λ n.
       asks (counts mask outputs n) (d .i1) (d .j1) (stepOfBuffer (output outputs n)) (output outputs n .height) column row)
 
-  pub readiness-gauged : readyBy d i (gaugeOf mask outputs) ≡ readinessOf d i mask outputs
+  pub readiness-gauged : readyBy d i (gaugeOf mask outputs edition) ≡ readinessOf d i mask outputs
   unfolding readyBy readinessOf readyOf complete
   readiness-gauged =
       (λ k. firstOf (eqb (d .isSet) 1 and (eqb (i .isSet) 1 and some-path k)) (covered-gauged k) (apart-path k)) ∙ numbers _ _ _
     where
-      some-path : eqb (gaugeOf mask outputs .some) 1 ≡ some 4 (isSet outputs)
+      some-path : eqb (gaugeOf mask outputs edition .some) 1 ≡ some 4 (isSet outputs)
       some-path = unfold gaugeOf in digit-one (some 4 (isSet outputs))
 
-      apart-path : eqb (gaugeOf mask outputs .apart) 1 ≡ disjoint mask outputs
+      apart-path : eqb (gaugeOf mask outputs edition .apart) 1 ≡ disjoint mask outputs
       apart-path = unfold gaugeOf in digit-one (disjoint mask outputs)
 
 -- what was kept of the same mask and outputs, settled, is what the settings give
 pub settled-kept : (p : Party) (h : Shared) (d : Domain) (i : Buffer) → p .domain .i1 < mostExtent → p .domain .j1 < mostExtent →
-    p .readiness ≡ workedOut d i (h .mask) (seenOutputs (p .birth .mine) (h .outputs)) → settled p ≡ renewed h p
+    p .readiness ≡ workedOut (p .birth .edition) d i (h .mask) (seenOutputs (p .birth .mine) (h .outputs)) → settled p ≡ renewed h p
 unfolding workedOut
 settled-kept p h d i column row e =
     let outputs = seenOutputs (p .birth .mine) (h .outputs) in
     ap (λ (r : Readiness). withReadiness (withNumber (readyBy (p .domain) (p .instructions) (r .gauge)) r) p) e ∙
-    ap (λ (n : ℕ). withReadiness (withNumber n (workedOut d i (h .mask) outputs)) p)
-    (readiness-gauged (h .mask) outputs (p .domain) (p .instructions) column row)
+    ap (λ (n : ℕ). withReadiness (withNumber n (workedOut (p .birth .edition) d i (h .mask) outputs)) p)
+    (readiness-gauged (p .birth .edition) (h .mask) outputs (p .domain) (p .instructions) column row)

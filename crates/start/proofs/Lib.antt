@@ -1,4 +1,5 @@
 pub mod Channels
+pub mod Editions
 pub mod Gauge
 pub mod New
 pub mod Readiness

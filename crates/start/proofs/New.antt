@@ -2,7 +2,7 @@
 use mathlib.Core.Path.{_≡_, refl, sym, ap, _∙_}
 use mathlib.Core.List.{[], _∷_}
 use Prim.Native.Nat.{ℕ}
-use Rattle.laws.specs.Below.{some, every, sum, count}
+use Rattle.laws.specs.Below.{some, every, sum}
 use Rattle.laws.specs.Choice.{_and_, pick, placeOf}
 use Rattle.laws.specs.Masks.{_or_, digit, on}
 use Rattle.laws.proofs.Choice.{pick-same}
@@ -23,6 +23,8 @@ use Rattle.state.specs.Start.{
   readyOf,
   numberTold,
   readinessOf,
+  creditAt,
+  creditOf,
 }
 use Rattle.state.specs.Effects.{windowFrom}
 use Rattle.state.specs.Readiness.{lesser, leastExtent, windowFor, columnsLeft, rowsLeft, gaugeOf, workedOut, readinessFor}
@@ -44,9 +46,10 @@ none-seen mine = λ k. none 16 k ∷ none 17 k ∷ none 18 k ∷ none 19 k ∷ [
     none : (n : ℕ) → unset ≡ pick (on n mine) unset unset
     none n = sym (pick-same (on n mine) unset)
 
-new-whole : newReadiness ≡ workedOut (newParty .domain) (newParty .instructions) (newShared .mask) (newShared .outputs)
-unfolding workedOut readinessOf readyOf numberTold complete gaugeOf leastExtent lesser columnsLeft rowsLeft counts isSet output some every sum count digit disjoint pick _and_ _or_
-new-whole =
+new-whole : (edition : ℕ) →
+    newReadiness ≡ workedOut edition (newParty edition .domain) (newParty edition .instructions) (newShared .mask) (newShared .outputs)
+unfolding workedOut readinessOf readyOf numberTold complete gaugeOf leastExtent lesser columnsLeft rowsLeft counts isSet output some every sum creditOf creditAt digit disjoint pick _and_ _or_
+new-whole edition =
     λ k.
     record {
       number = 7;
@@ -57,5 +60,6 @@ new-whole =
       window3 = sym unset-kept k;
     }
 
-pub new-kept : (mine : ℕ) → newReadiness ≡ readinessFor (newPartyOf mine) newShared
-new-kept mine = new-whole ∙ ap (workedOut (newParty .domain) (newParty .instructions) (newShared .mask)) (none-seen mine)
+pub new-kept : (mine edition : ℕ) → newReadiness ≡ readinessFor (newPartyOf mine edition) newShared
+new-kept mine edition =
+    new-whole edition ∙ ap (workedOut edition (newParty edition .domain) (newParty edition .instructions) (newShared .mask)) (none-seen mine)

@@ -12,7 +12,6 @@ use borrow.Author.Tests.{eq-eqb, ne-eqb, lt-ltb, le-ltb}
 use Rattle.laws.specs.Below.{some, every, sum, count}
 use Rattle.laws.specs.Choice.{_and_, pick}
 use Rattle.laws.specs.Masks.{_or_, digit, on}
-use Rattle.laws.proofs.Below.{count-bounded}
 use Rattle.laws.proofs.Choice.{pick-yes, pick-no, and-yes, and-no-left, and-no-right}
 use Rattle.refusal.specs.Number.{IsNumber}
 use Rattle.refusal.specs.Told.{Told, gives, refuses}
@@ -27,6 +26,7 @@ use Rattle.state.specs.Start.{
   output,
   isSet,
   unmasked,
+  channelsUnmasked,
   counts,
   apart,
   disjoint,
@@ -34,8 +34,10 @@ use Rattle.state.specs.Start.{
   numberTold,
   readinessOf,
   pairsOf,
+  creditOf,
   claimOf,
   mostClaim,
+  mostCredit,
   mostPairs,
 }
 use Rattle.state.specs.Readiness.{lesser, leastExtent, windowFor, columnsLeft, rowsLeft, gaugeOf, workedOut, readinessFor}
@@ -53,10 +55,14 @@ use Rattle.start.specs.Windows.{
   eachApart,
   columnsBy,
   rowsBy,
+  channelsBy,
+  channelsIn,
+  countBy,
   creditBy,
   firstOf,
 }
-use Rattle.start.proofs.Channels.{from-own}
+use Rattle.start.proofs.Channels.{from-own, channels-own}
+use Rattle.start.proofs.Editions.{credit-by, credit-bounded}
 use Rattle.start.proofs.Gauge.{readiness-gauged}
 
 -- four tests, taken as the code takes them
@@ -154,10 +160,20 @@ module _ (a b c d : Output) where
   unfolding rowsBy
   rows-told e f g h i j k l = cc
 
-  pub credit-told : {w x y z : ℕ} → (w ≡ digit (a .counts)) × (w ≤ 1) → (x ≡ digit (b .counts)) × (x ≤ 1) →
-      (y ≡ digit (c .counts)) × (y ≤ 1) → (z ≡ digit (d .counts)) × (z ≤ 1) → w + x + y + z ≡ creditBy a b c d
-  unfolding creditBy
-  credit-told e f g h = omega (arith, e .0, f .0, g .0, h .0)
+  pub count-told : {w x y z : ℕ} → (w ≡ digit (a .counts)) × (w ≤ 1) → (x ≡ digit (b .counts)) × (x ≤ 1) →
+      (y ≡ digit (c .counts)) × (y ≤ 1) → (z ≡ digit (d .counts)) × (z ≤ 1) → w + x + y + z ≡ countBy a b c d
+  unfolding countBy
+  count-told e f g h = omega (arith, e .0, f .0, g .0, h .0)
+
+  -- what a pair is credited, by the edition
+  module _ (edition channels : ℕ) {n : ℕ} where
+    pub credit-channels : edition ≡ 2 → n ≡ channels → n ≡ creditBy a b c d edition channels
+    unfolding creditBy
+    credit-channels e h = h ∙ sym (pick-yes _ _ (eq-eqb edition 2 e))
+
+    pub credit-outputs : (edition ≡ 2 → ⊥) → n ≡ countBy a b c d → n ≡ creditBy a b c d edition channels
+    unfolding creditBy
+    credit-outputs e h = h ∙ sym (pick-no _ _ (ne-eqb edition 2 e))
 
 -- an output of another party's that is shown as not set asks and gives what one that isn't set does
 module _ (t : Bool) (o : Buffer) (bits : ℕ) where
@@ -196,6 +212,15 @@ dim-apart true true o p m n = refl
 dim-apart true false o p m n =
     pick-no _ true (and-no-right (clear true o m .counts) refl) ∙ sym (pick-no _ true (and-no-right (clear true o m .counts) refl))
 dim-apart false u o p m n = refl
+
+abbrev dim-channels-of : Bool → Buffer → ℕ → ℕ
+dim-channels-of t o bits = channelsBy bits (pick t (o .isSet) 0) (o .format)
+
+dim-channels : (t : Bool) (o : Buffer) (bits : ℕ) →
+    dim-channels-of t o bits ≡ pick (eqb (seen t o bits .isSet) 1) (channelsUnmasked bits 0 (seen t o bits .format)) 0
+unfolding pick channelsBy
+dim-channels true o bits = refl
+dim-channels false o bits = refl
 
 -- the four outputs that a party sees in the shared cells, each with the mask's bits from its own on and with the window that is kept of
 -- it, and what they ask of a domain and give for a pair
@@ -268,9 +293,33 @@ module _ (mine : ℕ) (shared : List ℕ) where
   unfolding rowsBy extentLeft leastExtent rowsLeft output sharedOf seenFrom
   rows-seen = rw (counts-0, counts-1, counts-2, counts-3) refl
 
-  credit-seen : creditBy a b c d ≡ count 4 (counts mask outputs)
-  unfolding creditBy count sum
-  credit-seen = rw (counts-0, counts-1, counts-2, counts-3) refl
+  count-seen : countBy a b c d ≡ count 4 (counts mask outputs)
+  unfolding countBy count sum
+  count-seen = rw (counts-0, counts-1, counts-2, counts-3) refl
+
+  credit-seen : (edition : ℕ) → creditBy a b c d edition (channelsIn mask outputs) ≡ creditOf edition mask outputs
+  unfolding creditBy
+  credit-seen edition =
+      ap (λ (n : ℕ). pick (eqb edition 2) (channelsIn mask outputs) n) count-seen ∙ sym (credit-by edition mask outputs)
+
+  -- the unmasked channels that the code sums up, output by output
+  pub channels-told : {o p q r : Bool} {w x y z : ℕ} → o ≡ on 16 mine → p ≡ on 17 mine → q ≡ on 18 mine → r ≡ on 19 mine →
+      (w ≡ channelsBy m0 (pick o (getD shared 21 0) 0) (getD shared 23 0)) × (w ≤ 4) →
+      (x ≡ channelsBy m1 (pick p (getD shared 25 0) 0) (getD shared 27 0)) × (x ≤ 4) →
+      (y ≡ channelsBy m2 (pick q (getD shared 29 0) 0) (getD shared 31 0)) × (y ≤ 4) →
+      (z ≡ channelsBy m3 (pick r (getD shared 33 0) 0) (getD shared 35 0)) × (z ≤ 4) → w + x + y + z ≡ channelsIn mask outputs
+  unfolding channelsBy channelsIn sum isSet output sharedOf seenFrom
+  channels-told o p q r e f g h =
+      omega (
+        arith,
+        e .0 ∙ ap (λ (t : Bool). dim-channels-of t (at 21) m0) o ∙ dim-channels (on 16 mine) (at 21) m0,
+        f .0 ∙ ap (λ (t : Bool). dim-channels-of t (at 25) m1) p ∙ dim-channels (on 17 mine) (at 25) m1 ∙
+            ap (λ (n : ℕ). pick (eqb (seen (on 17 mine) (at 25) 0 .isSet) 1) n 0) (channels-own m0 1 (seen (on 17 mine) (at 25) 0 .format)),
+        g .0 ∙ ap (λ (t : Bool). dim-channels-of t (at 29) m2) q ∙ dim-channels (on 18 mine) (at 29) m2 ∙
+            ap (λ (n : ℕ). pick (eqb (seen (on 18 mine) (at 29) 0 .isSet) 1) n 0) (channels-own m0 2 (seen (on 18 mine) (at 29) 0 .format)),
+        h .0 ∙ ap (λ (t : Bool). dim-channels-of t (at 33) m3) r ∙ dim-channels (on 19 mine) (at 33) m3 ∙
+            ap (λ (n : ℕ). pick (eqb (seen (on 19 mine) (at 33) 0 .isSet) 1) n 0) (channels-own m0 3 (seen (on 19 mine) (at 33) 0 .format)),
+      )
 
   -- those that aren't one's own, shown as not set
   abbrev da : Output
@@ -313,11 +362,15 @@ module _ (mine : ℕ) (shared : List ℕ) where
       ((dim-apart (on 19 mine) (on 16 mine) (at 33) (at 21) m3 m0 j and dim-apart (on 19 mine) (on 17 mine) (at 33) (at 25) m3 m1 j) and
       dim-apart (on 19 mine) (on 18 mine) (at 33) (at 29) m3 m2 j)
 
-  credit-dim : creditBy da db dc dd ≡ creditBy a b c d
-  unfolding creditBy
-  credit-dim = λ j.
+  count-dim : countBy da db dc dd ≡ countBy a b c d
+  unfolding countBy
+  count-dim = λ j.
       digit (dim-counts (on 16 mine) (at 21) m0 j) + (digit (dim-counts (on 17 mine) (at 25) m1 j) + (digit (dim-counts (on 18 mine) (at 29) m2 j) +
       (digit (dim-counts (on 19 mine) (at 33) m3 j) + 0)))
+
+  credit-dim : (edition channels : ℕ) → creditBy da db dc dd edition channels ≡ creditBy a b c d edition channels
+  unfolding creditBy
+  credit-dim edition channels = ap (λ (n : ℕ). pick (eqb edition 2) channels n) count-dim
 
 -- own cells whose outputs' windows are kept
 module _ (shared own : List ℕ) (asked : RenewAsked own shared) where
@@ -370,9 +423,9 @@ module _ (shared own : List ℕ) (asked : RenewAsked own shared) where
       g ≡ outputBy (bitsOf / 256) (muted o2 (bufferAt shared 29)) (windowAt own 29) →
       h ≡ outputBy (bitsOf / 4096) (muted o3 (bufferAt shared 33)) (windowAt own 31) →
       some ≡ someSet e f g h → s ≡ digit some → x ≡ columnsBy e f g h → y ≡ rowsBy e f g h →
-      apart ≡ eachApart e f g h → z ≡ digit apart → w ≡ creditBy e f g h →
-      gaugeFrom s x y z w ≡ gaugeOf (sharedOf shared .mask) seenOf
-  unfolding gaugeOf
+      apart ≡ eachApart e f g h → z ≡ digit apart → w ≡ creditBy e f g h (getD own 18 0) (channelsIn (sharedOf shared .mask) seenOf) →
+      gaugeFrom s x y z w ≡ gaugeOf (sharedOf shared .mask) seenOf (party .birth .edition)
+  unfolding gaugeOf partyOf
   gauge-told q0 q1 q2 q3 ea eb ec ed es e1 e2 e3 ep e4 e5 =
       let ka = window-0 q0 ea in
       let kb = window-1 q1 eb in
@@ -384,26 +437,27 @@ module _ (shared own : List ℕ) (asked : RenewAsked own shared) where
       ((e2 ∙ (λ j. columnsBy (ka j) (kb j) (kc j) (kd j)) ∙ columns-dim mineOf shared ∙ columns-seen mineOf shared) k)
       ((e3 ∙ (λ j. rowsBy (ka j) (kb j) (kc j) (kd j)) ∙ rows-dim mineOf shared ∙ rows-seen mineOf shared) k)
       ((e4 ∙ ap digit (ep ∙ (λ j. eachApart (ka j) (kb j) (kc j) (kd j)) ∙ apart-dim mineOf shared ∙ disjoint-seen mineOf shared)) k)
-      ((e5 ∙ (λ j. creditBy (ka j) (kb j) (kc j) (kd j)) ∙ credit-dim mineOf shared ∙ credit-seen mineOf shared) k)
+      ((e5 ∙ (λ j. creditBy (ka j) (kb j) (kc j) (kd j) (party .birth .edition) (channelsIn (sharedOf shared .mask) seenOf)) ∙
+      credit-dim mineOf shared (party .birth .edition) (channelsIn (sharedOf shared .mask) seenOf) ∙ credit-seen mineOf shared (party .birth .edition)) k)
 
   abbrev gauging : Gauge → Readiness
   gauging g = withNumber (readyBy (party .domain) (party .instructions) g) (withGauge g (party .readiness))
 
   -- so what is kept is what the settings give
-  gauged-kept : gauging (gaugeOf (sharedOf shared .mask) seenOf) ≡ readinessFor party (sharedOf shared)
+  gauged-kept : gauging (gaugeOf (sharedOf shared .mask) seenOf (party .birth .edition)) ≡ readinessFor party (sharedOf shared)
   unfolding workedOut partyOf
   gauged-kept =
       λ k.
       record {
-        number = readiness-gauged (sharedOf shared .mask) seenOf (party .domain) (party .instructions) (asked .domain .column-most) (asked .domain .row-most) k;
-        gauge = gaugeOf (sharedOf shared .mask) seenOf;
+        number = readiness-gauged (party .birth .edition) (sharedOf shared .mask) seenOf (party .domain) (party .instructions) (asked .domain .column-most) (asked .domain .row-most) k;
+        gauge = gaugeOf (sharedOf shared .mask) seenOf (party .birth .edition);
         window0 = asked .windows .first k;
         window1 = asked .windows .second k;
         window2 = asked .windows .third k;
         window3 = asked .windows .fourth k;
       }
 
-  pub renew-told : {g : Gauge} → g ≡ gaugeOf (sharedOf shared .mask) seenOf → (l1 : List ℕ) →
+  pub renew-told : {g : Gauge} → g ≡ gaugeOf (sharedOf shared .mask) seenOf (party .birth .edition) → (l1 : List ℕ) →
       l1 ≡ partyCells (withReadiness (withGauge g (party .readiness)) party) → (l2 : List ℕ) →
       l2 ≡ partyCells (settled (partyOf l1 [])) → l2 ≡ partyCells (renewed (sharedOf shared) party)
   renew-told e l1 e1 l2 e2 =
@@ -511,10 +565,10 @@ pub pairs-most : (i0 j0 i1 j1 : ℕ) → ((i0 ≤ i1) × (i1 < 4096)) × ((j0 �
     (i1 - i0 + 1) * (j1 - j0 + 1) ≤ mostPairs
 pairs-most i0 j0 i1 j1 h = mul-le-mul {n₂ = 4096} {m₂ = 4096} (omega (arith, h)) (omega (arith, h))
 
-pub claim-fits : {p n : ℕ} → p ≤ mostPairs → n ≤ 4 → p * n ≤ mostClaim
-claim-fits h k = mul-le-mul {n₂ = mostPairs} {m₂ = 4} h k
+pub claim-fits : {p n : ℕ} → p ≤ mostPairs → n ≤ mostCredit → p * n ≤ mostClaim
+claim-fits h k = mul-le-mul {n₂ = mostPairs} {m₂ = mostCredit} h k
 
-pub claim-told : (own : List ℕ) {p : ℕ} → partyOf own [] .readiness .gauge .credit ≤ 4 →
+pub claim-told : (own : List ℕ) {p : ℕ} → partyOf own [] .readiness .gauge .credit ≤ mostCredit →
     (p ≡ (getD own 11 0 - getD own 9 0 + 1) * (getD own 12 0 - getD own 10 0 + 1)) × (p ≤ mostPairs) →
     (p * getD own 24 0 ≡ pairsOf (partyOf own [] .domain) * partyOf own [] .readiness .gauge .credit) × (p * getD own 24 0 ≤ mostClaim)
 unfolding pairsOf partyOf
@@ -534,29 +588,29 @@ pub readiness-answer : (d : Domain) (i : Buffer) (m : ℕ) (o : List Buffer) →
 unfolding readinessOf readyOf
 readiness-answer d i m o = first-answer _ _ _
 
--- the credit that is kept is the number of outputs that count, so that the claim is the settings'
+-- the credit that is kept is the settings', so that the claim is
 module _ (own tallies shared : List ℕ) (asked : OwnAsked own tallies shared) where
-  abbrev counting : ℕ → Bool
-  counting = counts (sharedOf shared .mask) (seenOutputs (partyOf own [] .birth .mine) (sharedOf shared .outputs))
+  abbrev edition : ℕ
+  edition = partyOf own [] .birth .edition
 
-  abbrev counted : ℕ
-  counted = count 4 counting
+  abbrev seenBy : List Buffer
+  seenBy = seenOutputs (partyOf own [] .birth .mine) (sharedOf shared .outputs)
 
-  credit-kept : partyOf own [] .readiness .gauge .credit ≡ counted
+  credit-kept : partyOf own [] .readiness .gauge .credit ≡ creditOf edition (sharedOf shared .mask) seenBy
   unfolding partyOf workedOut gaugeOf
   credit-kept = ap (λ (r : Readiness). r .gauge .credit) (asked .kept)
 
   pub claim-asked :
-      (length own ≡ ownLength) × ((partyOf own [] .readiness .gauge .credit ≤ 4) × DomainValid (partyOf own [] .domain))
+      (length own ≡ ownLength) × ((partyOf own [] .readiness .gauge .credit ≤ mostCredit) × DomainValid (partyOf own [] .domain))
   claim-asked =
-      (asked .sized .own-length, (rw credit-kept (count-bounded 4 counting), unfold partyOf in asked .domain))
+      (asked .sized .own-length, (rw credit-kept (credit-bounded edition (sharedOf shared .mask) seenBy), unfold partyOf in asked .domain))
 
   pub claim-kept : {n : ℕ} → n ≡ pairsOf (partyOf own [] .domain) * partyOf own [] .readiness .gauge .credit →
       n ≡ claimFor (partyOf own []) (sharedOf shared)
   unfolding claimOf
   claim-kept e = e ∙ ap (λ (x : ℕ). pairsOf (partyOf own [] .domain) * x) credit-kept
 
-pub credit-most : (own : List ℕ) → partyOf own [] .readiness .gauge .credit ≤ 4 → getD own 24 0 ≤ 4
+pub credit-most : (own : List ℕ) → partyOf own [] .readiness .gauge .credit ≤ mostCredit → getD own 24 0 ≤ mostCredit
 unfolding partyOf
 credit-most own k = k
 

@@ -1,12 +1,14 @@
 -- An output as a start sees it, and what a start asks of one output, of two and of all four, said of what it sees. Assumes nothing.
 use mathlib.Core.Bool.{Bool, true, false}
+use mathlib.Core.List.{List}
 use Prim.Native.Nat.{ℕ, _+_}
 use lib.Dec.{eqb, leb}
 use Rattle.laws.specs.Choice.{_and_, pick}
-use Rattle.laws.specs.Masks.{digit}
+use Rattle.laws.specs.Below.{sum, count}
+use Rattle.laws.specs.Masks.{on, digit}
 use Rattle.start.specs.declared.ready.Output.{Output}
 use Rattle.state.specs.State.{Buffer, Window, Gauge, mostExtent}
-use Rattle.state.specs.Start.{unmasked}
+use Rattle.state.specs.Start.{output, isSet, unmasked, channelsUnmasked}
 use Rattle.state.specs.Readiness.{lesser}
 
 -- an output counts, by its flag and format and the mask's bits from the output's own on: these are a mask in which it is output 0
@@ -16,6 +18,18 @@ countsBy bits flag format = eqb flag 1 and unmasked bits 0 format
 -- a buffer that is shown as not set where it is another party's: nothing else of it is then looked at
 abbrev pub muted : Bool → Buffer → Buffer
 muted owned b = record { isSet = pick owned (b .isSet) 0; base = b .base; format = b .format; height = b .height }
+
+-- how many of four bits are ones
+unfoldable pub onesIn : ℕ → ℕ
+onesIn four = count 4 (λ c. on c four)
+
+-- an output's unmasked channels, by the same; none where it isn't set
+unfoldable pub channelsBy : ℕ → ℕ → ℕ → ℕ
+channelsBy bits flag format = pick (eqb flag 1) (channelsUnmasked bits 0 format) 0
+
+-- the unmasked channels of all set outputs
+unfoldable pub channelsIn : ℕ → List Buffer → ℕ
+channelsIn mask outputs = sum 4 (λ n. pick (isSet outputs n) (channelsUnmasked mask n (output outputs n .format)) 0)
 
 -- a buffer with the window that is kept of it
 abbrev pub outputBy : ℕ → Buffer → Window → Output
@@ -65,8 +79,12 @@ module _ (a b c d : Output) where
       (lesser (extentLeft (c .counts) (c .height)) (lesser (extentLeft (d .counts) (d .height)) mostExtent)))
 
   -- how many of the four count
-  unfoldable pub creditBy : ℕ
-  creditBy = digit (a .counts) + (digit (b .counts) + (digit (c .counts) + (digit (d .counts) + 0)))
+  unfoldable pub countBy : ℕ
+  countBy = digit (a .counts) + (digit (b .counts) + (digit (c .counts) + (digit (d .counts) + 0)))
+
+  -- what a pair is credited by an edition, of four outputs with so many unmasked channels in all
+  unfoldable pub creditBy : ℕ → ℕ → ℕ
+  creditBy edition channels = pick (eqb edition 2) channels countBy
 
 -- the first of 7, 8 and 9 by what holds of a start, 0 where none is given
 unfoldable pub firstOf : Bool → Bool → Bool → ℕ

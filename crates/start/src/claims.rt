@@ -8,7 +8,7 @@ ghost use Rattle.command.specs.declared.commands.Command.{Command};
 ghost use Rattle.state.specs.Asked.{OwnAsked};
 ghost use Rattle.state.specs.Cells.{partyOf, sharedOf, tallyCells, ownLength};
 ghost use Rattle.state.specs.Effects.{ownAfter};
-ghost use Rattle.state.specs.Start.{mostClaim, mostPairs, pairsOf};
+ghost use Rattle.state.specs.Start.{mostClaim, mostCredit, mostPairs, pairsOf};
 ghost use Rattle.state.specs.Valid.{DomainValid};
 
 // The number of pairs of a domain.
@@ -24,7 +24,7 @@ fn pairs(i0: u32, j0: u32, i1: u32, j1: u32) -> u64
 
 // The elements that a start claims: for each of the domain's pairs what the outputs give for one.
 fn claim(own: &[u32; state::OWN_CELLS]) -> u64
-    requires { ⌜ (length (now own) ≡ ownLength) × ((partyOf (now own) [] .readiness .gauge .credit ≤ 4) × DomainValid (partyOf (now own) [] .domain)) ⌝ }
+    requires { ⌜ (length (now own) ≡ ownLength) × ((partyOf (now own) [] .readiness .gauge .credit ≤ mostCredit) × DomainValid (partyOf (now own) [] .domain)) ⌝ }
     ensures value { λ r. ⌜ r ≡ pairsOf (partyOf (now (own .entry)) [] .domain) * partyOf (now (own .entry)) [] .readiness .gauge .credit ⌝ }
     ensures most { λ r. ⌜ r ≤ mostClaim ⌝ }
 {

@@ -1,6 +1,7 @@
 // What the settings alone give a start, 0, 7, 8 or 9, kept in a party's own cells: renewed by each command that sets one of the
 // settings, so that a start only reads it.
 use command::format;
+use state::edition;
 use state::own;
 use state::settings;
 ghost use mathlib.Core.Path.{_≡_};
@@ -14,9 +15,10 @@ ghost use Rattle.command.specs.Format.{channelsOf};
 ghost use Rattle.state.specs.Cells.{bufferAt, partyOf, partyCells, sharedOf, ownLength, sharedLength};
 ghost use Rattle.state.specs.Effects.{renewed, windowFrom};
 ghost use Rattle.state.specs.Readiness.{lesser as lesserOf};
+ghost use Rattle.state.specs.Seen.{seenOutputs};
 ghost use Rattle.state.specs.Start.{unmasked};
 ghost use Rattle.start.specs.Gauge.{RenewAsked, settled};
-ghost use Rattle.start.specs.Windows.{columnsBy, countsBy, creditBy, eachApart, extentLeft, firstOf, keepsApart, muted, outputBy, rowsBy, someSet, spansApart};
+ghost use Rattle.start.specs.Windows.{channelsBy, channelsIn, columnsBy, countBy, countsBy, creditBy, eachApart, extentLeft, firstOf, keepsApart, muted, onesIn, outputBy, rowsBy, someSet, spansApart};
 
 // The most columns and the most rows that a window has.
 pub const MOST_EXTENT: u32 = 4096;
@@ -39,6 +41,9 @@ pub struct Output {
 const CHANNELS: u32 = 0xF31F1;
 
 const LAST_CODE: u32 = 7;
+
+// How many ones a number of four bits has, a digit of four bits for each from the lowest on.
+const ONES: u64 = 0x4332322132212110;
 
 // The mask's bits for the channels that a format code has. `bits` are the mask's from the output's own on, so those of later
 // outputs stand above. The codes of a stream can't be foretold, so no branch is taken on them.
@@ -74,6 +79,35 @@ fn shown(owned: bool, flag: u32) -> u32
     ensures { λ r. ⌜ r ≡ pick owned flag 0 ⌝ }
 {
     if owned { flag } else { 0 }
+}
+
+// The number of ones among four bits: a digit is looked up, so that no branch is taken on them.
+fn ones(four: u32) -> u32
+    requires { ⌜ four < 16 ⌝ }
+    ensures value { λ r. ⌜ r ≡ onesIn four ⌝ }
+    ensures most { λ r. ⌜ r ≤ 4 ⌝ }
+{
+    ((ONES >> (4 * four)) % 16) as u32
+}
+
+// The unmasked channels of an output, none of one that isn't set.
+fn channels(bits: u32, flag: u32, format: u32) -> u32
+    ensures value { λ r. ⌜ r ≡ channelsBy bits flag format ⌝ }
+    ensures most { λ r. ⌜ r ≤ 4 ⌝ }
+{
+    if flag == 1 {
+        ones(channel_bits(bits, format::code(format)))
+    } else {
+        0
+    }
+}
+
+// The unmasked channels of an output that is the party's own, none of another's.
+fn own_channels(owned: bool, bits: u32, flag: u32, format: u32) -> u32
+    ensures value { λ r. ⌜ r ≡ channelsBy bits (pick owned flag 0) format ⌝ }
+    ensures most { λ r. ⌜ r ≤ 4 ⌝ }
+{
+    channels(bits, shown(owned, flag), format)
 }
 
 // The output whose cells begin at a place, with the row step and span that are kept of it; another party's is as if it weren't set.
@@ -194,11 +228,64 @@ fn rows(a: Output, b: Output, c: Output, d: Output) -> u32
     lesser(extent_left(a.counts, a.height), latest)
 }
 
-// The number of outputs that count: what a pair claims.
-fn credit(a: Output, b: Output, c: Output, d: Output) -> u32
-    ensures { λ r. ⌜ r ≡ creditBy a b c d ⌝ }
+// The number of outputs that count.
+fn by_output(a: Output, b: Output, c: Output, d: Output) -> u32
+    ensures { λ r. ⌜ r ≡ countBy a b c d ⌝ }
 {
     digit(a.counts) + digit(b.counts) + digit(c.counts) + digit(d.counts)
+}
+
+// The number of the unmasked channels of the outputs that a party owns.
+fn by_channel(mine: u32, shared: &[u32; state::SHARED_CELLS]) -> u32
+    requires { ⌜ length (now shared) ≡ sharedLength ⌝ }
+    ensures { λ r. ⌜ r ≡ channelsIn (sharedOf (now (shared .entry)) .mask) (seenOutputs mine (sharedOf (now (shared .entry)) .outputs)) ⌝ }
+{
+    let mask = shared[settings::MASK];
+    let a = own_channels(
+        owners::is_on(mine, 16),
+        mask,
+        shared[settings::OUTPUT_0],
+        shared[settings::OUTPUT_0 + 2],
+    );
+    let b = own_channels(
+        owners::is_on(mine, 17),
+        mask / 16,
+        shared[settings::OUTPUT_1],
+        shared[settings::OUTPUT_1 + 2],
+    );
+    let c = own_channels(
+        owners::is_on(mine, 18),
+        mask / 256,
+        shared[settings::OUTPUT_2],
+        shared[settings::OUTPUT_2 + 2],
+    );
+    let d = own_channels(
+        owners::is_on(mine, 19),
+        mask / 4096,
+        shared[settings::OUTPUT_3],
+        shared[settings::OUTPUT_3 + 2],
+    );
+    a + b + c + d
+}
+
+// What a pair is credited, and so claims. The outputs are those of the shared settings that the party owns.
+fn credit(
+    edition: u32,
+    mine: u32,
+    a: Output,
+    b: Output,
+    c: Output,
+    d: Output,
+    shared: &[u32; state::SHARED_CELLS],
+) -> u32
+    requires { ⌜ length (now shared) ≡ sharedLength ⌝ }
+    ensures { λ r. ⌜ r ≡ creditBy a b c d edition (channelsIn (sharedOf (now (shared .entry)) .mask) (seenOutputs mine (sharedOf (now (shared .entry)) .outputs))) ⌝ }
+{
+    if edition == edition::BY_CHANNEL {
+        by_channel(mine, shared)
+    } else {
+        by_output(a, b, c, d)
+    }
 }
 
 // The first of 7, 8 and 9 that is given, 0 where none is.
@@ -238,6 +325,7 @@ pub fn renew(own: &mut [u32; state::OWN_CELLS], shared: &[u32; state::SHARED_CEL
     ensures { λ _. ⌜ now (own .exit) ≡ partyCells (renewed (sharedOf (now (shared .entry))) (partyOf (now (own .entry)) [])) ⌝ }
 {
     let mine = own[own::MINE];
+    let edition = own[own::EDITION];
     let mask = shared[settings::MASK];
     let a = output_at(
         owners::is_on(mine, 16),
@@ -279,7 +367,7 @@ pub fn renew(own: &mut [u32; state::OWN_CELLS], shared: &[u32; state::SHARED_CEL
         columns(a, b, c, d),
         rows(a, b, c, d),
         apart,
-        credit(a, b, c, d),
+        credit(edition, mine, a, b, c, d, shared),
     );
     settle(own);
 }

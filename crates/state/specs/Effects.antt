@@ -214,7 +214,7 @@ withShared m cs cm ts t f i b c o n =
 
 -- what a start claims: of one's own outputs
 abbrev pub claimFor : Party → Shared → ℕ
-claimFor p h = claimOf (p .domain) (h .mask) (seenOutputs (p .birth .mine) (h .outputs))
+claimFor p h = claimOf (p .birth .edition) (p .domain) (h .mask) (seenOutputs (p .birth .mine) (h .outputs))
 
 -- what a command without its session's open part does to the party's own settings; "A start that passes adds one to the runs,
 -- and to the claimed elements the number of pairs in the domain times the number of set outputs." The silent ones claim nothing,

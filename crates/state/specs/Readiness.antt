@@ -4,11 +4,11 @@ use mathlib.Core.List.{List}
 use Prim.Native.Nat.{ℕ, zero, suc}
 use lib.Dec.{ltb}
 use Rattle.laws.specs.Choice.{pick}
-use Rattle.laws.specs.Below.{some, count}
+use Rattle.laws.specs.Below.{some}
 use Rattle.laws.specs.Masks.{digit}
 use Rattle.state.specs.State.{Buffer, Domain, Window, Gauge, Readiness, Party, Shared, mostExtent}
 use Rattle.state.specs.Seen.{seenOutputs}
-use Rattle.state.specs.Start.{stepOfBuffer, spanOfBuffer, output, isSet, counts, disjoint, readinessOf}
+use Rattle.state.specs.Start.{stepOfBuffer, spanOfBuffer, output, isSet, counts, disjoint, readinessOf, creditOf}
 
 -- the lesser of two numbers
 unfoldable pub lesser : ℕ → ℕ → ℕ
@@ -31,23 +31,23 @@ module _ (mask : ℕ) (outputs : List Buffer) where
   unfoldable pub rowsLeft : ℕ → ℕ
   rowsLeft n = pick (counts mask outputs n) (output outputs n .height) mostExtent
 
-  -- what the outputs ask of a domain and give for a pair
-  unfoldable pub gaugeOf : Gauge
-  gaugeOf =
+  -- what the outputs ask of a domain and give for a pair, by an edition
+  unfoldable pub gaugeOf : ℕ → Gauge
+  gaugeOf edition =
       record {
         some = digit (some 4 (isSet outputs));
         columns = leastExtent 4 columnsLeft;
         rows = leastExtent 4 rowsLeft;
         apart = digit (disjoint mask outputs);
-        credit = count 4 (counts mask outputs);
+        credit = creditOf edition mask outputs;
       }
 
 -- "which of 0, 7, 8 or 9 the settings alone would give it", with what it is reckoned from
-unfoldable pub workedOut : Domain → Buffer → ℕ → List Buffer → Readiness
-workedOut d instructions mask outputs =
+unfoldable pub workedOut : ℕ → Domain → Buffer → ℕ → List Buffer → Readiness
+workedOut edition d instructions mask outputs =
     record {
       number = readinessOf d instructions mask outputs;
-      gauge = gaugeOf mask outputs;
+      gauge = gaugeOf mask outputs edition;
       window0 = windowFor (output outputs 0);
       window1 = windowFor (output outputs 1);
       window2 = windowFor (output outputs 2);
@@ -56,4 +56,4 @@ workedOut d instructions mask outputs =
 
 -- the same from a party's settings and the shared ones: "Refusals 7 to 9 and the stored readiness look only at one's own outputs"
 abbrev pub readinessFor : Party → Shared → Readiness
-readinessFor p h = workedOut (p .domain) (p .instructions) (h .mask) (seenOutputs (p .birth .mine) (h .outputs))
+readinessFor p h = workedOut (p .birth .edition) (p .domain) (p .instructions) (h .mask) (seenOutputs (p .birth .mine) (h .outputs))

@@ -1,12 +1,12 @@
 -- Document 01: what a start asks of the settings alone (7, 8, 9), and what it claims; document 02's request 2: which outputs it
--- looks at. No word and no session is in it. Assumes nothing.
+-- looks at; request 10: what a pair is credited by each edition. No word and no session is in it. Assumes nothing.
 use mathlib.Core.Bool.{Bool, true, false, not}
 use mathlib.Core.List.{List, []}
 use Prim.Native.Nat.{ℕ, _+_, _-_, _*_}
 use lib.Dec.{eqb, leb, ltb}
 use lib.ListN.{getD}
 use Rattle.laws.specs.Choice.{_and_, pick}
-use Rattle.laws.specs.Below.{some, every, count}
+use Rattle.laws.specs.Below.{some, every, sum, count}
 use Rattle.laws.specs.Masks.{on}
 use Rattle.refusal.specs.Told.{Told, gives, refuses}
 use Rattle.command.specs.Format.{channelsOf, codeOf, valueOf, windowOf}
@@ -79,17 +79,43 @@ numberTold (refuses n) = n
 unfoldable pub readinessOf : Domain → Buffer → ℕ → List Buffer → ℕ
 readinessOf d instructions mask outputs = numberTold (readyOf d instructions mask outputs)
 
--- a domain has at most 4,096 · 4,096 pairs, and four outputs claim each of them at most
+-- "A session's edition (1 or 2, else 3 before all else)"
+unfoldable pub isEdition : ℕ → Bool
+isEdition edition = pick (eqb edition 1) true (eqb edition 2)
+
+unfoldable pub editionTold : ℕ → Told
+editionTold edition = pick (isEdition edition) (gives []) (refuses 3)
+
+-- "the number of unmasked channels its format has", of output `n`
+unfoldable pub channelsUnmasked : ℕ → ℕ → ℕ → ℕ
+channelsUnmasked mask n format = count (channelsOf (codeOf format)) (λ c. on (4 * n + c) mask)
+
+module _ (edition mask : ℕ) (outputs : List Buffer) where
+  -- "Edition 1 credits one for each pair of an output that isn't silent; edition 2 credits, for each pair, the number of unmasked
+  -- channels its format has": what output `n` is credited for a pair, where it is set
+  unfoldable pub creditAt : ℕ → ℕ
+  creditAt n = pick (counts mask outputs n) (pick (eqb edition 2) (channelsUnmasked mask n (output outputs n .format)) 1) 0
+
+  -- what a pair is credited in all
+  unfoldable pub creditOf : ℕ
+  creditOf = sum 4 creditAt
+
+-- a domain has at most 4,096 · 4,096 pairs; four outputs are credited with one each of them by edition 1, and with their four channels
+-- at most by edition 2
 abbrev pub mostPairs : ℕ
 mostPairs = 16777216
 
+abbrev pub mostCredit : ℕ
+mostCredit = 16
+
 abbrev pub mostClaim : ℕ
-mostClaim = 67108864
+mostClaim = 268435456
 
 -- "the number of pairs in the domain"
 unfoldable pub pairsOf : Domain → ℕ
 pairsOf d = (d .i1 - d .i0 + 1) * (d .j1 - d .j0 + 1)
 
--- "the number of pairs in the domain times the number of set outputs", of which the silent ones claim nothing
-unfoldable pub claimOf : Domain → ℕ → List Buffer → ℕ
-claimOf d mask outputs = pairsOf d * count 4 (counts mask outputs)
+-- "the number of pairs in the domain times the number of set outputs", of which the silent ones claim nothing: by edition 1; by
+-- edition 2 times their unmasked channels
+unfoldable pub claimOf : ℕ → Domain → ℕ → List Buffer → ℕ
+claimOf edition d mask outputs = pairsOf d * creditOf edition mask outputs

@@ -34,7 +34,7 @@ pub record Tally : Type 0 where
   pub claims : ℕ
 
 -- what is fixed when a session begins: the numbers that a party owns, a bit each (0 to 15 inputs, 16 to 19 outputs, 20 what belongs
--- to party 0), and the edition
+-- to party 0), and the edition of the lease rule
 pub record Birth : Type 0 where
   pub mine : ℕ
   pub edition : ℕ
@@ -102,8 +102,9 @@ atLine line = record { line = line; count = 0; p0 = 0; p1 = 0; p2 = 0; p3 = 0 }
 abbrev pub none : Open
 none = atLine 21
 
-abbrev pub born : ℕ → Birth
-born mine = record { mine = mine; edition = 0 }
+-- "A session's edition .. is fixed at its birth", and so is what a party owns
+abbrev pub born : ℕ → ℕ → Birth
+born mine edition = record { mine = mine; edition = edition }
 
 abbrev pub noWindow : Window
 noWindow = record { step = 0; span = 0 }
@@ -125,22 +126,22 @@ newReadiness =
     }
 
 -- "A new session has nothing set and mask 65535.": a party that owns so much
-abbrev pub newPartyOf : ℕ → Party
-newPartyOf mine =
+abbrev pub newPartyOf : ℕ → ℕ → Party
+newPartyOf mine edition =
     record {
       stopped = 0;
       taken = 0;
       opened = none;
       domain = record { isSet = 0; i0 = 0; j0 = 0; i1 = 0; j1 = 0 };
       instructions = unset;
-      birth = born mine;
+      birth = born mine edition;
       readiness = newReadiness;
       tally = record { runs = 0; claims = 0 };
     }
 
 -- the one party of a session, which owns every number
-abbrev pub newParty : Party
-newParty = newPartyOf everything
+abbrev pub newParty : ℕ → Party
+newParty edition = newPartyOf everything edition
 
 abbrev pub newShared : Shared
 newShared =
@@ -158,5 +159,5 @@ newShared =
       inputs = unset ∷ unset ∷ unset ∷ unset ∷ unset ∷ unset ∷ unset ∷ unset ∷ unset ∷ unset ∷ unset ∷ unset ∷ unset ∷ unset ∷ unset ∷ unset ∷ [];
     }
 
-abbrev pub newSession : Session
-newSession = record { party = newParty; shared = newShared }
+abbrev pub newSession : ℕ → Session
+newSession edition = record { party = newParty edition; shared = newShared }

@@ -5,7 +5,7 @@ use mathlib.Core.List.{List, [], _∷_}
 use Prim.Native.Nat.{ℕ, _*_, _<_, _≤_}
 use lib.ListN.{length, getD, take}
 use lib.Dec.{eqb}
-use Rattle.state.specs.Start.{mostClaim}
+use Rattle.state.specs.Start.{isEdition, mostClaim}
 use Rattle.laws.specs.Choice.{pick}
 use Rattle.command.specs.Table.{headerOf, countOf}
 use Rattle.command.specs.Kinds.{allowed, kindOf}
@@ -34,7 +34,7 @@ pub record DomainValid (d : Domain) : Type 0 where
   pub rows : d .j0 ≤ d .j1
   pub row-most : d .j1 < 4096
 
--- a start takes two words and claims at most 4,096 · 4,096 · 4 elements, so 64 bits hold the tallies
+-- a start takes two words and claims at most 4,096 · 4,096 · 16 elements, so 64 bits hold the tallies
 pub record TallyValid (t : Tally) (taken : ℕ) : Type 0 where
   pub runs-most : t .runs ≤ taken
   pub claims-most : t .claims ≤ taken * mostClaim
@@ -50,6 +50,8 @@ pub record Valid (s : Session) : Type 0 where
   pub tally : TallyValid (s .party .tally) (s .party .taken)
   pub mine-most : s .party .birth .mine ≤ everything
   pub owned : s .party .opened .line < 21 → OpenOwned (s .party .birth .mine) (s .party .opened)
+  -- "A session's edition (1 or 2 ..) is fixed at its birth"
+  pub edition : isEdition (s .party .birth .edition) ≡ true
   -- "The stored number must always equal the one worked out from the settings"; a stopped session's too
   pub readiness : s .party .readiness ≡ readinessFor (s .party) (s .shared)
   pub outputs : length (s .shared .outputs) ≡ 4

@@ -1,5 +1,6 @@
 // Where a session lies: cells that the caller lends, a party's own numbers, its tallies and the shared settings; and how a
 // word or a command's setting is stored there.
+pub mod edition;
 pub mod own;
 pub mod settings;
 

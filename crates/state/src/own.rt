@@ -51,6 +51,9 @@ pub const INSTRUCTIONS_HEIGHT: usize = 16;
 // What the party owns, a bit for each number.
 pub const MINE: usize = 17;
 
+// The edition of the lease rule, fixed when the session begins.
+pub const EDITION: usize = 18;
+
 // The number that the settings alone give a start: 0, 7, 8 or 9.
 pub const READINESS: usize = 19;
 

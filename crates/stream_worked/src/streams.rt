@@ -3,6 +3,7 @@
 use session::stream;
 use session::stream::Answer;
 use session::stream::First;
+use state::edition;
 use worked::streams::whole_stream;
 use worked::tally::Tally;
 
@@ -51,7 +52,7 @@ fn by_word(words: &[u32]) -> Came {
     let mut own: [u32; state::OWN_CELLS] = [0; state::OWN_CELLS];
     let mut tallies: [u64; state::TALLIES] = [0; state::TALLIES];
     let mut shared: [u32; state::SHARED_CELLS] = [0; state::SHARED_CELLS];
-    stream::begin(&mut own, &mut tallies, &mut shared);
+    stream::begin(&mut own, &mut tallies, &mut shared, edition::BY_OUTPUT);
     let mut first: u32 = 0;
     let mut commands: u64 = 0;
     let mut i: usize = 0;
@@ -81,7 +82,7 @@ fn in_two(words: &[u32], cut: usize) -> Came {
     let mut own: [u32; state::OWN_CELLS] = [0; state::OWN_CELLS];
     let mut tallies: [u64; state::TALLIES] = [0; state::TALLIES];
     let mut shared: [u32; state::SHARED_CELLS] = [0; state::SHARED_CELLS];
-    stream::begin(&mut own, &mut tallies, &mut shared);
+    stream::begin(&mut own, &mut tallies, &mut shared, edition::BY_OUTPUT);
     let a = stream::feed(&mut own, &mut tallies, &mut shared, &words[..cut]);
     let b = stream::feed(&mut own, &mut tallies, &mut shared, &words[cut..]);
     let taken = own[1];
@@ -410,7 +411,7 @@ fn limit() -> Tally {
     let mut own: [u32; state::OWN_CELLS] = [0; state::OWN_CELLS];
     let mut tallies: [u64; state::TALLIES] = [0; state::TALLIES];
     let mut shared: [u32; state::SHARED_CELLS] = [0; state::SHARED_CELLS];
-    stream::begin(&mut own, &mut tallies, &mut shared);
+    stream::begin(&mut own, &mut tallies, &mut shared, edition::BY_OUTPUT);
     let mut taken: u64 = 0;
     let mut commands: u64 = 0;
     for k in 0u32..125000000 {

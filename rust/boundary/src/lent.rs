@@ -29,7 +29,10 @@ const UNFILLED: Session = Session {
     shared: [0; SHARED],
 };
 
-/// A new session. This call has no refusal.
+/// The edition of the lease rule that sessions and replays begin with.
+const EDITION: u32 = 1;
+
+/// A new session, of edition 1: this call has no refusal.
 #[inline]
 pub fn session_begin() -> Session {
     let mut session = UNFILLED;
@@ -39,8 +42,8 @@ pub fn session_begin() -> Session {
         shared,
     } = &mut session;
     // SAFETY: three separate arrays of the right lengths; no state is read.
-    let number = unsafe { raw::egretfold_session_begin(own, tallies, shared) };
-    assert_eq!(number, 0, "a session's begin has no refusal");
+    let number = unsafe { raw::egretfold_session_begin(own, tallies, shared, EDITION) };
+    assert_eq!(number, 0, "a session's begin refuses no edition 1");
     session
 }
 
@@ -73,9 +76,9 @@ pub fn session_feed(session: &mut Session, words: &[u32], fed: &mut [u64; 2]) ->
 }
 
 /// status: words taken, 1 if stopped, the open command's header and how many of
-/// its parameters were taken.
+/// its parameters were taken, what the settings give a start, and the edition.
 #[inline]
-pub fn session_status(session: &Session, status: &mut [u32; 5]) -> u32 {
+pub fn session_status(session: &Session, status: &mut [u32; 6]) -> u32 {
     // SAFETY: the array is a session's that the library gave out.
     unsafe { raw::egretfold_session_status(&session.own, status) }
 }
@@ -129,7 +132,7 @@ fn arrays(replay: &mut Replay) -> Arrays<'_> {
     (&mut replay.log, &mut replay.marks, own, tallies, shared)
 }
 
-/// A new replay. This call has no refusal.
+/// A new replay, of edition 1: this call has no refusal.
 #[inline]
 pub fn log_begin() -> Replay {
     let mut replay = Replay {
@@ -139,8 +142,8 @@ pub fn log_begin() -> Replay {
     };
     let (log, marks, own, tallies, shared) = arrays(&mut replay);
     // SAFETY: five separate arrays of the right lengths; no state is read.
-    let number = unsafe { raw::egretfold_log_begin(log, marks, own, tallies, shared) };
-    assert_eq!(number, 0, "a replay's begin has no refusal");
+    let number = unsafe { raw::egretfold_log_begin(log, marks, own, tallies, shared, EDITION) };
+    assert_eq!(number, 0, "a replay's begin refuses no edition 1");
     replay
 }
 
@@ -185,7 +188,7 @@ pub fn log_part(replay: &Replay, part: u32, counts: &mut [u64; 2]) -> u32 {
 #[inline]
 pub fn score_lease((first_day, days, owed): (u32, u32, u32)) -> u32 {
     // SAFETY: numbers alone.
-    unsafe { raw::egretfold_score_lease(first_day, days, owed) }
+    unsafe { raw::egretfold_score_lease(EDITION, first_day, days, owed) }
 }
 
 /// Of a lease line (first day, days, elements owed a day), for each of its days:

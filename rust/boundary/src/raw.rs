@@ -9,6 +9,7 @@ extern "C" {
         own: &mut [u32; OWN],
         tallies: &mut [u64; TALLIES],
         shared: &mut [u32; SHARED],
+        edition: u32,
     ) -> u32;
 
     pub fn egretfold_session_word(
@@ -36,6 +37,7 @@ extern "C" {
         shared: &mut [u32; SHARED],
         inputs: u32,
         outputs: u32,
+        edition: u32,
     ) -> u32;
 
     pub fn egretfold_pair_feed(
@@ -51,7 +53,7 @@ extern "C" {
         fed: &mut [u64; 6],
     ) -> u32;
 
-    pub fn egretfold_session_status(own: &[u32; OWN], status: &mut [u32; 5]) -> u32;
+    pub fn egretfold_session_status(own: &[u32; OWN], status: &mut [u32; 6]) -> u32;
 
     pub fn egretfold_session_tallies(tallies: &[u64; TALLIES], counts: &mut [u64; 2]) -> u32;
 
@@ -73,6 +75,7 @@ extern "C" {
         own: &mut [u32; OWN],
         tallies: &mut [u64; TALLIES],
         shared: &mut [u32; SHARED],
+        edition: u32,
     ) -> u32;
 
     pub fn egretfold_log_feed(
@@ -105,7 +108,7 @@ extern "C" {
         counts: &mut [u64; 2],
     ) -> u32;
 
-    pub fn egretfold_score_lease(first_day: u32, days: u32, owed: u32) -> u32;
+    pub fn egretfold_score_lease(edition: u32, first_day: u32, days: u32, owed: u32) -> u32;
 
     pub fn egretfold_score_month(
         log: &[u32; LOG],

@@ -89,7 +89,7 @@ impl Session {
 
     #[inline]
     pub fn status(&self) -> Status {
-        let mut status = [0; 5];
+        let mut status = [0; 6];
         lent::session_status(self, &mut status);
         Status {
             taken: status[0],

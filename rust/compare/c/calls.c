@@ -48,7 +48,7 @@ static const uint32_t stream[15] = {
 
 static void begin(struct session *s)
 {
-    agree("session_begin", egretfold_session_begin(s->own, s->tallies, s->shared), 0);
+    agree("session_begin", egretfold_session_begin(s->own, s->tallies, s->shared, 1), 0);
 }
 
 static uint32_t feed(struct session *s, const uint32_t *words, size_t length, uint64_t fed[2])
@@ -59,10 +59,10 @@ static uint32_t feed(struct session *s, const uint32_t *words, size_t length, ui
 static void check_status(const char *call, const struct session *s, uint32_t taken, uint32_t stopped, uint32_t header,
                          uint32_t parameters, uint32_t readiness)
 {
-    uint32_t status[5] = {99, 99, 99, 99, 99};
-    const uint32_t expected[5] = {taken, stopped, header, parameters, readiness};
+    uint32_t status[6] = {99, 99, 99, 99, 99, 99};
+    const uint32_t expected[6] = {taken, stopped, header, parameters, readiness, 1};
     agree(call, egretfold_session_status(s->own, status), 0);
-    agree_words(call, status, expected, 5);
+    agree_words(call, status, expected, 6);
 }
 
 /* The whole stream in two pieces, cut behind the output's number. */
@@ -223,7 +223,7 @@ static void check_log(void)
     static struct replay r;
     uint64_t taken[1] = {9};
     const size_t length = put_log(bytes);
-    agree("log_begin", egretfold_log_begin(r.log, r.marks, r.s.own, r.s.tallies, r.s.shared), 0);
+    agree("log_begin", egretfold_log_begin(r.log, r.marks, r.s.own, r.s.tallies, r.s.shared, 1), 0);
     check_log_status("log_status of a new replay", &r, fresh);
     check_part("log_part of a new replay", &r, 0, 0, 0);
     agree("log_feed, first piece", feed_log(&r, bytes, 94, taken), 0);
@@ -255,11 +255,11 @@ static void check_log_days(void)
     uint64_t taken[1] = {9};
     put_record(bytes, 2, 4294967295);
     put_record(bytes + 5, 2, 0);
-    agree("log_begin", egretfold_log_begin(r.log, r.marks, r.s.own, r.s.tallies, r.s.shared), 0);
+    agree("log_begin", egretfold_log_begin(r.log, r.marks, r.s.own, r.s.tallies, r.s.shared, 1), 0);
     agree("log_feed, a wrong day", feed_log(&r, bytes, 10, taken), 19);
     agree("log_feed, bytes before a wrong day's last", taken[0], 9);
     check_log_status("log_status after a wrong day", &r, stopped);
-    agree("log_begin, again", egretfold_log_begin(r.log, r.marks, r.s.own, r.s.tallies, r.s.shared), 0);
+    agree("log_begin, again", egretfold_log_begin(r.log, r.marks, r.s.own, r.s.tallies, r.s.shared, 1), 0);
     for (unsigned i = 0; i < 10; i++)
         agree("log_byte", egretfold_log_byte(r.log, r.marks, r.s.own, r.s.tallies, r.s.shared, bytes[i]), i < 9 ? 0 : 19);
     check_log_status("log_status after a wrong day, byte by byte", &r, stopped);
@@ -267,13 +267,13 @@ static void check_log_days(void)
 
 static void check_lease_lines(void)
 {
-    agree("score_lease, 1 day that owes nothing", egretfold_score_lease(0, 1, 0), 0);
-    agree("score_lease, 31 days of 100,000,000", egretfold_score_lease(0, 31, 100000000), 0);
-    agree("score_lease, up to the last number", egretfold_score_lease(4294967265, 31, 1), 0);
-    agree("score_lease, 0 days", egretfold_score_lease(30, 0, 1), 21);
-    agree("score_lease, 32 days", egretfold_score_lease(30, 32, 1), 21);
-    agree("score_lease, 100,000,001 owed", egretfold_score_lease(30, 1, 100000001), 21);
-    agree("score_lease, past the last number", egretfold_score_lease(4294967266, 31, 1), 21);
+    agree("score_lease, 1 day that owes nothing", egretfold_score_lease(1, 0, 1, 0), 0);
+    agree("score_lease, 31 days of 100,000,000", egretfold_score_lease(1, 0, 31, 100000000), 0);
+    agree("score_lease, up to the last number", egretfold_score_lease(1, 4294967265, 31, 1), 0);
+    agree("score_lease, 0 days", egretfold_score_lease(1, 30, 0, 1), 21);
+    agree("score_lease, 32 days", egretfold_score_lease(1, 30, 32, 1), 21);
+    agree("score_lease, 100,000,001 owed", egretfold_score_lease(1, 30, 1, 100000001), 21);
+    agree("score_lease, past the last number", egretfold_score_lease(1, 4294967266, 31, 1), 21);
 }
 
 static uint64_t claimed[EGRETFOLD_DAYS], served[EGRETFOLD_DAYS], month[3];
@@ -303,7 +303,7 @@ static void check_scores(void)
     static struct replay r;
     uint64_t taken[1] = {9};
     const size_t length = put_log(bytes);
-    agree("log_begin", egretfold_log_begin(r.log, r.marks, r.s.own, r.s.tallies, r.s.shared), 0);
+    agree("log_begin", egretfold_log_begin(r.log, r.marks, r.s.own, r.s.tallies, r.s.shared, 1), 0);
     agree("log_feed, the log", feed_log(&r, bytes, length, taken), 0);
     agree("score_month, short", score(&r, 29, 3, 1000), 0);
     check_month("score_month, short", claims, serves, shorts);

@@ -1,32 +1,27 @@
--- `score_rooms::lease` meets its contract: each answer crosses as it is told. Assumes nothing.
-use mathlib.Core.Path.{sym, ap, _∙_}
-use Rattle.score.specs.Lease.{toldJudged}
-use Rattle.refusal.specs.Crossing.{statusOf}
+-- `score_rooms::lease` meets its contract: the edition first, then the line. Assumes nothing.
+use Rattle.score_rooms.proofs.Lines.{line-judged, edition-refused}
 use borrow.Author.Needs.{needs}
 use Rattle.score_rooms.proofs.lease.Statement.{statement}
 use Rattle.score_rooms.proofs.lease.Tie as tie
 
-judge-requires : tie.Need-judge-requires
-judge-requires c κs = search needs
+is-known-requires : tie.Need-is-known-requires
+is-known-requires c κs = search needs
 
-enum-told : tie.Need-enum-told
-enum-told c = search needs
+line-status-requires : tie.Need-line-status-requires
+line-status-requires c κs = search needs
 
-enum-known-judged : tie.Need-enum-known-judged
-enum-known-judged c = search needs
+returns : tie.Need-returns
+returns c =
+    let at-known = c .before .before in
+    line-judged _ _ (at-known .is-known .ensures) (c .before .if1 .taken) (c .line-status .ensures)
 
 number-requires : tie.Need-number-requires
 number-requires c κs = search needs
 
-returns : tie.Need-returns
-returns c = ap statusOf (sym (ap toldJudged (c .enum-told .given .1)) ∙ c .before .before .judge .ensures)
-
 returns-2 : tie.Need-returns-2
 returns-2 c =
-    c .number .ensures ∙ ap statusOf
-    (sym (ap toldJudged (c .before .before .judged .given .1)) ∙ c .before .before .before .before .judge .ensures)
+    let at-known = c .before .before in
+    edition-refused _ _ (at-known .is-known .ensures) (c .before .if1 .left) (c .number .ensures)
 
 pub lease-spec : {M : Type 1} → statement M
-lease-spec =
-    tie.close
-    (tie.spec judge-requires enum-told enum-known-judged number-requires returns returns-2)
+lease-spec = tie.close (tie.spec is-known-requires line-status-requires returns number-requires returns-2)

@@ -27,15 +27,19 @@ open-count-requires c κs = search needs
 readiness-requires : tie.Need-readiness-requires
 readiness-requires c κs = search needs
 
+edition-requires : tie.Need-edition-requires
+edition-requires c κs = search needs
+
 returns : tie.Need-returns
 unfolding partyOf
 returns c =
-    let at-open-header = c .before .before .before .before in
+    let at-open-header = c .before .before .before .before .before in
     let at-open-line = at-open-header .before in
     let at-flag-of = at-open-line .before in
     let at-is-stopped = at-flag-of .before in
-    standing-shows _ _ _ _ _ _ _ _ refl (at-flag-of .flag-of .ensures) (at-is-stopped .is-stopped .ensures) (at-open-header .open-header .ensures)
-    (at-open-line .open-line .ensures) (c .before .before .open-count .ensures) (c .before .readiness .ensures)
+    standing-shows _ _ _ _ _ _ _ _ _ refl (at-flag-of .flag-of .ensures) (at-is-stopped .is-stopped .ensures) (at-open-header .open-header .ensures)
+    (at-open-line .open-line .ensures) (c .before .before .before .open-count .ensures) (c .before .before .readiness .ensures)
+    (c .before .edition .ensures)
 
 pub standing-spec : {M : Type 1} → statement M
 standing-spec =
@@ -48,4 +52,5 @@ standing-spec =
     element-copy-out-t6
     open-count-requires
     readiness-requires
+    edition-requires
     returns)

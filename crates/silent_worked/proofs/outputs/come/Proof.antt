@@ -1,5 +1,5 @@
 -- `silent_worked::outputs::come` is safe and ends; what it hands on came from the entries. Assumes nothing.
-use Rattle.session.proofs.Handed.{begun-given}
+use Rattle.session.proofs.Handed.{first-given}
 use borrow.Author.Needs.{needs}
 use Rattle.silent_worked.proofs.outputs.come.Statement.{statement}
 use Rattle.silent_worked.proofs.outputs.come.Tie as tie
@@ -8,7 +8,7 @@ begin-requires : tie.Need-begin-requires
 begin-requires c κs = search needs
 
 feed-requires : tie.Need-feed-requires
-feed-requires c κs = begun-given (c .before .before .before .begin .ensures)
+feed-requires c κs = first-given (c .before .before .before .begin .ensures)
 
 first-number-requires : tie.Need-first-number-requires
 first-number-requires c κs = search needs

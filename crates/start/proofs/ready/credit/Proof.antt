@@ -1,45 +1,31 @@
--- `start::ready::credit` meets its contract. Assumes nothing.
-use Rattle.start.proofs.Readiness.{credit-told}
+use Rattle.start.proofs.Readiness.{credit-channels, credit-outputs}
 use borrow.Author.Needs.{needs}
 use Rattle.start.proofs.ready.credit.Statement.{statement}
 use Rattle.start.proofs.ready.credit.Tie as tie
-use Rattle.start.proofs.ready.digit.Reads as digit-reads
+use Rattle.start.proofs.ready.credit.Reads as reads
+use Rattle.start.proofs.ready.credit.Lts as lts
+use Rattle.start.proofs.ready.by_channel.Reads as by-channel-reads
+use Rattle.start.proofs.ready.by_output.Reads as by-output-reads
 
-digit-requires : tie.Need-digit-requires
-digit-requires c κs = search needs
+-- src/ready.rt:285:9
+by-channel-requires : tie.Need-by-channel-requires
+by-channel-requires c κs = search needs
 
-digit-requires-2 : tie.Need-digit-requires-2
-digit-requires-2 c κs = search needs
+-- src/ready.rt:287:9
+by-output-requires : tie.Need-by-output-requires
+by-output-requires c κs = search needs
 
-add-result : tie.Need-add-result
-add-result c = search needs
-
-digit-requires-3 : tie.Need-digit-requires-3
-digit-requires-3 c κs = search needs
-
-add-result-2 : tie.Need-add-result-2
-add-result-2 c = search needs
-
-digit-requires-4 : tie.Need-digit-requires-4
-digit-requires-4 c κs = search needs
-
-add-result-3 : tie.Need-add-result-3
-add-result-3 c = search needs
-
+-- src/ready.rt:272:1
 returns : tie.Need-returns
-returns c =
-    let at-digit = c .before .before .before in
-    credit-told _ _ _ _ (at-digit .digit .ensures) (c .before .before .digit2 .ensures) (c .before .digit3 .ensures) (c .digit4 .ensures)
+returns c = 
+    let args = c .before .before .args in
+    credit-channels (args .a) (args .b) (args .c) (args .d) (args .edition) _ (c .before .if1 .taken) (c .by-channel .ensures)
+
+-- src/ready.rt:272:1
+returns-2 : tie.Need-returns-2
+returns-2 c = 
+    let args = c .before .before .args in
+    credit-outputs (args .a) (args .b) (args .c) (args .d) (args .edition) _ (c .before .if1 .left) (c .by-output .ensures)
 
 pub credit-spec : {M : Type 1} → statement M
-credit-spec =
-    tie.close
-    (tie.spec
-    digit-requires
-    digit-requires-2
-    add-result
-    digit-requires-3
-    add-result-2
-    digit-requires-4
-    add-result-3
-    returns)
+credit-spec = tie.close (tie.spec by-channel-requires by-output-requires returns returns-2)

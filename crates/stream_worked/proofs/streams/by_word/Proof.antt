@@ -4,7 +4,7 @@ use Prim.Native.Nat.{_-_}
 use borrow.Author.Needs.{needs}
 use Rattle.state.specs.Asked.{Given}
 use Rattle.session.specs.Step.{stepOf}
-use Rattle.session.proofs.Handed.{begun-given, word-given}
+use Rattle.session.proofs.Handed.{first-given, word-given}
 use Rattle.stream_worked.proofs.streams.by_word.Statement.{statement}
 use Rattle.stream_worked.proofs.streams.by_word.Tie as tie
 
@@ -18,7 +18,7 @@ begin-requires : tie.Need-begin-requires Inv-loop μ-loop
 begin-requires c κs = search needs
 
 loop-holds : tie.Need-loop-holds Inv-loop μ-loop
-loop-holds c = begun-given (c .begin .ensures)
+loop-holds c = first-given (c .begin .ensures)
 
 mul-word : tie.Need-mul-word Inv-loop μ-loop
 mul-word c = search needs

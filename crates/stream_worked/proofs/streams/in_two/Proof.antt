@@ -2,7 +2,7 @@
 use mathlib.Core.Path.{sym}
 use lib.Seq.{length-take-le}
 use native.Mathlib.Omega.{arith}
-use Rattle.session.proofs.Handed.{begun-given, piece-given}
+use Rattle.session.proofs.Handed.{first-given, piece-given}
 use borrow.Author.Needs.{needs}
 use Rattle.stream_worked.proofs.streams.in_two.Statement.{statement}
 use Rattle.stream_worked.proofs.streams.in_two.Tie as tie
@@ -24,7 +24,7 @@ slice-aggregate-feed c =
     sym (length-take-le (entry .args .cut) (entry .args .words .now) (at-if1 .if1 .left))
 
 feed-requires : tie.Need-feed-requires
-feed-requires c κs = begun-given (c .before .before .before .before .begin .ensures)
+feed-requires c κs = first-given (c .before .before .before .before .begin .ensures)
 
 mul-feed : tie.Need-mul-feed
 mul-feed c = search needs
@@ -42,7 +42,7 @@ feed-requires-2 : tie.Need-feed-requires-2
 feed-requires-2 c κs =
     let at-feed = c .before .before .before .before in
     let at-begin = at-feed .before .before .before .before .before in
-    piece-given _ (begun-given (at-begin .begin .ensures)) (at-feed .feed .ensures .held)
+    piece-given _ (first-given (at-begin .begin .ensures)) (at-feed .feed .ensures .held)
 
 array-read-taken : tie.Need-array-read-taken
 array-read-taken c = search needs
@@ -52,7 +52,7 @@ word-requires c κs =
     let at-feed2 = c .before .before .before in
     let at-feed = at-feed2 .before .before .before .before .before in
     let at-begin = at-feed .before .before .before .before .before in
-    piece-given _ (piece-given _ (begun-given (at-begin .begin .ensures)) (at-feed .feed .ensures .held)) (at-feed2 .feed2 .ensures .held)
+    piece-given _ (piece-given _ (first-given (at-begin .begin .ensures)) (at-feed .feed .ensures .held)) (at-feed2 .feed2 .ensures .held)
 
 number-of-requires : tie.Need-number-of-requires
 number-of-requires c κs = search needs

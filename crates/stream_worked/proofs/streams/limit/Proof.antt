@@ -2,7 +2,7 @@
 use borrow.Author.Needs.{needs}
 use Prim.Native.Nat.{_-_}
 use Rattle.state.specs.Asked.{Given}
-use Rattle.session.proofs.Handed.{begun-given, word-given, piece-given}
+use Rattle.session.proofs.Handed.{first-given, word-given, piece-given}
 use Rattle.stream_worked.proofs.streams.limit.Statement.{statement}
 use Rattle.stream_worked.proofs.streams.limit.Tie as tie
 
@@ -16,7 +16,7 @@ begin-requires : tie.Need-begin-requires Inv-loop μ-loop
 begin-requires c κs = search needs
 
 loop-holds : tie.Need-loop-holds Inv-loop μ-loop
-loop-holds c = begun-given (c .begin .ensures)
+loop-holds c = first-given (c .begin .ensures)
 
 slice-aggregate-feed : tie.Need-slice-aggregate-feed Inv-loop μ-loop
 slice-aggregate-feed c = search needs
