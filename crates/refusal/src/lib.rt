@@ -42,11 +42,13 @@ pub enum Refusal {
     RecordKind,
     // 19: a midnight's day isn't one more than the last, or it is the 401st midnight.
     MidnightDay,
+    // 20: a number, or a setting of party 0's, that the party doesn't own.
+    NotOwned,
     // 21: a lease line out of its bounds.
     LeaseLine,
 }
 
-// The number of a refusal, 1 to 19 and 21.
+// The number of a refusal, 1 to 21.
 pub fn number(r: Refusal) -> u32
     ensures { λ n. ⌜ n ≡ numberOf r ⌝ }
 {
@@ -70,6 +72,7 @@ pub fn number(r: Refusal) -> u32
         Refusal::WordLimit => 17,
         Refusal::RecordKind => 18,
         Refusal::MidnightDay => 19,
+        Refusal::NotOwned => 20,
         Refusal::LeaseLine => 21,
     }
 }
@@ -99,6 +102,7 @@ pub fn with_number(number: u32) -> Refusal
         17 => Refusal::WordLimit,
         18 => Refusal::RecordKind,
         19 => Refusal::MidnightDay,
+        20 => Refusal::NotOwned,
         _ => Refusal::LeaseLine,
     }
 }
