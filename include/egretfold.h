@@ -179,7 +179,7 @@ uint32_t egretfold_session_masks(const uint32_t shared[EGRETFOLD_SHARED], uint32
  * own. A session from egretfold_session_begin, and a replay's, is one party that owns every number. */
 
 /* A new session of two parties: nothing set, mask 65535. Bit n of inputs (16 bits) and of outputs (4 bits) is set where input or
- * output n is party 1's, and not where it is party 0's. 3 where a bit above these is set. */
+ * output n is party 1's, and not where it is party 0's. 3 where the edition is neither 1 nor 2, then where a bit above these is set. */
 uint32_t egretfold_pair_begin(uint32_t own0[EGRETFOLD_OWN], uint64_t tallies0[EGRETFOLD_TALLIES], uint32_t own1[EGRETFOLD_OWN],
                               uint64_t tallies1[EGRETFOLD_TALLIES], uint32_t shared[EGRETFOLD_SHARED], uint32_t inputs,
                               uint32_t outputs, uint32_t edition);
