@@ -47,7 +47,7 @@ static void a_stream(void)
     uint32_t own[EGRETFOLD_OWN], shared[EGRETFOLD_SHARED];
     uint64_t tallies[EGRETFOLD_TALLIES], fed[2], counts[2];
 
-    accepted("begin", egretfold_session_begin(own, tallies, shared));
+    accepted("begin", egretfold_session_begin(own, tallies, shared, 1));
     uint32_t refusal = egretfold_session_feed(own, tallies, shared, words, sizeof words / sizeof words[0], fed);
     accepted("tallies", egretfold_session_tallies(tallies, counts));
     printf("%" PRIu64 " words, %" PRIu64 " commands, %" PRIu64 " run, %" PRIu64 " elements claimed\n", fed[0], fed[1], counts[0], counts[1]);
@@ -70,7 +70,7 @@ static int a_month(const char *name)
         perror(name);
         return 2;
     }
-    accepted("begin", egretfold_log_begin(log, marks, own, tallies, shared));
+    accepted("begin", egretfold_log_begin(log, marks, own, tallies, shared, 1));
     while ((length = fread(piece, 1, sizeof piece, file)) > 0)
         accepted("log", egretfold_log_feed(log, marks, own, tallies, shared, piece, length, taken));
     fclose(file);

@@ -4,7 +4,7 @@
 //!     cargo run -- ../station-14.log
 
 use boundary::headers::{SET_DOMAIN, SET_INST_FMT, SET_OUT_FMT, START_PROGRAM};
-use boundary::{locate, translate, Layout, Lease, Refusal, Replay, Session, Verdict};
+use boundary::{locate, translate, Edition, Layout, Lease, Refusal, Replay, Session, Verdict};
 use std::error::Error;
 use std::fs::File;
 use std::io::Read;
@@ -42,7 +42,7 @@ fn there_and_back() -> Result<(), Refusal> {
 }
 
 fn a_stream() {
-    let mut session = Session::new();
+    let mut session = Session::new(Edition::First);
     let fed = session.feed(&STREAM);
     let (taken, commands) = (fed.taken, fed.commands);
     let (runs, claims) = (session.runs(), session.claims());
@@ -55,7 +55,7 @@ fn a_stream() {
 /// A log in pieces, as they come, and its month.
 fn a_month(name: &str) -> Result<Verdict, Box<dyn Error>> {
     let lease = Lease::new(101, 30, 14_000_000)?;
-    let (mut file, mut replay) = (File::open(name)?, Replay::new());
+    let (mut file, mut replay) = (File::open(name)?, Replay::new(Edition::First));
     let mut piece = [0; 4096];
     loop {
         let length = file.read(&mut piece)?;
