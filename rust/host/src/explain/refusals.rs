@@ -25,9 +25,9 @@ pub fn stops_replay(number: u32) -> bool {
     number == 18 || number == 19
 }
 
-/// Whether it refuses a lease line.
+/// Whether it refuses a lease line, or a fleet of them.
 pub fn is_of_a_lease(number: u32) -> bool {
-    number == 21
+    matches!(number, 21 | 22)
 }
 
 /// Whether it refuses a word of one of two parties.
@@ -306,6 +306,15 @@ pub const ALL: [Refusal; 21] = [
         "a lease line, before its log is read",
         &[
             "a station's log and lease line (first day, days from 1 to 31, elements owed a day, one number for all its days, from 0 to 100,000,000, last day below 2^32, else 21; then 18 or 19 from the log)",
+        ],
+    ),
+    added(
+        22,
+        "a report is asked for over more than 64 logs",
+        "the report of a fleet; the command's `fleet` asks for 64 stations at a time and joins the reports",
+        &[
+            "Over up to 64 logs with lease lines, and one edition, report totals served and owed as exact sums",
+            "Order: 3 for the edition, 11 if the numbers aren't in fours, the room isn't four or the lengths don't add up to the slice, 22 for more than 64 logs, then the refusal of the first station whose log or lease line is refused.",
         ],
     ),
 ];

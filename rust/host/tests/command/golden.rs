@@ -758,6 +758,7 @@ const CASES: &[(&str, &str, &str)] = &[
     ("explain-19", "explain 19", ""),
     ("explain-20", "explain 20", ""),
     ("explain-21", "explain 21", ""),
+    ("explain-22", "explain 22", ""),
     ("explain-json-18", "explain --json 18", ""),
     ("missing-file", "decode samples/nothing.ctm", ""),
     ("a-folder", "decode samples", ""),
