@@ -35,7 +35,11 @@ module _ (base s : ℕ) (tiled : Bool) (stride x y count : ℕ) (asked : RowAske
   pub pair-asked : PairAsked s e (x + i) y
   pair-asked = record { size = asked .size; step = asked .step; column = column; row = asked .row }
 
-  module _ (run many off : ℕ) (run-is : run ≡ runNumber tiled s e (x + i)) (few : (many ≤ run) × (many ≤ count - i) × (0 < run → 0 < count - i → 0 < many)) (off-is : off ≡ offsetOf tiled s e (x + i) y) where
+  -- what the smaller of two numbers has
+  abbrev Few : ℕ → ℕ → Type 0
+  Few run many = (many ≤ run) × (many ≤ count - i) × (0 < run → 0 < count - i → 0 < many)
+
+  module _ (run many off : ℕ) (run-is : run ≡ runNumber tiled s e (x + i)) (few : Few run many) (off-is : off ≡ offsetOf tiled s e (x + i) y) where
     pub some : 0 < many
     some = few .2 (omega (arith, run-is, asked .some (x + i) column)) (omega (arith, more))
 

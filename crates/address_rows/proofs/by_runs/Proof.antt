@@ -23,35 +23,75 @@ loop-holds : tie.Need-loop-holds Inv-loop μ-loop
 loop-holds c = (omega arith, refl, refl)
 
 cast-column : tie.Need-cast-column Inv-loop μ-loop
-cast-column c = omega (arith, c .loop-test .taken, (c .before .before .before .pre) .columns, (c .before .before .before .pre) .step)
+cast-column c =
+    let at-test = c in
+    let at-loop = at-test .before in
+    let entry = at-loop .before .before in
+    omega (arith, at-test .loop-test .taken, entry .pre .columns, entry .pre .step)
 
 add-column : tie.Need-add-column Inv-loop μ-loop
-add-column c = omega (arith, c .loop-test .taken, (c .before .before .before .pre) .columns, (c .before .before .before .pre) .step)
+add-column c =
+    let at-test = c in
+    let at-loop = at-test .before in
+    let entry = at-loop .before .before in
+    omega (arith, at-test .loop-test .taken, entry .pre .columns, entry .pre .step)
 
 run-from-requires : tie.Need-run-from-requires Inv-loop μ-loop
-run-from-requires c κs = ((c .before .before .before .pre) .size, column-bytes _ _ _ _ _ _ _ (c .before .before .before .pre) _ (c .loop-test .taken), (c .before .before .before .pre) .whole)
+run-from-requires c κs =
+    let at-test = c in
+    let at-loop = at-test .before in
+    let entry = at-loop .before .before in
+    (entry .pre .size, column-bytes _ _ _ _ _ _ _ (entry .pre) _ (at-test .loop-test .taken), entry .pre .whole)
 
 sub-smaller : tie.Need-sub-smaller Inv-loop μ-loop
-sub-smaller c = omega (arith, (c .before .loop-test) .taken)
+sub-smaller c = let at-test = c .before in omega (arith, at-test .loop-test .taken)
 
 smaller-requires : tie.Need-smaller-requires Inv-loop μ-loop
 smaller-requires c κs = search needs
 
 offset-requires : tie.Need-offset-requires Inv-loop μ-loop
-offset-requires c κs = (pair-asked _ _ _ _ _ _ _ (c .before .before .before .before .before .pre) _ ((c .before .before .loop-test) .taken), (c .before .before .before .before .before .pre) .whole)
+offset-requires c κs =
+    let at-smaller = c in
+    let at-run = at-smaller .before in
+    let at-test = at-run .before in
+    let at-loop = at-test .before in
+    let entry = at-loop .before .before in
+    (pair-asked _ _ _ _ _ _ _ (entry .pre) _ (at-test .loop-test .taken), entry .pre .whole)
 
 add-at : tie.Need-add-at Inv-loop μ-loop
 add-at c =
-    omega
-    (arith, at-fits _ _ _ _ _ _ _ (c .before .before .before .before .before .before .pre) _ ((c .before .before .before .loop-test) .taken) _ _ _ ((c .before .before .run-from) .ensures) ((c .before .smaller) .ensures) ((c .offset) .ensures))
+    let at-offset = c in
+    let at-smaller = at-offset .before in
+    let at-run = at-smaller .before in
+    let at-test = at-run .before in
+    let at-loop = at-test .before in
+    let entry = at-loop .before .before in
+    omega (arith, at-fits _ _ _ _ _ _ _ (entry .pre) _ (at-test .loop-test .taken) _ _ _ (at-run .run-from .ensures) (at-smaller .smaller .ensures) (at-offset .offset .ensures))
 
 add-fill : tie.Need-add-fill Inv-loop μ-loop
 add-fill c =
-    omega
-    (arith, inside _ _ _ _ _ _ _ (c .before .before .before .before .before .before .pre) _ ((c .before .before .before .loop-test) .taken) _ _ _ ((c .before .before .run-from) .ensures) ((c .before .smaller) .ensures) ((c .offset) .ensures), (c .before .before .before .before .before .before .pre) .columns, (c .before .before .before .before .before .before .pre) .step)
+    let at-offset = c in
+    let at-smaller = at-offset .before in
+    let at-run = at-smaller .before in
+    let at-test = at-run .before in
+    let at-loop = at-test .before in
+    let entry = at-loop .before .before in
+    omega (
+      arith,
+      inside _ _ _ _ _ _ _ (entry .pre) _ (at-test .loop-test .taken) _ _ _ (at-run .run-from .ensures) (at-smaller .smaller .ensures) (at-offset .offset .ensures),
+      entry .pre .columns,
+      entry .pre .step,
+    )
 
 mul-fill : tie.Need-mul-fill Inv-loop μ-loop
-mul-fill c = omega (arith, (c .before .before .before .loop-test) .taken, (c .before .before .before .before .before .before .pre) .columns, (c .before .before .before .before .before .before .pre) .step)
+mul-fill c =
+    let at-offset = c in
+    let at-smaller = at-offset .before in
+    let at-run = at-smaller .before in
+    let at-test = at-run .before in
+    let at-loop = at-test .before in
+    let entry = at-loop .before .before in
+    omega (arith, at-test .loop-test .taken, entry .pre .columns, entry .pre .step)
 
 sub-fill : tie.Need-sub-fill Inv-loop μ-loop
 sub-fill c = omega arith
@@ -61,27 +101,64 @@ part-fill-start c = omega arith
 
 part-fill-end : tie.Need-part-fill-end Inv-loop μ-loop
 part-fill-end c =
+    let at-offset = c in
+    let at-smaller = at-offset .before in
+    let at-run = at-smaller .before in
+    let at-test = at-run .before in
+    let at-loop = at-test .before in
+    let entry = at-loop .before .before in
     omega
-    (arith, inside _ _ _ _ _ _ _ (c .before .before .before .before .before .before .pre) _ ((c .before .before .before .loop-test) .taken) _ _ _ ((c .before .before .run-from) .ensures) ((c .before .smaller) .ensures) ((c .offset) .ensures), (c .before .before .before .before .loop) .inv .1)
+    (arith, inside _ _ _ _ _ _ _ (entry .pre) _ (at-test .loop-test .taken) _ _ _ (at-run .run-from .ensures) (at-smaller .smaller .ensures) (at-offset .offset .ensures), at-loop .loop .inv .1)
 
 fill-requires : tie.Need-fill-requires Inv-loop μ-loop
 fill-requires c κs =
-    fill-asked _ _ _ _ _ _ _ (c .before .before .before .before .before .before .before .pre) _ ((c .before .before .before .before .loop-test) .taken) _ _ _ ((c .before .before .before .run-from) .ensures) ((c .before .before .smaller) .ensures) ((c .before .offset) .ensures) _ ((c .before .before .before .before .before .loop) .inv .1)
+    let at-offset = c .before in
+    let at-smaller = at-offset .before in
+    let at-run = at-smaller .before in
+    let at-test = at-run .before in
+    let at-loop = at-test .before in
+    let entry = at-loop .before .before in
+    fill-asked _ _ _ _ _ _ _ (entry .pre) _ (at-test .loop-test .taken) _ _ _ (at-run .run-from .ensures) (at-smaller .smaller .ensures) (at-offset .offset .ensures) _ (at-loop .loop .inv .1)
 
 add-i : tie.Need-add-i Inv-loop μ-loop
 add-i c =
-    omega
-    (arith, inside _ _ _ _ _ _ _ (c .before .before .before .before .before .before .before .before .before .before .pre) _ ((c .before .before .before .before .before .before .before .loop-test) .taken) _ _ _ ((c .before .before .before .before .before .before .run-from) .ensures) ((c .before .before .before .before .before .smaller) .ensures) ((c .before .before .before .before .offset) .ensures), (c .before .before .before .before .before .before .before .before .before .before .pre) .columns, (c .before .before .before .before .before .before .before .before .before .before .pre) .step)
+    let at-fill = c .before .before in
+    let at-offset = at-fill .before .before in
+    let at-smaller = at-offset .before in
+    let at-run = at-smaller .before in
+    let at-test = at-run .before in
+    let at-loop = at-test .before in
+    let entry = at-loop .before .before in
+    omega (
+      arith,
+      inside _ _ _ _ _ _ _ (entry .pre) _ (at-test .loop-test .taken) _ _ _ (at-run .run-from .ensures) (at-smaller .smaller .ensures) (at-offset .offset .ensures),
+      entry .pre .columns,
+      entry .pre .step,
+    )
 
 loop-less : tie.Need-loop-less Inv-loop μ-loop
 loop-less c =
+    let at-fill = c .before .before in
+    let at-offset = at-fill .before .before in
+    let at-smaller = at-offset .before in
+    let at-run = at-smaller .before in
+    let at-test = at-run .before in
+    let at-loop = at-test .before in
+    let entry = at-loop .before .before in
     omega
-    (arith, some _ _ _ _ _ _ _ (c .before .before .before .before .before .before .before .before .before .before .pre) _ ((c .before .before .before .before .before .before .before .loop-test) .taken) _ _ _ ((c .before .before .before .before .before .before .run-from) .ensures) ((c .before .before .before .before .before .smaller) .ensures) ((c .before .before .before .before .offset) .ensures), (c .before .before .before .before .before .before .before .loop-test) .taken)
+    (arith, some _ _ _ _ _ _ _ (entry .pre) _ (at-test .loop-test .taken) _ _ _ (at-run .run-from .ensures) (at-smaller .smaller .ensures) (at-offset .offset .ensures), at-test .loop-test .taken)
 
 loop-again : tie.Need-loop-again Inv-loop μ-loop
 loop-again c =
-    put-in _ _ _ _ _ _ _ (c .before .before .before .before .before .before .before .before .before .before .pre) _ ((c .before .before .before .before .before .before .before .loop-test) .taken) _ _ _ ((c .before .before .before .before .before .before .run-from) .ensures) ((c .before .before .before .before .before .smaller) .ensures) ((c .before .before .before .before .offset) .ensures) _ _ _ refl
-    ((c .before .before .before .before .before .before .before .before .loop) .inv .1) ((c .before .before .before .before .before .before .before .before .loop) .inv .2) ((c .before .before .fill) .ensures)
+    let at-fill = c .before .before in
+    let at-offset = at-fill .before .before in
+    let at-smaller = at-offset .before in
+    let at-run = at-smaller .before in
+    let at-test = at-run .before in
+    let at-loop = at-test .before in
+    let entry = at-loop .before .before in
+    put-in _ _ _ _ _ _ _ (entry .pre) _ (at-test .loop-test .taken) _ _ _ (at-run .run-from .ensures) (at-smaller .smaller .ensures) (at-offset .offset .ensures) _ _ _ refl
+    (at-loop .loop .inv .1) (at-loop .loop .inv .2) (at-fill .fill .ensures)
 
 same-length : tie.Need-same-length Inv-loop μ-loop
 same-length c = (c .before .loop) .inv .1

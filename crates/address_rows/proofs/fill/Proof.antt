@@ -28,19 +28,25 @@ mul-part : tie.Need-mul-part Inv-loop μ-loop
 mul-part c =
     let at-loop = c .before in
     let entry = at-loop .before in
-    omega (arith, below-end (entry .args .at) (length (entry .args .part .now)) (entry .args .size) (at-loop .loop .j) (omega (arith, c .loop-test .taken, at-loop .loop .inv .1)) (entry .pre .0) (entry .pre .2))
+    let args = entry .args in
+    omega
+    (arith, below-end (args .at) (length (args .part .now)) (args .size) (at-loop .loop .j) (omega (arith, c .loop-test .taken, at-loop .loop .inv .1)) (entry .pre .0) (entry .pre .2))
 
 add-part : tie.Need-add-part Inv-loop μ-loop
 add-part c =
     let at-loop = c .before in
     let entry = at-loop .before in
-    omega (arith, below-end (entry .args .at) (length (entry .args .part .now)) (entry .args .size) (at-loop .loop .j) (omega (arith, c .loop-test .taken, at-loop .loop .inv .1)) (entry .pre .0) (entry .pre .2))
+    let args = entry .args in
+    omega
+    (arith, below-end (args .at) (length (args .part .now)) (args .size) (at-loop .loop .j) (omega (arith, c .loop-test .taken, at-loop .loop .inv .1)) (entry .pre .0) (entry .pre .2))
 
 mul-part-2 : tie.Need-mul-part-2 Inv-loop μ-loop
 mul-part-2 c =
     let at-loop = c .before in
     let entry = at-loop .before in
-    omega (arith, below-end (entry .args .at) (length (entry .args .part .now)) (entry .args .size) (at-loop .loop .j) (omega (arith, c .loop-test .taken, at-loop .loop .inv .1)) (entry .pre .0) (entry .pre .2))
+    let args = entry .args in
+    omega
+    (arith, below-end (args .at) (length (args .part .now)) (args .size) (at-loop .loop .j) (omega (arith, c .loop-test .taken, at-loop .loop .inv .1)) (entry .pre .0) (entry .pre .2))
 
 slice-write-part : tie.Need-slice-write-part Inv-loop μ-loop
 slice-write-part c = omega (arith, c .loop-test .taken)
@@ -53,8 +59,11 @@ loop-less c = omega (arith, c .loop-test .taken, c .before .loop .inv .1)
 
 loop-again : tie.Need-loop-again Inv-loop μ-loop
 loop-again c =
-    let at-loop = c .before in
-    (omega (arith, c .loop-test .taken, at-loop .loop .inv .1), simp length-set (at-loop .loop .inv .1), listed-set _ _ _ _ _ (at-loop .loop .inv .2) (omega (arith, c .loop-test .taken, at-loop .loop .inv .1)) refl)
+    let at-loop = c .before in (
+      omega (arith, c .loop-test .taken, at-loop .loop .inv .1),
+      simp length-set (at-loop .loop .inv .1),
+      listed-set _ _ _ _ _ (at-loop .loop .inv .2) (omega (arith, c .loop-test .taken, at-loop .loop .inv .1)) refl,
+    )
 
 same-length : tie.Need-same-length Inv-loop μ-loop
 same-length c = c .before .loop .inv .1
