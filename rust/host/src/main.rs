@@ -43,6 +43,13 @@ use common::visible;
 use std::io::{self, Write};
 use std::process::ExitCode;
 
+/// What `--version` tells; `-V` and the card have the first line alone.
+const LONG_VERSION: &str = concat!(
+    env!("EGRETFOLD_VERSION"),
+    "\nproved with ",
+    env!("EGRETFOLD_PROVED_WITH")
+);
+
 const AFTER: &str = "\
 Words and addresses are hex, with or without 0x; counts are decimal, or hex with 0x.
 With no command, a sample month is scored.
@@ -50,7 +57,7 @@ Exit status: 0 fine, 1 something was refused, 2 a wrong command line or file, 3 
 
 /// Months scored, logs replayed, command streams decoded, tile addresses worked both ways, flow programs stepped
 #[derive(Parser)]
-#[command(name = "egretfold", version = env!("EGRETFOLD_VERSION"), after_help = AFTER)]
+#[command(name = "egretfold", version = env!("EGRETFOLD_VERSION"), long_version = LONG_VERSION, after_help = AFTER)]
 struct Line {
     #[command(subcommand)]
     what: Option<What>,

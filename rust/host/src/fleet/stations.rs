@@ -6,7 +6,7 @@ use crate::fleet::leases::Row;
 use crate::fleet::report::{Four, Group};
 use crate::input::progress;
 use crate::score::asked::Card;
-use boundary::{Answer, Edition, MOST_STATIONS};
+use boundary::{Answer, Edition, Refusal, MOST_STATIONS};
 use rayon::prelude::*;
 use std::fs;
 
@@ -52,8 +52,8 @@ fn part(edition: Edition, rows: &[(usize, &Row)]) -> (Vec<Card>, Answer<Four>) {
 }
 
 /// Only of logs that have a score, so it would be the product's fault.
-fn refused(number: u32) -> Failure {
-    Failure::Refused(format!("fleet: {}", cause::refused(number, None)))
+fn refused(refusal: Refusal) -> Failure {
+    Failure::Refused(format!("fleet: {}", cause::refused(refusal, None)))
 }
 
 /// What all files have, as far as that is known.

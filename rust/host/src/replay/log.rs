@@ -139,7 +139,9 @@ impl Log {
         if self.word.is_none() {
             self.word = self.refused_word(before, piece);
         }
-        self.stop = fed.refusal.map(|number| self.refused_byte(number, piece));
+        self.stop = fed
+            .refusal
+            .map(|refusal| self.refused_byte(refusal.number(), piece));
         let end = &piece[piece.len().saturating_sub(BACK)..];
         self.tail.extend(end);
         self.tail.drain(..self.tail.len().saturating_sub(BACK));
@@ -159,9 +161,9 @@ impl Log {
             .open
             .map_or(0, |(_, taken)| 1 + taken as usize);
         let words = self.near(piece).words(word.record, earlier + 1);
-        let cause = cause::of_word(word.number, session, &words);
+        let cause = cause::of_word(word.refusal, session, &words);
         let place = self.place(byte, day_after(&status, word.midnights));
-        Some((place, cause::refused(word.number, cause)))
+        Some((place, cause::refused(word.refusal, cause)))
     }
 
     /// The byte that stopped the replay: the first one that wasn't taken.

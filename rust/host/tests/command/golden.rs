@@ -657,7 +657,7 @@ fn seen(arguments: &str, input: &str) -> String {
 /// The text without the commit that the command is built from, which no stored file can
 /// know.
 fn without_version(text: &str) -> String {
-    let version = told(&egretfold("--version", b""));
+    let version = told(&egretfold("-V", b""));
     let version = version.trim().trim_start_matches("egretfold ");
     text.replace(version, "VERSION")
 }
