@@ -23,6 +23,13 @@ impl Random {
         self.word() % bound
     }
 
+    fn edition(&mut self) -> Edition {
+        match self.below(2) {
+            0 => Edition::First,
+            _ => Edition::Second,
+        }
+    }
+
     /// Near a bound of document 01 in one half of the cases, anywhere in the other.
     fn number(&mut self) -> u32 {
         const BOUNDS: [u32; 20] = [
@@ -113,7 +120,7 @@ fn sessions() {
     let mut random = Random(2);
     let mut refused = 0;
     for _ in 0..20_000 {
-        let mut session = Session::new(Edition::First);
+        let mut session = Session::new(random.edition());
         for _ in 0..random.below(8) {
             let words = random.numbers(40);
             refused += u32::from(session.feed(&words).refusal.is_some());
@@ -140,7 +147,7 @@ fn replays_and_scores() {
     let mut random = Random(3);
     let mut scored = 0;
     for _ in 0..20_000 {
-        let mut replay = Replay::new(Edition::First);
+        let mut replay = Replay::new(random.edition());
         let mut day = random.number();
         for _ in 0..random.below(6) {
             if random.below(3) > 0 {

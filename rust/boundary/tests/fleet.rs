@@ -1,7 +1,7 @@
 //! The report of several stations: its numbers, the order of its refusals, and that a
 //! refusal touches no room.
 
-use boundary::{fleet_report, lent, Answer, Edition, FleetReport, Lease};
+use boundary::{fleet_report, lent, Answer, Edition, FleetReport, Lease, Refusal};
 
 /// Document 01's whole stream up to its start; a start then claims 96 x 18 elements.
 #[rustfmt::skip]
@@ -56,6 +56,13 @@ fn served_owed_silent_days_and_the_smallest_part() {
     assert_eq!(told(&[nothing]).map(|report| report.station), Ok(None));
     let none = told(&[]).expect("a fleet of none");
     assert_eq!((none.served, none.owed, none.station), (0, 0, None));
+}
+
+#[test]
+fn more_than_64_are_refused() {
+    let one = station(&[1], CLAIM);
+    assert!(told(&vec![one.clone(); 64]).is_ok());
+    assert_eq!(told(&vec![one; 65]), Err(Refusal::TooManyLogs));
 }
 
 #[test]

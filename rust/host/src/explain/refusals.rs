@@ -107,7 +107,7 @@ const SILENCE: &[&str] = &[
     "The channels are one, four, one, two and four for codes 0 to 4.",
 ];
 
-pub const ALL: [Refusal; 21] = [
+pub const ALL: [Refusal; 22] = [
     entry(
         1,
         "the session is stopped",

@@ -13,7 +13,7 @@ use std::time::{Duration, Instant};
 const WAIT: Duration = Duration::from_secs(1);
 
 const SHAPE: &str = "{bar:30} {bytes} of {total_bytes}, {eta} left";
-const FLEET_SHAPE: &str = "{bar:14} {bytes} of {total_bytes}, {msg}, {eta} left";
+const FLEET_SHAPE: &str = "{bar:10} {bytes} of {total_bytes}, {msg}, {eta} left";
 
 /// The shapes' lines are shorter than this many columns; where a terminal has fewer,
 /// the line would be broken and stay.

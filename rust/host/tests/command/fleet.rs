@@ -4,6 +4,7 @@
 use crate::common::{
     complained, egretfold, last_line, midnights, root, sample, told, with_input, words, Folder,
 };
+use crate::desk::on_a_terminal;
 use crate::score::well_formed;
 use boundary::headers::WAIT_FOR_IDLE;
 use serde_json::Value;
@@ -859,6 +860,24 @@ fn memory_does_not_grow_with_the_logs() {
     assert_eq!(
         (&whole["silent_days"], &whole["station"]),
         (&6.into(), &"0".into())
+    );
+}
+
+/// One bar for all logs, with the stations done.
+#[test]
+fn a_bar_tells_of_bytes_and_stations() {
+    let rows = format!("1,,a.log,{APRIL}\n2,,zeros,{APRIL}\n3,,zeros,{APRIL}\n");
+    let (folder, file) = leased("fleet-bar", &rows);
+    folder.write("a.log", &sample("station-14.log"));
+    let long = fs::File::create(folder.0.join("zeros")).and_then(|file| file.set_len(64 << 30));
+    long.expect("a file of holes");
+    let program = env!("CARGO_BIN_EXE_egretfold");
+    let shown = on_a_terminal(&format!(
+        "stty cols 100 rows 30; TERM=xterm timeout --foreground -s INT 3 {program} fleet {file}"
+    ));
+    assert!(
+        shown.contains(" of 128.00 GiB, 1 of 3 stations, "),
+        "{shown:?}"
     );
 }
 

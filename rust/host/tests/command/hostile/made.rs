@@ -239,6 +239,7 @@ impl Made<'_> {
             self.flag(times, flag);
         }
         self.valued(8, "--svg", &["-"]);
+        self.valued(10, "--html", &["-"]);
         self.logs();
     }
 
