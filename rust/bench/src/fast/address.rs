@@ -100,7 +100,7 @@ fn translate_laid<const HOW: bool>(
 /// The rest of the row where linear. Where tiled, the rest of the elements whose offsets differ in their lowest bits alone: x stands
 /// there with 3, 2, 2, 1 and 2 bits for the five sizes.
 #[inline(always)]
-pub(super) fn run(shift: u32, tiled: bool, step: u32, x: u32) -> u32 {
+fn run(shift: u32, tiled: bool, step: u32, x: u32) -> u32 {
     if !tiled {
         return step - x;
     }

@@ -108,8 +108,8 @@ struct Rows {
     area: Rectangle,
 }
 
-/// One row's parts: its columns, and where in memory its tiles' rows are found.
-struct Row {
+/// Where the parts of a row of a tiled window are found.
+pub(super) struct Row {
     /// The first tile of the row of tiles.
     tiles: usize,
     /// The part of a block's place that the row gives, and the row inside the block.
@@ -167,19 +167,6 @@ impl Rows {
     }
 
     #[inline(always)]
-    fn row<const SIZE: usize, const RUN: usize>(&self, y: u32) -> Row {
-        let shift = SIZE.trailing_zeros();
-        let in_row = (self.window.step >> tile_width_log(shift)) as usize;
-        let tile_row = (y >> tile_height_log(shift)) as usize;
-        let block_rows = (BLOCK / RUN) as u32;
-        Row {
-            tiles: self.start + tile_row * in_row * TILE,
-            by: mixed(0, y / block_rows) as usize,
-            low: (y % block_rows) as usize * RUN,
-        }
-    }
-
-    #[inline(always)]
     fn copy_out<const SIZE: usize, const RUN: usize>(&self, memory: &[u8], room: &mut [u8]) {
         let Rectangle {
             x,
@@ -193,7 +180,7 @@ impl Rows {
         }
         for (y, line) in (y..y + rows).zip(room.chunks_exact_mut(bytes)) {
             if self.tiled {
-                let row = self.row::<SIZE, RUN>(y);
+                let row = Row::of::<SIZE, RUN>(self.start, self.window.step, y);
                 row.copy_out::<SIZE, RUN>(memory, x as usize, line);
             } else {
                 let at = self.linear(y, SIZE);
@@ -216,7 +203,7 @@ impl Rows {
         }
         for (y, line) in (y..y + rows).zip(room.chunks_exact(bytes)) {
             if self.tiled {
-                let row = self.row::<SIZE, RUN>(y);
+                let row = Row::of::<SIZE, RUN>(self.start, self.window.step, y);
                 row.paint::<SIZE, RUN>(memory, x as usize, line);
             } else {
                 let at = self.linear(y, SIZE);
@@ -233,9 +220,23 @@ fn by_block(block: usize) -> usize {
 }
 
 impl Row {
+    /// The row y of a window that begins at `start` and has this row step.
+    #[inline(always)]
+    pub(super) fn of<const SIZE: usize, const RUN: usize>(start: usize, step: u32, y: u32) -> Row {
+        let shift = SIZE.trailing_zeros();
+        let in_row = (step >> tile_width_log(shift)) as usize;
+        let tile_row = (y >> tile_height_log(shift)) as usize;
+        let block_rows = (BLOCK / RUN) as u32;
+        Row {
+            tiles: start + tile_row * in_row * TILE,
+            by: mixed(0, y / block_rows) as usize,
+            low: (y % block_rows) as usize * RUN,
+        }
+    }
+
     /// Where the row of the block with this number, counted along the row of tiles, stands.
     #[inline(always)]
-    fn block(&self, block: usize) -> usize {
+    pub(super) fn block(&self, block: usize) -> usize {
         let inside = by_block(block & 15) ^ self.by;
         self.tiles + block / BLOCKS * TILE + inside + self.low
     }

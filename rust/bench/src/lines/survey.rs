@@ -65,6 +65,16 @@ impl Scene {
     }
 
     fn check(&self, domain: [u32; 4], pairs: usize) {
+        let ([i0, j0, ..], above) = (domain, u32::from(u16::MAX) + 1);
+        for value in [0, VALUE, above - 1, above, u32::MAX] {
+            let (mut ours, mut theirs) = (vec![7; pairs], vec![7; pairs]);
+            let (lent, first) = (&self.memory[..], BASE);
+            let product = self.product.survey(value, domain, lent, first, &mut ours);
+            let rust = survey(&self.rust, value, domain, lent, first, &mut theirs);
+            assert_eq!((product, &ours), (rust, &theirs), "survey of {value}");
+            let one = conditional_test(&self.rust, value, i0, j0, lent, first);
+            assert_eq!(one.map(u8::from), Ok(ours[0]), "test of {value}");
+        }
         for length in [pairs, pairs - 1] {
             let (mut ours, mut theirs) = (vec![7; length], vec![7; length]);
             let (product, rust) = (
