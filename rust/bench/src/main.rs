@@ -35,6 +35,7 @@ fn main() {
         false => Table::begin(options.repeats, options.only),
     };
     lines::feed::add(&mut table);
+    lines::lessees::add(&mut table);
     lines::log::add(&mut table);
     lines::writer::add(&mut table);
     lines::address::add(&mut table);

@@ -11,6 +11,7 @@ pub mod element;
 pub mod group;
 mod kill;
 pub mod layout;
+pub mod lessees;
 pub mod log;
 mod loops;
 pub mod picture;

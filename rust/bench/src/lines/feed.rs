@@ -3,12 +3,13 @@
 use crate::inputs::{domain, instructions, mixed_stream, output, settings, Random};
 use crate::table::Table;
 use bench::fast::command::{write_command, Command, Format};
+use bench::fast::lessees;
 use bench::fast::session as fast;
 use boundary::headers::{
     SET_COND_OUT_FMT, SET_CONSTB_FMT, SET_CONSTF_FMT, SET_CONSTI_FMT, SET_INP_FMT, SET_INST_FMT,
     SET_OUT_FMT, START_PROGRAM, WAIT_FOR_IDLE,
 };
-use boundary::Edition;
+use boundary::{Edition, Pair, Party, View};
 
 /// The mixed stream is about this long, a stream of one command about half.
 const WORDS: usize = 1 << 16;
@@ -216,6 +217,21 @@ pub fn lent_command(command: &Command) -> boundary::Command {
 
 /// Tallies, settings and standing of both sessions.
 pub fn check_sessions(product: &boundary::Session, rust: &fast::Session) {
+    check_party(product.view(), rust);
+    assert_eq!(product.output_mask(), rust.output_mask(), "mask");
+}
+
+/// The same of two parties, each with what it owns, and the mask of both.
+pub fn check_parties(product: &Pair, rust: &lessees::Pair) {
+    for party in Party::BOTH {
+        check_party(product.view(party), rust.party(party.number() as usize));
+    }
+    let mask = product.view(Party::Zero).output_mask();
+    assert_eq!(mask, rust.output_mask(), "mask");
+}
+
+fn check_party(product: View, rust: &fast::Session) {
+    let owned = product.owned();
     let status = product.status();
     assert_eq!(status.taken as usize, rust.taken(), "words taken");
     assert_eq!(status.stopped, rust.stopped(), "stopped");
@@ -225,7 +241,13 @@ pub fn check_sessions(product: &boundary::Session, rust: &fast::Session) {
     let domain = rust.domain().map(|set| [set.i0, set.j0, set.i1, set.j1]);
     assert_eq!(product.domain(), domain, "domain");
     for (header, count) in FORMATS {
-        for number in 0..count {
+        let own = |number: &u32| match header {
+            SET_INST_FMT => true,
+            SET_INP_FMT => owned.input(*number),
+            SET_OUT_FMT => owned.output(*number),
+            _ => owned.common,
+        };
+        for number in (0..count).filter(own) {
             let by_product = product.format(header, number).expect("a format's header");
             let by_product = by_product.map(|set| Format {
                 base: set.base,
@@ -236,8 +258,9 @@ pub fn check_sessions(product: &boundary::Session, rust: &fast::Session) {
             assert_eq!(by_product, by_rust, "format {header:X} {number}");
         }
     }
-    assert_eq!(product.output_mask(), rust.output_mask(), "mask");
-    assert_eq!(product.conditional_mask(), rust.conditional_mask());
-    assert_eq!(product.test(), rust.test(), "test");
+    if owned.common {
+        assert_eq!(product.conditional_mask(), rust.conditional_mask());
+        assert_eq!(product.test(), rust.test(), "test");
+    }
     assert_eq!(status.readiness, rust.readiness(), "readiness");
 }

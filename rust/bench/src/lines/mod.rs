@@ -6,6 +6,7 @@ pub mod element;
 pub mod feed;
 pub mod flow;
 pub mod kill;
+pub mod lessees;
 pub mod log;
 pub mod picture;
 pub mod survey;
