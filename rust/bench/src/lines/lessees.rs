@@ -110,7 +110,8 @@ fn check(words: &[u32], parties: &[u32]) {
         .expect("a group for each 32");
     let by_rust = rust.feed_both(words, parties).expect("a group for each 32");
     for (party, (product, rust)) in by_product.iter().zip(by_rust).enumerate() {
-        let told = (product.taken, product.commands, product.refusal);
+        let refusal = product.refusal.map(u32::from);
+        let told = (product.taken, product.commands, refusal);
         assert_eq!(
             told,
             (rust.taken, rust.commands, rust.refusal),

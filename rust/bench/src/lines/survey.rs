@@ -70,6 +70,7 @@ impl Scene {
             let (mut ours, mut theirs) = (vec![7; pairs], vec![7; pairs]);
             let (lent, first) = (&self.memory[..], BASE);
             let product = self.product.survey(value, domain, lent, first, &mut ours);
+            let product = product.map_err(u32::from);
             let rust = survey(&self.rust, value, domain, lent, first, &mut theirs);
             assert_eq!((product, &ours), (rust, &theirs), "survey of {value}");
             let one = conditional_test(&self.rust, value, i0, j0, lent, first);
