@@ -144,7 +144,7 @@ fn silent_outputs_are_passed_over_in_both() {
         for edition in BOTH {
             let mut session = fed(edition, &words);
             let fed = session.feed(&[SET_OUT_MASK, mask, START_PROGRAM, 0]);
-            assert_eq!(fed.refusal.map(u32::from), refusal, "{mask:X} {edition:?}");
+            assert_eq!(fed.refusal, refusal, "{mask:X} {edition:?}");
         }
     }
 }
