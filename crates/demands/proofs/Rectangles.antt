@@ -70,7 +70,8 @@ module _ (l : Layout) (x y w h first : ℕ) (some : (0 < w) × (0 < h)) where
     given-long : (x' y' : ℕ) → InRectangle x y w h x' y' → length (givenAt (l .size) x y w room x' y') ≡ l .size
     given-long x' y' i =
         let at = ((y' - y) * w + (x' - x)) * l .size in
-        let fit : at + l .size ≤ length room = in-room (l .size) w h (x' - x) (y' - y) (length room) (omega (arith, i .left, i .right)) (omega (arith, i .top, i .bottom)) (room-is (length m) (length room) fine) in
+        let fit : at + l .size ≤ length room = in-room (l .size) w h (x' - x) (y' - y) (length room) (omega (arith, i .left, i .right)) (omega (arith, i .top, i .bottom))
+        (room-is (length m) (length room) fine) in
         length-take-le (l .size) (drop at room) (omega (arith, length-drop at room, fit))
 
     framed : Framed scene 1 area first (length m)

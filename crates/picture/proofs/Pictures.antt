@@ -182,7 +182,10 @@ module _ (c : Scene) (outputs : ℕ) (d : Domain) (first : ℕ) where
             clash : (endOf (win c first k) ≤ win c first k' .base .0) ⊎ (endOf (win c first k') ≤ win c first k .base .0) → ⊥
             clash (inl q) = omega (arith, s .from, s .to, s' .from, s' .to, s .size, s' .size, v .from, v .to, v' .from, v' .to, s .low, s' .low)
             clash (inr q) = omega (arith, s .from, s .to, s' .from, s' .to, s .size, s' .size, v .from, v .to, v' .from, v' .to, s .low, s' .low)
-        go (fails e) (fails t) = absurd (clash (lent .apart (k' .output) (k .output) o' o (let n : k .output ≡ k' .output → ⊥ = eqb-false _ _ e in let z : k' .output ≤ k .output = ltb-false _ _ t in omega arith)))
+        go (fails e) (fails t) =
+            let n : k .output ≡ k' .output → ⊥ = eqb-false _ _ e in
+            let z : k' .output ≤ k .output = ltb-false _ _ t in
+            absurd (clash (lent .apart (k' .output) (k .output) o' o (omega arith)))
           where
             clash : (endOf (win c first k') ≤ win c first k .base .0) ⊎ (endOf (win c first k) ≤ win c first k' .base .0) → ⊥
             clash (inl q) = omega (arith, s .from, s .to, s' .from, s' .to, s .size, s' .size, v .from, v .to, v' .from, v' .to, s .low, s' .low)

@@ -126,7 +126,8 @@ module _ (l : Layout) (first : ℕ) (low : first ≤ l .base .0) where
           (sym (append-assoc part (rowReads l (x + suc i) n y first memory) _) ∙
           ap₂ (λ (f g : List ℕ). f ++ g)
           (ap₂ (λ (a : List ℕ) (b : ℕ). a ++ rowReads l b n y first memory) {u = x + suc i} {v = suc (x + i)} (element-is (x + i) y) (omega arith))
-          (ap (λ (a : ℕ). drop (n * s) (drop a rest)) long ∙ drop-drop (n * s) s rest ∙ ap (λ (a : ℕ). drop a rest) {x = s + n * s} {y = suc n * s} (let f = once-more n s in omega (arith, f))))
+          (ap (λ (a : ℕ). drop (n * s) (drop a rest)) long ∙ drop-drop (n * s) s rest ∙
+          ap (λ (a : ℕ). drop a rest) {x = s + n * s} {y = suc n * s} (let f = once-more n s in omega (arith, f))))
 
       row-long :
           (i n : ℕ) → ((k : ℕ) → k < n → place y (x + (i + k)) + s ≤ length memory) → length (rowReads l (x + i) n y first memory) ≡ n * s

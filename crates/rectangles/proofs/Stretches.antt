@@ -196,8 +196,11 @@ module _ (out tiled : Bool) (s stride at x y count line : ℕ) (source m₀ : Li
       some = few .2 (subst (λ (q : ℕ). 0 < q) (sym er) (asked .some (x + i) (omega (arith, asked .columns, h)))) (omega (arith, h))
 
       pub bytes-small : (many * s ≤ 65536) × (here + many * s ≤ 2 ^ 32) × (i + many ≤ 4096)
-      bytes-small =
-          (omega (arith, product-most many s (omega (arith, few .1, asked .columns, asked .step)) (asked .most)), omega (arith, room, asked .room-most), omega (arith, few .1, asked .columns, asked .step))
+      bytes-small = (
+        omega (arith, product-most many s (omega (arith, few .1, asked .columns, asked .step)) (asked .most)),
+        omega (arith, room, asked .room-most),
+        omega (arith, few .1, asked .columns, asked .step),
+      )
         where
           upto : i + many ≤ count
           upto = omega (arith, few .1, h)

@@ -52,10 +52,11 @@ same-length c = search needs
 
 returns : tie.Need-returns
 returns c =
-    let at-hold = c .before .before .before .before .before .before in
+    let at-store = c .before .before in
+    let at-hold = at-store .before .before .before .before in
     let entry = at-hold .before .before .before .before in
     put-back _ _ _ _ _
-    (c .before .before .store-all .ensures ∙ held-part _ _ (entry .args .n - 0) (entry .args .n) (at-hold .hold .ensures) (part-long _ _ _ (entry .pre .0)) (entry .pre .2) (omega arith)
+    (at-store .store-all .ensures ∙ held-part _ _ (entry .args .n - 0) (entry .args .n) (at-hold .hold .ensures) (part-long _ _ _ (entry .pre .0)) (entry .pre .2) (omega arith)
     ∙ part-to (entry .args .from .now) (entry .args .a) (entry .args .n))
     (part-end (entry .args .from .now) _ (entry .args .a) _ (entry .pre .0))
 

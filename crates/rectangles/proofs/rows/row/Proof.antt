@@ -97,7 +97,8 @@ returns c =
     let args = at-args .args in
     told-kind (args .out) (args .tiled) true (args .size) (args .stride / args .size) (args .at) (args .y) (args .x) (args .line)
     (args .lead + args .inner + args .tail) (args .from .now) (args .to .now) _ (at-if .if1 .taken)
-    (three-parts _ _ _ _ _ _ _ _ _ _ _ _ _ _ (args .from .now) (args .to .now) _ _ _ (of-kind _ _ true _ _ _ _ _ _ _ _ _ _ _ _ _ _ _ (at-args .pre) (at-if .if1 .taken)) (at-to .to .given) (at-edge .edge .ensures) (at-tiles .tiles .ensures) (c .before .before .edge2 .ensures))
+    (three-parts _ _ _ _ _ _ _ _ _ _ _ _ _ _ (args .from .now) (args .to .now) _ _ _
+    (of-kind _ _ true _ _ _ _ _ _ _ _ _ _ _ _ _ _ _ (at-args .pre) (at-if .if1 .taken)) (at-to .to .given) (at-edge .edge .ensures) (at-tiles .tiles .ensures) (c .before .before .edge2 .ensures))
 
 same-length-2 : tie.Need-same-length-2
 same-length-2 c = search needs

@@ -20,24 +20,37 @@ loop-holds : tie.Need-loop-holds Inv-loop μ-loop
 loop-holds c = runs-start _ _ _ _ _ _ _ _ _ _ _ (c .before .before .pre)
 
 add-column : tie.Need-add-column Inv-loop μ-loop
-add-column c = omega (arith, c .before .before .before .before .pre .columns, c .before .before .before .before .pre .step, c .loop-test .taken)
+add-column c =
+    let at-test = c in
+    let at-loop = at-test .before in
+    let entry = at-loop .before .before .before in
+    omega (arith, entry .pre .columns, entry .pre .step, at-test .loop-test .taken)
 
 offset-requires : tie.Need-offset-requires Inv-loop μ-loop
 offset-requires c κs =
-    (column-asked _ _ _ _ _ _ _ _ _ (c .before .before .before .before .args .from .now) (c .before .before .before .before .args .to .now) (c .before .before .before .before .pre) _ (c .loop-test .taken), c .before .before .before .before .pre .whole)
+    let at-test = c in
+    let at-loop = at-test .before in
+    let entry = at-loop .before .before .before in
+    (column-asked _ _ _ _ _ _ _ _ _ (entry .args .from .now) (entry .args .to .now) (entry .pre) _ (at-test .loop-test .taken), entry .pre .whole)
 
 cast-place : tie.Need-cast-place Inv-loop μ-loop
 cast-place c = search needs
 
 add-place : tie.Need-add-place Inv-loop μ-loop
 add-place c =
-    place-small _ _ _ _ _ _ _ _ _ (c .before .before .before .before .before .args .from .now)
-    (c .before .before .before .before .before .args .to .now) (c .before .before .before .before .before .pre) _
-    (c .before .loop-test .taken) _ (c .offset .ensures)
+    let at-offset = c in
+    let at-test = at-offset .before in
+    let at-loop = at-test .before in
+    let entry = at-loop .before .before .before in
+    place-small _ _ _ _ _ _ _ _ _ (entry .args .from .now) (entry .args .to .now) (entry .pre) _ (at-test .loop-test .taken) _ (at-offset .offset .ensures)
 
 run-from-requires : tie.Need-run-from-requires Inv-loop μ-loop
 run-from-requires c κs =
-    (c .before .before .before .before .before .pre .size, column-small _ _ _ _ _ _ _ _ _ (c .before .before .before .before .before .args .from .now) (c .before .before .before .before .before .args .to .now) (c .before .before .before .before .before .pre) _ (c .before .loop-test .taken), c .before .before .before .before .before .pre .whole)
+    let at-offset = c in
+    let at-test = at-offset .before in
+    let at-loop = at-test .before in
+    let entry = at-loop .before .before .before in
+    (entry .pre .size, column-small _ _ _ _ _ _ _ _ _ (entry .args .from .now) (entry .args .to .now) (entry .pre) _ (at-test .loop-test .taken), entry .pre .whole)
 
 sub-smaller : tie.Need-sub-smaller Inv-loop μ-loop
 sub-smaller c = omega (arith, c .before .before .loop-test .taken)
@@ -47,68 +60,97 @@ smaller-requires c κs = search needs
 
 mul-bytes : tie.Need-mul-bytes Inv-loop μ-loop
 mul-bytes c =
-    let before-1 = c .before .before .before .before .before in
-    let at-pre = before-1 .before .before in
-    omega
-    (arith, bytes-small _ _ _ _ _ _ _ _ _ _ _ (at-pre .pre) _ (c .before .before .before .loop-test .taken) _ _ _ _ _ (c .before .before .before .before .loop .inv) (c .before .before .offset .ensures) (c .before .run-from .ensures) (c .smaller .ensures) .0)
+    let at-smaller = c in
+    let at-run = at-smaller .before in
+    let at-offset = at-run .before in
+    let at-test = at-offset .before in
+    let at-loop = at-test .before in
+    let entry = at-loop .before .before .before in
+    omega (
+      arith,
+      bytes-small _ _ _ _ _ _ _ _ _ _ _ (entry .pre) _ (at-test .loop-test .taken) _ _ _ _ _ (at-loop .loop .inv) (at-offset .offset .ensures)
+          (at-run .run-from .ensures) (at-smaller .smaller .ensures) .0,
+    )
 
 cast-bytes : tie.Need-cast-bytes Inv-loop μ-loop
 cast-bytes c =
-    let before-1 = c .before .before .before .before .before in
-    let at-pre = before-1 .before .before in
-    omega
-    (arith, bytes-small _ _ _ _ _ _ _ _ _ _ _ (at-pre .pre) _ (c .before .before .before .loop-test .taken) _ _ _ _ _ (c .before .before .before .before .loop .inv) (c .before .before .offset .ensures) (c .before .run-from .ensures) (c .smaller .ensures) .0)
+    let at-smaller = c in
+    let at-run = at-smaller .before in
+    let at-offset = at-run .before in
+    let at-test = at-offset .before in
+    let at-loop = at-test .before in
+    let entry = at-loop .before .before .before in
+    omega (
+      arith,
+      bytes-small _ _ _ _ _ _ _ _ _ _ _ (entry .pre) _ (at-test .loop-test .taken) _ _ _ _ _ (at-loop .loop .inv) (at-offset .offset .ensures)
+          (at-run .run-from .ensures) (at-smaller .smaller .ensures) .0,
+    )
 
 stretch-requires : tie.Need-stretch-requires Inv-loop μ-loop
 stretch-requires c κs =
-    let before-1 = c .before .before .before .before .before in
-    let at-pre = before-1 .before .before .before in
-    run-asked _ _ _ _ _ _ _ _ _ _ _ (at-pre .pre) _
-    (c .before .before .before .before .loop-test .taken) _ _ _ _ _ (c .before .before .before .before .before .loop .inv)
-    (c .before .before .before .offset .ensures) (c .before .before .run-from .ensures) (c .before .smaller .ensures)
+    let at-smaller = c .before in
+    let at-run = at-smaller .before in
+    let at-offset = at-run .before in
+    let at-test = at-offset .before in
+    let at-loop = at-test .before in
+    let entry = at-loop .before .before .before in
+    run-asked _ _ _ _ _ _ _ _ _ _ _ (entry .pre) _ (at-test .loop-test .taken) _ _ _ _ _ (at-loop .loop .inv) (at-offset .offset .ensures)
+    (at-run .run-from .ensures) (at-smaller .smaller .ensures)
 
 add-here : tie.Need-add-here Inv-loop μ-loop
 add-here c =
-    let before-1 = c .before .before .before .before .before in
-    let at-offset = before-1 .before in
-    let at-loop-test = at-offset .before in
-    let at-loop = at-loop-test .before in
-    let at-pre = at-loop .before .before .before in
-    omega
-    (arith, bytes-small _ _ _ _ _ _ _ _ _ _ _ (at-pre .pre) _ (at-loop-test .loop-test .taken) _ _ _ _ _ (at-loop .loop .inv) (at-offset .offset .ensures) (c .before .before .before .before .before .run-from .ensures) (c .before .before .before .before .smaller .ensures) .1)
+    let at-smaller = c .before .before .before .before in
+    let at-run = at-smaller .before in
+    let at-offset = at-run .before in
+    let at-test = at-offset .before in
+    let at-loop = at-test .before in
+    let entry = at-loop .before .before .before in
+    omega (
+      arith,
+      bytes-small _ _ _ _ _ _ _ _ _ _ _ (entry .pre) _ (at-test .loop-test .taken) _ _ _ _ _ (at-loop .loop .inv) (at-offset .offset .ensures)
+          (at-run .run-from .ensures) (at-smaller .smaller .ensures) .1,
+    )
 
 add-i : tie.Need-add-i Inv-loop μ-loop
 add-i c =
-    let before-1 = c .before .before .before .before .before in
-    let at-offset = before-1 .before in
-    let at-loop-test = at-offset .before in
-    let at-loop = at-loop-test .before in
-    let at-pre = at-loop .before .before .before in
-    omega
-    (arith, bytes-small _ _ _ _ _ _ _ _ _ _ _ (at-pre .pre) _ (at-loop-test .loop-test .taken) _ _ _ _ _ (at-loop .loop .inv) (at-offset .offset .ensures) (c .before .before .before .before .before .run-from .ensures) (c .before .before .before .before .smaller .ensures) .2)
+    let at-smaller = c .before .before .before .before in
+    let at-run = at-smaller .before in
+    let at-offset = at-run .before in
+    let at-test = at-offset .before in
+    let at-loop = at-test .before in
+    let entry = at-loop .before .before .before in
+    omega (
+      arith,
+      bytes-small _ _ _ _ _ _ _ _ _ _ _ (entry .pre) _ (at-test .loop-test .taken) _ _ _ _ _ (at-loop .loop .inv) (at-offset .offset .ensures)
+          (at-run .run-from .ensures) (at-smaller .smaller .ensures) .2,
+    )
 
 loop-less : tie.Need-loop-less Inv-loop μ-loop
 loop-less c =
-    let before-1 = c .before .before .before .before .before in
-    let at-offset = before-1 .before in
-    let at-loop-test = at-offset .before in
-    let at-loop = at-loop-test .before in
-    let at-pre = at-loop .before .before .before in
-    omega
-    (arith, some _ _ _ _ _ _ _ _ _ _ _ (at-pre .pre) _ (at-loop-test .loop-test .taken) _ _ _ _ _ (at-loop .loop .inv) (at-offset .offset .ensures) (c .before .before .before .before .before .run-from .ensures) (c .before .before .before .before .smaller .ensures), c .before .before .before .before .smaller .ensures .1, at-loop-test .loop-test .taken)
+    let at-smaller = c .before .before .before .before in
+    let at-run = at-smaller .before in
+    let at-offset = at-run .before in
+    let at-test = at-offset .before in
+    let at-loop = at-test .before in
+    let entry = at-loop .before .before .before in
+    omega (
+      arith,
+      some _ _ _ _ _ _ _ _ _ _ _ (entry .pre) _ (at-test .loop-test .taken) _ _ _ _ _ (at-loop .loop .inv) (at-offset .offset .ensures)
+          (at-run .run-from .ensures) (at-smaller .smaller .ensures),
+      at-smaller .smaller .ensures .1,
+      at-test .loop-test .taken,
+    )
 
 loop-again : tie.Need-loop-again Inv-loop μ-loop
 loop-again c =
-    let before-1 = c .before .before .before .before .before in
-    let at-offset = before-1 .before in
-    let at-loop-test = at-offset .before in
-    let at-loop = at-loop-test .before in
-    let at-pre = at-loop .before .before .before in
-    runs-next _ _ _ _ _ _ _ _ _ _ _ (at-pre .pre) _
-    (at-loop-test .loop-test .taken) _ _ _ _ _
-    (at-loop .loop .inv)
-    (at-offset .offset .ensures) (c .before .before .before .before .before .run-from .ensures)
-    (c .before .before .before .before .smaller .ensures) _ (c .before .to .given) (c .before .before .stretch .ensures)
+    let at-smaller = c .before .before .before .before in
+    let at-run = at-smaller .before in
+    let at-offset = at-run .before in
+    let at-test = at-offset .before in
+    let at-loop = at-test .before in
+    let entry = at-loop .before .before .before in
+    runs-next _ _ _ _ _ _ _ _ _ _ _ (entry .pre) _ (at-test .loop-test .taken) _ _ _ _ _ (at-loop .loop .inv) (at-offset .offset .ensures)
+    (at-run .run-from .ensures) (at-smaller .smaller .ensures) _ (c .before .to .given) (c .before .before .stretch .ensures)
 
 same-length : tie.Need-same-length Inv-loop μ-loop
 same-length c = c .before .loop .inv .1 .long
