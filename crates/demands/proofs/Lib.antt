@@ -7,4 +7,5 @@ pub mod Numbers
 pub mod Painting
 pub mod Pieces
 pub mod Refused
+pub mod Surveys
 pub mod Windows

@@ -5,4 +5,5 @@ pub mod Flow
 pub mod Painting
 pub mod Pieces
 pub mod Refused
+pub mod Surveys
 pub mod Windows
