@@ -1,18 +1,18 @@
 -- A domain of an accepted layout as rows of numbers: what the survey of rows asks for, and what it gives. Assumes nothing.
-use mathlib.Core.Path.{_≡_, refl, sym, ap, ap₂, _∙_, subst}
-use mathlib.Core.Bool.{Bool, true, false}
+use mathlib.Core.Path.{_≡_, sym, ap, ap₂, _∙_, subst}
+use mathlib.Core.Bool.{Bool, true}
 use mathlib.Core.List.{List, [], _∷_}
-use Prim.Native.Nat.{ℕ, zero, suc, _+_, _-_, _*_, _/_, _%_, _<_, _≤_, _^_}
+use Prim.Native.Nat.{ℕ, suc, _+_, _-_, _*_, _/_, _%_, _<_, _^_}
 use native.Mathlib.Omega.{arith}
 use native.Mathlib.Nat.{div-lt-iff-lt-mul}
 use lib.Arith.{digits-div, digits-mod}
-use lib.ListN.{length, getD}
-use Rattle.laws.specs.Below.{every, sum}
+use lib.ListN.{getD}
+use Rattle.laws.specs.Below.{every}
 use Rattle.laws.specs.Masks.{digit}
 use Rattle.laws.proofs.Below.{every-at}
 use Rattle.refusal.specs.Told.{gives, refuses}
 use Rattle.layout.specs.declared.Layout.{Layout}
-use Rattle.layout.specs.Layout.{spanOf, judgeOf, rowStep}
+use Rattle.layout.specs.Layout.{spanOf, judgeOf}
 use Rattle.layout.proofs.Window.{rule-bounds}
 use Rattle.laws.proofs.Choice.{pick-yes}
 use Rattle.address.specs.Address.{stepOf, inside, addressOf, layoutOf}
@@ -21,12 +21,12 @@ use Rattle.address.proofs.Inverse.{inverse, room}
 use Rattle.memory.specs.Elements.{isHeld}
 use Rattle.memory.proofs.Pairs.{told-apart, is-inside}
 use Rattle.memory.proofs.Places.{Held, is-held}
-use Rattle.conditions.specs.Conditions.{passes, wordIn}
-use Rattle.conditions.specs.Spans.{inSpan, SpanOf, spanBit}
+use Rattle.conditions.specs.Conditions.{wordIn}
+use Rattle.conditions.specs.Spans.{SpanOf, spanBit}
 use Rattle.conditions.proofs.Written.{word-few}
 use Rattle.survey.specs.Asked.{StrideAsked, HeldAsked, RowsAsked}
 use Rattle.survey.specs.Rows.{numberAt, placeOf, domainByte, domainHeld}
-use Rattle.conditional.specs.Asked.{DomainAsked, SurveyAsked}
+use Rattle.conditional.specs.Asked.{SurveyAsked}
 use Rattle.conditional.specs.Conditional.{columns, pairs, pairX, pairY, allHeld, wordAt, passesAt, bitAt}
 
 -- the judgement of an accepted layout

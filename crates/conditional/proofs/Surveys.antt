@@ -1,33 +1,30 @@
 -- The pairs of a domain, one after the other. Assumes nothing.
 use mathlib.Core.Path.{_≡_, refl, sym, ap, ap₂, _∙_, subst}
-use mathlib.Core.Bool.{Bool, true, false}
+use mathlib.Core.Bool.{true, false}
 use mathlib.Core.List.{List, [], _∷_, _++_}
-use Prim.Native.Nat.{ℕ, zero, suc, _+_, _-_, _*_, _/_, _%_, _<_, _≤_}
+use Prim.Native.Nat.{ℕ, zero, suc, _+_, _-_, _*_, _<_, _≤_}
 use native.Mathlib.Omega.{arith}
-use native.Mathlib.Nat.{mod-lt, div-add-mod', div-lt-iff-lt-mul, add-mul, mul-le-mul}
+use native.Mathlib.Nat.{mod-lt, div-lt-iff-lt-mul, add-mul, mul-le-mul}
 use lib.Arith.{digits-div, digits-mod}
-use lib.Dec.{ltb, leb, eqb}
+use lib.Dec.{leb, eqb}
 use lib.ListN.{length, take, drop, set, getD}
-use borrow.Author.Tests.{ltb-true, ltb-false, lt-ltb, lt-leb, le-leb, eq-eqb, ne-eqb}
-use Rattle.laws.specs.Below.{every, sum, count}
+use borrow.Author.Tests.{lt-ltb, lt-leb, le-leb, eq-eqb, ne-eqb}
+use Rattle.laws.specs.Below.{sum, count}
 use Rattle.laws.specs.Choice.{_and_, pick}
-use Rattle.laws.specs.Masks.{digit}
-use Rattle.laws.proofs.Below.{every-at, every-of, sum-last, count-bounded}
-use Rattle.laws.proofs.Choice.{pick-yes, pick-no, and-intro, and-no-left, and-no-right, Tested, tested, holds, fails}
+use Rattle.laws.proofs.Below.{every-at, every-of}
+use Rattle.laws.proofs.Choice.{pick-yes, pick-no, and-intro, and-no-left, and-no-right}
 use Rattle.refusal.specs.Told.{Told, gives, refuses}
 use Rattle.layout.specs.declared.Layout.{Layout}
 use Rattle.layout.proofs.Window.{rule-bounds}
-use Rattle.address.specs.Address.{stepOf, inside, layoutOf, translateOf}
-use Rattle.address.specs.Inverse.{Accepted}
+use Rattle.address.specs.Address.{stepOf, inside, translateOf}
 use Rattle.address.proofs.Inverse.{answered}
-use Rattle.address.proofs.Runs.{clash}
-use Rattle.memory.specs.Elements.{heldAt, inOrder}
+use Rattle.memory.specs.Elements.{inOrder}
 use Rattle.memory.proofs.Copies.{copy-step, copy-done}
 use Rattle.memory.proofs.Pairs.{is-inside, goes-to, stays-out}
 use Rattle.conditions.specs.Spans.{written}
 use Rattle.conditions.proofs.Written.{written-none, written-one}
 use Rattle.conditional.specs.Asked.{DomainAsked}
-use Rattle.conditional.specs.Conditional.{columns, pairs, pairX, pairY, allInside, allHeld, passesAt, pairOf, bitAt, listed, domainOf, roomAfter, Answers}
+use Rattle.conditional.specs.Conditional.{columns, pairs, pairX, pairY, allInside, allHeld, bitAt, listed, domainOf, roomAfter, Answers}
 
 module _ (i0 j0 i1 j1 : ℕ) (hi : i0 ≤ i1) (hj : j0 ≤ j1) where
   abbrev w : ℕ
@@ -207,15 +204,3 @@ module _ (l : Layout) (test v first : ℕ) (m : List ℕ) (i0 j0 i1 j1 room : �
     product =
         ap₂ (λ (p q : ℕ). p * q) {x = j1 - j0 + 1} {y = suc j1 - j0} {u = i1 - i0 + 1} {v = suc i1 - i0}
         (omega (arith, a .rows)) (omega (arith, a .columns))
-
--- "the survey's bytes are the single tests'": byte k of a survey is the test of pair k
-pub byte-tested :
-    (l : Layout) (test v first : ℕ) (m : List ℕ) (i0 j0 i1 j1 : ℕ) → DomainAsked l i0 j0 i1 j1 →
-    allHeld i0 j0 i1 j1 l first (length m) ≡ true → (k : ℕ) → k < pairs i0 j0 i1 j1 →
-    pairOf l test v first m (pairX i0 j0 i1 j1 k) (pairY i0 j0 i1 j1 k) ≡
-    gives (getD (listed (pairs i0 j0 i1 j1) (bitAt l test v first m i0 j0 i1 j1)) k 0 ∷ [])
-unfolding pairOf inOrder allHeld bitAt
-byte-tested l test v first m i0 j0 i1 j1 a h k below =
-    answered l (a .accepted) _ ∙ pick-yes _ _ (pair-inside l i0 j0 i1 j1 a k below) ∙
-    pick-yes _ _ (every-at (pairs i0 j0 i1 j1) (λ i. heldAt l (pairX i0 j0 i1 j1 i) (pairY i0 j0 i1 j1 i) first (length m)) h k below) ∙
-    ap (λ (z : ℕ). gives (z ∷ [])) (sym (get-listed (pairs i0 j0 i1 j1) (bitAt l test v first m i0 j0 i1 j1) k below))

@@ -9,7 +9,7 @@ use Rattle.laws.specs.Masks.{digit}
 use Rattle.refusal.specs.Told.{gives, refuses}
 use Rattle.layout.specs.declared.Layout.{Layout}
 use Rattle.memory.specs.Elements.{findOf}
-use Rattle.memory.proofs.Places.{Found, found, not-found}
+use Rattle.memory.proofs.Places.{found, not-found}
 use Rattle.conditions.specs.Conditions.{passes, wordIn}
 use Rattle.conditional.specs.Conditional.{wordAt, passesAt, pairOf}
 

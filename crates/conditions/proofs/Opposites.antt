@@ -1,9 +1,8 @@
 -- A test and its opposite split the values: 1 and 4, 2 and 5, 3 and 6, 0 and 7. Assumes nothing.
 use mathlib.Core.Path.{_≡_, refl, sym}
-use mathlib.Core.Bool.{Bool, true, false, not}
-use Prim.Native.Nat.{ℕ, _<_, _≤_}
-use native.Mathlib.Omega.{arith}
-use lib.Dec.{leb, ltb, eqb}
+use mathlib.Core.Bool.{not}
+use Prim.Native.Nat.{ℕ}
+use lib.Dec.{leb, ltb}
 use borrow.Author.Tests.{ltb-true, ltb-false, lt-leb, le-leb, lt-ltb, le-ltb, leb-true, leb-false}
 use Rattle.laws.proofs.Choice.{Tested, tested, holds, fails}
 use Rattle.conditions.specs.Conditions.{passes}

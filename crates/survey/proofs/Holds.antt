@@ -1,8 +1,8 @@
 -- Whether memory holds the numbers of a row, run by run, and of rows. Assumes nothing.
-use mathlib.Core.Path.{_≡_, refl, sym, ap, ap₂, _∙_, subst}
+use mathlib.Core.Path.{_≡_, sym, ap, ap₂, _∙_, subst}
 use mathlib.Core.Bool.{Bool, true, false}
-use Prim.Native.Nat.{ℕ, zero, suc, _+_, _-_, _*_, _/_, _%_, _^_, _<_, _≤_}
-use native.Mathlib.Nat.{add-mul, mul-le-mul, mod-lt, div-add-mod', div-lt-iff-lt-mul}
+use Prim.Native.Nat.{ℕ, _+_, _-_, _*_, _/_, _%_, _^_, _<_, _≤_}
+use native.Mathlib.Nat.{add-mul, mul-le-mul, mod-lt, div-lt-iff-lt-mul}
 use native.Mathlib.Omega.{arith}
 use lib.Arith.{digits-div, digits-mod}
 use lib.Dec.{ltb}
@@ -14,8 +14,8 @@ use Rattle.address.specs.Offset.{offsetOf}
 use Rattle.address.specs.Run.{runNumber}
 use Rattle.address.proofs.Runs.{clash}
 use Rattle.memory.specs.Elements.{isHeld}
-use Rattle.memory.proofs.Places.{Held, is-held, tests-held}
-use Rattle.survey.specs.Asked.{RowHeldAsked, RowsHeldAsked, HeldAsked}
+use Rattle.memory.proofs.Places.{is-held, tests-held}
+use Rattle.survey.specs.Asked.{RowHeldAsked}
 use Rattle.survey.specs.Rows.{numberAt, rowHeld, domainHeld}
 use Rattle.survey.proofs.Numbers.{run-follows}
 
@@ -75,7 +75,9 @@ module _
           go (holds t) = each k (ltb-true k i t)
           go (fails t) =
               let later : i ≤ k = ltb-false k i t in
-              let here : at (x + k) ≡ at (x + i) + (k - i) * 2 = ap (λ (z : ℕ). at (x + z)) {x = k} {y = i + (k - i)} (omega (arith, later)) ∙ follows i (k - i) (omega (arith, later, h, few)) in
+              let apart : k ≡ i + (k - i) = omega (arith, later) in
+              let here : at (x + k) ≡ at (x + i) + (k - i) * 2 =
+              ap (λ (z : ℕ). at (x + z)) apart ∙ follows i (k - i) (omega (arith, later, h, few)) in
               tests-held first n (at (x + k)) 2
               record {
                 long = a .long;

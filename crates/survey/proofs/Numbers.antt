@@ -1,14 +1,13 @@
 -- Where the numbers of a row stand: parts of it, groups of four, runs. Assumes nothing.
-use mathlib.Core.Path.{_≡_, refl, sym, ap, _∙_, subst}
+use mathlib.Core.Path.{_≡_, refl, ap, _∙_, subst}
 use mathlib.Core.Bool.{Bool, true, false}
 use mathlib.Core.List.{List}
-use Prim.Native.Nat.{ℕ, zero, suc, _+_, _-_, _*_, _/_, _%_, _^_, _<_, _≤_}
-use native.Mathlib.Nat.{add-mul}
+use Prim.Native.Nat.{ℕ, _+_, _-_, _*_, _/_, _%_, _<_, _≤_}
 use native.Mathlib.Omega.{arith}
 use Rattle.laws.specs.Choice.{pick, placeOf}
 use Rattle.layout.specs.Sizes.{isSize}
 use Rattle.address.specs.Asked.{PairAsked}
-use Rattle.address.specs.Offset.{tiledOffset, linearOffset, offsetOf}
+use Rattle.address.specs.Offset.{linearOffset, offsetOf}
 use Rattle.address.specs.Run.{runUnit, runNumber}
 use Rattle.address.proofs.Runs.{tiled-at}
 use Rattle.laws.specs.Below.{sum}

@@ -1,19 +1,18 @@
 -- A row in parts, and rows one after the other: what they write and count together. Assumes nothing.
-use mathlib.Core.Path.{_≡_, refl, sym, ap, ap₂, _∙_, subst}
-use mathlib.Core.Bool.{Bool, true, false}
+use mathlib.Core.Path.{_≡_, sym, ap, ap₂, _∙_}
+use mathlib.Core.Bool.{Bool, false}
 use mathlib.Core.List.{List}
-use Prim.Native.Nat.{ℕ, zero, suc, _+_, _-_, _*_, _/_, _%_, _^_, _<_, _≤_}
+use Prim.Native.Nat.{ℕ, _+_, _-_, _*_, _/_, _%_, _<_, _≤_}
 use native.Mathlib.Nat.{add-mul, mul-le-mul, mul-le-mul-right}
 use native.Mathlib.Omega.{arith}
 use lib.Arith.{digits-div, digits-mod}
 use Rattle.laws.specs.Below.{sum}
-use Rattle.address.specs.Offset.{offsetOf}
 use Rattle.conditions.specs.Asked.{StretchAsked}
 use Rattle.conditions.specs.Spans.{spanBit, written}
 use Rattle.conditions.proofs.Written.{written-next, counted-next, sum-few, bit-few}
 use Rattle.survey.specs.Asked.{PlaceAsked, RowAsked, RowsAsked}
 use Rattle.survey.specs.Rows.{numberAt, placeOf, rowByte, domainByte}
-use Rattle.survey.proofs.Numbers.{row-follows, row-few}
+use Rattle.survey.proofs.Numbers.{row-follows}
 
 -- the front of a row
 pub row-front :

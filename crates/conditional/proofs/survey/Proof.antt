@@ -1,5 +1,4 @@
 -- `conditional::survey` meets its contract: the settings first, then the domain. Assumes nothing.
-use mathlib.Core.Path.{sym, _∙_}
 use borrow.Author.Tests.{not-true, not-false}
 use Rattle.conditional.proofs.Entries.{buffer-unset, test-unset, other-format, ready, surveyed-so}
 use Rattle.conditional.proofs.Surveys.{answers-refused}

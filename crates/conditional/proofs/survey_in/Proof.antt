@@ -36,27 +36,29 @@ enum-told c = search needs
 
 survey-inside-requires : tie.Need-survey-inside-requires
 survey-inside-requires c κs =
-    let entry = c .before .before .before .before .before .before .before .before in
+    let at-translate = c .before .before .before in
+    let at-if2 = at-translate .before in
+    let at-if1 = at-if2 .before in
+    let entry = at-if1 .before .before .before in
     let args = entry .args in
     let l = layoutOf (args .base) (args .pitch) (args .height) 2 (args .tiled) in
     let m = args .memory .now in
     let n = length (args .room .now) in
-    let at-translate = c .before .before .before in
-    let at-if2 = at-translate .before in
-    last-found l (args .test) (args .v) (args .first) m (args .i0) (args .j0) (args .i1) (args .j1) n (at-if2 .before .if1 .left) (at-if2 .if2 .left) _ _
+    last-found l (args .test) (args .v) (args .first) m (args .i0) (args .j0) (args .i1) (args .j1) n (at-if1 .if1 .left) (at-if2 .if2 .left) _ _
     (sym (at-translate .translate .ensures) ∙ ap toldTranslated (c .before .enum-told .given .1))
 
 returns-3 : tie.Need-returns-3
 returns-3 c =
-    let entry = c .before .before .before .before .before .before .before .before in
+    let at-translate = c .before .before .before in
+    let at-if2 = at-translate .before in
+    let at-if1 = at-if2 .before in
+    let entry = at-if1 .before .before .before in
     let args = entry .args in
     let l = layoutOf (args .base) (args .pitch) (args .height) 2 (args .tiled) in
     let m = args .memory .now in
     let n = length (args .room .now) in
-    let at-translate = c .before .before .before in
-    let at-if2 = at-translate .before in
     answers-refused _ _ _ _
-    (last-refused l (args .test) (args .v) (args .first) m (args .i0) (args .j0) (args .i1) (args .j1) n (at-if2 .before .if1 .left) (at-if2 .if2 .left) _
+    (last-refused l (args .test) (args .v) (args .first) m (args .i0) (args .j0) (args .i1) (args .j1) n (at-if1 .if1 .left) (at-if2 .if2 .left) _
     (sym (at-translate .translate .ensures) ∙ ap toldTranslated (c .before .why .given .1)))
 
 same-length : tie.Need-same-length

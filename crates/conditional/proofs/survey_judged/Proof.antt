@@ -1,6 +1,6 @@
 -- `conditional::survey_judged` meets its contract: what the survey of rows gives, in the words of the definitions. Assumes nothing.
-use mathlib.Core.Path.{_≡_, refl, sym, ap, _∙_}
-use Prim.Native.Nat.{ℕ, _+_, _-_, _*_, _<_}
+use mathlib.Core.Path.{sym, ap, _∙_}
+use Prim.Native.Nat.{ℕ, _-_, _<_}
 use native.Mathlib.Omega.{arith}
 use lib.ListN.{length, getD}
 use borrow.Author.Tests.{not-true, not-false}
@@ -9,7 +9,7 @@ use Rattle.laws.proofs.Below.{sum-same}
 use Rattle.address.specs.Address.{layoutOf}
 use Rattle.conditions.specs.Spans.{written}
 use Rattle.conditions.proofs.Written.{written-same}
-use Rattle.conditional.specs.Conditional.{pairs, bitAt}
+use Rattle.conditional.specs.Conditional.{bitAt}
 use Rattle.conditional.proofs.Rows.{stride-fits, held-asked, same-held, rows-asked, same-byte, pairs-are}
 use Rattle.conditional.proofs.Surveys.{answers-refused, answers-given, not-held, all-surveyed, written-listed}
 use borrow.Author.Needs.{needs}

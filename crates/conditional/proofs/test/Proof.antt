@@ -1,5 +1,5 @@
 -- `conditional::test` meets its contract: the settings first, then the pair. Assumes nothing.
-use mathlib.Core.Path.{sym, _∙_}
+use mathlib.Core.Path.{sym}
 use borrow.Author.Tests.{not-true, not-false}
 use Rattle.conditional.proofs.Entries.{buffer-unset, test-unset, other-format, ready, tested-so}
 use Rattle.conditional.specs.Conditional.{testOf}

@@ -1,8 +1,8 @@
 -- `conditions::four` meets its contract: four bytes one by one. Assumes nothing.
-use mathlib.Core.Path.{_≡_, ap, _∙_}
+use mathlib.Core.Path.{ap, _∙_}
 use Prim.Native.Nat.{ℕ, _+_, _*_}
 use native.Mathlib.Omega.{arith}
-use lib.ListN.{length, length-set}
+use lib.ListN.{length-set}
 use Rattle.conditions.specs.Spans.{spanBit}
 use Rattle.conditions.proofs.Written.{four-written, four-counted}
 use borrow.Author.Needs.{needs}
@@ -44,7 +44,8 @@ add-room c = search needs
 
 slice-write-room-2 : tie.Need-slice-write-room-2
 slice-write-room-2 c =
-    let entry = c .before .before .before .before .before .before in
+    let at-1 = c .before .before .before in
+    let entry = at-1 .before .before .before in
     simp length-set (omega (arith, entry .pre .bytes))
 
 cast-room-3 : tie.Need-cast-room-3
@@ -55,7 +56,8 @@ add-room-2 c = search needs
 
 slice-write-room-3 : tie.Need-slice-write-room-3
 slice-write-room-3 c =
-    let entry = c .before .before .before .before .before .before in
+    let at-1 = c .before .before .before in
+    let entry = at-1 .before .before .before in
     simp length-set (omega (arith, entry .pre .bytes))
 
 cast-room-4 : tie.Need-cast-room-4
@@ -66,7 +68,8 @@ add-room-3 c = search needs
 
 slice-write-room-4 : tie.Need-slice-write-room-4
 slice-write-room-4 c =
-    let entry = c .before .before .before .before .before .before in
+    let at-1 = c .before .before .before in
+    let entry = at-1 .before .before .before in
     simp length-set (omega (arith, entry .pre .bytes))
 
 add-result : tie.Need-add-result

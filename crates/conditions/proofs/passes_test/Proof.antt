@@ -2,7 +2,6 @@
 use mathlib.Core.Path.{refl}
 use Rattle.conditions.specs.Conditions.{passes}
 use Rattle.conditions.proofs.Tests.{by-number, past-tests}
-use borrow.Author.Needs.{needs}
 use Rattle.conditions.proofs.passes_test.Statement.{statement}
 use Rattle.conditions.proofs.passes_test.Tie as tie
 

@@ -1,12 +1,11 @@
 -- `conditions::stretch` meets its contract: before number i, the first i bytes are written and `passed` is their sum. Assumes nothing.
-use mathlib.Core.Path.{_≡_, ap, _∙_, subst}
-use Prim.Native.Nat.{ℕ, _+_, _-_, _*_, _<_, _≤_}
+use mathlib.Core.Path.{_≡_, ap, _∙_}
+use Prim.Native.Nat.{_+_, _-_, _*_, _≤_}
 use native.Mathlib.Omega.{arith}
 use lib.ListN.{length}
 use Rattle.laws.specs.Below.{sum}
 use Rattle.conditions.specs.Spans.{spanBit, written}
 use Rattle.conditions.proofs.Written.{length-written, written-one, written-none, counted-one, none-counted, sum-few, bit-few}
-use borrow.Author.Needs.{needs}
 use Rattle.conditions.proofs.stretch.Statement.{statement}
 use Rattle.conditions.proofs.stretch.Tie as tie
 

@@ -1,5 +1,4 @@
 -- `conditions::word_at` meets its contract: two bytes, low byte first. Assumes nothing.
-use native.Mathlib.Omega.{arith}
 use Rattle.conditions.specs.Conditions.{wordIn}
 use borrow.Author.Needs.{needs}
 use Rattle.conditions.proofs.word_at.Statement.{statement}

@@ -1,9 +1,9 @@
 -- `survey::held::row_held` meets its contract: the numbers before number i are held. Assumes nothing.
-use mathlib.Core.Path.{_≡_, refl, sym, ap, _∙_}
+use mathlib.Core.Path.{_≡_, sym}
 use mathlib.Core.Bool.{true}
-use Prim.Native.Nat.{ℕ, _+_, _-_, _*_, _/_, _<_, _≤_}
+use Prim.Native.Nat.{ℕ, _+_, _-_, _/_, _<_, _≤_}
 use native.Mathlib.Omega.{arith}
-use Rattle.survey.specs.Rows.{numberAt, rowHeld}
+use Rattle.survey.specs.Rows.{rowHeld}
 use Rattle.survey.proofs.Numbers.{two-size, pair-asked, run-some}
 use Rattle.survey.proofs.Holds.{none-yet, all-so-far, first-below, last-past, run-held}
 use borrow.Author.Needs.{needs}
@@ -111,65 +111,82 @@ cast-if2-2 c = search needs
 
 add-if2 : tie.Need-add-if2 Inv-loop μ-loop
 add-if2 c =
-    let at-loop = c .before .before .before .before .before in
+    let at-offset = c .before .before .before in
+    let at-test = at-offset .before in
+    let at-loop = at-test .before in
     let entry = at-loop .before in
-    let args = entry .args in
-    let inv = at-loop .loop .inv in
-    let i = at-loop .loop .i in
-    omega (arith, c .smaller .ensures .1, entry .pre .columns, entry .pre .stride-is .step, c .before .before .before .offset .ensures, entry .pre .fits i (c .before .before .before .before .loop-test .taken))
+    omega (
+      arith,
+      c .smaller .ensures .1,
+      entry .pre .columns,
+      entry .pre .stride-is .step,
+      at-offset .offset .ensures,
+      entry .pre .fits (at-loop .loop .i) (at-test .loop-test .taken),
+    )
 
 returns-2 : tie.Need-returns-2 Inv-loop μ-loop
 returns-2 c =
-    let at-loop = c .before .before .before .before .before .before in
+    let at-smaller = c .before in
+    let at-run = at-smaller .before in
+    let at-offset = at-run .before .before in
+    let at-test = at-offset .before in
+    let at-loop = at-test .before in
     let entry = at-loop .before in
     let args = entry .args in
     let inv = at-loop .loop .inv in
     let i = at-loop .loop .i in
-    let at-offset = c .before .before .before .before in
-    let at-run = c .before .before in
-    let small = c .before .smaller .ensures in
-    let taken = at-offset .before .loop-test .taken in
+    let small = at-smaller .smaller .ensures in
+    let taken = at-test .loop-test .taken in
     let some = small .2 (rw (sym (at-run .run-from .ensures)) at (run-some (args .tiled) (args .stride / 2) (args .x + i) (omega (arith, entry .pre .columns, taken)))) (omega (arith, taken)) in
     last-past _ _ _ _ _ _ _ _ (entry .pre) i _ some (omega (arith, small .0, at-run .run-from .ensures)) (omega (arith, small .1, taken))
     (omega (arith, c .if2 .taken, at-offset .offset .ensures))
 
 add-i : tie.Need-add-i Inv-loop μ-loop
 add-i c =
-    let at-loop = c .before .before .before .before .before .before in
+    let at-smaller = c .before in
+    let at-run = at-smaller .before in
+    let at-offset = at-run .before .before in
+    let at-test = at-offset .before in
+    let at-loop = at-test .before in
     let entry = at-loop .before in
     let args = entry .args in
     let inv = at-loop .loop .inv in
     let i = at-loop .loop .i in
-    omega (arith, c .before .smaller .ensures .1, entry .pre .columns, entry .pre .stride-is .step)
+    omega (arith, at-smaller .smaller .ensures .1, entry .pre .columns, entry .pre .stride-is .step)
 
 loop-less : tie.Need-loop-less Inv-loop μ-loop
 loop-less c =
-    let at-loop = c .before .before .before .before .before .before in
+    let at-smaller = c .before in
+    let at-run = at-smaller .before in
+    let at-offset = at-run .before .before in
+    let at-test = at-offset .before in
+    let at-loop = at-test .before in
     let entry = at-loop .before in
     let args = entry .args in
     let inv = at-loop .loop .inv in
     let i = at-loop .loop .i in
-    let at-run = c .before .before in
-    let small = c .before .smaller .ensures in
-    let taken = c .before .before .before .before .before .loop-test .taken in
+    let small = at-smaller .smaller .ensures in
+    let taken = at-test .loop-test .taken in
     let some = small .2 (rw (sym (at-run .run-from .ensures)) at (run-some (args .tiled) (args .stride / 2) (args .x + i) (omega (arith, entry .pre .columns, taken)))) (omega (arith, taken)) in
     omega (arith, some, taken, small .1)
 
 loop-again : tie.Need-loop-again Inv-loop μ-loop
 loop-again c =
-    let at-loop = c .before .before .before .before .before .before in
+    let at-smaller = c .before in
+    let at-run = at-smaller .before in
+    let at-offset = at-run .before .before in
+    let at-test = at-offset .before in
+    let at-loop = at-test .before in
     let entry = at-loop .before in
     let args = entry .args in
     let inv = at-loop .loop .inv in
     let i = at-loop .loop .i in
-    let at-offset = c .before .before .before .before in
-    let at-run = c .before .before in
-    let small = c .before .smaller .ensures in
-    let taken = at-offset .before .loop-test .taken in
+    let small = at-smaller .smaller .ensures in
+    let taken = at-test .loop-test .taken in
     let some = small .2 (rw (sym (at-run .run-from .ensures)) at (run-some (args .tiled) (args .stride / 2) (args .x + i) (omega (arith, entry .pre .columns, taken)))) (omega (arith, taken)) in (
       omega (arith, small .1, taken),
       run-held _ _ _ _ _ _ _ _ (entry .pre) i _ some (omega (arith, small .0, at-run .run-from .ensures)) (omega (arith, small .1, taken))
-          (omega (arith, c .before .before .before .if1 .left, at-offset .offset .ensures)) (omega (arith, c .if2 .left, at-offset .offset .ensures)) (inv .1),
+          (omega (arith, at-run .before .if1 .left, at-offset .offset .ensures)) (omega (arith, c .if2 .left, at-offset .offset .ensures)) (inv .1),
     )
 
 returns-3 : tie.Need-returns-3 Inv-loop μ-loop

@@ -1,7 +1,7 @@
 -- `survey::held::rows_held` meets its contract: the numbers of the rows before row j are held. Assumes nothing.
-use mathlib.Core.Path.{_≡_, ap, _∙_}
+use mathlib.Core.Path.{_≡_, ap}
 use mathlib.Core.Bool.{true}
-use Prim.Native.Nat.{ℕ, _+_, _-_, _*_, _/_, _<_, _≤_}
+use Prim.Native.Nat.{ℕ, _-_, _*_, _/_, _<_, _≤_}
 use native.Mathlib.Omega.{arith}
 use borrow.Author.Tests.{not-true, not-false}
 use Rattle.survey.specs.Rows.{domainHeld}
@@ -67,7 +67,8 @@ returns-2 c =
     let at-loop = c .before in
     let args = at-loop .before .args in
     let inv = at-loop .loop .inv in
-    let all : args .rows * args .columns ≡ at-loop .loop .j * args .columns = ap (λ (n : ℕ). n * args .columns) {x = args .rows} {y = at-loop .loop .j} (omega (arith, inv .0, c .loop-test .left)) in
+    let last : args .rows ≡ at-loop .loop .j = omega (arith, inv .0, c .loop-test .left) in
+    let all : args .rows * args .columns ≡ at-loop .loop .j * args .columns = ap (λ (n : ℕ). n * args .columns) last in
     all-so-far _ _ _ (omega (arith, all)) (inv .1)
 
 pub rows-held-spec : {M : Type 1} → statement M

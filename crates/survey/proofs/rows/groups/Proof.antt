@@ -1,7 +1,7 @@
 -- `survey::rows::groups` meets its contract: before turn i, the bytes of the turns before are written and `passed` is their sum. Assumes
 -- nothing.
 use mathlib.Core.Path.{_≡_, ap, _∙_}
-use Prim.Native.Nat.{ℕ, _+_, _-_, _*_, _/_, _%_, _<_, _≤_}
+use Prim.Native.Nat.{_+_, _-_, _*_, _/_, _≤_}
 use mathlib.Core.Bool.{true}
 use native.Mathlib.Omega.{arith}
 use lib.ListN.{length}
@@ -16,7 +16,8 @@ use Rattle.survey.proofs.rows.groups.Tie as tie
 
 abbrev Inv-loop : tie.InvT-loop
 Inv-loop low top outside base stride x y count memory first room₀ line passed₀ i₀ room passed i =
-    (i ≤ count) × (passed ≡ sum (4 * i) (rowByte low top outside memory base true (stride / 2) first x y)) × (room ≡ written line (rowByte low top outside memory base true (stride / 2) first x y) (4 * i) room₀)
+    (i ≤ count) × (passed ≡ sum (4 * i) (rowByte low top outside memory base true (stride / 2) first x y)) ×
+    (room ≡ written line (rowByte low top outside memory base true (stride / 2) first x y) (4 * i) room₀)
 
 abbrev μ-loop : tie.MeasureT-loop
 μ-loop low top outside base stride x y count memory first room₀ line passed₀ i₀ room passed i = count - i
@@ -64,11 +65,14 @@ four-requires c κs =
 
 add-passed : tie.Need-add-passed Inv-loop μ-loop
 add-passed c =
-    let at-loop = c .before .before .before .before .before .before in
+    let at-four = c .before .before in
+    let at-place = at-four .before .before in
+    let at-test = at-place .before in
+    let at-loop = at-test .before in
     let entry = at-loop .before .before .before in
     let args = entry .args in
     let few = row-few (args .low) (args .top) (args .outside) (args .memory .now) (args .base) true (args .stride / 2) (args .first) (args .x) (args .y) (4 * at-loop .loop .i) in
-    let at = c .before .before .before .before .place .result in
+    let at = at-place .place .result in
     let more = sum-few 4 (λ j. spanBit (args .low) (args .top) (args .outside) (args .memory .now) (at + 2 * j))
     (λ j. bit-few (args .low) (args .top) (args .outside) (args .memory .now) (at + 2 * j)) in
     omega (
@@ -78,8 +82,8 @@ add-passed c =
       more,
       entry .pre .0 .columns,
       entry .pre .0 .stride-is .step,
-      c .before .before .before .before .before .loop-test .taken,
-      c .before .before .four .ensures .0,
+      at-test .loop-test .taken,
+      at-four .four .ensures .0,
     )
 
 add-i : tie.Need-add-i Inv-loop μ-loop
@@ -90,14 +94,15 @@ loop-less c = omega (arith, c .before .before .before .before .before .loop-test
 
 loop-again : tie.Need-loop-again Inv-loop μ-loop
 loop-again c =
-    let at-loop = c .before .before .before .before .before .before in
+    let at-four = c .before .before in
+    let at-place = at-four .before .before in
+    let at-test = at-place .before in
+    let at-loop = at-test .before in
     let entry = at-loop .before .before .before in
     let args = entry .args in
     let inv = at-loop .loop .inv in
     let i = at-loop .loop .i in
-    let at-four = c .before .before in
-    let at-place = at-four .before .before in
-    let taken = at-place .before .loop-test .taken in
+    let taken = at-test .loop-test .taken in
     let begins = entry .pre .1 (omega (arith, taken)) in
     let same = same-bytes _ _ _ _ _ _ _ _ _ _ (entry .pre .0) (4 * i) 4 (omega arith) (omega (arith, taken))
     (group-of (args .base) (args .stride / 2) (args .x) (args .y) i begins) (args .low) (args .top) (args .outside) (args .memory .now) _ (at-place .place .ensures) in

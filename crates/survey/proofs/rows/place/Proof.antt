@@ -1,5 +1,4 @@
 -- `survey::rows::place` meets its contract: the address that the offset gives, in memory. Assumes nothing.
-use native.Mathlib.Omega.{arith}
 use Rattle.survey.proofs.Numbers.{pair-asked}
 use borrow.Author.Needs.{needs}
 use Rattle.survey.proofs.rows.place.Statement.{statement}

@@ -1,8 +1,5 @@
 -- `survey::rows::row` meets its contract: a tiled row, or one run. Assumes nothing.
-use mathlib.Core.Path.{_≡_, refl, sym, ap, _∙_}
-use native.Mathlib.Omega.{arith}
-use Prim.Native.Nat.{ℕ, _/_}
-use mathlib.Core.Bool.{false}
+use mathlib.Core.Path.{refl, _∙_}
 use Rattle.laws.proofs.Below.{sum-same}
 use Rattle.conditions.proofs.Written.{written-same}
 use Rattle.survey.proofs.Parts.{first-place, linear-asked, linear-bytes}

@@ -1,7 +1,7 @@
 -- `survey::rows::rows` meets its contract: before row j, the bytes of the rows before are written and `passed` is their sum. Assumes
 -- nothing.
-use mathlib.Core.Path.{_≡_, refl, sym, ap, _∙_}
-use Prim.Native.Nat.{ℕ, _+_, _-_, _*_, _/_, _%_, _<_, _≤_}
+use mathlib.Core.Path.{_≡_, refl, ap, _∙_}
+use Prim.Native.Nat.{ℕ, _+_, _-_, _*_, _/_, _<_, _≤_}
 use native.Mathlib.Omega.{arith}
 use lib.ListN.{length}
 use Rattle.laws.specs.Below.{sum}
@@ -16,7 +16,9 @@ use Rattle.survey.proofs.rows.rows.Tie as tie
 
 abbrev Inv-loop : tie.InvT-loop
 Inv-loop low top outside base stride tiled x y columns rows memory first room₀ passed₀ line₀ j₀ room passed line j =
-    (j ≤ rows) × (line ≡ j * columns) × (passed ≡ sum line (domainByte low top outside memory base tiled (stride / 2) first x y columns)) × (room ≡ written 0 (domainByte low top outside memory base tiled (stride / 2) first x y columns) line room₀)
+    (j ≤ rows) × (line ≡ j * columns) ×
+    (passed ≡ sum line (domainByte low top outside memory base tiled (stride / 2) first x y columns)) ×
+    (room ≡ written 0 (domainByte low top outside memory base tiled (stride / 2) first x y columns) line room₀)
 
 abbrev μ-loop : tie.MeasureT-loop
 μ-loop low top outside base stride tiled x y columns rows memory first room₀ passed₀ line₀ j₀ room passed line j = rows - j
@@ -47,11 +49,13 @@ wide-requires c κs = search needs
 
 add-passed : tie.Need-add-passed Inv-loop μ-loop
 add-passed c =
-    let at-loop = c .before .before .before .before .before .before in
+    let at-row = c .before .before .before in
+    let at-test = at-row .before .before in
+    let at-loop = at-test .before in
     let entry = at-loop .before .before .before in
     let args = entry .args in
     let inv = at-loop .loop .inv in
-    let taken = c .before .before .before .before .before .loop-test .taken in
+    let taken = at-test .loop-test .taken in
     let line = next-line _ _ _ _ _ _ _ _ _ _ (entry .pre .0) (entry .pre .1) _ _ taken (inv .1) in
     let few = domain-few _ _ _ _ _ _ _ _ _ _ (entry .pre .0) (entry .pre .1) (args .low) (args .top) (args .outside) (args .memory .now) (at-loop .loop .line) in
     let here = row-few (args .low) (args .top) (args .outside) (args .memory .now) (args .base) (args .tiled) (args .stride / 2) (args .first) (args .x) (args .y + at-loop .loop .j) (args .columns) in
@@ -62,17 +66,19 @@ add-passed c =
       here,
       line .1,
       c .wide .ensures,
-      c .before .before .before .row .ensures .0,
+      at-row .row .ensures .0,
       rows-few _ _ _ _ _ _ _ _ _ _ (entry .pre .0) (entry .pre .1),
     )
 
 add-line : tie.Need-add-line Inv-loop μ-loop
 add-line c =
-    let at-loop = c .before .before .before .before .before .before in
+    let at-row = c .before .before .before in
+    let at-test = at-row .before .before in
+    let at-loop = at-test .before in
     let entry = at-loop .before .before .before in
     let args = entry .args in
     let inv = at-loop .loop .inv in
-    let taken = c .before .before .before .before .before .loop-test .taken in
+    let taken = at-test .loop-test .taken in
     let line = next-line _ _ _ _ _ _ _ _ _ _ (entry .pre .0) (entry .pre .1) _ _ taken (inv .1) in
     omega (arith, line .1, rows-few _ _ _ _ _ _ _ _ _ _ (entry .pre .0) (entry .pre .1))
 
@@ -84,12 +90,13 @@ loop-less c = omega (arith, c .before .before .before .before .before .loop-test
 
 loop-again : tie.Need-loop-again Inv-loop μ-loop
 loop-again c =
-    let at-loop = c .before .before .before .before .before .before in
+    let at-row = c .before .before .before in
+    let at-test = at-row .before .before in
+    let at-loop = at-test .before in
     let entry = at-loop .before .before .before in
     let args = entry .args in
     let inv = at-loop .loop .inv in
-    let at-row = c .before .before .before in
-    let taken = at-row .before .before .loop-test .taken in
+    let taken = at-test .loop-test .taken in
     let line = next-line _ _ _ _ _ _ _ _ _ _ (entry .pre .0) (entry .pre .1) _ _ taken (inv .1) in
     let same : (i : ℕ) → i < args .columns →
     rowByte (args .low) (args .top) (args .outside) (args .memory .now) (args .base) (args .tiled) (args .stride / 2) (args .first) (args .x) (args .y + at-loop .loop .j) i ≡
@@ -110,7 +117,8 @@ returns c =
     let entry = at-loop .before .before .before in
     let args = entry .args in
     let inv = at-loop .loop .inv in
-    let all : at-loop .loop .line ≡ args .rows * args .columns = inv .1 ∙ ap (λ (n : ℕ). n * args .columns) {x = at-loop .loop .j} {y = args .rows} (omega (arith, inv .0, c .loop-test .left)) in
+    let last : at-loop .loop .j ≡ args .rows = omega (arith, inv .0, c .loop-test .left) in
+    let all : at-loop .loop .line ≡ args .rows * args .columns = inv .1 ∙ ap (λ (n : ℕ). n * args .columns) last in
     (rw all at (inv .2), rw all at (inv .3))
 
 pub rows-spec : {M : Type 1} → statement M

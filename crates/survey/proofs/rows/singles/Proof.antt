@@ -1,7 +1,7 @@
 -- `survey::rows::singles` meets its contract: before turn i, the bytes of the turns before are written and `passed` is their sum. Assumes
 -- nothing.
 use mathlib.Core.Path.{_≡_, ap, _∙_}
-use Prim.Native.Nat.{ℕ, _+_, _-_, _*_, _/_, _%_, _<_, _≤_}
+use Prim.Native.Nat.{_-_, _/_, _≤_}
 use mathlib.Core.Bool.{true}
 use native.Mathlib.Omega.{arith}
 use lib.ListN.{length}
@@ -16,7 +16,8 @@ use Rattle.survey.proofs.rows.singles.Tie as tie
 
 abbrev Inv-loop : tie.InvT-loop
 Inv-loop low top outside base stride x y count memory first room₀ line passed₀ i₀ room passed i =
-    (i ≤ count) × (passed ≡ sum i (rowByte low top outside memory base true (stride / 2) first x y)) × (room ≡ written line (rowByte low top outside memory base true (stride / 2) first x y) i room₀)
+    (i ≤ count) × (passed ≡ sum i (rowByte low top outside memory base true (stride / 2) first x y)) ×
+    (room ≡ written line (rowByte low top outside memory base true (stride / 2) first x y) i room₀)
 
 abbrev μ-loop : tie.MeasureT-loop
 μ-loop low top outside base stride x y count memory first room₀ line passed₀ i₀ room passed i = count - i
