@@ -39,7 +39,7 @@ module _ (edition : ℕ) (logs numbers : List ℕ) where
   unfolding countedTold
   too-many room h k = crosses-not _ 22 room (pick-no _ _ (lt-leb (stationsIn numbers) 64 h)) k
 
-  module _ (room : List ℕ) (h : stationsIn numbers ≤ 64) {answer : Reported} (told : toldReported answer ≡ fleetIn edition logs numbers) where
+  module _ (room : List ℕ) (h : stationsIn numbers ≤ 64) (answer : Reported) (told : toldReported answer ≡ fleetIn edition logs numbers) where
     is-told : countedTold edition logs numbers ≡ toldReported answer
     unfolding countedTold
     is-told = pick-yes _ _ (le-leb (stationsIn numbers) 64 h) ∙ sym told

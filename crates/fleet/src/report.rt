@@ -62,8 +62,7 @@ fn write(room: &mut [u64], fleet: Fleet)
     room[0] = fleet.served;
     room[1] = fleet.owed;
     room[2] = fleet.silent;
-    let part = fleet.part;
-    room[3] = part.station;
+    room[3] = fleet.part.station;
 }
 
 // The report where all lengths are right: 22, then what the stations come to.
