@@ -2,7 +2,7 @@
 use mathlib.Core.Path.{_≡_}
 use mathlib.Core.Bool.{true}
 use mathlib.Core.List.{List, [], _∷_}
-use Prim.Native.Nat.{ℕ, _+_, _*_, _%_, _≤_}
+use Prim.Native.Nat.{ℕ, _+_, _*_, _%_, _<_, _≤_}
 use lib.Dec.{eqb, ltb}
 use lib.ListN.{length}
 use Rattle.laws.specs.Choice.{pick}
@@ -11,7 +11,7 @@ use Rattle.state.specs.Start.{isEdition}
 use Rattle.replay.specs.Cells.{replayIn}
 use Rattle.score.specs.Lease.{Lease}
 use Rattle.score.specs.Score.{Score, scored, refused, scoreOf}
-use Rattle.fleet.specs.Fleet.{refusalIn, servedIn, owedIn, silentDays, mostMonth, stationsIn, addUp}
+use Rattle.fleet.specs.Fleet.{refusalIn, servedIn, owedIn, silentDays, mostMonth, noStation, stationsIn, lengthAt, startAt, addUp}
 use Rattle.fleet.specs.declared.station.Month.{Month}
 use Rattle.fleet.specs.declared.parts.Part.{Part}
 use Rattle.fleet.specs.declared.parts.Fleet.{Fleet}
@@ -22,9 +22,17 @@ use Rattle.fleet.specs.declared.report.Reported.the-variants as reported
 abbrev pub monthFrom : Lease → Score → Month
 monthFrom l s = record { status = refusalIn s; served = servedIn s; owed = owedIn s; silent = silentDays l s }
 
+-- that of a refused one
+abbrev pub refusedMonth : ℕ → Month
+refusedMonth n = record { status = n; served = 0; owed = 0; silent = 0 }
+
 -- that of a replay, whatever its session's other arrays hold
 pub record ScoredAs (l : Lease) (log marks tallies : List ℕ) (r : Month) : Type 0 where
   pub told : (own shared : List ℕ) → r ≡ monthFrom l (scoreOf l (replayIn log marks own tallies shared))
+
+-- no station yet
+abbrev pub noFleet : Fleet
+noFleet = record { served = 0; owed = 0; silent = 0; part = record { station = noStation; served = 0; owed = 0 } }
 
 -- the smallest part with one station more
 unfoldable pub partNext : Part → ℕ → ℕ → ℕ → Part
@@ -60,6 +68,23 @@ pub record FleetAsked (edition : ℕ) (logs numbers : List ℕ) : Type 0 where
   pub few : stationsIn numbers ≤ 64
   pub slice : addUp numbers (length logs) ≡ true
 
+-- a station of them, and where its log begins
+pub record MonthAsked (edition : ℕ) (logs numbers : List ℕ) (start k : ℕ) : Type 0 where
+  pub known : isEdition edition ≡ true
+  pub listed : k < stationsIn numbers
+  pub begins : start ≡ startAt numbers k
+  pub inside : start + lengthAt numbers k ≤ length logs
+
+-- the same with a room of four
+pub record CountedAsked (edition : ℕ) (logs numbers room : List ℕ) : Type 0 where
+  pub known : isEdition edition ≡ true
+  pub fours : length numbers % 4 ≡ 0
+  pub slice : addUp numbers (length logs) ≡ true
+  pub room-length : length room ≡ 4
+
+abbrev pub fleetNumbers : Fleet → List ℕ
+fleetNumbers f = f .served ∷ f .owed ∷ f .silent ∷ f .part .station ∷ []
+
 abbrev pub toldReported : Reported → Told
-toldReported (reported.Is f) = gives (f .served ∷ f .owed ∷ f .silent ∷ f .part .station ∷ [])
+toldReported (reported.Is f) = gives (fleetNumbers f)
 toldReported (reported.Refused n) = refuses n

@@ -115,11 +115,15 @@ addUp numbers length = eqb (startAt numbers (stationsIn numbers)) length
 abbrev pub fleetIn : ℕ → List ℕ → List ℕ → Told
 fleetIn edition logs numbers = fleetTold (stationsIn numbers) (stationAt edition logs numbers)
 
--- "11 if the numbers aren't in fours, the room isn't four or the lengths don't add up to the slice, 22 for more than 64 logs"
+-- "22 for more than 64 logs"
+unfoldable pub countedTold : ℕ → List ℕ → List ℕ → Told
+countedTold edition logs numbers = pick (leb (stationsIn numbers) 64) (fleetIn edition logs numbers) (refuses 22)
+
+-- "11 if the numbers aren't in fours, the room isn't four or the lengths don't add up to the slice"
 unfoldable pub judgedTold : ℕ → List ℕ → List ℕ → ℕ → Told
 judgedTold edition logs numbers room =
     pick (eqb (length numbers % 4) 0 and (eqb room 4 and addUp numbers (length logs)))
-    (pick (leb (stationsIn numbers) 64) (fleetIn edition logs numbers) (refuses 22))
+    (countedTold edition logs numbers)
     (refuses 11)
 
 -- "Order: 3 for the edition, 11 .., 22 .., then the refusal of the first station"

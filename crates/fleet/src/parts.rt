@@ -3,7 +3,7 @@ ghost use mathlib.Core.Path.{_≡_};
 ghost use Prim.Native.Nat.{_≤_, _*_};
 ghost use lib.Dec.{ltb};
 ghost use Rattle.fleet.specs.Fleet.{mostMonth};
-ghost use Rattle.fleet.specs.Answers.{AddAsked, added, partNext};
+ghost use Rattle.fleet.specs.Answers.{AddAsked, added, noFleet, partNext};
 
 // The number that stands for no station.
 pub const NONE: u64 = crate::STATIONS as u64;
@@ -55,6 +55,22 @@ fn next_part(part: Part, number: u64, served: u64, owed: u64) -> Part
         };
     }
     part
+}
+
+// No station yet.
+pub fn none() -> Fleet
+    ensures { λ r. ⌜ r ≡ noFleet ⌝ }
+{
+    Fleet {
+        served: 0,
+        owed: 0,
+        silent: 0,
+        part: Part {
+            station: NONE,
+            served: 0,
+            owed: 0,
+        },
+    }
 }
 
 // The stations so far and one more.

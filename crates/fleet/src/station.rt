@@ -4,12 +4,14 @@ use score::month::Scored;
 ghost use mathlib.Core.Path.{_≡_};
 ghost use mathlib.Core.Bool.{true};
 ghost use Prim.Native.Nat.{_≤_};
+ghost use lib.Dec.{eqb};
 ghost use lib.ListN.{length};
+ghost use Rattle.laws.specs.Masks.{digit};
 ghost use Rattle.state.specs.Start.{isEdition};
 ghost use Rattle.score.specs.Answers.{leaseLine};
 ghost use Rattle.score.specs.Score.{scoreOfLog};
 ghost use Rattle.fleet.specs.Fleet.{silentIn};
-ghost use Rattle.fleet.specs.Answers.{ScoredAs, monthFrom};
+ghost use Rattle.fleet.specs.Answers.{ScoredAs, monthFrom, refusedMonth};
 
 // The greatest number of 32 bits: a lease line with a wider one is out of its bounds.
 const WIDEST: u64 = 4294967295;
@@ -25,6 +27,14 @@ pub struct Month {
     pub silent: u64,
 }
 
+// 1 for a day that is served 0, 0 for another.
+fn one_if_silent(served: u64) -> u64
+    ensures value { λ r. ⌜ r ≡ digit (eqb served 0) ⌝ }
+    ensures most { λ r. ⌜ r ≤ 1 ⌝ }
+{
+    if served == 0 { 1 } else { 0 }
+}
+
 // The days of a lease line that owe something and are served 0, by the month's room of served numbers.
 fn silent_days(served: &[u64; score::DAYS], days: u32, owed: u32) -> u64
     requires { ⌜ (length (now served) ≡ 31) × (days ≤ 31) ⌝ }
@@ -36,9 +46,7 @@ fn silent_days(served: &[u64; score::DAYS], days: u32, owed: u32) -> u64
     let mut silent = 0u64;
     let mut k = 0u32;
     while k < days {
-        if served[k as usize] == 0 {
-            silent += 1;
-        }
+        silent += one_if_silent(served[k as usize]);
         k += 1;
     }
     silent
@@ -112,18 +120,31 @@ fn replayed(edition: u32, bytes: &[u8], first_day: u32, days: u32, owed: u32) ->
     summed(&log, &marks, &tallies, first_day, days, owed)
 }
 
-// The month of a station, whose lease line's numbers may be wider than 32 bits: 21 for these.
-pub fn month(edition: u32, bytes: &[u8], first_day: u64, days: u64, owed: u64) -> Month
-    requires { ⌜ isEdition edition ≡ true ⌝ }
-    ensures { λ r. ⌜ r ≡ monthFrom (leaseLine «first_day» days owed) (scoreOfLog edition (leaseLine «first_day» days owed) (now (bytes .entry))) ⌝ }
+// The month of a lease line out of its bounds.
+fn out_of_bounds() -> Month
+    ensures { λ r. ⌜ r ≡ refusedMonth 21 ⌝ }
 {
-    if first_day <= WIDEST && (days <= WIDEST && owed <= WIDEST) {
-        return replayed(edition, bytes, first_day as u32, days as u32, owed as u32);
-    }
     Month {
         status: LEASE_LINE,
         served: 0,
         owed: 0,
         silent: 0,
     }
+}
+
+// The month of a station, whose lease line's numbers may be wider than 32 bits: 21 for these.
+pub fn month_of(edition: u32, bytes: &[u8], first_day: u64, days: u64, owed: u64) -> Month
+    requires { ⌜ isEdition edition ≡ true ⌝ }
+    ensures { λ r. ⌜ r ≡ monthFrom (leaseLine «first_day» days owed) (scoreOfLog edition (leaseLine «first_day» days owed) (now (bytes .entry))) ⌝ }
+{
+    if WIDEST < first_day {
+        return out_of_bounds();
+    }
+    if WIDEST < days {
+        return out_of_bounds();
+    }
+    if WIDEST < owed {
+        return out_of_bounds();
+    }
+    replayed(edition, bytes, first_day as u32, days as u32, owed as u32)
 }

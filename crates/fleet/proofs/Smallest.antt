@@ -88,7 +88,7 @@ module _ (s o : ℕ → ℕ) (k : ℕ) where
       go : (q : Part) → Best s o k q → Tested (eqb (o k) 0) → Tested (eqb (q .owed) 0) → Tested (ltb (s k * q .owed) (q .served * o k)) →
           Best s o (suc k) (pick (eqb (o k) 0) q (pick (eqb (q .owed) 0) new (pick (ltb (s k * q .owed) (q .served * o k)) new q)))
       go q w (holds z) t u = subst (Best s o (suc k)) (sym (pick-yes q _ z)) (skipped q (eqb-true _ 0 z) w)
-      go q (none h) (fails z) t u = subst (Best s o (suc k)) (sym (pick-no _ _ z)) (first (positive z) h)
+      go q (none h) (fails z) t u = subst (Best s o (suc k)) (sym (pick-no _ _ z ∙ pick-yes new _ refl)) (first (positive z) h)
       go q (best b l pos all low) (fails z) (holds t) u = absurd (no (eqb-true (o b) 0 t))
         where
           no : o b ≡ 0 → ⊥
@@ -128,10 +128,10 @@ module _ (n : ℕ) (f : ℕ → Station) where
       go j l (fails t) = pick-no _ true t
 
   fails-when : (k : ℕ) → (hasSmallest n f k ≡ true → ⊥) → hasSmallest n f k ≡ false
-  fails-when k no = go (tested (hasSmallest n f k))
+  fails-when k denied = go (tested (hasSmallest n f k))
     where
       go : Tested (hasSmallest n f k) → hasSmallest n f k ≡ false
-      go (holds e) = absurd (no e)
+      go (holds e) = absurd (denied e)
       go (fails e) = e
 
   pub best-named : (p : Part) → Best s o n p → p .station ≡ smallestPart n f
