@@ -23,6 +23,7 @@ use Rattle.refusal.specs.Crossing.{Crosses, statusOf, roomOf}
 use Rattle.command.specs.Known.{onLine}
 use Rattle.command_rooms.specs.Rooms.{commandWith, namedWriteOf, namedRoom}
 use Rattle.element_rooms.specs.Rooms.{inSixteen}
+use Rattle.conditional.specs.Conditional as conditional
 use Rattle.score_rooms.specs.Rooms.{claimedTold, servedTold, monthTold}
 use Rattle.demands.proofs.Numbers.{
   Nonzero,
@@ -41,6 +42,8 @@ use Rattle.demands.proofs.Numbers.{
   run-number,
   kill-number,
   month-number,
+  test-number,
+  survey-number,
 }
 use Rattle.demands.specs.Calls.{
   Call,
@@ -59,6 +62,8 @@ use Rattle.demands.specs.Calls.{
   run,
   kill,
   month,
+  test,
+  survey,
   Untouched,
   layoutIn,
 }
@@ -131,7 +136,7 @@ served-refused (scored m) n e = given-refuses e
 served-refused (refused m) n e = e
 
 pub refused-call : {t : Told} {r : ℕ} {lent left : Lists} → Call t r lent left → (n : ℕ) → t ≡ refuses n → Untouched n r lent left
-unfolding memoryAfter loadTold firstsLeft secondsLeft beginTold beginLeaves
+unfolding memoryAfter loadTold firstsLeft secondsLeft beginTold beginLeaves conditional.roomAfter
 refused-call (layout l r a b c) n e = one-room c n e (judged-number l)
 refused-call (translate l x y r a b c) n e = one-room c n e (translated-number (layoutIn l) x y)
 refused-call (locate l address r a b c) n e = one-room c n e (located-number (layoutIn l) address)
@@ -201,4 +206,13 @@ refused-call (month l replay r a b m a' b' m' c) n e =
       arrays =
           three (room (c .claimed-room) n (claimed-refused (scoreOf l replay) n e)) (room (c .served-room) n (served-refused (scoreOf l replay) n e))
           (room (c .month-room) n e);
+    }
+refused-call (test s v x y first m r a b c) n e = one-room c n e (test-number s v first m x y)
+refused-call (survey s v i0 j0 i1 j1 first m r a b p q c) n e =
+    record {
+      number = number (c .answer) n e;
+      not-zero = survey-number s v first m i0 j0 i1 j1 (length a) n e;
+      arrays =
+          two (c .bytes ∙ ap (λ (t : Told). conditional.roomAfter t (conditional.bytesOf s v first m i0 j0 i1 j1) a) e)
+          (room (c .answer) n e);
     }

@@ -1,4 +1,4 @@
--- The page of top theorems, in the order of the demands: 1, 2, 3, then elements, flow, and the requests 1 to 8, 11 and 13. Each statement has
+-- The page of top theorems, in the order of the demands: 1, 2, 3, then elements, flow, and the requests 1 to 8 and 11 to 13. Each statement has
 -- its sentence above it and a proof that only cites the file that has it. What a statement asks for is what its sentence says or what an
 -- entry asks for: a session, a replay or a group's cells that came from the entries (`Reached`, `Handed`), and bytes that are bytes.
 -- Assumes nothing.
@@ -161,6 +161,13 @@ use Rattle.demands.proofs.Rectangles.{rectangle-painted, rectangle-read
 use Rattle.demands.proofs.Pieces.{handed-reached, handed-given, word-refused, as-one}
 use Rattle.demands.proofs.Refused.{refused-place}
 use Rattle.demands.proofs.Windows.{passes, gets-eight, gets-nine}
+use Rattle.refusal.specs.Crossing.{Crosses}
+use Rattle.state.specs.State.{Shared}
+use Rattle.state.specs.Cells.{sharedOf}
+use Rattle.conditional.specs.Conditional.{bufferLayout, pairs, passesAt, bitAt, testOf}
+use Rattle.conditional_rooms.specs.Rooms.{SurveyCrosses}
+use Rattle.demands.specs.Surveys.{inTurn, testAsks, surveyAsks, ByTests, Opposite, Split, SameTests}
+use Rattle.demands.proofs.Surveys.{test-called, survey-called, test-left, survey-left, by-tests, opposites-split, same-tests}
 
 -- DEMAND 1. "Every entry answers, and bad input gets the refusal number in document 01. A refused call or word changes no byte of lent
 -- memory and no setting, except that a refused command word stops the session and drops the unfinished command. Words taken before it
@@ -737,6 +744,64 @@ maximum-by-bits = maximum-pattern
 
 pub choice-by-bits : (a b third : ℕ) → third < 2 ^ 32 → choiceOf (float a) (float b) (float third) ≡ float (choiceBits a b third)
 choice-by-bits = choice-pattern
+
+-- REQUEST 12, "Conditional output tests"
+
+-- "With no conditional buffer or test set, 7; then 3, 5 for a bad domain, 10 at any pair, and 11.": the first question that fails refuses a
+-- call; where all hold, status 0 comes with 1 or 0, whether v op b, and a survey's with how many pairs pass. (A buffer's window is judged for its 3 and 6
+-- before a pair is asked for 10.)
+pub conditional-test :
+    (s : Shared) (v first : ℕ) (m : List ℕ) (x y r : ℕ) (passed passed' : List ℕ) → Crosses (testOf s v first m x y) r passed passed' →
+    Crosses
+    (inTurn (testAsks (s .conditional) (s .testSet) x y first (length m))
+    (gives (digit (passesAt (bufferLayout (s .conditional)) (s .test) v first m x y) ∷ [])))
+    r passed passed'
+conditional-test = test-called
+
+pub conditional-survey :
+    (s : Shared) (v first : ℕ) (m : List ℕ) (i0 j0 i1 j1 r : ℕ) (room room' passed passed' : List ℕ) →
+    SurveyCrosses s v first m i0 j0 i1 j1 r room room' passed passed' →
+    Crosses
+    (inTurn (surveyAsks (s .conditional) (s .testSet) i0 j0 i1 j1 first (length m) (length room))
+    (gives (sum (pairs i0 j0 i1 j1) (bitAt (bufferLayout (s .conditional)) (s .test) v first m i0 j0 i1 j1) ∷ [])))
+    r passed passed'
+conditional-survey = survey-called
+
+-- A call with another status than 0 has touched no room.
+pub conditional-test-refused :
+    (s : Shared) (v first : ℕ) (m : List ℕ) (x y r : ℕ) (passed passed' : List ℕ) → Crosses (testOf s v first m x y) r passed passed' →
+    1 ≤ r → passed' ≡ passed
+conditional-test-refused = test-left
+
+pub conditional-survey-refused :
+    (s : Shared) (v first : ℕ) (m : List ℕ) (i0 j0 i1 j1 r : ℕ) (room room' passed passed' : List ℕ) →
+    SurveyCrosses s v first m i0 j0 i1 j1 r room room' passed passed' → 1 ≤ r → (room' ≡ room) × (passed' ≡ passed)
+conditional-survey-refused = survey-left
+
+-- "A survey with one v over a given domain reports how many pairs pass, and writes a byte 1 or 0 a pair, row by row": with status 0 every pair's
+-- byte is what a call for that pair alone answers, and the number is the sum of the bytes.
+pub conditional-by-tests :
+    (s : Shared) (v first : ℕ) (m : List ℕ) (i0 j0 i1 j1 r : ℕ) (room room' passed passed' : List ℕ) →
+    SurveyCrosses s v first m i0 j0 i1 j1 r room room' passed passed' → r ≡ 0 → ByTests s v first m i0 j0 i1 j1 room' passed'
+conditional-by-tests = by-tests
+
+-- A test and its opposite split the pairs: 1 and 4, 2 and 5, 3 and 6, 0 and 7. Two surveys of one domain that differ in the test alone have the
+-- same status; where it is 0, each pair passes just one of them, and their numbers add up to all pairs.
+pub conditional-opposites :
+    (s s' : Shared) → s' .conditional ≡ s .conditional → s' .testSet ≡ s .testSet → Opposite (s .test) (s' .test) →
+    (v first : ℕ) (m : List ℕ) (i0 j0 i1 j1 r r' : ℕ) (room room₁ passed passed₁ other other₁ number number₁ : List ℕ) →
+    length other ≡ length room → SurveyCrosses s v first m i0 j0 i1 j1 r room room₁ passed passed₁ →
+    SurveyCrosses s' v first m i0 j0 i1 j1 r' other other₁ number number₁ → Split (pairs i0 j0 i1 j1) r r' room₁ passed₁ other₁ number₁
+conditional-opposites = opposites-split
+
+-- "The unit only reads the session's settings, stopped or not": the settings that a refused word leaves, with which the session is
+-- stopped, give every test and every survey the answer that they gave before.
+pub conditional-stopped :
+    (own tallies shared : List ℕ) → Handed own tallies shared → (w r : ℕ) (own' tallies' shared' room room' : List ℕ) →
+    WordCrosses (stepOf (sessionOf own tallies shared) w) r own' tallies' shared' room room' →
+    (n : ℕ) → stepOf (sessionOf own tallies shared) w .reply ≡ refused n → SameTests (sharedOf shared) (sharedOf shared')
+conditional-stopped own tallies shared h w r own' tallies' shared' room room' c n e =
+    same-tests shared shared' (demand1-words own tallies shared h w r own' tallies' shared' room room' c n e .settings-same)
 
 -- REQUEST 13, "Every order paints the same picture"
 

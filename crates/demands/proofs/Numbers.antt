@@ -31,6 +31,7 @@ use Rattle.command.specs.Known.{onLine}
 use Rattle.command_rooms.specs.Rooms.{parametersOf, namedWriteOf, commandWith}
 use Rattle.score_rooms.specs.Rooms.{monthTold}
 use Rattle.setting_rooms.specs.Rooms.{formatAt, formatOf}
+use Rattle.conditional.specs.Conditional.{ifReady, pairOf, domainOf, testOf, surveyOf}
 use Rattle.demands.specs.Calls.{Numbers, judgedIn}
 use Rattle.demands.specs.Flow.{
   Refused,
@@ -219,3 +220,16 @@ month-number l r =
     by-pick (λ (s : Score). Nonzero (monthTold s)) _ _ _ (λ f. given _)
     (λ f. let ne : r .stoppedBy ≡ 0 → ⊥ = eqb-false _ _ f in numbered (r .stoppedBy) (omega arith)))
     (λ e. numbered 21 (omega arith))
+
+if-ready : (s : Shared) (t : Told) → Nonzero t → Nonzero (ifReady s t)
+unfolding ifReady
+if-ready s t z = either _ _ _ (either _ _ _ z (numbered 3 (omega arith))) (numbered 7 (omega arith))
+
+pub test-number : (s : Shared) (v first : ℕ) (m : List ℕ) (x y : ℕ) → Nonzero (testOf s v first m x y)
+unfolding testOf pairOf
+test-number s v first m x y = if-ready s _ (if-accepted _ _ (in-order _ _ _ (given _)))
+
+pub survey-number : (s : Shared) (v first : ℕ) (m : List ℕ) (i0 j0 i1 j1 room : ℕ) → Nonzero (surveyOf s v first m i0 j0 i1 j1 room)
+unfolding surveyOf domainOf
+survey-number s v first m i0 j0 i1 j1 room =
+    if-ready s _ (either _ _ _ (if-accepted _ _ (in-order _ _ _ (given _))) (numbered 5 (omega arith)))

@@ -26,6 +26,9 @@ use Rattle.group_rooms.specs.Rooms.{LoadCrosses, BeginCrosses, StepCrosses, Run
 use Rattle.register_rooms.specs.Rooms.{KillCrosses}
 use Rattle.score_rooms.specs.Rooms.{monthTold, MonthCrosses}
 use Rattle.setting_rooms.specs.Rooms.{formatOf}
+use lib.ListN.{length}
+use Rattle.conditional.specs.Conditional.{testOf, surveyOf}
+use Rattle.conditional_rooms.specs.Rooms.{SurveyCrosses}
 
 -- a layout's numbers, as every call on addresses and elements takes them
 pub record Numbers : Type 0 where
@@ -97,6 +100,13 @@ pub data Call : Told → ℕ → List (List ℕ) → List (List ℕ) → Type 0 
   month : (l : Lease) (replay : Replay) (r : ℕ) (claimed served month claimed' served' month' : List ℕ) →
       MonthCrosses (scoreOf l replay) r claimed served month claimed' served' month' →
       Call (monthTold (scoreOf l replay)) r (claimed ∷ served ∷ month ∷ []) (claimed' ∷ served' ∷ month' ∷ [])
+  -- egretfold_conditional_test
+  test : (s : Shared) (v x y first : ℕ) (memory : List ℕ) (r : ℕ) (passed passed' : List ℕ) →
+      Crosses (testOf s v first memory x y) r passed passed' → Call (testOf s v first memory x y) r (passed ∷ []) (passed' ∷ [])
+  -- egretfold_conditional_survey
+  survey : (s : Shared) (v i0 j0 i1 j1 first : ℕ) (memory : List ℕ) (r : ℕ) (room room' passed passed' : List ℕ) →
+      SurveyCrosses s v first memory i0 j0 i1 j1 r room room' passed passed' →
+      Call (surveyOf s v first memory i0 j0 i1 j1 (length room)) r (room ∷ passed ∷ []) (room' ∷ passed' ∷ [])
 
 -- "A refusal hands back its number and no other result. Lent memory .. stay the same." No refusal has the number 0
 pub record Untouched (n r : ℕ) (lent left : List (List ℕ)) : Type 0 where
