@@ -120,7 +120,7 @@ windowed-word : (s : Session) (w : ℕ) → Valid s → Windowed (s .shared .out
 unfolding after
 windowed-word s w v a t (wasStopped e) = a
 windowed-word s w v a t (stops n e) = a
-windowed-word s w v a t (opens r i k) = a
+windowed-word s w v a t (opens r i k m) = a
 windowed-word s w v a t (fills p m) = a
 windowed-word s w v a t (ends p l c e u u' r q) = windowed-after c (s .shared) u r (v .outputs) a
 

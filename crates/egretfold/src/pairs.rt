@@ -13,7 +13,16 @@ pub extern "C" fn egretfold_pair_begin(
     outputs: u32,
     edition: u32,
 ) -> u32 {
-    lessees::begin(own0, tallies0, own1, tallies1, shared, inputs, outputs, edition)
+    lessees::begin(
+        own0,
+        tallies0,
+        own1,
+        tallies1,
+        shared,
+        inputs,
+        outputs,
+        edition,
+    )
 }
 
 // A piece of both parties' words: for each party the words taken, the commands that they completed, and its first refusal. 11.

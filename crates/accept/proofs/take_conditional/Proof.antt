@@ -31,7 +31,7 @@ put-requires c κs = search needs
 
 -- src/lib.rt:190:1
 returns : tie.Need-returns
-returns c = 
+returns c =
     let at-count-words = c .before .before in
     let at-if2 = at-count-words .before .before in
     let at-is-on = at-if2 .before in

@@ -30,7 +30,7 @@ element-write-shared-2 c = search needs
 
 -- src/lib.rt:234:1
 returns : tie.Need-returns
-returns c = 
+returns c =
     let at-if2 = c .before .before in
     let at-is-on = at-if2 .before in
     let at-if1 = at-is-on .before .before in

@@ -20,7 +20,7 @@ element-copy-out-is-on c = search needs
 
 -- src/lib.rt:138:12
 is-on-requires : tie.Need-is-on-requires
-is-on-requires c κs = 
+is-on-requires c κs =
     let at-input = c .before .before in
     omega (arith, input-most _ _ _ _ (fine _ (at-input .input .ensures) (c .before .if1 .taken)))
 
@@ -38,7 +38,7 @@ add-put c = search needs
 
 -- src/lib.rt:140:13
 put-requires : tie.Need-put-requires
-put-requires c κs = 
+put-requires c κs =
     let at-is-on = c .before .before .before .before in
     let at-if1 = at-is-on .before .before in
     let at-input = at-if1 .before in
@@ -46,7 +46,7 @@ put-requires c κs =
 
 -- src/lib.rt:125:1
 returns : tie.Need-returns
-returns c = 
+returns c =
     let at-count-words = c .before .before in
     let at-if2 = at-count-words .before .before in
     let at-is-on = at-if2 .before in

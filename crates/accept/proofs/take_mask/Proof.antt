@@ -34,14 +34,14 @@ element-write-shared c = search needs
 
 -- src/lib.rt:227:9
 renew-requires : tie.Need-renew-requires
-renew-requires c κs = 
+renew-requires c κs =
     let at-blended = c .before .before .before .before in
     let at-start = at-blended .before .before .before .before in
     mask-asked _ _ _ _ _ (c .before .before .count-words .ensures) (at-start .pre .1) _ refl
 
 -- src/lib.rt:214:1
 returns : tie.Need-returns
-returns c = 
+returns c =
     let at-count-words = c .before .before .before in
     let at-blended = at-count-words .before .before in
     let at-if1 = at-blended .before .before .before in

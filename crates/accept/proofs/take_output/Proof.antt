@@ -24,13 +24,13 @@ element-copy-out-is-on c = search needs
 
 -- src/lib.rt:169:42
 add-is-on : tie.Need-add-is-on
-add-is-on c = 
+add-is-on c =
     let at-output = c .before .before in
     omega (arith, output-most _ _ _ _ (fine _ (at-output .output .ensures) (c .before .if1 .taken)))
 
 -- src/lib.rt:169:12
 is-on-requires : tie.Need-is-on-requires
-is-on-requires c κs = 
+is-on-requires c κs =
     let at-output = c .before .before in
     omega (arith, output-most _ _ _ _ (fine _ (at-output .output .ensures) (c .before .if1 .taken)))
 
@@ -48,7 +48,7 @@ add-put c = search needs
 
 -- src/lib.rt:171:13
 put-requires : tie.Need-put-requires
-put-requires c κs = 
+put-requires c κs =
     let at-is-on = c .before .before .before .before in
     let at-if1 = at-is-on .before .before in
     let at-output = at-if1 .before in
@@ -60,7 +60,7 @@ window-of-requires c κs = search needs
 
 -- src/lib.rt:179:13
 set-window-requires : tie.Need-set-window-requires
-set-window-requires c κs = 
+set-window-requires c κs =
     let at-count-words = c .before .before .before .before in
     let at-is-on = at-count-words .before .before .before in
     let at-if1 = at-is-on .before .before in
@@ -68,7 +68,7 @@ set-window-requires c κs =
 
 -- src/lib.rt:180:13
 renew-requires : tie.Need-renew-requires
-renew-requires c κs = 
+renew-requires c κs =
     let at-window-of = c .before .before .before .before in
     let at-put = at-window-of .before in
     let at-count-words = at-put .before .before in
@@ -82,7 +82,7 @@ renew-requires c κs =
 
 -- src/lib.rt:156:1
 returns : tie.Need-returns
-returns c = 
+returns c =
     let at-set-window = c .before .before .before in
     let at-put = at-set-window .before .before .before in
     let at-count-words = at-put .before .before in

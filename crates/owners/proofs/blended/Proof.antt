@@ -65,7 +65,7 @@ add-result-3 c = search needs
 
 -- src/lib.rt:90:1
 returns : tie.Need-returns
-returns c = 
+returns c =
     let at-third = c .before .before in
     let at-second = at-third .before .before in
     let at-first = at-second .before .before in

@@ -121,7 +121,7 @@ add-result-3 c = search needs
 
 -- src/ready.rt:239:1
 returns : tie.Need-returns
-returns c = 
+returns c =
     let at-fourth = c .before .before .before in
     let at-third = at-fourth .before .before .before .before in
     let at-second = at-third .before .before .before .before in

@@ -17,13 +17,13 @@ by-output-requires c κs = search needs
 
 -- src/ready.rt:272:1
 returns : tie.Need-returns
-returns c = 
+returns c =
     let args = c .before .before .args in
     credit-channels (args .a) (args .b) (args .c) (args .d) (args .edition) _ (c .before .if1 .taken) (c .by-channel .ensures)
 
 -- src/ready.rt:272:1
 returns-2 : tie.Need-returns-2
-returns-2 c = 
+returns-2 c =
     let args = c .before .before .args in
     credit-outputs (args .a) (args .b) (args .c) (args .d) (args .edition) _ (c .before .if1 .left) (c .by-output .ensures)
 

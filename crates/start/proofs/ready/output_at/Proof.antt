@@ -61,7 +61,7 @@ element-copy-out-t23 c = search needs
 
 -- src/ready.rt:80:1
 returns : tie.Need-returns
-returns c = 
+returns c =
     let at-is-counted = c .before .before in
     output-told _ _ _ _ _ _ _ _ (at-is-counted .before .before .shown .ensures) (at-is-counted .is-counted .ensures)
 

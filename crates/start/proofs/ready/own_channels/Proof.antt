@@ -19,7 +19,7 @@ channels-requires c κs = search needs
 
 -- src/ready.rt:106:1
 returns : tie.Need-returns
-returns c = 
+returns c =
     let args = c .before .before .args in
     (c .channels .ensures .0 ∙ ap (λ (n : ℕ). channelsBy (args .bits) n (args .format)) (c .before .shown .ensures), c .channels .ensures .1)
 

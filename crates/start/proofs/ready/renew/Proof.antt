@@ -90,7 +90,7 @@ element-copy-out-output-at-8 c = search needs
 
 -- src/ready.rt:354:9
 output-at-requires-4 : tie.Need-output-at-requires-4
-output-at-requires-4 c κs = 
+output-at-requires-4 c κs =
     let at-is-on3 = c .before .before .before .before .before .before in
     let at-is-on2 = at-is-on3 .before .before .before .before in
     let at-is-on = at-is-on2 .before .before .before .before in
@@ -122,7 +122,7 @@ rows-requires c κs = search needs
 
 -- src/ready.rt:370:9
 credit-requires : tie.Need-credit-requires
-credit-requires c κs = 
+credit-requires c κs =
     let at-digit2 = c .before .before .before in
     let at-output-at4 = at-digit2 .before .before .before .before in
     let at-is-on4 = at-output-at4 .before .before .before in
@@ -134,7 +134,7 @@ credit-requires c κs =
 
 -- src/ready.rt:364:5
 set-gauge-requires : tie.Need-set-gauge-requires
-set-gauge-requires c κs = 
+set-gauge-requires c κs =
     let at-digit2 = c .before .before .before .before in
     let at-output-at4 = at-digit2 .before .before .before .before in
     let at-is-on4 = at-output-at4 .before .before .before in
@@ -150,7 +150,7 @@ settle-requires c κs = kept-length _ (c .before .set-gauge .ensures)
 
 -- src/ready.rt:323:1
 returns : tie.Need-returns
-returns c = 
+returns c =
     let at-credit = c .before .before .before in
     let at-rows = at-credit .before in
     let at-columns = at-rows .before in
