@@ -13,7 +13,7 @@ use Rattle.laws.proofs.Choice.{pick-yes, pick-no, and-left, and-right, Tested, 
 use Rattle.refusal.specs.Told.{Told, gives, refuses}
 use Rattle.refusal.specs.Crossing.{statusOf}
 use Rattle.command.specs.Table.{headers, lineWith}
-use Rattle.command.specs.Kinds.{allowed, kindOf}
+use Rattle.command.specs.Kinds.{allowed, faultOf, kindOf}
 use Rattle.command.proofs.Headers.{count-most}
 use Rattle.owners.specs.Owners.{faultAt, mayName, mayOpen}
 use Rattle.state.specs.State.{Open, Party, Session, atLine, none, newShared, newPartyOf, newParty, newSession}
@@ -49,17 +49,18 @@ module _ (l t s : List ℕ) (w : ℕ) (a : OpenAsked l t s) where
   kind-refused : (n : ℕ) → (allowed (kindOf (getD l 2 0) (getD l 3 0)) w and mayName (getD l 17 0) (kindOf (getD l 2 0) (getD l 3 0)) w) ≡ false →
       n ≡ faultAt (kindOf (getD l 2 0) (getD l 3 0)) w → (l1 : List ℕ) → l1 ≡ partyCells (stop (partyOf l [])) →
       Left (parameterStep so w) (refused n) l1 t s
-  unfolding parameterStep partyOf
+  unfolding parameterStep faultAt partyOf
   kind-refused n bad f l1 q =
       subst (λ (x : Stepped). Left x (refused n) l1 t s)
-      (ap (refusing so) f ∙ sym (by-fault (allowed (kindOf (getD l 2 0) (getD l 3 0)) w) (mayName (getD l 17 0) (kindOf (getD l 2 0) (getD l 3 0)) w) bad))
+      (ap (refusing so) f ∙ sym (by-fault (allowed (kindOf (getD l 2 0) (getD l 3 0)) w) (mayName (getD l 17 0) (kindOf (getD l 2 0) (getD l 3 0)) w) bad
+      (placing (withParameter (so .party .opened) w) so) (faultOf (kindOf (getD l 2 0) (getD l 3 0)))))
       (refusing-left l t s (a .given .sized) n l1 q)
     where
-      by-fault : (x y : Bool) → (x and y) ≡ false → {u : Stepped} {m : ℕ} →
+      by-fault : (x y : Bool) → (x and y) ≡ false → (u : Stepped) (m : ℕ) →
           pick x (pick y u (refusing so 20)) (refusing so m) ≡ refusing so (pick x 20 m)
-      by-fault true true e = absurd (let z : _≡_ {A = ℕ} 0 1 = unfold _and_ in cc in omega arith)
-      by-fault true false e = unfold pick in refl
-      by-fault false y e = unfold pick in refl
+      by-fault true true e u m = absurd (let z : _≡_ {A = ℕ} 0 1 = unfold _and_ in cc in omega arith)
+      by-fault true false e u m = unfold pick in refl
+      by-fault false y e u m = unfold pick in refl
 
   module _ (r : Bool) (e : r ≡ (allowed (kindOf (getD l 2 0) (getD l 3 0)) w and mayName (getD l 17 0) (kindOf (getD l 2 0) (getD l 3 0)) w)) where
     pub not-taken : r ≡ false → (n : ℕ) →
