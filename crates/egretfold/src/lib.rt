@@ -7,6 +7,5 @@ pub mod elements;
 pub mod floats;
 pub mod groups;
 pub mod logs;
-pub mod pairs;
 pub mod scores;
 pub mod sessions;

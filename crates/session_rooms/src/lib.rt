@@ -1,4 +1,4 @@
-// Words of a session over numbers: a word's or a piece's answer as a status, 0 or a refusal's number (1 to 9, 17 or 20), with its
+// Words of a session over numbers: a word's or a piece's answer as a status, 0 or a refusal's number (1 to 9 or 17), with its
 // numbers in a room that the caller lends.
 use command::commands;
 use command::table;
@@ -16,7 +16,7 @@ pub const COMMAND_NUMBERS: usize = 6;
 
 pub const PIECE_NUMBERS: usize = 2;
 
-// One word: whether it completed a command, and that command's header and parameters; 1 to 9, 17 or 20.
+// One word: whether it completed a command, and that command's header and parameters; 1 to 9 or 17.
 pub fn word(
     own: &mut [u32; state::OWN_CELLS],
     tallies: &mut [u64; state::TALLIES],

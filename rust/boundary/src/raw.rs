@@ -29,30 +29,6 @@ extern "C" {
         fed: &mut [u64; 2],
     ) -> u32;
 
-    pub fn egretfold_pair_begin(
-        own0: &mut [u32; OWN],
-        tallies0: &mut [u64; TALLIES],
-        own1: &mut [u32; OWN],
-        tallies1: &mut [u64; TALLIES],
-        shared: &mut [u32; SHARED],
-        inputs: u32,
-        outputs: u32,
-        edition: u32,
-    ) -> u32;
-
-    pub fn egretfold_pair_feed(
-        own0: &mut [u32; OWN],
-        tallies0: &mut [u64; TALLIES],
-        own1: &mut [u32; OWN],
-        tallies1: &mut [u64; TALLIES],
-        shared: &mut [u32; SHARED],
-        words: *const u32,
-        length: usize,
-        parties: *const u32,
-        groups: usize,
-        fed: &mut [u64; 6],
-    ) -> u32;
-
     pub fn egretfold_session_status(own: &[u32; OWN], status: &mut [u32; 6]) -> u32;
 
     pub fn egretfold_session_tallies(tallies: &[u64; TALLIES], counts: &mut [u64; 2]) -> u32;
