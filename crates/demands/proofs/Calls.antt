@@ -56,9 +56,9 @@ use Rattle.demands.specs.Calls.{
   parameters,
   command,
   format,
-  session,
-  replay,
-  lease,
+  sessionBegin,
+  logBegin,
+  scoreLease,
   load,
   begin,
   step,
@@ -169,14 +169,14 @@ refused-call (command header fields r a b p q c) n e =
       arrays = two (c .room ∙ named-room (lineWith header) header fields a refl n e) (room (c .answer) n e);
     }
 refused-call (format p h header k r a b c) n e = one-room c n e (format-number p h header k)
-refused-call (session edition r a b c a' b' c' k) n e =
+refused-call (sessionBegin edition r a b c a' b' c' k) n e =
     let same = k .untouched (denied (isEdition edition) [] 3 n e) in
     record {
       number = k .status ∙ ap statusOf e;
       not-zero = edition-number edition n e;
       arrays = three (same .own-cells) (same .tally-cells) (same .shared-cells);
     }
-refused-call (replay edition r l m a b c l' m' a' b' c' k) n e =
+refused-call (logBegin edition r l m a b c l' m' a' b' c' k) n e =
     let same = k .untouched (denied (isEdition edition) [] 3 n e) in
     let session = same .session-cells in
     record {
@@ -186,7 +186,7 @@ refused-call (replay edition r l m a b c l' m' a' b' c' k) n e =
           λ i.
           same .log-cells i ∷ same .mark-cells i ∷ session .own-cells i ∷ session .tally-cells i ∷ session .shared-cells i ∷ [];
     }
-refused-call (lease edition l r k) n e =
+refused-call (scoreLease edition l r k) n e =
     record { number = k ∙ ap statusOf e; not-zero = line-number edition l n e; arrays = refl }
 refused-call (load words r f f' s s' k k' c) n e =
     let no = denied (isProgram words) _ 15 n e in

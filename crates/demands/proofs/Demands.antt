@@ -81,7 +81,7 @@ use Rattle.log.proofs.Days.{all-runs, all-claims, unfinished}
 use Rattle.log.proofs.Kept.{new-replay-valid, piece-valid}
 use Rattle.log.proofs.Records.{Ready, later-words}
 use Rattle.log.proofs.Words.{one-session, first-refusal}
-use Rattle.score.specs.Lease.{Lease, isLease, lineTold}
+use Rattle.score.specs.Lease.{Lease, isLease}
 use Rattle.score.specs.Midnights.{among, daysIn}
 use Rattle.score.specs.Promises.{AllServed, Calling, Claimed, Refusing, Scoring}
 use Rattle.score.specs.Score.{servedAt, verdictOf, Month, monthOf, scored, refused as refusedScore, scoreOf, scoreOfLog}
@@ -144,7 +144,7 @@ use Rattle.replay.specs.Cells.{ReplayHeld, ReplayGiven}
 use Rattle.log.proofs.Handed.{begun-given}
 use Rattle.log_rooms.specs.Pieces.{Arrays, replayAt, GivenAt, BeginsAt, FedAt, Pieces}
 use Rattle.log_rooms.proofs.Cut.{any-pieces, pieces-given}
-use Rattle.score_rooms.specs.Rooms.{MonthCrosses, ScoreCrosses}
+use Rattle.score_rooms.specs.Rooms.{lineTold, MonthCrosses, ScoreCrosses}
 use Rattle.score_rooms.proofs.FromLog.{score-from-log}
 use Rattle.demands.specs.Calls.{Call, Untouched}
 use Rattle.demands.specs.Cases.{Agree as Cases, cases}

@@ -13,7 +13,8 @@ use Rattle.state.specs.Effects.{limit}
 use Rattle.session.specs.Reached.{Reached}
 use Rattle.session.proofs.Kept.{claim-most}
 use Rattle.session.proofs.Reached.{reached-valid}
-use Rattle.score.specs.Lease.{Lease, leaseTold, lineTold}
+use Rattle.score.specs.Lease.{Lease, leaseTold}
+use Rattle.score_rooms.specs.Rooms.{lineTold}
 use Rattle.demands.specs.Editions.{FitTallies}
 
 pub before-line : (edition : ℕ) → isEdition edition ≡ false → (l : Lease) → lineTold edition l ≡ refuses 3

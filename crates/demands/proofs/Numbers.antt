@@ -26,11 +26,11 @@ use Rattle.group.specs.Group.{Program, Group, Outcome, Steps, Fails, Run, Makes
 use Rattle.flow.specs.Store.{loadTold}
 use Rattle.replay.specs.State.{Replay}
 use Rattle.state.specs.Start.{editionTold}
-use Rattle.score.specs.Lease.{Lease, leaseTold, lineTold}
+use Rattle.score.specs.Lease.{Lease, leaseTold}
 use Rattle.score.specs.Score.{Score, scoreOf}
 use Rattle.command.specs.Known.{onLine}
 use Rattle.command_rooms.specs.Rooms.{parametersOf, namedWriteOf, commandWith}
-use Rattle.score_rooms.specs.Rooms.{monthTold}
+use Rattle.score_rooms.specs.Rooms.{lineTold, monthTold}
 use Rattle.setting_rooms.specs.Rooms.{formatAt, formatOf}
 use Rattle.demands.specs.Calls.{Numbers, judgedIn}
 use Rattle.demands.specs.Flow.{

@@ -1,6 +1,7 @@
 -- The place of a log's first refused word. While no word is refused, every record that was read is a word that the session took or a
 -- midnight; after that the session's count and the report stand. Assumes nothing.
 use mathlib.Core.Path.{_≡_, refl, sym, ap, _∙_, subst}
+use mathlib.Core.Bool.{true}
 use mathlib.Core.List.{List, [], _∷_, _++_}
 use Prim.Native.Nat.{ℕ, zero, suc, _+_, _*_, suc-le-suc}
 use native.Mathlib.Omega.{arith}

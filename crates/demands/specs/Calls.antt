@@ -20,14 +20,14 @@ use Rattle.group.specs.Group.{Program, Group, stepTold, runTold, beginTold, gro
 use Rattle.kill.specs.Kill.{killTold, killOf}
 use Rattle.flow.specs.Store.{loadTold}
 use Rattle.replay.specs.State.{Replay}
-use Rattle.score.specs.Lease.{Lease, lineTold}
+use Rattle.score.specs.Lease.{Lease}
 use Rattle.score.specs.Score.{scoreOf}
 use Rattle.refusal.specs.Crossing.{Crosses, statusOf}
 use Rattle.command_rooms.specs.Rooms.{parametersOf, namedWriteOf, CommandCrosses}
 use Rattle.element_rooms.specs.Rooms.{inSixteen, SuperfineCrosses, WriteCrosses}
 use Rattle.group_rooms.specs.Rooms.{LoadCrosses, BeginCrosses, StepCrosses, RunCrosses}
 use Rattle.register_rooms.specs.Rooms.{KillCrosses}
-use Rattle.score_rooms.specs.Rooms.{monthTold, MonthCrosses}
+use Rattle.score_rooms.specs.Rooms.{lineTold, monthTold, MonthCrosses}
 use Rattle.setting_rooms.specs.Rooms.{formatOf}
 
 -- a layout's numbers, as every call on addresses and elements takes them
@@ -78,15 +78,15 @@ pub data Call : Told → ℕ → List (List ℕ) → List (List ℕ) → Type 0 
   format : (p : Party) (h : Shared) (header number r : ℕ) (room room' : List ℕ) →
       Crosses (formatOf p h header number) r room room' → Call (formatOf p h header number) r (room ∷ []) (room' ∷ [])
   -- egretfold_session_begin
-  session : (edition r : ℕ) (own tallies shared own' tallies' shared' : List ℕ) →
+  sessionBegin : (edition r : ℕ) (own tallies shared own' tallies' shared' : List ℕ) →
       sessions.Begins edition r own tallies shared own' tallies' shared' →
       Call (editionTold edition) r (own ∷ tallies ∷ shared ∷ []) (own' ∷ tallies' ∷ shared' ∷ [])
   -- egretfold_log_begin
-  replay : (edition r : ℕ) (log marks own tallies shared log' marks' own' tallies' shared' : List ℕ) →
+  logBegin : (edition r : ℕ) (log marks own tallies shared log' marks' own' tallies' shared' : List ℕ) →
       logs.Begins edition r log marks own tallies shared log' marks' own' tallies' shared' →
       Call (editionTold edition) r (log ∷ marks ∷ own ∷ tallies ∷ shared ∷ []) (log' ∷ marks' ∷ own' ∷ tallies' ∷ shared' ∷ [])
   -- egretfold_score_lease
-  lease : (edition : ℕ) (l : Lease) (r : ℕ) → r ≡ statusOf (lineTold edition l) → Call (lineTold edition l) r [] []
+  scoreLease : (edition : ℕ) (l : Lease) (r : ℕ) → r ≡ statusOf (lineTold edition l) → Call (lineTold edition l) r [] []
   -- egretfold_program_load
   load : (words : List ℕ) (r : ℕ) (firsts firsts' seconds seconds' slots slots' : List ℕ) →
       LoadCrosses words r firsts firsts' seconds seconds' slots slots' →

@@ -1,9 +1,8 @@
 // A station's monthly score, by its lease line and the replay of its log. A score has no state of its own.
 ghost use mathlib.Core.Path.{_≡_};
-ghost use Rattle.score.specs.Lease.{lineTold};
 ghost use Rattle.score.specs.Answers.{leaseLine};
 ghost use Rattle.refusal.specs.Crossing.{statusOf};
-ghost use Rattle.score_rooms.specs.Rooms.{ScoreCrosses};
+ghost use Rattle.score_rooms.specs.Rooms.{ScoreCrosses, lineTold};
 
 // Whether an edition is one of the two and a lease line within its bounds; 3, then 21.
 #[no_mangle]

@@ -6,8 +6,7 @@ use Prim.Native.Nat.{ℕ, _+_, _-_}
 use lib.Dec.{leb, ltb}
 use Rattle.laws.specs.Choice.{_and_, pick}
 use Rattle.refusal.specs.Number.{numberOf}
-use Rattle.refusal.specs.Told.{Told, gives, refuses, thenTold}
-use Rattle.state.specs.Start.{editionTold}
+use Rattle.refusal.specs.Told.{Told, gives, refuses}
 use Rattle.score.specs.declared.line.Judged.{Judged}
 use Rattle.score.specs.declared.line.Judged.the-variants as judged
 
@@ -36,10 +35,6 @@ isLease l = leb 1 (l .days) and leb (l .days) mostDays and leb (l .owed) mostOwe
 -- nothing more is told of a lease line that is taken
 unfoldable pub leaseTold : Lease → Told
 leaseTold l = pick (isLease l) (gives []) (refuses 21)
-
--- "A session's edition (1 or 2, else 3 before all else) .. also for .. score": a lease line under an edition
-unfoldable pub lineTold : ℕ → Lease → Told
-lineTold edition l = thenTold (editionTold edition) (leaseTold l)
 
 abbrev pub toldJudged : Judged → Told
 toldJudged judged.Accepted = gives []

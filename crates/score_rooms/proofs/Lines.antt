@@ -7,7 +7,8 @@ use Rattle.laws.proofs.Choice.{pick-yes, pick-no}
 use Rattle.refusal.specs.Told.{Told, gives, refuses, thenTold}
 use Rattle.refusal.specs.Crossing.{statusOf}
 use Rattle.state.specs.Start.{isEdition, editionTold}
-use Rattle.score.specs.Lease.{Lease, leaseTold, lineTold}
+use Rattle.score.specs.Lease.{Lease, leaseTold}
+use Rattle.score_rooms.specs.Rooms.{lineTold}
 
 module _ (edition : ℕ) (l : Lease) {known : Bool} (told : known ≡ isEdition edition) {n : ℕ} where
   pub line-judged : known ≡ true → n ≡ statusOf (leaseTold l) → n ≡ statusOf (lineTold edition l)

@@ -1,13 +1,18 @@
--- A score as a status and rooms: a month in three rooms. Assumes nothing.
+-- A score as a status and rooms: a lease line under an edition, and a month in three rooms. Assumes nothing.
 use mathlib.Core.List.{List, [], _∷_}
 use Prim.Native.Nat.{ℕ}
-use Rattle.refusal.specs.Told.{Told, gives, refuses}
+use Rattle.refusal.specs.Told.{Told, gives, refuses, thenTold}
+use Rattle.state.specs.Start.{editionTold}
 use Rattle.replay.specs.Cells.{replayIn}
-use Rattle.score.specs.Lease.{Lease}
+use Rattle.score.specs.Lease.{Lease, leaseTold}
 use Rattle.score.specs.Score.{Score, scored, refused, scoreOf}
 use Rattle.score.specs.declared.month.Verdict.{Verdict}
 use Rattle.score.specs.declared.month.Verdict.the-variants.{Full, Short, NothingOwed}
 use Rattle.refusal.specs.Crossing.{Crosses}
+
+-- "A session's edition (1 or 2, else 3 before all else) .. also for .. score": a lease line under an edition
+unfoldable pub lineTold : ℕ → Lease → Told
+lineTold edition l = thenTold (editionTold edition) (leaseTold l)
 
 abbrev pub verdictNumber : Verdict → ℕ
 verdictNumber Full = 0

@@ -7,10 +7,10 @@ use score::month::Scored;
 use score::month::Verdict;
 use state::edition;
 ghost use mathlib.Core.Path.{_≡_};
-ghost use Rattle.score.specs.Lease.{leaseTold, lineTold};
+ghost use Rattle.score.specs.Lease.{leaseTold};
 ghost use Rattle.score.specs.Answers.{leaseLine};
 ghost use Rattle.refusal.specs.Crossing.{statusOf};
-ghost use Rattle.score_rooms.specs.Rooms.{ScoreCrosses, verdictNumber};
+ghost use Rattle.score_rooms.specs.Rooms.{ScoreCrosses, lineTold, verdictNumber};
 
 // The length of a month's room: what was served and owed in all, and the verdict.
 pub const MONTH_NUMBERS: usize = 3;

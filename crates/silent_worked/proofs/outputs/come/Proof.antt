@@ -13,11 +13,11 @@ feed-requires c κs = first-given (c .before .before .before .begin .ensures)
 first-number-requires : tie.Need-first-number-requires
 first-number-requires c κs = search needs
 
-array-read-t17 : tie.Need-array-read-t17
-array-read-t17 c = search needs
+array-read-t16 : tie.Need-array-read-t16
+array-read-t16 c = search needs
 
-array-read-t20 : tie.Need-array-read-t20
-array-read-t20 c = search needs
+array-read-t19 : tie.Need-array-read-t19
+array-read-t19 c = search needs
 
 returns : tie.Need-returns
 returns c = search needs
@@ -29,6 +29,6 @@ come-spec =
     begin-requires
     feed-requires
     first-number-requires
-    array-read-t17
-    array-read-t20
+    array-read-t16
+    array-read-t19
     returns)

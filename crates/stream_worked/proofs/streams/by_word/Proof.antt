@@ -63,11 +63,11 @@ word-requires-2 c κs = c .before .before .before .before .loop .inv
 number-of-requires-2 : tie.Need-number-of-requires-2 Inv-loop μ-loop
 number-of-requires-2 c κs = search needs
 
-array-read-t32 : tie.Need-array-read-t32 Inv-loop μ-loop
-array-read-t32 c = search needs
+array-read-t31 : tie.Need-array-read-t31 Inv-loop μ-loop
+array-read-t31 c = search needs
 
-array-read-t35 : tie.Need-array-read-t35 Inv-loop μ-loop
-array-read-t35 c = search needs
+array-read-t34 : tie.Need-array-read-t34 Inv-loop μ-loop
+array-read-t34 c = search needs
 
 returns : tie.Need-returns Inv-loop μ-loop
 returns c = search needs
@@ -93,6 +93,6 @@ by-word-spec =
     array-read-taken
     word-requires-2
     number-of-requires-2
-    array-read-t32
-    array-read-t35
+    array-read-t31
+    array-read-t34
     returns)

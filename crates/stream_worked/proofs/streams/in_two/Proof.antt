@@ -69,11 +69,11 @@ first-number-requires-2 c κs = search needs
 earlier-requires : tie.Need-earlier-requires
 earlier-requires c κs = search needs
 
-array-read-t42 : tie.Need-array-read-t42
-array-read-t42 c = search needs
+array-read-t41 : tie.Need-array-read-t41
+array-read-t41 c = search needs
 
-array-read-t45 : tie.Need-array-read-t45
-array-read-t45 c = search needs
+array-read-t44 : tie.Need-array-read-t44
+array-read-t44 c = search needs
 
 returns-2 : tie.Need-returns-2
 returns-2 c = search needs
@@ -99,6 +99,6 @@ in-two-spec =
     first-number-requires
     first-number-requires-2
     earlier-requires
-    array-read-t42
-    array-read-t45
+    array-read-t41
+    array-read-t44
     returns-2)
