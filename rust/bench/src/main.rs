@@ -12,15 +12,17 @@ use std::process::exit;
 use table::Table;
 
 const USAGE: &str = "\
-usage: ./bench [--quick] [--only SUBSTRING]
+usage: ./bench [--quick] [--only SUBSTRING] [--list]
   --quick            5 repeats a line instead of 21
   --only SUBSTRING   only the lines whose name has it
+  --list             the lines' names alone, none of them timed
   --help             this text
 ./bench --proofs [NAME...] times the proofs of all crates, or of these";
 
 struct Options {
     repeats: usize,
     only: String,
+    list: bool,
 }
 
 fn main() {
@@ -28,7 +30,10 @@ fn main() {
         eprintln!("{USAGE}");
         exit(2)
     });
-    let mut table = Table::begin(options.repeats, options.only);
+    let mut table = match options.list {
+        true => Table::names(options.only),
+        false => Table::begin(options.repeats, options.only),
+    };
     lines::feed::add(&mut table);
     lines::log::add(&mut table);
     lines::writer::add(&mut table);
@@ -44,11 +49,13 @@ fn options(mut words: impl Iterator<Item = String>) -> Option<Options> {
     let mut options = Options {
         repeats: 21,
         only: String::new(),
+        list: false,
     };
     while let Some(word) = words.next() {
         match word.as_str() {
             "--quick" => options.repeats = 5,
             "--only" => options.only = words.next()?,
+            "--list" => options.list = true,
             "--help" => {
                 println!("{USAGE}");
                 exit(0)

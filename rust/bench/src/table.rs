@@ -12,6 +12,7 @@ const SLICES: usize = 6;
 const WARM_UP: Duration = Duration::from_millis(10);
 
 pub struct Table {
+    /// 0 where the lines are only named.
     repeats: usize,
     only: String,
     rows: Vec<Row>,
@@ -47,8 +48,22 @@ impl Table {
         }
     }
 
+    /// A table of names alone: each line is named when it asks whether it is wanted, and isn't.
+    pub fn names(only: String) -> Table {
+        Table {
+            repeats: 0,
+            only,
+            rows: Vec::new(),
+        }
+    }
+
     pub fn wants(&self, name: &str) -> bool {
-        name.contains(&self.only)
+        let wanted = name.contains(&self.only);
+        if wanted && self.repeats == 0 {
+            println!("{name}");
+            return false;
+        }
+        wanted
     }
 
     /// Times a line and prints it. `units` is how many words, calls or steps one pass makes; a pass gives a sum over its
@@ -93,6 +108,9 @@ impl Table {
 
     /// Prints the table's last line.
     pub fn end(self) {
+        if self.repeats == 0 {
+            return;
+        }
         let low = self.rows.iter().filter(|row| row.ratio <= 1.0).count();
         let worst = self.rows.iter().max_by(|a, b| a.ratio.total_cmp(&b.ratio));
         println!();

@@ -2,7 +2,7 @@
 //! they leave, and the tallies.
 
 use crate::lengths::{OWN, SHARED, TALLIES};
-use crate::{answer, lent, Answer, Command};
+use crate::{answer, lent, Answer, Command, Refusal};
 
 /// A session's state. Its arrays are private, so that it is always one that the
 /// library gave out. It may be cloned and both copies used.
@@ -30,7 +30,7 @@ pub struct Fed {
     /// Commands that these words completed.
     pub commands: u64,
     /// The refusal of the first refused word, or none.
-    pub refusal: Option<u32>,
+    pub refusal: Option<Refusal>,
 }
 
 /// Where a session stands.
@@ -76,6 +76,18 @@ impl Session {
     }
 
     /// Takes a piece of words, one after another up to the first refused one.
+    ///
+    /// ```
+    /// use boundary::headers::{START_PROGRAM, WAIT_FOR_IDLE};
+    /// use boundary::{Refusal, Session};
+    ///
+    /// let mut session = Session::new();
+    /// let fed = session.feed(&[WAIT_FOR_IDLE, 0, START_PROGRAM, 0]);
+    /// // Nothing is set yet, so the start's last word is refused; what came before stands.
+    /// assert_eq!((fed.taken, fed.commands), (3, 1));
+    /// assert_eq!(fed.refusal, Some(Refusal::StartUnset));
+    /// assert!(session.status().stopped);
+    /// ```
     #[inline]
     pub fn feed(&mut self, words: &[u32]) -> Fed {
         let mut fed = [0; 2];

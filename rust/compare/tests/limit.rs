@@ -65,7 +65,7 @@ fn no_word_is_taken_past_the_limit() {
 #[test]
 fn an_empty_piece_is_never_refused() {
     let mut session = Session::new();
-    assert_eq!(session.word(1), Err(2));
+    assert_eq!(session.word(1), Err(boundary::Refusal::UnknownHeader));
     let fed = session.feed(&[]);
     assert_eq!((fed.taken, fed.commands, fed.refusal), (0, 0, None));
 }

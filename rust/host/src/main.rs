@@ -5,9 +5,11 @@
 //! A folder a subcommand, whose first page is the subcommand itself:
 //!
 //! * `score`: a lease line and a log; its forms are the `card`, the `rows` for
-//!   programs and the `picture`; `checks` say what to look at before it is sent, and
+//!   programs, the `picture`, and the fleet's page; `checks` say what to look at before it is sent, and
 //!   `issue` by whom and when it is; `sample` is for no arguments, which scores
 //!   `station` 14's month;
+//! * `fleet`: a lease file and many logs, read side by side; its forms are the `text`, the
+//!   `rows` for programs, the `page` for browsers and the folder of `cards`;
 //! * `decode`: words given to a session by a `walk`; its forms are the `listing` and
 //!   `json`. `encode` is the way back, on one page;
 //! * `replay`: the `log` given to a replay; its forms are in `days`;
@@ -27,6 +29,7 @@ mod completions;
 mod decode;
 mod encode;
 mod explain;
+mod fleet;
 mod flow;
 mod input;
 mod manual;
@@ -40,6 +43,13 @@ use common::visible;
 use std::io::{self, Write};
 use std::process::ExitCode;
 
+/// What `--version` tells; `-V` and the card have the first line alone.
+const LONG_VERSION: &str = concat!(
+    env!("EGRETFOLD_VERSION"),
+    "\nproved with ",
+    env!("EGRETFOLD_PROVED_WITH")
+);
+
 const AFTER: &str = "\
 Words and addresses are hex, with or without 0x; counts are decimal, or hex with 0x.
 With no command, a sample month is scored.
@@ -47,7 +57,7 @@ Exit status: 0 fine, 1 something was refused, 2 a wrong command line or file, 3 
 
 /// Months scored, logs replayed, command streams decoded, tile addresses worked both ways, flow programs stepped
 #[derive(Parser)]
-#[command(name = "egretfold", version = env!("EGRETFOLD_VERSION"), after_help = AFTER)]
+#[command(name = "egretfold", version = env!("EGRETFOLD_VERSION"), long_version = LONG_VERSION, after_help = AFTER)]
 struct Line {
     #[command(subcommand)]
     what: Option<What>,
@@ -60,6 +70,9 @@ enum What {
     /// A month of a station's log, scored against its lease line
     #[command(after_help = score::EXAMPLES)]
     Score(score::Options),
+    /// A month of many stations, scored against their lease lines
+    #[command(after_help = fleet::EXAMPLES)]
+    Fleet(fleet::Options),
     /// A stream of command words as a listing
     #[command(after_help = decode::EXAMPLES)]
     Decode(decode::Options),
@@ -134,6 +147,7 @@ fn run(line: &Line, out: &mut dyn Write) -> Outcome {
     match &line.what {
         None => score::sample::run(out),
         Some(What::Score(options)) => score::run(options, out),
+        Some(What::Fleet(options)) => fleet::run(options, out),
         Some(What::Decode(options)) => decode::run(options, out),
         Some(What::Encode(options)) => encode::run(options, out),
         Some(What::Replay(options)) => replay::run(options, out),

@@ -102,7 +102,7 @@ fn product_word(session: &mut boundary::Session, word: u32) -> u64 {
     match session.word(word) {
         Ok(boundary::Reply::Open) => 0,
         Ok(boundary::Reply::Done(_)) => 1,
-        Err(number) => u64::from(number) << 32,
+        Err(refusal) => u64::from(refusal) << 32,
     }
 }
 
@@ -153,7 +153,8 @@ fn check_pieces(product: &boundary::Session, rust: &fast::Session, stream: &[u32
     let (mut product, mut rust) = (product.clone(), rust.clone());
     for piece in stream.chunks(length) {
         let (by_product, by_rust) = (product.feed(piece), rust.feed(piece));
-        let by_product = (by_product.taken, by_product.commands, by_product.refusal);
+        let refusal = by_product.refusal.map(u32::from);
+        let by_product = (by_product.taken, by_product.commands, refusal);
         let by_rust = (by_rust.taken, by_rust.commands, by_rust.refusal);
         assert_eq!(by_product, by_rust, "feed of {piece:X?}");
         assert_eq!(by_rust.2, None, "the benchmark's streams are good");
@@ -172,7 +173,11 @@ fn check_words(stream: &[u32]) {
             fast::Reply::Open => boundary::Reply::Open,
             fast::Reply::Done(command) => boundary::Reply::Done(lent_command(&command)),
         });
-        assert_eq!(product.word(word), by_rust, "word {word:X}");
+        assert_eq!(
+            product.word(word).map_err(u32::from),
+            by_rust,
+            "word {word:X}"
+        );
     }
     check_sessions(&product, &rust);
 }

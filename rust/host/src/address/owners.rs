@@ -91,7 +91,7 @@ pub fn answer(
     let owners = owners(read, address);
     let at = Address(address);
     let why = "no window of the stream's settings owns it";
-    let refused = cause::refused(12, Some(why.into()));
+    let refused = cause::refused(12_u32, Some(why.into()));
     if as_json {
         let list: Vec<_> = owners.iter().map(Owner::json).collect();
         let mut value = json!({"address": at.to_string(), "owners": list});

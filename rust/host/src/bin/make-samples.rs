@@ -7,6 +7,8 @@
 
 #![forbid(unsafe_code)]
 
+#[path = "made/log.rs"]
+mod log;
 #[path = "../score/station.rs"]
 #[allow(dead_code)] // what it owes and its dates are for the score
 mod station;
@@ -14,6 +16,7 @@ mod station;
 use boundary::headers::{
     SET_DOMAIN, SET_INST_FMT, SET_OUT_FMT, SET_OUT_MASK, START_PROGRAM, WAIT_FOR_IDLE,
 };
+use log::{Log, CAMERAS, FRAME};
 use std::path::{Path, PathBuf};
 use std::{env, fs, io};
 
@@ -25,35 +28,6 @@ const SETTINGS: [u32; 13] = [
     SET_OUT_FMT, 0, 0x800, 0x0201_0064, 18,
     SET_DOMAIN, 0, 0, 95, 17,
 ];
-
-/// A log under way.
-struct Log {
-    bytes: Vec<u8>,
-}
-
-impl Log {
-    fn new() -> Log {
-        Log { bytes: Vec::new() }
-    }
-
-    /// One byte of kind, then the number's four bytes, low byte first.
-    fn record(&mut self, kind: u8, number: u32) {
-        self.bytes.push(kind);
-        self.bytes.extend(number.to_le_bytes());
-    }
-
-    fn words(mut self, words: &[u32]) -> Log {
-        for word in words {
-            self.record(1, *word);
-        }
-        self
-    }
-
-    fn midnight(mut self, day: u32) -> Log {
-        self.record(2, day);
-        self
-    }
-}
 
 /// Settings and a run before the first midnight; a start that the first midnight
 /// cuts, and a domain that the last one does.
@@ -83,30 +57,12 @@ fn refused() -> Log {
         .words(&[START_PROGRAM, 0])
 }
 
-/// Station 14's two cameras of 640 x 480 pixels, UINT8_4 in tiles, each with an output
-/// of its own. A frame claims 614,400 elements.
-#[rustfmt::skip]
-const CAMERAS: [u32; 18] = [
-    SET_INST_FMT, 0x1000, 0x0400_0010,
-    SET_OUT_FMT, 0, 0x0010_0000, 0x0101_0280, 480,
-    SET_OUT_FMT, 1, 0x0030_0000, 0x0101_0280, 480,
-    SET_DOMAIN, 0, 0, 639, 479,
-];
-
-const FRAME: [u32; 4] = [START_PROGRAM, 0, WAIT_FOR_IDLE, 0];
-
 /// A frame an hour.
 const FRAMES: usize = 24;
 
 /// Every channel of output 1, the second camera, masked off.
 const SECOND_CAMERA_OFF: [u32; 2] = [SET_OUT_MASK, 0xFF0F];
 const ALL_ON: [u32; 2] = [SET_OUT_MASK, 0xFFFF];
-
-impl Log {
-    fn frames(self, count: usize) -> Log {
-        self.words(&FRAME.repeat(count))
-    }
-}
 
 /// Station 14's month. The cameras are set up before the first midnight, with a frame
 /// that serves no day. From the ninth to the twelfth the log goes on without a frame. On
@@ -142,6 +98,19 @@ fn full_month() -> Log {
         log = log.midnight(day).frames(FRAMES);
     }
     log
+}
+
+/// Station 15's April, full, a file a week: the first has the set-up.
+fn station_15() -> Vec<Vec<u8>> {
+    let mut log = Log::new().words(&CAMERAS);
+    let mut weeks = Vec::new();
+    for date in 1..=station::DAYS {
+        log = log.midnight(station::FIRST_DAY + date - 1).frames(FRAMES);
+        if date % 7 == 0 || date == station::DAYS {
+            weeks.push(std::mem::take(&mut log.bytes));
+        }
+    }
+    weeks
 }
 
 /// A February in which the station wasn't leased, with two frames to try it.
@@ -206,6 +175,11 @@ fn main() -> io::Result<()> {
     let folder = env::args_os().nth(1).map_or(samples, PathBuf::from);
     for (name, bytes) in files() {
         fs::write(folder.join(name), bytes)?;
+    }
+    let folder = folder.join("station-15");
+    fs::create_dir_all(&folder)?;
+    for (week, bytes) in (1..).zip(station_15()) {
+        fs::write(folder.join(format!("week-{week}.log")), bytes)?;
     }
     Ok(())
 }

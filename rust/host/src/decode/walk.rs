@@ -275,9 +275,9 @@ impl Walk {
                 }
                 Came::Done(command)
             }
-            Err(number) => {
-                let cause = cause::of_word(number, &self.session, &self.open);
-                let refused = cause::refused(number, cause);
+            Err(refusal) => {
+                let cause = cause::of_word(refusal, &self.session, &self.open);
+                let refused = cause::refused(refusal, cause);
                 self.refused = Some((position, refused.clone()));
                 Came::Refused(refused)
             }

@@ -8,7 +8,7 @@ use crate::common::names::{self, FormatWord, Kind, Line};
 use crate::common::settings;
 use crate::common::text;
 use crate::explain::refusals;
-use crate::score::LeaseLine;
+use crate::score::asked::LeaseLine;
 use boundary::{headers, Layout, Session};
 use std::fmt;
 
@@ -33,7 +33,8 @@ impl fmt::Display for Refused {
 }
 
 /// The number with its cause, which is the table's where no better one is known.
-pub fn refused(number: u32, cause: Option<String>) -> Refused {
+pub fn refused(number: impl Into<u32>, cause: Option<String>) -> Refused {
+    let number = number.into();
     let cause = cause.unwrap_or_else(|| refusals::cause(number).to_string());
     Refused { number, cause }
 }
@@ -74,7 +75,8 @@ pub fn of_layout(number: u32, layout: &Layout) -> Option<String> {
 }
 
 /// 3, 6 or 10 of a pair.
-pub fn of_pair(number: u32, layout: &Layout, x: u32, y: u32) -> Option<String> {
+pub fn of_pair(number: impl Into<u32>, layout: &Layout, x: u32, y: u32) -> Option<String> {
+    let number = number.into();
     if number != 10 {
         return of_layout(number, layout);
     }
@@ -90,7 +92,8 @@ pub fn of_pair(number: u32, layout: &Layout, x: u32, y: u32) -> Option<String> {
 }
 
 /// 3, 6 or 12 of an address.
-pub fn of_address(number: u32, layout: &Layout, address: u32) -> Option<String> {
+pub fn of_address(number: impl Into<u32>, layout: &Layout, address: u32) -> Option<String> {
+    let number = number.into();
     match number {
         12 => Some(format!("no pair owns it: {}", unowned(layout, address)?)),
         _ => of_layout(number, layout),
@@ -156,7 +159,8 @@ fn window_rule(layout: &Layout) -> Option<String> {
 
 /// A session's refusal of the last of the open command's words. The session's
 /// settings are those that the word met, as a refusal leaves them.
-pub fn of_word(number: u32, session: &Session, open: &[u32]) -> Option<String> {
+pub fn of_word(number: impl Into<u32>, session: &Session, open: &[u32]) -> Option<String> {
+    let number = number.into();
     let word = *open.last()?;
     if number == 2 {
         let house = house_word(word).unwrap_or_default();
@@ -197,7 +201,8 @@ fn house_word(word: u32) -> Option<String> {
 }
 
 /// The writer's refusal of a command: 3 to 6, by all its fields.
-pub fn of_command(number: u32, line: &Line, fields: &[u32]) -> Option<String> {
+pub fn of_command(number: impl Into<u32>, line: &Line, fields: &[u32]) -> Option<String> {
+    let number = number.into();
     let mut each = line.parameters.iter().zip(fields);
     match number {
         3 => each.find_map(|(kind, word)| fault(line.header, *kind, *word)),

@@ -40,7 +40,7 @@ pub struct Options {
 
 pub fn run(options: &Options, out: &mut dyn Write) -> Outcome {
     let mut log = Log::new();
-    let ended = log.read(Source::open_all(&options.files)?);
+    let ended = log.read(Source::open_all(&options.files)?, &mut |_| {});
     match (options.json, options.csv) {
         (true, _) => days::json(&log, out)?,
         (_, true) => days::csv(&log, out)?,

@@ -125,7 +125,7 @@ fn refused_streams_get_more_than_the_bare_cause() {
     for case in 0..3_000 {
         let words = words::any(&mut Random::of_case(91, 3, case));
         let number = match Session::new().feed(&words).refusal {
-            Some(number) => number,
+            Some(refusal) => refusal.number(),
             None => continue,
         };
         let stream: Vec<u8> = words.iter().flat_map(|word| word.to_le_bytes()).collect();
@@ -205,7 +205,8 @@ fn refused_runs(kind: u64, mode: Mode, any: fn(&mut Random) -> Vec<u32>) -> [u32
         let told = complained(&output);
         match answer {
             Ok(_) => assert_eq!((output.status.code(), told.as_str()), (Some(0), "")),
-            Err(number) => {
+            Err(refusal) => {
+                let number = refusal.number();
                 assert_eq!(output.status.code(), Some(1), "{told}");
                 assert!(told.contains(&format!(": refused {number}, ")), "{told}");
                 let cause = told.split("; in full mode").next().unwrap_or_default();

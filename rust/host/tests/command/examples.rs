@@ -68,13 +68,22 @@ fn all_hold(document: &str) -> usize {
 
 #[test]
 fn the_documents_print_what_the_examples_print() {
-    // The samples, the tour, and a tile and an address for each of the five sizes.
+    // The samples, the tour, a card, and a tile and an address for each of the five sizes.
     for (document, least) in [
         ("samples/README.md", 8),
-        ("README.md", 7),
+        ("README.md", 1),
+        ("docs/TOUR.md", 7),
         ("docs/ADDRESSES.md", 10),
     ] {
         let count = all_hold(document);
         assert!(count >= least, "{document} has {count} examples");
     }
+}
+
+/// README.md is the first page and leads to the others: what grows, grows there.
+#[test]
+fn the_first_page_is_short() {
+    let text = fs::read_to_string(root().join("README.md")).expect("the document is there");
+    let lines = text.lines().count();
+    assert!(lines <= 120, "README.md has {lines} lines");
 }

@@ -52,7 +52,7 @@ const CASES: &[(&str, &str, &str)] = &[
     ),
     (
         "score-damaged-json",
-        "score samples/damaged.log --first-day 101 --days 30 --owed 14000000 --json",
+        "score samples/damaged.log --first-day 101 --days 30 --owed 14000000 --json --issued 2026-05-02",
         "",
     ),
     (
@@ -77,12 +77,43 @@ const CASES: &[(&str, &str, &str)] = &[
     ),
     (
         "score-lease-json",
-        "score samples/station-14.log --first-day 101 --days 32 --owed 1 --json",
+        "score samples/station-14.log --first-day 101 --days 32 --owed 1 --json --issued 2026-05-02",
         "",
     ),
     (
         "score-past-9999",
         "score samples/station-14.log --first-day 101 --days 30 --owed 1 --from 9999-12-31",
+        "",
+    ),
+    ("fleet", "fleet samples/leases.csv", ""),
+    (
+        "fleet-json",
+        "fleet samples/leases.csv --json --issued 2026-05-02",
+        "",
+    ),
+    (
+        "fleet-csv",
+        "fleet samples/leases.csv --csv --sort station",
+        "",
+    ),
+    (
+        "fleet-commands",
+        "fleet samples/leases.csv --commands --issued 2026-05-02",
+        "",
+    ),
+    (
+        "fleet-full",
+        "fleet - --plain",
+        "station,log,first day,days,owed\n15,samples/station-15,101,30,14000000\n9,samples/nothing-owed.log,42,28,0\n",
+    ),
+    (
+        "fleet-faults",
+        "fleet -",
+        "station,log,first day,days,owed\n15,samples/station-15,101,thirty,14000000\n,samples/station-15,42,32,0\n",
+    ),
+    (
+        "fleet-from-nothing",
+        "fleet --from-scores /dev/null",
         "",
     ),
     ("decode-whole", "decode samples/whole.ctm", ""),
@@ -534,7 +565,7 @@ fn seen(arguments: &str, input: &str) -> String {
 /// The text without the commit that the command is built from, which no stored file can
 /// know.
 fn without_version(text: &str) -> String {
-    let version = told(&egretfold("--version", b""));
+    let version = told(&egretfold("-V", b""));
     let version = version.trim().trim_start_matches("egretfold ");
     text.replace(version, "VERSION")
 }
