@@ -26,6 +26,7 @@
  *     17  the session has taken 1,000,000,000 words
  *     18  the kind byte of a log's record is neither 1 nor 2
  *     19  a midnight's day isn't one more than the last, or it is the 401st midnight
+ *     20  a number, or a setting of party 0's, that the party doesn't own; a session's one party owns all, so no function returns it yet
  *     21  a lease line out of its bounds
  *
  * What the caller owes: pointers to arrays of the lengths shown, no two of them overlapping where one is written (a session's
@@ -90,6 +91,7 @@ enum {
     EGRETFOLD_REFUSAL_WORD_LIMIT = 17,
     EGRETFOLD_REFUSAL_RECORD_KIND = 18,
     EGRETFOLD_REFUSAL_MIDNIGHT_DAY = 19,
+    EGRETFOLD_REFUSAL_NOT_OWNED = 20,
     EGRETFOLD_REFUSAL_LEASE_LINE = 21
 };
 

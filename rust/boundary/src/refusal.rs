@@ -71,6 +71,7 @@ refusals! {
     WordLimit = 17, "the session has taken 1,000,000,000 words";
     RecordKind = 18, "the kind byte of a log's record is neither 1 nor 2";
     MidnightDay = 19, "a midnight's day isn't one more than the last, or it is the 401st midnight";
+    NotOwned = 20, "a number, or a setting of party 0's, that the party doesn't own";
     LeaseLine = 21, "a lease line out of its bounds";
 }
 
