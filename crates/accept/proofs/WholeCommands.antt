@@ -235,7 +235,7 @@ module _ (l l1 : List ℕ) (m : ℕ) (e : l1 ≡ partyCells (tookWords m (partyO
     domain-held t h z l2 l3 e2 e3 =
         subst (λ (p : Party). HeldOwn p l3 t)
         (settled-kept (domainSet t) (sharedOf h) (partyOf l t .domain) (partyOf l t .instructions) (last-column i0 j0 i1 j1 fine)
-        (last-row i0 j0 i1 j1 fine) (kept-born t h z))
+        (last-row i0 j0 i1 j1 fine) (kept-counted t h z))
         (settled-own (domainSet t) t l2 l3 (z .sized .tallies-length) refl (e2 ∙ unfold partyOf partyCells in refl) e3)
 
     pub domain-tried : (l2 : List ℕ) → l2 ≡ partyCells (domainSet []) → (l3 : List ℕ) → l3 ≡ partyCells (settled (partyOf l2 [])) →
@@ -265,7 +265,7 @@ module _ (l l1 : List ℕ) (m : ℕ) (e : l1 ≡ partyCells (tookWords m (partyO
     instructions-held t h z l2 l3 e2 e3 =
         subst (λ (p : Party). HeldOwn p l3 t)
         (settled-kept (formatSet t) (sharedOf h) (partyOf l t .domain) (partyOf l t .instructions) (domain-counted t h z .column-most)
-        (domain-counted t h z .row-most) (kept-born t h z))
+        (domain-counted t h z .row-most) (kept-counted t h z))
         (settled-own (formatSet t) t l2 l3 (z .sized .tallies-length) refl (e2 ∙ unfold partyOf partyCells in refl) e3)
 
     pub instructions-tried : (l2 : List ℕ) → l2 ≡ partyCells (formatSet []) → (l3 : List ℕ) → l3 ≡ partyCells (settled (partyOf l2 [])) →

@@ -55,7 +55,7 @@ use Rattle.session.specs.Feed.{nothing, first, ended as feedEnded, feedOf, writ
 use Rattle.session.specs.Refusals.{RefusedTo}
 use Rattle.session.specs.Again.{Idle, SameSettings}
 use Rattle.session.specs.Reached.{Reached, mostWords, allByWriter, ReadInFull}
-use Rattle.session.specs.Silent.{SilentSettings, startWords, EmptyRun, AsBefore}
+use Rattle.session.specs.Silent.{seenBy, SilentSettings, startWords, EmptyRun, AsBefore}
 use Rattle.session.specs.Stored.{toldBy, forgotten, SameAnswers}
 use Rattle.session.specs.Editions.{SameButClaims}
 use Rattle.session.proofs.Cut.{cut-anywhere}
@@ -612,7 +612,7 @@ score-calls = score-from-log
 -- not, what is stored is what document 01 works out, and so are the gauge and the windows that it is reckoned from.
 pub stored-readiness :
     (s : Session) → Reached s →
-    s .party .readiness .number ≡ readinessOf (s .party .domain) (s .party .instructions) (s .shared .mask) (s .shared .outputs)
+    s .party .readiness .number ≡ readinessOf (s .party .domain) (s .party .instructions) (s .shared .mask) (seenBy s)
 stored-readiness = stored-number
 
 pub stored-whole : (s : Session) → Reached s → s .party .readiness ≡ readinessFor (s .party) (s .shared)
@@ -745,7 +745,7 @@ edition-four = claim-four
 -- In every session that the entries give out a start claims at most 268,435,456 elements, so that 64 bits hold what the 1,000,000,000
 -- words of a session can claim, and every tally on the way.
 pub edition-greatest :
-    (s : Session) → Reached s → claimOf (s .party .birth .edition) (s .party .domain) (s .shared .mask) (s .shared .outputs) ≤ mostClaim
+    (s : Session) → Reached s → claimOf (s .party .birth .edition) (s .party .domain) (s .shared .mask) (seenBy s) ≤ mostClaim
 edition-greatest = greatest
 
 pub edition-bits : (s : Session) → Reached s → FitTallies s

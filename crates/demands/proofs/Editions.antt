@@ -10,6 +10,7 @@ use Rattle.refusal.specs.Told.{Told, gives, refuses, thenTold}
 use Rattle.state.specs.State.{Session}
 use Rattle.state.specs.Start.{isEdition, editionTold, claimOf, mostClaim}
 use Rattle.state.specs.Effects.{limit}
+use Rattle.session.specs.Silent.{seenBy}
 use Rattle.session.specs.Reached.{Reached}
 use Rattle.session.proofs.Kept.{claim-most}
 use Rattle.session.proofs.Reached.{reached-valid}
@@ -22,8 +23,8 @@ unfolding lineTold editionTold thenTold
 before-line edition e l = ap (λ (t : Told). thenTold t (leaseTold l)) (pick-no (gives []) (refuses 3) e)
 
 module _ (s : Session) (r : Reached s) where
-  pub greatest : claimOf (s .party .birth .edition) (s .party .domain) (s .shared .mask) (s .shared .outputs) ≤ mostClaim
-  greatest = claim-most (s .party .birth .edition) (s .party .domain) (s .shared .mask) (s .shared .outputs) (reached-valid r .domain)
+  pub greatest : claimOf (s .party .birth .edition) (s .party .domain) (s .shared .mask) (seenBy s) ≤ mostClaim
+  greatest = claim-most (s .party .birth .edition) (s .party .domain) (s .shared .mask) (seenBy s) (reached-valid r .domain)
 
   pub fit-tallies : FitTallies s
   fit-tallies =

@@ -15,7 +15,7 @@ use Rattle.state.specs.Cells.{sessionOf, tallyCells, sharedCells}
 use Rattle.state.proofs.Cells.{own-canon, tally-canon, shared-canon, held-view, held-given}
 use Rattle.session.specs.Step.{Reply, refused, stepOf}
 use Rattle.session.specs.Feed.{First, nothing, first, Fed, feedOf, earlier, joined, uncut, firstStatus}
-use Rattle.session.specs.Refusals.{low, full, RefusedTo, unchanged, stopping}
+use Rattle.session.specs.Refusals.{low, full, foreign, RefusedTo, unchanged, stopping}
 use Rattle.session.specs.Reached.{Reached}
 use Rattle.session.specs.Reached as reached
 use Rattle.session.proofs.Kept.{kept}
@@ -88,6 +88,7 @@ stop-number : {n : ℕ} {s u : Session} → RefusedTo s n u → 1 ≤ n
 stop-number (unchanged e) = omega arith
 stop-number (stopping (low a b)) = omega arith
 stop-number (stopping full) = omega arith
+stop-number (stopping foreign) = omega arith
 
 first-status : (s : Session) (p : List ℕ) (x y : First) → feedOf s p .refusal ≡ x →
     firstOf (firstStatus x) (firstStatus y) ≡ firstStatus (earlier x y)

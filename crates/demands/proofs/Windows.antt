@@ -5,6 +5,7 @@ use mathlib.Core.Path.{_≡_, refl, sym, ap, _∙_, subst}
 use mathlib.Core.Bool.{Bool, true, false}
 use mathlib.Core.List.{List, [], _∷_}
 use Prim.Native.Nat.{ℕ, zero, suc, _+_, _<_, _≤_, zero-le, suc-le-suc}
+use native.Mathlib.Nat.{add-zero}
 use native.Mathlib.Omega.{arith}
 use lib.Dec.{eqb, leb, ltb}
 use lib.ListN.{length, getD, set}
@@ -12,7 +13,8 @@ use lib.Seq.{getD-set-same, getD-set-other}
 use borrow.Author.Tests.{eqb-true, eqb-false, ltb-true, ltb-false, lt-ltb, leb-true, leb-false}
 use Rattle.laws.specs.Choice.{_and_, pick}
 use Rattle.laws.specs.Below.{every}
-use Rattle.laws.proofs.Choice.{Tested, tested, holds, fails, pick-yes, pick-no, and-intro, and-left, and-right}
+use Rattle.laws.specs.Masks.{on}
+use Rattle.laws.proofs.Choice.{Tested, tested, holds, fails, pick-yes, pick-no, pick-same, and-intro, and-left, and-right}
 use Rattle.laws.proofs.Below.{every-at}
 use Rattle.laws.proofs.Table.{each, _&_}
 use Rattle.refusal.specs.Told.{Told, gives, refuses, isGiven}
@@ -28,6 +30,7 @@ use Rattle.command.specs.declared.commands.Stored.the-variants as stored
 use Rattle.command.specs.declared.commands.Command.{Command}
 use Rattle.command.specs.declared.commands.Command.the-variants as command
 use Rattle.state.specs.State.{Buffer, Domain, Shared, Session, unset, newShared}
+use Rattle.state.specs.Seen.{seenFrom, seenOutputs}
 use Rattle.state.specs.Start.{
   stepOfBuffer,
   spanOfBuffer,
@@ -43,6 +46,7 @@ use Rattle.state.specs.Start.{
 }
 use Rattle.state.specs.Effects.{buffer, sharedAfter, after}
 use Rattle.state.specs.Valid.{Valid}
+use Rattle.session.specs.Silent.{seenBy}
 use Rattle.session.specs.Step.{Reply, stillOpen, completed, refused, Stepped, startRuleOf, stepOf as wordStep}
 use Rattle.session.specs.Feed.{Fed, proceed, feedOf}
 use Rattle.session.specs.Reached.{Reached, begun, word, piece}
@@ -97,32 +101,32 @@ module _ (outputs : List Buffer) (size : length outputs ≡ 4) (a : Windowed out
           subst (λ (c : Buffer). Accepted (layoutIn c)) (sym other)
           (a .each-accepted n h (ap (λ (c : Buffer). eqb (c .isSet) 1) (sym other) ∙ e))
 
-windowed-after : (c : Command) (h : Shared) (u : List ℕ) → lastRuleOf c ≡ gives u → length (h .outputs) ≡ 4 → Windowed (h .outputs) →
-    Windowed (sharedAfter c h .outputs)
+windowed-after : (mine : ℕ) (c : Command) (h : Shared) (u : List ℕ) → lastRuleOf c ≡ gives u → length (h .outputs) ≡ 4 → Windowed (h .outputs) →
+    Windowed (sharedAfter mine c h .outputs)
 unfolding sharedAfter windowKept
-windowed-after (command.Domain i0 j0 i1 j1) h u r l a = a
-windowed-after command.Start h u r l a = a
-windowed-after (command.Effectless what) h u r l a = a
-windowed-after (command.Store stored.Instructions base format) h u r l a = a
-windowed-after (command.Store stored.Floats base format) h u r l a = a
-windowed-after (command.Store stored.Integers base format) h u r l a = a
-windowed-after (command.Store stored.Booleans base format) h u r l a = a
-windowed-after (command.Input number base format height) h u r l a = a
-windowed-after (command.Output number base format height) h u r l a =
+windowed-after mine (command.Domain i0 j0 i1 j1) h u r l a = a
+windowed-after mine command.Start h u r l a = a
+windowed-after mine (command.Effectless what) h u r l a = a
+windowed-after mine (command.Store stored.Instructions base format) h u r l a = a
+windowed-after mine (command.Store stored.Floats base format) h u r l a = a
+windowed-after mine (command.Store stored.Integers base format) h u r l a = a
+windowed-after mine (command.Store stored.Booleans base format) h u r l a = a
+windowed-after mine (command.Input number base format height) h u r l a = a
+windowed-after mine (command.Output number base format height) h u r l a =
     windowed-set (h .outputs) l a number (buffer base format height)
     (judged-fine (buffer base format height) (rule-kept (command.Output number base format height) u r))
-windowed-after (command.Conditional base format height) h u r l a = a
-windowed-after (command.OutputMask mask) h u r l a = a
-windowed-after (command.ConditionalMask mask) h u r l a = a
-windowed-after (command.Test test) h u r l a = a
+windowed-after mine (command.Conditional base format height) h u r l a = a
+windowed-after mine (command.OutputMask mask) h u r l a = a
+windowed-after mine (command.ConditionalMask mask) h u r l a = a
+windowed-after mine (command.Test test) h u r l a = a
 
 windowed-word : (s : Session) (w : ℕ) → Valid s → Windowed (s .shared .outputs) → (t : Stepped) → Way s w t → Windowed (t .session .shared .outputs)
 unfolding after
 windowed-word s w v a t (wasStopped e) = a
 windowed-word s w v a t (stops n e) = a
-windowed-word s w v a t (opens r i k) = a
+windowed-word s w v a t (opens r i k m) = a
 windowed-word s w v a t (fills p m) = a
-windowed-word s w v a t (ends p l c e u u' r q) = windowed-after c (s .shared) u r (v .outputs) a
+windowed-word s w v a t (ends p l c e u u' r q) = windowed-after (s .party .birth .mine) c (s .shared) u r (v .outputs) a
 
 windowed-on : (r : Reply) (u : Session) (f : Fed) → Windowed (u .shared .outputs) → Windowed (f .session .shared .outputs) →
     Windowed (proceed r u f .session .shared .outputs)
@@ -153,6 +157,28 @@ pub reached-windowed : {s : Session} → Reached s → Windowed (s .shared .outp
 reached-windowed (begun edition known) = none-windowed
 reached-windowed (word {s} r w) = windowed-word s w (reached-valid r) (reached-windowed r) (wordStep s w) (way s w)
 reached-windowed (piece {s} r ws) = windowed-piece s ws (reached-valid r) (reached-windowed r)
+
+-- so has every one that its party sees
+seen-at : (m k n : ℕ) (l : List Buffer) → getD (seenFrom m k l) n unset ≡ pick (on (k + n) m) (getD l n unset) unset
+unfolding seenFrom
+seen-at m k n [] = sym (pick-same (on (k + n) m) unset)
+seen-at m k zero (b ∷ bs) = ap (λ (j : ℕ). pick (on j m) b unset) (sym (add-zero k))
+seen-at m k (suc n) (b ∷ bs) = seen-at m (suc k) n bs ∙ ap (λ (j : ℕ). pick (on j m) (getD bs n unset) unset) (next k n)
+  where
+    next : (k n : ℕ) → suc k + n ≡ k + suc n
+    next k n = omega arith
+
+seen-windowed : (mine : ℕ) (l : List Buffer) → Windowed l → Windowed (seenOutputs mine l)
+unfolding isSet output
+seen-windowed mine l a = record { each-accepted = λ n h e. go n h e (tested (on (16 + n) mine)) }
+  where
+    go : (n : ℕ) → n < 4 → isSet (seenOutputs mine l) n ≡ true → Tested (on (16 + n) mine) → Accepted (layoutIn (output (seenOutputs mine l) n))
+    go n h e (holds w) =
+        let here : getD (seenOutputs mine l) n unset ≡ getD l n unset = seen-at mine 16 n l ∙ pick-yes _ _ w in
+        subst (λ (c : Buffer). Accepted (layoutIn c)) (sym here) (a .each-accepted n h (ap (λ (c : Buffer). eqb (c .isSet) 1) (sym here) ∙ e))
+    go n h e (fails w) =
+        let gone : getD (seenOutputs mine l) n unset ≡ unset = seen-at mine 16 n l ∙ pick-no _ _ w in
+        no-way (ap (λ (c : Buffer). eqb (c .isSet) 1) (sym gone) ∙ e)
 
 -- what an accepted window tells
 module _ (b : Buffer) (accepted : Accepted (layoutIn b)) where
@@ -242,11 +268,11 @@ module _ (s : Session) (r : Reached s) where
   d = s .party .domain
 
   abbrev outs : List Buffer
-  outs = s .shared .outputs
+  outs = seenBy s
 
   accepted : (n : ℕ) → Counts s n → Accepted (windowIn s n)
   unfolding counts
-  accepted n c = reached-windowed r .each-accepted n (c .number) (and-left _ _ (c .counted))
+  accepted n c = seen-windowed (s .party .birth .mine) (s .shared .outputs) (reached-windowed r) .each-accepted n (c .number) (and-left _ _ (c .counted))
 
   -- 8
   inside-all : covered (s .shared .mask) outs d ≡ true → (n : ℕ) → Counts s n → (i j : ℕ) → InDomain d i j → Inside (windowIn s n) i j

@@ -15,7 +15,7 @@ unfoldable pub added : Session → List ℕ → Tally
 added s ws =
     record {
       runs = runsOf (feedOf s ws .commands);
-      claims = claimsOf (s .party .birth .edition) (feedOf s ws .commands) (s .party .domain) (s .shared .mask) (s .shared .outputs);
+      claims = claimsOf (s .party .birth) (feedOf s ws .commands) (s .party .domain) (s .shared .mask) (s .shared .outputs);
     }
 
 -- the replay of a log by an edition, and of more bytes from there

@@ -11,6 +11,7 @@ use Rattle.address.specs.Inverse.{Accepted, Inside}
 use Rattle.superfine.specs.Superfine.{formatLayout}
 use Rattle.state.specs.State.{Buffer, Domain, Session}
 use Rattle.state.specs.Start.{output, isSet, counts}
+use Rattle.session.specs.Silent.{seenBy}
 
 -- a pair of the domain
 pub record InDomain (d : Domain) (i j : ℕ) : Type 0 where
@@ -30,12 +31,12 @@ layoutIn b = formatLayout (b .base) (b .format) (b .height)
 
 -- the window of output `n`
 abbrev pub windowIn : Session → ℕ → Layout
-windowIn s n = layoutIn (output (s .shared .outputs) n)
+windowIn s n = layoutIn (output (seenBy s) n)
 
--- output `n` counts at a start: it is set and isn't silent
+-- output `n` counts at a start: it is the party's own, set, and not silent
 pub record Counts (s : Session) (n : ℕ) : Type 0 where
   pub number : n < 4
-  pub counted : counts (s .shared .mask) (s .shared .outputs) n ≡ true
+  pub counted : counts (s .shared .mask) (seenBy s) n ≡ true
 
 -- every set output's window is accepted: it passed the window rule when it was set
 pub record Windowed (outputs : List Buffer) : Type 0 where

@@ -16,7 +16,7 @@ use Rattle.laws.proofs.Choice.{pick-yes, pick-no, Tested, tested, holds, fails}
 use Rattle.state.specs.State.{Session}
 use Rattle.session.specs.Step.{stillOpen, completed, refused as denied, stepOf}
 use Rattle.session.specs.Step as stream
-use Rattle.session.specs.Refusals.{low, full, RefusedTo, unchanged, stopping}
+use Rattle.session.specs.Refusals.{low, full, foreign, RefusedTo, unchanged, stopping}
 use Rattle.session.specs.Feed.{First, nothing, first, feedOf, proceed as feeding}
 use Rattle.session.specs.Feed as pieces
 use Rattle.session.proofs.Refusals.{refused-word, stopped-for-good, stopped-piece}
@@ -161,6 +161,7 @@ pub not-zero : {s u : Session} {n : ℕ} → RefusedTo s n u → n ≡ 0 → ⊥
 not-zero (unchanged k) e = omega arith
 not-zero (stopping (low a b)) e = omega arith
 not-zero (stopping full) e = omega arith
+not-zero (stopping foreign) e = omega arith
 
 stopped-session : (s : Session) (ws : List ℕ) → s .party .stopped ≡ 1 → feedOf s ws .session ≡ s
 stopped-session s [] e = unfold feedOf in refl

@@ -37,7 +37,7 @@ pub data Went (s : Session) (w : ℕ) : Stepped → Type 0 where
 went : (s : Session) (w : ℕ) {t : Stepped} → Way s w t → Went s w t
 went s w (wasStopped e) = off 1 s e
 went s w (stops n e) = off n _ refl
-went s w (opens r i k) = on _
+went s w (opens r i k m) = on _
 went s w (fills p m) = on _
 went s w (ends p l c e u v r q) = whole c _
 

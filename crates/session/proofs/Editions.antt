@@ -15,6 +15,7 @@ use Rattle.rules.specs.Rules.{lastRuleOf}
 use Rattle.command.specs.declared.commands.Stored.the-variants as stored
 use Rattle.command.specs.declared.commands.Command.{Command}
 use Rattle.command.specs.declared.commands.Command.the-variants as command
+use Rattle.owners.specs.Owners.{mayOpen, mayName}
 use Rattle.state.specs.State.{Open, Session, atLine, newSession}
 use Rattle.state.specs.Readiness.{workedOut, gaugeOf}
 use Rattle.state.specs.Effects.{limit, opening, took, ownAfter, sharedAfter, after, withParameter}
@@ -96,13 +97,17 @@ parameter-aside : (s : Session) (w : ℕ) → asideOf (parameterStep (unclaimed 
 unfolding parameterStep
 parameter-aside s w =
     let o = s .party .opened in
-    either-way (allowed (kindOf (o .line) (o .count)) w) _ _ _ _ (placing-aside (withParameter o w) s)
+    either-way (allowed (kindOf (o .line) (o .count)) w) _ _ _ _
+    (either-way (mayName (s .party .birth .mine) (kindOf (o .line) (o .count)) w) _ _ _ _ (placing-aside (withParameter o w) s)
+    (refusing-aside s 20))
     (refusing-aside s (faultOf (kindOf (o .line) (o .count))))
 
 header-aside : (s : Session) (w : ℕ) → asideOf (headerStep (unclaimed s) w) ≡ asideOf (headerStep s w)
 unfolding headerStep
 header-aside s w =
-    either-way (ltb (placeOf w headers) (length headers)) _ _ _ _ (open-aside (atLine (placeOf w headers)) s) (refusing-aside s 2)
+    either-way (ltb (placeOf w headers) (length headers)) _ _ _ _
+    (either-way (mayOpen (s .party .birth .mine) (placeOf w headers)) _ _ _ _ (open-aside (atLine (placeOf w headers)) s) (refusing-aside s 20))
+    (refusing-aside s 2)
 
 step-aside : (s : Session) (w : ℕ) → asideOf (stepOf (unclaimed s) w) ≡ asideOf (stepOf s w)
 unfolding stepOf

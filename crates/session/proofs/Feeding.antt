@@ -1,5 +1,6 @@
 -- A piece, word by word as the code feeds it, is the definition's fold. Assumes nothing.
 use mathlib.Core.Path.{_≡_, refl, sym, ap, ap₂, _∙_, subst}
+use mathlib.Core.Bool.{true}
 use mathlib.Core.List.{List, [], _∷_, _++_, append-assoc, append-nil}
 use Prim.Native.Nat.{ℕ, zero, suc, _+_, _-_, _<_, _≤_}
 use native.Mathlib.Nat.{zero-add, add-zero}
@@ -15,6 +16,7 @@ use Rattle.rules.specs.Writer.{judgeCommandOf}
 use Rattle.command.specs.declared.commands.Command.{Command}
 use Rattle.command.proofs.Headers.{count-most}
 use Rattle.command.proofs.WriteBack.{lined}
+use Rattle.owners.specs.Owners.{owned}
 use Rattle.state.specs.State.{Open as Opened, Session, none}
 use Rattle.state.specs.Effects.{after}
 use Rattle.session.specs.Step.{Reply, stillOpen, completed, refused, Stepped, startRuleOf, stepOf}
@@ -101,6 +103,7 @@ module _ (s : Session) (ws l t c : List ℕ) (i n : ℕ) (f : Fold s ws l t c i 
       (y : Ready l t c)
       (begins : drop i ws ≡ wordsOf x ++ later)
       (fine : judgeCommandOf x ≡ gives [])
+      (own : owned (sessionOf l t c .party .birth .mine) x ≡ true)
       (rule : startRuleOf x (sessionOf l t c) ≡ gives [])
       (held : Held (atWord (after x (sessionOf l t c)) (sessionOf l t c .party .taken + length (wordsOf x)) (sessionOf l t c .party .opened)) l1 t1 c1)
     where
@@ -111,7 +114,7 @@ module _ (s : Session) (ws l t c : List ℕ) (i n : ℕ) (f : Fold s ws l t c i 
       left = atWord (after x (sessionOf l t c)) (sessionOf l t c .party .taken + size) none
 
       read : feedOf (sessionOf l t c) (wordsOf x) ≡ fed size (x ∷ []) nothing left
-      read = reads-back (sessionOf l t c) x (y .idle) fine (omega (arith, y .room, words-most x .1)) [] rule
+      read = reads-back (sessionOf l t c) x (y .idle) fine own (omega (arith, y .room, words-most x .1)) [] rule
 
       now-held : Held left l1 t1 c1
       now-held =
@@ -154,8 +157,8 @@ module _ (s : Session) (ws l t c : List ℕ) (i n : ℕ) (f : Fold s ws l t c i 
   tried-goes : (x : Command) (m : ℕ) (l1 t1 c1 : List ℕ) → Ready l t c → i < length ws → 0 < m →
       Tried x (drop i ws) (length (wordsOf x)) l t c m l1 t1 c1 → Fold s ws l1 t1 c1 (i + m) (n + 1)
   tried-goes x m l1 t1 c1 y less k (untaken d) = absurd (omega arith)
-  tried-goes x m l1 t1 c1 y less k (takenWhole later l2 t2 c2 begins fine rule held) =
-      whole-goes x later l2 t2 c2 y begins fine rule held less
+  tried-goes x m l1 t1 c1 y less k (takenWhole later l2 t2 c2 begins fine own rule held) =
+      whole-goes x later l2 t2 c2 y begins fine own rule held less
 
   pub fold-whole : (m : ℕ) (l1 t1 c1 : List ℕ) → i < length ws → 0 < m → Begun (drop i ws) l t c m l1 t1 c1 →
       Fold s ws l1 t1 c1 (i + m) (n + 1)
@@ -165,7 +168,7 @@ module _ (s : Session) (ws l t c : List ℕ) (i n : ℕ) (f : Fold s ws l t c i 
   tried-same : (x : Command) (m : ℕ) (l1 t1 c1 : List ℕ) → m ≤ 0 →
       Tried x (drop i ws) (length (wordsOf x)) l t c m l1 t1 c1 → Fold s ws l1 t1 c1 i n
   tried-same x m l1 t1 c1 k (untaken d) = f
-  tried-same x m l1 t1 c1 k (takenWhole later l2 t2 c2 begins fine rule held) = absurd (omega (arith, words-most x .0))
+  tried-same x m l1 t1 c1 k (takenWhole later l2 t2 c2 begins fine own rule held) = absurd (omega (arith, words-most x .0))
 
   pub fold-same : (m : ℕ) (l1 t1 c1 : List ℕ) → m ≤ 0 → Begun (drop i ws) l t c m l1 t1 c1 → Fold s ws l1 t1 c1 i n
   fold-same m l1 t1 c1 k (begun x m2 l2 t2 c2 y q) = tried-same x m2 l2 t2 c2 k q

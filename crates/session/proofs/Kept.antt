@@ -24,17 +24,21 @@ use Rattle.command.specs.declared.kinds.Kind.the-variants.{Coordinate}
 use Rattle.command.proofs.Headers.{count-least, count-most}
 use Rattle.rules.proofs.Rule.{rule-five}
 use Rattle.command.proofs.WriteBack.{made}
-use Rattle.state.specs.State.{Buffer, Open, Domain, Tally, Birth, Party, Shared, Session, none, newSession}
+use Rattle.owners.specs.Owners.{everything, mayName, owned}
+use Rattle.owners.proofs.Commands.{named-owned}
+use Rattle.state.specs.Seen.{seenOutputs}
+use Rattle.state.specs.State.{Buffer, Open, Domain, Tally, Birth, Party, Shared, Session, none, newShared, newPartyOf, newSession}
 use Rattle.start.proofs.Editions.{credit-bounded}
 use Rattle.start.proofs.New.{new-kept}
 use Rattle.state.specs.Start.{isEdition, pairsOf, claimOf, mostClaim, mostCredit, mostPairs}
 use Rattle.state.specs.Effects.{limit, opening, took, stop, withParameter, buffer, ownAfter, sharedAfter, after}
 use Rattle.session.specs.Step.{Reply, stillOpen, completed, refused, Stepped, refusing, startRuleOf, stepOf}
-use Rattle.state.specs.Valid.{parametersOf, OpenValid, DomainValid, TallyValid, Valid}
+use Rattle.state.specs.Valid.{parametersOf, OpenValid, OpenOwned, DomainValid, TallyValid, Valid}
 use Rattle.session.proofs.Ways.{whole, begun, goingOn, Running, Placed, Way, wasStopped, stops, opens, fills, ends, way}
 
-pub new-valid : (edition : ℕ) → isEdition edition ≡ true → Valid (newSession edition)
-new-valid edition known =
+pub new-party-valid : (mine edition : ℕ) → mine ≤ everything → isEdition edition ≡ true →
+    Valid (record { party = newPartyOf mine edition; shared = newShared })
+new-party-valid mine edition most known =
     record {
       flag = omega arith;
       full = omega arith;
@@ -44,15 +48,19 @@ new-valid edition known =
       opened = λ (k : 21 < 21). absurd (no-line k);
       domain = omega arith;
       tally = omega arith;
-      birth = refl;
+      mine-most = most;
+      owned = λ (k : 21 < 21). absurd (no-line k);
       edition = known;
-      readiness = new-kept edition;
+      readiness = new-kept mine edition;
       outputs = refl;
       inputs = refl;
     }
   where
     no-line : 21 < 21 → ⊥
     no-line k = omega arith
+
+pub new-valid : (edition : ℕ) → isEdition edition ≡ true → Valid (newSession edition)
+new-valid edition known = new-party-valid everything edition (omega arith) known
 
 -- the parameters after one more
 parameter-at : (o : Open) (w k : ℕ) → o .count < 4 → k < 4 →
@@ -68,6 +76,18 @@ allowed-more o w h v a k hk =
     (by-pick (λ (p : ℕ). allowed (kindOf (o .line) k) p ≡ true) (eqb (o .count) k) w (getD (parametersOf o) k 0)
     (λ e. subst (λ (m : ℕ). allowed (kindOf (o .line) m) w ≡ true) (eqb-true _ _ e) a)
     (λ e. v .passed k (let ne : o .count ≡ k → ⊥ = eqb-false _ _ e in omega arith)))
+
+-- the number of an open command that takes a parameter which names one's own
+pub named-first : (mine : ℕ) (o : Open) (w : ℕ) → (0 < o .count → mayName mine (kindOf (o .line) 0) (o .p0) ≡ true) →
+    mayName mine (kindOf (o .line) (o .count)) w ≡ true → mayName mine (kindOf (o .line) 0) (withParameter o w .p0) ≡ true
+named-first mine o w before now =
+    by-pick (λ (p : ℕ). mayName mine (kindOf (o .line) 0) p ≡ true) (eqb (o .count) 0) w (o .p0)
+    (λ e. subst (λ (n : ℕ). mayName mine (kindOf (o .line) n) w ≡ true) (eqb-true _ _ e) now)
+    (λ e. before (let ne : o .count ≡ 0 → ⊥ = eqb-false _ _ e in omega arith))
+
+-- so a whole command is one that sets nothing but what is owned
+pub open-owned : (mine : ℕ) (o : Open) → o .line < 21 → OpenOwned mine o → 0 < o .count → owned mine (whole o) ≡ true
+open-owned mine o h w k = named-owned mine (o .p0) (o .p1) (o .p2) (o .p3) (o .line) h (w .line) (w .number k)
 
 -- the fields of a whole command are allowed, each by its kind
 fields-allowed : (o : Open) → o .line < 21 → o .count ≡ countOf (o .line) →
@@ -109,17 +129,17 @@ claim-most edition d mask outputs v =
     (credit-bounded edition mask outputs)
 
 -- what a whole command leaves of a session: the open command, the count and the flag stand; what it sets is valid
-pub record Effects (c : Command) (h : Shared) (p : Party) (n : ℕ) : Type 0 where
+pub record Effects (mine : ℕ) (c : Command) (h : Shared) (p : Party) (n : ℕ) : Type 0 where
   pub same-flag : ownAfter c h p .stopped ≡ p .stopped
   pub same-count : ownAfter c h p .taken ≡ p .taken
   pub same-open : ownAfter c h p .opened ≡ p .opened
   pub domain : DomainValid (ownAfter c h p .domain)
   pub tally : TallyValid (ownAfter c h p .tally) (n + 1)
   pub same-birth : ownAfter c h p .birth ≡ p .birth
-  pub outputs : length (sharedAfter c h .outputs) ≡ length (h .outputs)
-  pub inputs : length (sharedAfter c h .inputs) ≡ length (h .inputs)
+  pub outputs : length (sharedAfter mine c h .outputs) ≡ length (h .outputs)
+  pub inputs : length (sharedAfter mine c h .inputs) ≡ length (h .inputs)
 
-module _ (h : Shared) (p : Party) (n : ℕ) (d : DomainValid (p .domain)) (t : TallyValid (p .tally) n) where
+module _ (mine : ℕ) (h : Shared) (p : Party) (n : ℕ) (d : DomainValid (p .domain)) (t : TallyValid (p .tally) n) where
   still : TallyValid (p .tally) (n + 1)
   still = omega (arith, t)
 
@@ -127,8 +147,8 @@ module _ (h : Shared) (p : Party) (n : ℕ) (d : DomainValid (p .domain)) (t : T
   plain : (c : Command) → ownAfter c h p .stopped ≡ p .stopped → ownAfter c h p .taken ≡ p .taken →
       ownAfter c h p .opened ≡ p .opened → ownAfter c h p .domain ≡ p .domain → ownAfter c h p .tally ≡ p .tally →
       ownAfter c h p .birth ≡ p .birth →
-      length (sharedAfter c h .outputs) ≡ length (h .outputs) → length (sharedAfter c h .inputs) ≡ length (h .inputs) →
-      Effects c h p n
+      length (sharedAfter mine c h .outputs) ≡ length (h .outputs) → length (sharedAfter mine c h .inputs) ≡ length (h .inputs) →
+      Effects mine c h p n
   plain c a b e f g i k l =
       record {
         same-flag = a;
@@ -141,7 +161,7 @@ module _ (h : Shared) (p : Party) (n : ℕ) (d : DomainValid (p .domain)) (t : T
         inputs = l;
       }
 
-  pub effects : (c : Command) → EachAllowed (lineOf c) (fieldsOf c) → (u : List ℕ) → lastRuleOf c ≡ gives u → Effects c h p n
+  pub effects : (c : Command) → EachAllowed (lineOf c) (fieldsOf c) → (u : List ℕ) → lastRuleOf c ≡ gives u → Effects mine c h p n
   unfolding ownAfter sharedAfter lineOf fieldsOf
   effects (command.Domain i0 j0 i1 j1) a u r =
       record {
@@ -160,7 +180,7 @@ module _ (h : Shared) (p : Party) (n : ℕ) (d : DomainValid (p .domain)) (t : T
         same-count = refl;
         same-open = refl;
         domain = d;
-        tally = omega (arith, t, claim-most (p .birth .edition) (p .domain) (h .mask) (h .outputs) d);
+        tally = omega (arith, t, claim-most (p .birth .edition) (p .domain) (h .mask) (seenOutputs (p .birth .mine) (h .outputs)) d);
         same-birth = refl;
         outputs = refl;
         inputs = refl;
@@ -207,8 +227,8 @@ module _ (o : Open) (line : o .line < 21) (a : EachAllowed (o .line) (parameters
       rw (whole-fields, whole-line, getD-take (countOf (o .line)) (parametersOf o) k 0 less) (a k less)
 
 -- a session that goes on with an open command is valid where the open command is
-goes-on : (s : Session) (o : Open) → Valid s → Running s → o .line < 21 → OpenValid o → Valid (goingOn o s)
-goes-on s o v r h b =
+goes-on : (s : Session) (o : Open) → Valid s → Running s → o .line < 21 → OpenValid o → OpenOwned (s .party .birth .mine) o → Valid (goingOn o s)
+goes-on s o v r h b w =
     record {
       flag = v .flag;
       full = omega (arith, leb-false limit (s .party .taken) (r .unfilled));
@@ -218,7 +238,8 @@ goes-on s o v r h b =
       opened = λ k. b;
       domain = v .domain;
       tally = omega (arith, v .tally);
-      birth = v .birth;
+      mine-most = v .mine-most;
+      owned = λ k. w;
       edition = v .edition;
       readiness = v .readiness;
       outputs = v .outputs;
@@ -252,6 +273,17 @@ module _ (s : Session) (w : ℕ) (v : Valid s) where
         EachAllowed (before .line) (parametersOf (withParameter before w))
     all-allowed l k h = more-allowed k (omega (arith, ltb-false (before .count + 1) (countOf (before .line)) l))
 
+    -- and it sets nothing but what the party owns
+    more-owned : OpenOwned (s .party .birth .mine) (withParameter before w)
+    more-owned =
+        record {
+          line = v .owned line-lt .line;
+          number = λ h. named-first (s .party .birth .mine) before w (v .owned line-lt .number) (p .named);
+        }
+
+    pub whole-owned : owned (s .party .birth .mine) (whole (withParameter before w)) ≡ true
+    whole-owned = open-owned (s .party .birth .mine) (withParameter before w) line-lt more-owned (omega arith)
+
     pub each-allowed : ltb (before .count + 1) (countOf (before .line)) ≡ false → (c : Command) → c ≡ whole (withParameter before w) →
         EachAllowed (lineOf c) (fieldsOf c)
     each-allowed l c e =
@@ -260,9 +292,9 @@ module _ (s : Session) (w : ℕ) (v : Valid s) where
 
     pub effects-of : ltb (before .count + 1) (countOf (before .line)) ≡ false → (c : Command) →
         c ≡ whole (withParameter before w) → (u : List ℕ) → lastRuleOf c ≡ gives u →
-        Effects c (s .shared) (opening none (took (s .party))) (s .party .taken)
+        Effects (s .party .birth .mine) c (s .shared) (opening none (took (s .party))) (s .party .taken)
     effects-of l c e u r =
-        effects (s .shared) (opening none (took (s .party))) (s .party .taken) (v .domain) (v .tally) c (each-allowed l c e) u r
+        effects (s .party .birth .mine) (s .shared) (opening none (took (s .party))) (s .party .taken) (v .domain) (v .tally) c (each-allowed l c e) u r
 
   pub kept-way : (t : Stepped) → Way s w t → Valid (t .session)
   unfolding after
@@ -277,22 +309,24 @@ module _ (s : Session) (w : ℕ) (v : Valid s) where
         opened = λ k. absurd (no-line k);
         domain = v .domain;
         tally = v .tally;
-        birth = v .birth;
+        mine-most = v .mine-most;
+        owned = λ k. absurd (no-line k);
         edition = v .edition;
         readiness = v .readiness;
         outputs = v .outputs;
         inputs = v .inputs;
       }
-  kept-way t (opens r i k) =
+  kept-way t (opens r i k m) =
       goes-on s (begun w) v r (ltb-true _ _ k)
       (record { fewer = count-least _ (ltb-true _ _ k); passed = λ j h. absurd (not-suc-le-zero h) })
+      (record { line = m; number = λ h. absurd (not-suc-le-zero h) })
   kept-way t (fills p m) =
       goes-on s (withParameter (s .party .opened) w) v (p .running) (line-lt p)
-      (record { fewer = ltb-true _ _ m; passed = more-allowed p })
+      (record { fewer = ltb-true _ _ m; passed = more-allowed p }) (more-owned p)
   kept-way t (ends p l c e u u' r q) =
       done (effects-of p l c e u r)
     where
-      done : Effects c (s .shared) (opening none (took (s .party))) (s .party .taken) → Valid (after c s)
+      done : Effects (s .party .birth .mine) c (s .shared) (opening none (took (s .party))) (s .party .taken) → Valid (after c s)
       done f =
           record {
             flag = rw (f .same-flag) (v .flag);
@@ -303,7 +337,8 @@ module _ (s : Session) (w : ℕ) (v : Valid s) where
             opened = rw (f .same-open) (λ k. absurd (no-line k));
             domain = f .domain;
             tally = rw (f .same-count) (f .tally);
-            birth = ap (λ (b : Birth). b .mine) (f .same-birth) ∙ v .birth;
+            mine-most = rw (f .same-birth) (v .mine-most);
+            owned = rw (f .same-open) (λ k. absurd (no-line k));
             edition = ap (λ (b : Birth). isEdition (b .edition)) (f .same-birth) ∙ v .edition;
             readiness = refl;
             outputs = f .outputs ∙ v .outputs;

@@ -25,6 +25,8 @@ use Rattle.rules.specs.Writer.{judgeCommandOf}
 use Rattle.rules.proofs.Judging.{then-given}
 use Rattle.rules.proofs.Readable.{readable, writable}
 use Rattle.rules.proofs.Rule.{Ruled, fine, five, six, ruled}
+use Rattle.owners.specs.Owners.{owned}
+use Rattle.state.specs.Seen.{seenOutputs}
 use Rattle.state.specs.State.{Buffer, Domain, Readiness, Open, Session, none}
 use Rattle.state.specs.Start.{readyOf, readinessOf}
 use Rattle.state.specs.Readiness.{workedOut}
@@ -33,7 +35,7 @@ use Rattle.state.specs.Asked.{Held, OwnAsked}
 use Rattle.state.specs.Cells.{partyOf, partyCells, tallyCells, sharedOf, sessionOf, ownLength}
 use Rattle.state.specs.Valid.{parametersOf}
 use Rattle.start.proofs.Readiness.{number-given, number-refused, readiness-number}
-use Rattle.accept.specs.Whole.{RoomFor, Denied, byWords, byFields, bySettings, Tried, untaken, accepted, LineTried, lastWord}
+use Rattle.accept.specs.Whole.{RoomFor, Denied, byWords, byFields, byOwner, bySettings, Tried, untaken, accepted, LineTried, lastWord}
 use Rattle.session.specs.Step.{Reply, completed, refused, startRuleOf, completing}
 use Rattle.session.specs.Again.{atWord}
 use Rattle.session.specs.Asked.{Left, CompleteAsked, RefusalAsked, refusalAt, storedIn}
@@ -72,7 +74,8 @@ abbrev rules : Command → Session → Told
 rules c s = thenTold (lastRuleOf c) (startRuleOf c s)
 
 abbrev readiness : Session → ℕ
-readiness s = readinessOf (s .party .domain) (s .party .instructions) (s .shared .mask) (s .shared .outputs)
+readiness s =
+    readinessOf (s .party .domain) (s .party .instructions) (s .shared .mask) (seenOutputs (s .party .birth .mine) (s .shared .outputs))
 
 unready : (s : Session) → isGiven (rules command.Start s) ≡ false → readiness s ≡ 0 → ⊥
 unfolding lastRuleOf domainKept windowKept startRuleOf thenTold pick isGiven
@@ -164,6 +167,10 @@ module _ (l t s : List ℕ) (a : CompleteAsked l t s) where
     where
       fields : EachAllowed (lineOf c) (fieldsOf c)
       fields = unfold partyOf in whole-allowed o line-lt passed
+  denied-told (byOwner e) = one-answer (sym is-owned ∙ e)
+    where
+      is-owned : owned (partyOf l t .birth .mine) c ≡ true
+      is-owned = unfold partyOf in a .owner
   denied-told (bySettings e) = by-settings (ruled c) (startRuleOf c ss) e
 
   -- the stored number is the one worked out from the settings
@@ -194,7 +201,7 @@ module _ (l t s : List ℕ) (a : CompleteAsked l t s) where
   unchanged : (P : List ℕ → List ℕ → List ℕ → Type 0) → (Denied c here ss → P l t s) → (m : ℕ) (l1 t1 s1 : List ℕ) → m ≤ 0 →
       Tried c here 1 l t s m l1 t1 s1 → P l1 t1 s1
   unchanged P p m l1 t1 s1 k (untaken d) = p d
-  unchanged P p m l1 t1 s1 k (accepted rest l2 t2 s2 begins judged rule held) = absurd (omega arith)
+  unchanged P p m l1 t1 s1 k (accepted rest l2 t2 s2 begins judged own rule held) = absurd (omega arith)
 
   module _ (m : ℕ) (l1 t1 s1 : List ℕ) (tried : Last m l1 t1 s1) (k : m ≤ 0) where
     pub refusal-asked : RefusalAsked l1 (getD l 2 0)
@@ -239,13 +246,13 @@ module _ (l t s : List ℕ) (a : CompleteAsked l t s) where
       (l2 : List ℕ) → l2 ≡ partyCells (opening none (partyOf l1 [])) → Left (completing o ss) (completed d) l2 t1 s1
   unfolding partyOf
   done ws m l1 t1 s1 k (untaken w) d e l2 f = absurd (omega arith)
-  done ws m l1 t1 s1 k (accepted rest l3 t3 s3 begins judged rule held) d e l2 f =
+  done ws m l1 t1 s1 k (accepted rest l3 t3 s3 begins judged own rule held) d e l2 f =
       whole-accepted l t s a [] (then-given (startRuleOf c ss) (readable c judged .rules-kept) ∙ rule) d e l2 t3 s3
       (closed l3 t3 s3 held l2 f)
 
   length-of : (ws : List ℕ) (m : ℕ) (l1 t1 s1 : List ℕ) → Tried c ws 1 l t s m l1 t1 s1 → length l1 ≡ ownLength
   length-of ws m l1 t1 s1 (untaken w) = a .asked .sized .own-length
-  length-of ws m l1 t1 s1 (accepted rest l2 t2 s2 begins judged rule held) = held-length l2 t2 s2 held
+  length-of ws m l1 t1 s1 (accepted rest l2 t2 s2 begins judged own rule held) = held-length l2 t2 s2 held
 
   module _ (m : ℕ) (l1 t1 s1 : List ℕ) (tried : Last m l1 t1 s1) where
     pub last-length : length l1 ≡ ownLength

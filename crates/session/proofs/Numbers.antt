@@ -1,4 +1,4 @@
--- A reply and its number: each tells the other, since a session refuses with 1 to 9 and 17 alone. Assumes nothing.
+-- A reply and its number: each tells the other, since a session refuses with 1 to 9, 17 and 20 alone. Assumes nothing.
 use mathlib.Core.Path.{_≡_, refl, sym, ap, _∙_, subst}
 use mathlib.Core.List.{List, []}
 use Prim.Native.Nat.{ℕ, _<_, _≤_}
@@ -18,15 +18,18 @@ use Rattle.refusal.specs.declared.Refusal.the-variants.{
   DomainOutside,
   SpansShared,
   WordLimit,
+  NotOwned,
 }
-use Rattle.command.specs.Kinds.{faultOf}
+use Rattle.laws.proofs.Choice.{by-pick}
+use Rattle.command.specs.Kinds.{allowed, faultOf}
+use Rattle.owners.specs.Owners.{faultAt}
 use Rattle.command.specs.declared.kinds.Kind.{Kind}
 use Rattle.command.specs.declared.commands.Command.{Command}
 use Rattle.rules.proofs.Judging.{Fault, three, four, fault}
 use Rattle.state.specs.State.{Open, Session}
 use Rattle.state.specs.Cells.{partyOf, sessionOf}
 use Rattle.session.specs.Step.{Reply, stillOpen, completed, refused, Stepped, judged, completing, stepOf}
-use Rattle.session.specs.Refusals.{StopNumber, low, full, RefusedTo, unchanged, stopping}
+use Rattle.session.specs.Refusals.{StopNumber, low, full, foreign, RefusedTo, unchanged, stopping}
 use Rattle.session.specs.Asked.{Left, Numbered, Read, CompleteAsked, replyNumber}
 use Rattle.session.proofs.Refusals.{Told-so, completing-so, refused-word}
 use Rattle.session.proofs.Ways.{whole}
@@ -59,6 +62,7 @@ by-stop : {n : ℕ} → StopNumber n → Stops n
 by-stop {n} (low a b) =
     record { least = omega (arith, a); less = omega (arith, b); isNumber = low-number n (omega (arith, b)) (omega (arith, a)) }
 by-stop full = record { least = omega arith; less = omega arith; isNumber = of WordLimit }
+by-stop foreign = record { least = omega arith; less = omega arith; isNumber = of NotOwned }
 
 stops : {s u : Session} {n : ℕ} → RefusedTo s n u → Stops n
 stops (unchanged e) = record { least = omega arith; less = omega arith; isNumber = of Stopped }
@@ -174,8 +178,10 @@ by-fault : {n : ℕ} → Fault n → n ≡ 64 → ⊥
 by-fault (three e) k = omega (arith, e, k)
 by-fault (four e) k = omega (arith, e, k)
 
-pub fault-number : (k : Kind) → faultOf k ≡ 64 → ⊥
-fault-number k = by-fault (fault k)
+pub fault-number : (k : Kind) (w : ℕ) → faultAt k w ≡ 64 → ⊥
+unfolding faultAt
+fault-number k w =
+    by-pick (λ (n : ℕ). n ≡ 64 → ⊥) (allowed k w) 20 (faultOf k) (λ a e. omega (arith, e)) (λ a. by-fault (fault k))
 
 -- the completion that a word which was read stands for
 pub numbered-as : {t u : Stepped} {r : ℕ} {l m c : List ℕ} → t ≡ u → Numbered u r l m c → Numbered t r l m c

@@ -19,6 +19,8 @@ use Rattle.command.specs.declared.commands.Command.{Command}
 use Rattle.command.specs.declared.commands.Command.the-variants as command
 use Rattle.command.proofs.WriteBack.{read-back, lined}
 use Rattle.command.proofs.Headers.{count-most}
+use Rattle.owners.specs.Owners.{mayName, owned}
+use Rattle.owners.proofs.Commands.{owned-names}
 use Rattle.state.specs.State.{Open, Session, none}
 use Rattle.state.specs.Effects.{limit, withParameter, after}
 use Rattle.session.specs.Step.{completed, refused, Stepped, refusing, startRuleOf, judged, completing, placing, parameterStep, stepOf}
@@ -65,7 +67,8 @@ unfoldable pub lastly : ℕ → Stepped → Fed
 lastly zero t = proceed (t .reply) (t .session) (ended nothing (t .session))
 lastly (suc n) t = onward [] (lastly n t)
 
-module _ (s : Session) (unstopped : s .party .stopped ≡ 0) (c : Command) (a : EachAllowed (lineOf c) (fieldsOf c)) where
+module _ (s : Session) (unstopped : s .party .stopped ≡ 0) (c : Command) (a : EachAllowed (lineOf c) (fieldsOf c))
+    (own : owned (s .party .birth .mine) c ≡ true) where
   abbrev l : ℕ
   l = lineOf c
 
@@ -86,13 +89,21 @@ module _ (s : Session) (unstopped : s .party .stopped ≡ 0) (c : Command) (a : 
         pick-no _ _ (ne-eqb (s .party .stopped) 1 (λ k. omega (arith, unstopped))) ∙
         pick-no _ _ (lt-leb limit m less) ∙
         pick-no _ _ (ne-eqb l 21 (λ k. omega (arith, lined c .line-most))) ∙
-        pick-yes _ _ fits ∙
+        pick-yes _ _ fits ∙ pick-yes _ _ names ∙
         ap (λ (o : Open). placing o (atWord s m (holding l ps))) (held-more l ps q (omega (arith, sized, count-most l (lined c .line-most))))
       where
+        here : getD (fieldsOf c) (length ps) 0 ≡ q
+        here = ap (λ (fs : List ℕ). getD fs (length ps) 0) (sym e) ∙ at-end ps q qs
+
+        names : mayName (s .party .birth .mine) (kindOf l (length ps)) q ≡ true
+        names =
+            subst (λ (x : ℕ). mayName (s .party .birth .mine) (kindOf l (length ps)) x ≡ true) here
+            (owned-names (s .party .birth .mine) c own (length ps) (omega (arith, sized)))
+
         fits : allowed (kindOf l (length ps)) q ≡ true
         fits =
             subst (λ (x : ℕ). allowed (kindOf l (length ps)) x ≡ true)
-            (ap (λ (fs : List ℕ). getD fs (length ps) 0) (sym e) ∙ at-end ps q qs) (a (length ps) (omega (arith, sized)))
+            here (a (length ps) (omega (arith, sized)))
 
     -- a parameter that isn't the last
     filled : 0 < length qs →

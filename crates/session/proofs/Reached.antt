@@ -89,7 +89,7 @@ flag-word : (s : Session) (w : ℕ) → Valid s → (t : Stepped) → Way s w t 
 unfolding proceed after
 flag-word s w v t (wasStopped e) f rest k = no-first k
 flag-word s w v t (stops n e) f rest k = no-first k
-flag-word s w v t (opens r i j) f rest k = rest k
+flag-word s w v t (opens r i j m) f rest k = rest k
 flag-word s w v t (fills p m) f rest k = rest k
 flag-word s w v t (ends p l c e u u' r q) f rest k = rest k ∙ effects-of s w v p l c e u r .same-flag
 
@@ -159,9 +159,9 @@ module _
         let first-time = tallied s ws in
         let second-time = subst (λ (d : List Command). Tallied u d (f .session)) (again .commands) (tallied u (written cs)) in
         let claimed :
-        claimsOf (u .party .birth .edition) cs (u .party .domain) (u .shared .mask) (u .shared .outputs) ≡
-        claimsOf (u .party .birth .edition) cs (s .party .domain) (s .shared .mask) (s .shared .outputs)
-        = λ j. claimsOf (u .party .birth .edition) cs (sym (same .domain) j) (sym (same .shared) j .mask) (sym (same .shared) j .outputs)
+        claimsOf (u .party .birth) cs (u .party .domain) (u .shared .mask) (u .shared .outputs) ≡
+        claimsOf (u .party .birth) cs (s .party .domain) (s .shared .mask) (s .shared .outputs)
+        = λ j. claimsOf (u .party .birth) cs (sym (same .domain) j) (sym (same .shared) j .mask) (sym (same .shared) j .outputs)
         in
         record {
           again = again;
@@ -196,4 +196,4 @@ module _ (s : Session) (r : Reached s) (i : Idle s) (ws : List ℕ) where
       take-most (suc n) (x ∷ l) = omega (arith, take-most n l)
 
   pub read-here : ReadInFull s (feedOf s ws .commands) (feedOf s ws .session) s (feedOf s wrote)
-  read-here = read-in-full s r ws s r (record { domain = refl; instructions = refl; shared = refl }) i has-room
+  read-here = read-in-full s r ws s r (record { domain = refl; instructions = refl; shared = refl; mine = refl }) i has-room

@@ -1,6 +1,7 @@
 -- Reading again: the words of the completed commands, read from the settings that these first met, lead to the same commands and
 -- settings, and from the same session to the same session. Assumes nothing.
 use mathlib.Core.Path.{_≡_, refl, sym, ap, _∙_, subst}
+use mathlib.Core.Bool.{true}
 use mathlib.Core.List.{List, [], _∷_, _++_, append-nil}
 use Prim.Native.Nat.{ℕ, _+_, _≤_}
 use native.Mathlib.Omega.{arith}
@@ -14,6 +15,8 @@ use Rattle.command.specs.declared.commands.Command.{Command}
 use Rattle.command.specs.declared.commands.Command.the-variants as command
 use Rattle.rules.proofs.Rule.{Ruled, fine, five, six, ruled}
 use Rattle.rules.proofs.Readable.{writable}
+use Rattle.owners.specs.Owners.{owned}
+use Rattle.state.specs.Seen.{seenOutputs}
 use Rattle.state.specs.State.{Open, Session, none}
 use Rattle.state.specs.Start.{readyOf}
 use Rattle.state.specs.Effects.{limit, ownAfter, sharedAfter, after}
@@ -22,7 +25,7 @@ use Rattle.session.specs.Feed.{nothing, Fed, proceed, feedOf, joined, wr
 use Rattle.state.specs.Valid.{Valid, heldOf}
 use Rattle.session.specs.Again.{Idle, fed, atWord, SameSettings, ReadAgain, EachWritable}
 use Rattle.session.proofs.Ways.{Way, wasStopped, stops, opens, fills, ends, way}
-use Rattle.session.proofs.Kept.{each-allowed, kept}
+use Rattle.session.proofs.Kept.{each-allowed, whole-owned, kept}
 use Rattle.session.proofs.Cut.{cut}
 use Rattle.session.proofs.WriteBack.{none-held, fed-back}
 use Rattle.session.proofs.ReadBack.{reads-back}
@@ -63,6 +66,7 @@ module _
 -- a command that a session completed: the writer accepts it, and the settings passed it
 record Passed (s : Session) (c : Command) : Type 0 where
   writes : judgeCommandOf c ≡ gives []
+  own : owned (s .party .birth .mine) c ≡ true
   values : List ℕ
   start : startRuleOf c s ≡ gives values
 
@@ -78,14 +82,15 @@ data Moved (s : Session) : Stepped → Type 0 where
   off : (n : ℕ) (u : Session) → SameSettings u s → Moved s (record { reply = refused n; session = u })
 
 moved : (s : Session) (w : ℕ) → Valid s → {t : Stepped} → Way s w t → Moved s t
-moved s w v (wasStopped e) = off 1 s (record { domain = refl; instructions = refl; shared = refl })
-moved s w v (stops n e) = off n _ (record { domain = refl; instructions = refl; shared = refl })
-moved s w v (opens r i k) = on _ (record { domain = refl; instructions = refl; shared = refl })
-moved s w v (fills p m) = on _ (record { domain = refl; instructions = refl; shared = refl })
+moved s w v (wasStopped e) = off 1 s (record { domain = refl; instructions = refl; shared = refl; mine = refl })
+moved s w v (stops n e) = off n _ (record { domain = refl; instructions = refl; shared = refl; mine = refl })
+moved s w v (opens r i k m) = on _ (record { domain = refl; instructions = refl; shared = refl; mine = refl })
+moved s w v (fills p m) = on _ (record { domain = refl; instructions = refl; shared = refl; mine = refl })
 moved s w v (ends p l c e u k r q) =
     passed c
     (record {
       writes = writable c (each-allowed s w v p l c e) (rules-fine (lastRuleOf c) (ruled c) u r);
+      own = subst (λ (d : Command). owned (s .party .birth .mine) d ≡ true) (sym e) (whole-owned s w v p);
       values = k;
       start = q;
     })
@@ -111,6 +116,7 @@ joins p q =
       domain = p .domain ∙ q .domain;
       instructions = p .instructions ∙ q .instructions;
       shared = p .shared ∙ q .shared;
+      mine = p .mine ∙ q .mine;
     }
 
 -- a command where the settings are the same: it passes in both sessions or in none, and leaves the same settings
@@ -118,12 +124,13 @@ record SameAfter (c : Command) (s u : Session) : Type 0 where
   domain : after c s .party .domain ≡ after c u .party .domain
   instructions : after c s .party .instructions ≡ after c u .party .instructions
   flag : after c u .party .stopped ≡ u .party .stopped
+  mine : after c s .party .birth .mine ≡ after c u .party .birth .mine
 
 module _ (s u : Session) (e : SameSettings s u) where
   same-start : (c : Command) → startRuleOf c s ≡ startRuleOf c u
   unfolding startRuleOf
   same-start (command.Domain i0 j0 i1 j1) = refl
-  same-start command.Start = λ j. readyOf (e .domain j) (e .instructions j) (e .shared j .mask) (e .shared j .outputs)
+  same-start command.Start = λ j. readyOf (e .domain j) (e .instructions j) (e .shared j .mask) (seenOutputs (e .mine j) (e .shared j .outputs))
   same-start (command.Effectless what) = refl
   same-start (command.Store what base format) = refl
   same-start (command.Input number base format height) = refl
@@ -135,19 +142,19 @@ module _ (s u : Session) (e : SameSettings s u) where
 
   same-after : (c : Command) → SameAfter c s u
   unfolding after ownAfter
-  same-after (command.Domain i0 j0 i1 j1) = record { domain = refl; instructions = e .instructions; flag = refl }
-  same-after command.Start = record { domain = e .domain; instructions = e .instructions; flag = refl }
-  same-after (command.Effectless what) = record { domain = e .domain; instructions = e .instructions; flag = refl }
-  same-after (command.Store stored.Instructions base format) = record { domain = e .domain; instructions = refl; flag = refl }
-  same-after (command.Store stored.Floats base format) = record { domain = e .domain; instructions = e .instructions; flag = refl }
-  same-after (command.Store stored.Integers base format) = record { domain = e .domain; instructions = e .instructions; flag = refl }
-  same-after (command.Store stored.Booleans base format) = record { domain = e .domain; instructions = e .instructions; flag = refl }
-  same-after (command.Input number base format height) = record { domain = e .domain; instructions = e .instructions; flag = refl }
-  same-after (command.Output number base format height) = record { domain = e .domain; instructions = e .instructions; flag = refl }
-  same-after (command.Conditional base format height) = record { domain = e .domain; instructions = e .instructions; flag = refl }
-  same-after (command.OutputMask mask) = record { domain = e .domain; instructions = e .instructions; flag = refl }
-  same-after (command.ConditionalMask mask) = record { domain = e .domain; instructions = e .instructions; flag = refl }
-  same-after (command.Test test) = record { domain = e .domain; instructions = e .instructions; flag = refl }
+  same-after (command.Domain i0 j0 i1 j1) = record { domain = refl; instructions = e .instructions; flag = refl; mine = e .mine }
+  same-after command.Start = record { domain = e .domain; instructions = e .instructions; flag = refl; mine = e .mine }
+  same-after (command.Effectless what) = record { domain = e .domain; instructions = e .instructions; flag = refl; mine = e .mine }
+  same-after (command.Store stored.Instructions base format) = record { domain = e .domain; instructions = refl; flag = refl; mine = e .mine }
+  same-after (command.Store stored.Floats base format) = record { domain = e .domain; instructions = e .instructions; flag = refl; mine = e .mine }
+  same-after (command.Store stored.Integers base format) = record { domain = e .domain; instructions = e .instructions; flag = refl; mine = e .mine }
+  same-after (command.Store stored.Booleans base format) = record { domain = e .domain; instructions = e .instructions; flag = refl; mine = e .mine }
+  same-after (command.Input number base format height) = record { domain = e .domain; instructions = e .instructions; flag = refl; mine = e .mine }
+  same-after (command.Output number base format height) = record { domain = e .domain; instructions = e .instructions; flag = refl; mine = e .mine }
+  same-after (command.Conditional base format height) = record { domain = e .domain; instructions = e .instructions; flag = refl; mine = e .mine }
+  same-after (command.OutputMask mask) = record { domain = e .domain; instructions = e .instructions; flag = refl; mine = e .mine }
+  same-after (command.ConditionalMask mask) = record { domain = e .domain; instructions = e .instructions; flag = refl; mine = e .mine }
+  same-after (command.Test test) = record { domain = e .domain; instructions = e .instructions; flag = refl; mine = e .mine }
 
   settings-after : (c : Command) (n : ℕ) → SameSettings (after c s) (atWord (after c u) n none)
   unfolding after
@@ -155,7 +162,8 @@ module _ (s u : Session) (e : SameSettings s u) where
       record {
         domain = same-after c .domain;
         instructions = same-after c .instructions;
-        shared = ap (sharedAfter c) (e .shared);
+        shared = λ j. sharedAfter (e .mine j) c (e .shared j);
+        mine = same-after c .mine;
       }
 
 -- the rest read again, from any session without an open command that has its settings and room for its words
@@ -173,7 +181,7 @@ again-passed s c f p rest u e i k =
     let sizes : length (wordsOf c ++ ws) ≡ length (wordsOf c) + length ws = length-append (wordsOf c) ws in
     let u' : Session = atWord (after c u) (u .party .taken + length (wordsOf c)) none in
     let first-read : feedOf u (wordsOf c) ≡ fed (length (wordsOf c)) (c ∷ []) nothing u' =
-    reads-back u c i (p .writes) (omega arith) (p .values) (sym (same-start s u e c) ∙ p .start)
+    reads-back u c i (p .writes) (subst (λ (m : ℕ). owned m c ≡ true) (e .mine) (p .own)) (omega arith) (p .values) (sym (same-start s u e c) ∙ p .start)
     in
     let both : feedOf u (wordsOf c ++ ws) ≡ joined (fed (length (wordsOf c)) (c ∷ []) nothing u') (feedOf u' ws) =
     cut u (wordsOf c) ws ∙ ap (λ (g : Fed). joined g (feedOf (g .session) ws)) first-read

@@ -21,6 +21,8 @@ use Rattle.command.specs.declared.commands.Command.the-variants as command
 use Rattle.command.proofs.WriteBack.{lined}
 use Rattle.command.proofs.Headers.{count-least}
 use Rattle.rules.proofs.Readable.{readable}
+use Rattle.owners.specs.Owners.{owned}
+use Rattle.owners.proofs.Commands.{owned-opens}
 use Rattle.state.specs.State.{Open, Session, none}
 use Rattle.state.specs.Start.{readyOf}
 use Rattle.state.specs.Effects.{limit, ownAfter, sharedAfter, after}
@@ -73,7 +75,8 @@ start-number (command.ConditionalMask mask) s n e = absurd (let z : _≡_ {A = �
 start-number (command.Test test) s n e = absurd (let z : _≡_ {A = ℕ} 0 1 = cc in omega arith)
 
 -- a command that the writer accepts, fed to a running session without an open command
-module _ (s : Session) (c : Command) (i : Idle s) (writes : judgeCommandOf c ≡ gives []) where
+module _ (s : Session) (c : Command) (i : Idle s) (writes : judgeCommandOf c ≡ gives [])
+    (own : owned (s .party .birth .mine) c ≡ true) where
   abbrev size : ℕ
   size = length (fieldsOf c)
 
@@ -86,7 +89,8 @@ module _ (s : Session) (c : Command) (i : Idle s) (writes : judgeCommandOf c ≡
   unfolding feedOf proceed
   header-first fs room =
       ap (λ (t : Stepped). proceed (t .reply) (t .session) (feedOf (t .session) fs))
-      (header-taken s (headerOf (lineOf c)) i room (lineOf c) (record { line = lined c .line-most; header = refl }))
+      (header-taken s (headerOf (lineOf c)) i room (lineOf c) (record { line = lined c .line-most; header = refl })
+      (owned-opens (s .party .birth .mine) c own))
 
   no-fields : {A : Type 0} → fieldsOf c ≡ [] → A
   no-fields e = absurd (omega (arith, ap length e, lined c .fields-count, count-least (lineOf c) (lined c .line-most)))
@@ -108,7 +112,7 @@ module _ (s : Session) (c : Command) (i : Idle s) (writes : judgeCommandOf c ≡
         go (q ∷ qs) e =
             header-first (q ∷ qs) (omega arith) ∙
             ap (onward [])
-            (rest s (i .unstopped) c all-allowed (s .party .taken + suc (length qs)) (omega (arith, ap length e)) qs q []
+            (rest s (i .unstopped) c all-allowed own (s .party .taken + suc (length qs)) (omega (arith, ap length e)) qs q []
             (s .party .taken + 1) (sym e) (omega arith) ∙
             ap (λ (t : Told). lastly (length qs) (judged t c (atWord s (s .party .taken + suc (length qs)) none))) told-start)
 
@@ -145,15 +149,15 @@ module _ (s : Session) (c : Command) (i : Idle s) (writes : judgeCommandOf c ≡
       go : (fs : List ℕ) → fieldsOf c ≡ fs → Tested (eqb (s .party .taken) limit) →
           feedOf s (headerOf (lineOf c) ∷ fs) ≡ fed (limit - s .party .taken) [] (first 17) (refusing (atWord s limit none) 17 .session)
       go fs e (holds t) =
-          full-piece s (i .unstopped) c all-allowed (s .party .taken) (s .party .opened) (headerOf (lineOf c)) fs (eqb-true _ _ t)
+          full-piece s (i .unstopped) c all-allowed own (s .party .taken) (s .party .opened) (headerOf (lineOf c)) fs (eqb-true _ _ t)
       go [] e (fails t) = no-fields e
       go (q ∷ qs) e (fails t) =
           let ne : s .party .taken ≡ limit → ⊥ = eqb-false (s .party .taken) limit t in
           let less : s .party .taken < limit = omega arith in
           header-first (q ∷ qs) less ∙
           ap (onward [])
-          (overfull s (i .unstopped) c all-allowed qs q [] (s .party .taken + 1) (sym e) (omega arith) (omega (arith, ap length e))) ∙
-          onward-full s (i .unstopped) c all-allowed (s .party .taken) less
+          (overfull s (i .unstopped) c all-allowed own qs q [] (s .party .taken + 1) (sym e) (omega arith) (omega (arith, ap length e))) ∙
+          onward-full s (i .unstopped) c all-allowed own (s .party .taken) less
 
   -- so every command that the writer accepts is read back, unless 7, 8, 9 or 17 refuse it
   pub read-as : s .party .taken ≤ limit → ReadAs s c (feedOf s (wordsOf c))

@@ -16,6 +16,7 @@ use Rattle.command.specs.declared.commands.Command.the-variants as command
 use Rattle.command.proofs.Headers.{Accepted, listed, place-of-line}
 use Rattle.rules.proofs.Judging.{Fault, three, four, fault}
 use Rattle.rules.proofs.Rule.{Ruled, fine, five, six, ruled}
+use Rattle.owners.specs.Owners.{mayOpen}
 use Rattle.state.specs.State.{Open, Session, none}
 use Rattle.state.specs.Start.{readyOf}
 use Rattle.state.specs.Effects.{limit}
@@ -23,7 +24,7 @@ use Rattle.session.specs.Step.{Reply, stillOpen, completed, refused, Ste
 use Rattle.session.specs.Step.{parameterStep, headerStep, stepOf}
 use Rattle.session.specs.Feed.{nothing, first, Fed, ended, proceed, feedOf}
 use Rattle.state.specs.Valid.{Valid}
-use Rattle.session.specs.Refusals.{StopNumber, low, full, RefusedTo, unchanged, stopping}
+use Rattle.session.specs.Refusals.{StopNumber, low, full, foreign, RefusedTo, unchanged, stopping}
 use Rattle.session.specs.Again.{Idle, holding}
 use Rattle.session.proofs.Ways.{goingOn}
 use Rattle.session.proofs.Kept.{kept}
@@ -102,14 +103,18 @@ module _ (s : Session) where
   by-parameter : (w : ℕ) → Told-so s (parameterStep s w)
   unfolding parameterStep placing completing
   by-parameter w =
-      by-pick (Told-so s) _ _ _ (λ a. by-pick (Told-so s) _ _ _ (λ b. opens-on _) (λ b. by-rules _ _ (ruled _)))
+      by-pick (Told-so s) _ _ _
+      (λ a.
+      by-pick (Told-so s) _ _ _ (λ m. by-pick (Told-so s) _ _ _ (λ b. opens-on _) (λ b. by-rules _ _ (ruled _))) (λ m. refuses-so foreign))
       (λ a. refuses-so (by-kind (fault _)))
 
   by-header : (w : ℕ) → Told-so s (headerStep s w)
   unfolding headerStep
-  by-header w = by-pick (Told-so s) _ _ _ (λ a. opens-on _) (λ a. refuses-so (low (omega arith) (omega arith)))
+  by-header w =
+      by-pick (Told-so s) _ _ _ (λ a. by-pick (Told-so s) _ _ _ (λ m. opens-on _) (λ m. refuses-so foreign))
+      (λ a. refuses-so (low (omega arith) (omega arith)))
 
-  -- a refused word: with 1 nothing at all has changed; with any of 2 to 9 and 17, and no other number comes, nothing but the stop
+  -- a refused word: with 1 nothing at all has changed; with any of 2 to 9, 17 and 20, and no other number comes, nothing but the stop
   -- and the dropped command
   pub refused-word : (w n : ℕ) → stepOf s w .reply ≡ refused n → RefusedTo s n (stepOf s w .session)
   unfolding stepOf
@@ -169,7 +174,7 @@ refused-piece s (w ∷ ws) n p =
 abbrev pub going : Session → Stepped
 going u = record { reply = stillOpen; session = u }
 
--- a header is accepted exactly when it stands in the table
+-- a header is accepted exactly when it stands in the table and sets nothing that is another's
 module _ (s : Session) (w : ℕ) (i : Idle s) (room : s .party .taken < limit) where
   at-header : stepOf s w ≡ headerStep s w
   unfolding stepOf
@@ -178,11 +183,19 @@ module _ (s : Session) (w : ℕ) (i : Idle s) (room : s .party .taken < limit) w
       pick-no _ _ (lt-leb limit (s .party .taken) room) ∙
       pick-yes _ _ (eq-eqb (s .party .opened .line) 21 (ap (λ (o : Open). o .line) (i .unopened)))
 
-  pub header-taken : (l : ℕ) → Accepted w l → stepOf s w ≡ going (goingOn (holding l []) s)
+  pub header-taken : (l : ℕ) → Accepted w l → mayOpen (s .party .birth .mine) l ≡ true → stepOf s w ≡ going (goingOn (holding l []) s)
   unfolding headerStep
-  header-taken l a =
-      at-header ∙ pick-yes _ _ (lt-ltb (placeOf w headers) 21 (rw place (a .line))) ∙
+  header-taken l a m =
+      at-header ∙ pick-yes _ _ (lt-ltb (placeOf w headers) 21 (rw place (a .line))) ∙ pick-yes _ _ (rw place m) ∙
       ap (λ (n : ℕ). going (goingOn (holding n []) s)) place
+    where
+      place : placeOf w headers ≡ l
+      place = sym (ap (λ (x : ℕ). placeOf x headers) (a .header)) ∙ place-of-line l (a .line)
+
+  pub header-foreign : (l : ℕ) → Accepted w l → mayOpen (s .party .birth .mine) l ≡ false → stepOf s w ≡ refusing s 20
+  unfolding headerStep
+  header-foreign l a m =
+      at-header ∙ pick-yes _ _ (lt-ltb (placeOf w headers) 21 (rw place (a .line))) ∙ pick-no _ _ (rw place m)
     where
       place : placeOf w headers ≡ l
       place = sym (ap (λ (x : ℕ). placeOf x headers) (a .header)) ∙ place-of-line l (a .line)

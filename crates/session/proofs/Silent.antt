@@ -27,6 +27,10 @@ use Rattle.command.specs.declared.commands.Stored.the-variants as stored
 use Rattle.command.specs.declared.commands.Command.{Command}
 use Rattle.command.specs.declared.commands.Command.the-variants as command
 use Rattle.start.proofs.Editions.{first-claim}
+use Rattle.owners.specs.Owners.{owned}
+use Rattle.state.specs.Seen.{seenOutputs}
+use Rattle.state.proofs.Seen.{seen-all}
+use Rattle.session.proofs.Refusals.{fed-valid}
 use Rattle.state.specs.State.{Buffer, Domain, Birth, Shared, Session, unset, none, newShared, newSession}
 use Rattle.state.specs.Start.{output, isSet, unmasked, silent, counts, containsDomain, apart, complete, covered, disjoint, readyOf, isEdition, creditAt, creditOf, pairsOf, claimOf}
 use Rattle.state.specs.Effects.{limit, buffer, ownAfter, sharedAfter, after}
@@ -36,6 +40,7 @@ use Rattle.session.specs.Feed.{nothing, Fed, proceed, feedOf}
 use Rattle.session.specs.Again.{Idle, fed, atWord}
 use Rattle.session.specs.Silent.{
   AllSilent,
+  seenBy,
   SilentSettings,
   startWords,
   EmptyRun,
@@ -89,7 +94,7 @@ module _ (mask : ℕ) (outputs : List Buffer) (a : AllSilent mask outputs) where
 -- "7 is as before, so a start with every output silent is a run of no elements": fed to a running session without an open command,
 -- where there is room for its two words
 module _ (s : Session) (i : Idle s) (room : s .party .taken + 2 ≤ limit) (q : SilentSettings s) where
-  complete-silent : complete (s .party .domain) (s .party .instructions) (s .shared .outputs) ≡ true
+  complete-silent : complete (s .party .domain) (s .party .instructions) (seenBy s) ≡ true
   unfolding complete
   complete-silent =
       and-intro (eq-eqb _ 1 (q .domain-set))
@@ -97,7 +102,7 @@ module _ (s : Session) (i : Idle s) (room : s .party .taken + 2 ≤ limit) (q : 
 
   start-passes : startRuleOf command.Start s ≡ gives []
   unfolding startRuleOf
-  start-passes = ready-silent (s .shared .mask) (s .shared .outputs) (q .all-silent) (s .party .domain) (s .party .instructions) complete-silent
+  start-passes = ready-silent (s .shared .mask) (seenBy s) (q .all-silent) (s .party .domain) (s .party .instructions) complete-silent
 
   start-writes : judgeCommandOf command.Start ≡ gives []
   unfolding judgeCommandOf fieldsUnrefused allUnrefused unrefused faultOf lineOf fieldsOf lastRuleOf domainKept windowKept pick _and_ allowed
@@ -106,7 +111,7 @@ module _ (s : Session) (i : Idle s) (room : s .party .taken + 2 ≤ limit) (q : 
   start-read : feedOf s startWords ≡
       fed 2 (command.Start ∷ []) nothing (atWord (after command.Start s) (s .party .taken + 2) none)
   unfolding wordsOf fieldsOf
-  start-read = reads-back s command.Start i start-writes room [] start-passes
+  start-read = reads-back s command.Start i start-writes (unfold owned in refl) room [] start-passes
 
   pub silent-start : EmptyRun s (feedOf s startWords)
   unfolding after ownAfter
@@ -117,7 +122,7 @@ module _ (s : Session) (i : Idle s) (room : s .party .taken + 2 ≤ limit) (q : 
         unrefused = refl;
         runs = refl;
         claims =
-            ap (λ (n : ℕ). s .party .tally .claims + n) (claim-silent (s .shared .mask) (s .shared .outputs) (q .all-silent) (s .party .birth .edition) (s .party .domain)) ∙
+            ap (λ (n : ℕ). s .party .tally .claims + n) (claim-silent (s .shared .mask) (seenBy s) (q .all-silent) (s .party .birth .edition) (s .party .domain)) ∙
             add-zero _;
       })
 
@@ -178,23 +183,23 @@ module _ (outputs : List Buffer) (size : length outputs ≡ 4) (a : Coded output
           let other : getD put n unset ≡ getD outputs n unset = getD-set-other outputs number n (buffer base format height) unset (eqb-false n number w) in
           subst (λ (b : Buffer). codeOf (b .format) ≤ 4) (sym other) (a .code-most n h (ap (λ (b : Buffer). eqb (b .isSet) 1) (sym other) ∙ e))
 
-coded-after : (c : Command) (h : Shared) → EachAllowed (lineOf c) (fieldsOf c) → length (h .outputs) ≡ 4 → Coded (h .outputs) →
-    Coded (sharedAfter c h .outputs)
+coded-after : (mine : ℕ) (c : Command) (h : Shared) → EachAllowed (lineOf c) (fieldsOf c) → length (h .outputs) ≡ 4 → Coded (h .outputs) →
+    Coded (sharedAfter mine c h .outputs)
 unfolding sharedAfter lineOf fieldsOf countOf kindOf allowed
-coded-after (command.Domain i0 j0 i1 j1) h f l a = a
-coded-after command.Start h f l a = a
-coded-after (command.Effectless what) h f l a = a
-coded-after (command.Store stored.Instructions base format) h f l a = a
-coded-after (command.Store stored.Floats base format) h f l a = a
-coded-after (command.Store stored.Integers base format) h f l a = a
-coded-after (command.Store stored.Booleans base format) h f l a = a
-coded-after (command.Input number base format height) h f l a = a
-coded-after (command.Output number base format height) h f l a =
+coded-after mine (command.Domain i0 j0 i1 j1) h f l a = a
+coded-after mine command.Start h f l a = a
+coded-after mine (command.Effectless what) h f l a = a
+coded-after mine (command.Store stored.Instructions base format) h f l a = a
+coded-after mine (command.Store stored.Floats base format) h f l a = a
+coded-after mine (command.Store stored.Integers base format) h f l a = a
+coded-after mine (command.Store stored.Booleans base format) h f l a = a
+coded-after mine (command.Input number base format height) h f l a = a
+coded-after mine (command.Output number base format height) h f l a =
     coded-set (h .outputs) l a number base format height (leb-true _ _ (f 0 (omega arith))) (allowed-code format (f 2 (omega arith)))
-coded-after (command.Conditional base format height) h f l a = a
-coded-after (command.OutputMask mask) h f l a = a
-coded-after (command.ConditionalMask mask) h f l a = a
-coded-after (command.Test test) h f l a = a
+coded-after mine (command.Conditional base format height) h f l a = a
+coded-after mine (command.OutputMask mask) h f l a = a
+coded-after mine (command.ConditionalMask mask) h f l a = a
+coded-after mine (command.Test test) h f l a = a
 
 -- so does a word, and a piece
 module _ (s : Session) (w : ℕ) (v : Valid s) (a : Coded (s .shared .outputs)) where
@@ -202,9 +207,9 @@ module _ (s : Session) (w : ℕ) (v : Valid s) (a : Coded (s .shared .outputs)) 
   unfolding after
   coded-way t (wasStopped e) = a
   coded-way t (stops n e) = a
-  coded-way t (opens r i k) = a
+  coded-way t (opens r i k m) = a
   coded-way t (fills p m) = a
-  coded-way t (ends p l c e u u' r q) = coded-after c (s .shared) (each-allowed s w v p l c e) (v .outputs) a
+  coded-way t (ends p l c e u u' r q) = coded-after (s .party .birth .mine) c (s .shared) (each-allowed s w v p l c e) (v .outputs) a
 
 coded-proceed : (t : Stepped) (f : Fed) → Coded (t .session .shared .outputs) → Coded (f .session .shared .outputs) →
     Coded (proceed (t .reply) (t .session) f .session .shared .outputs)
@@ -239,11 +244,15 @@ as-before ws e =
     let s : Session = feedOf (newSession 1) ws .session in
     let known : isEdition 1 ≡ true = unfold isEdition pick in refl in
     let a : Coded (s .shared .outputs) = coded-fed (newSession 1) ws (new-valid 1 known) none-set in
+    let all : seenBy s ≡ s .shared .outputs =
+    ap (λ (b : Birth). seenOutputs (b .mine) (s .shared .outputs)) (born (newSession 1) ws) ∙
+    seen-all (s .shared .outputs) (fed-valid (newSession 1) ws (new-valid 1 known) .outputs)
+    in
     record {
       judged-so =
-          ap (λ (m : ℕ). readyOf (s .party .domain) (s .party .instructions) m (s .shared .outputs)) e ∙
+          (λ j. readyOf (s .party .domain) (s .party .instructions) (e j) (all j)) ∙
           ready-in-full (s .shared .outputs) a (s .party .domain) (s .party .instructions);
       claims-so =
-          ap (λ (b : Birth). claimOf (b .edition) (s .party .domain) (s .shared .mask) (s .shared .outputs)) (born (newSession 1) ws) ∙
-          ap (λ (m : ℕ). claimOf 1 (s .party .domain) m (s .shared .outputs)) e ∙ claim-in-full (s .shared .outputs) a (s .party .domain);
+          (λ j. claimOf (born (newSession 1) ws j .edition) (s .party .domain) (e j) (all j)) ∙
+          claim-in-full (s .shared .outputs) a (s .party .domain);
     }

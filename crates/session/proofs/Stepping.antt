@@ -16,33 +16,35 @@ use Rattle.rules.specs.Rules.{lastRuleOf}
 use Rattle.command.specs.declared.commands.Command.{Command}
 use Rattle.command.specs.declared.commands.Command.the-variants as command
 use Rattle.command.proofs.Headers.{count-most}
+use Rattle.owners.specs.Owners.{owned}
+use Rattle.state.specs.Seen.{seenOutputs}
 use Rattle.state.specs.State.{Open, Party, Shared, Session, none}
 use Rattle.state.specs.Start.{readyOf}
 use Rattle.state.specs.Effects.{limit, opening, took, stop, withParameter, after}
 use Rattle.session.specs.Step.{Reply, stillOpen, completed, refused, Stepped, refusing, startRuleOf, judged, completing, placing, stepOf}
 use Rattle.state.specs.Valid.{parametersOf, OpenValid, Valid}
 use Rattle.state.specs.Asked.{Held, OwnAsked, Given}
-use Rattle.session.specs.Asked.{Left, CompleteAsked, ParameterAsked}
+use Rattle.session.specs.Asked.{Left, CompleteAsked, ParameterAsked, wholeOf}
 use Rattle.state.specs.Cells.{Sized, partyOf, partyCells, tallyCells, sharedOf, sharedCells, sessionOf, ownLength}
 use Rattle.state.proofs.Cells.{own-canon, tally-canon, shared-canon}
-use Rattle.session.proofs.Kept.{allowed-more}
+use Rattle.session.proofs.Kept.{allowed-more, named-first, open-owned}
 use Rattle.session.proofs.Ways.{whole}
 
 -- the start's rule reads the domain, the instructions, the mask and the outputs alone
 start-rule-same : (c : Command) (p q : Party) (h : Shared) → p .domain ≡ q .domain → p .instructions ≡ q .instructions →
+    p .birth ≡ q .birth →
     startRuleOf c (record { party = p; shared = h }) ≡ startRuleOf c (record { party = q; shared = h })
 unfolding startRuleOf
-start-rule-same (command.Domain i0 j0 i1 j1) p q h d i = refl
-start-rule-same command.Start p q h d i = ap (λ x. readyOf x (p .instructions) (h .mask) (h .outputs)) d
-    ∙ ap (λ x. readyOf (q .domain) x (h .mask) (h .outputs)) i
-start-rule-same (command.Effectless what) p q h d i = refl
-start-rule-same (command.Store what base format) p q h d i = refl
-start-rule-same (command.Input number base format height) p q h d i = refl
-start-rule-same (command.Output number base format height) p q h d i = refl
-start-rule-same (command.Conditional base format height) p q h d i = refl
-start-rule-same (command.OutputMask mask) p q h d i = refl
-start-rule-same (command.ConditionalMask mask) p q h d i = refl
-start-rule-same (command.Test test) p q h d i = refl
+start-rule-same (command.Domain i0 j0 i1 j1) p q h d i b = refl
+start-rule-same command.Start p q h d i b = λ k. readyOf (d k) (i k) (h .mask) (seenOutputs (b k .mine) (h .outputs))
+start-rule-same (command.Effectless what) p q h d i b = refl
+start-rule-same (command.Store what base format) p q h d i b = refl
+start-rule-same (command.Input number base format height) p q h d i b = refl
+start-rule-same (command.Output number base format height) p q h d i b = refl
+start-rule-same (command.Conditional base format height) p q h d i b = refl
+start-rule-same (command.OutputMask mask) p q h d i b = refl
+start-rule-same (command.ConditionalMask mask) p q h d i b = refl
+start-rule-same (command.Test test) p q h d i b = refl
 
 -- a refused word's cells: the session is stopped and its open command dropped, all else stands
 pub refusing-left : (l t s : List ℕ) → Sized l t s → (n : ℕ) (l1 : List ℕ) → l1 ≡ partyCells (stop (partyOf l [])) →
@@ -96,7 +98,7 @@ completing-same : (o p : Open) (s : Session) → completing o (reopened p s) ≡
 unfolding completing reopened
 completing-same o p s =
     ap (λ (r : Told). judged (thenTold (lastRuleOf (whole o)) r) (whole o) (reopened p s))
-    (start-rule-same (whole o) (opening p (s .party)) (s .party) (s .shared) refl refl) ∙
+    (start-rule-same (whole o) (opening p (s .party)) (s .party) (s .shared) refl refl refl) ∙
     judged-same _ (whole o) p s
 
 -- a parameter that its kind allows
@@ -153,6 +155,14 @@ module _ (l t s : List ℕ) (w : ℕ) (a : ParameterAsked l t s w) where
     all-passed k j h =
         allowed-more (partyOf l t .opened) w count-lt open-valid (a .kindAllows) j (omega (arith, h, k))
 
+    next-owned : owned (partyOf l t .birth .mine) (wholeOf next) ≡ true
+    unfolding partyOf
+    next-owned =
+        let open-of = a .given .valid .owned (a .line) in
+        open-owned (partyOf l t .birth .mine) (withParameter (partyOf l t .opened) w) (a .line)
+        (record { line = open-of .line; number = λ h. named-first (partyOf l t .birth .mine) (partyOf l t .opened) w (open-of .number) (a .named) })
+        (omega arith)
+
     pub complete-asked : countOf (getD l 2 0) ≤ getD l 3 0 + 1 → CompleteAsked l1 t s
     complete-asked k =
         record {
@@ -173,6 +183,7 @@ module _ (l t s : List ℕ) (w : ℕ) (a : ParameterAsked l t s w) where
           line = rw is-next (unfold partyOf in a .line);
           passed =
               subst (λ (o : Open). EachAllowed (o .line) (parametersOf o)) (sym (ap (λ (p : Party). p .opened) is-next)) (all-passed k);
+          owner = subst (λ (p : Party). owned (p .birth .mine) (wholeOf (p .opened)) ≡ true) (sym is-next) next-owned;
         }
 
     is-open : partyOf l1 [] .opened ≡ next

@@ -17,6 +17,8 @@ use Rattle.command.specs.declared.commands.Stored.the-variants as stored
 use Rattle.command.specs.declared.commands.Command.{Command}
 use Rattle.command.specs.declared.commands.Command.the-variants as command
 use Rattle.start.proofs.Readiness.{readiness-answer}
+use Rattle.owners.specs.Owners.{mayOpen, mayName}
+use Rattle.state.specs.Seen.{seenOutputs}
 use Rattle.state.specs.State.{Open, Readiness, Session, atLine}
 use Rattle.state.specs.Start.{readyOf, readinessOf}
 use Rattle.state.specs.Readiness.{workedOut, readinessFor}
@@ -33,7 +35,8 @@ module _ (s : Session) (r : Reached s) where
   stored-kept = reached-valid r .readiness
 
   pub stored-number :
-      s .party .readiness .number ≡ readinessOf (s .party .domain) (s .party .instructions) (s .shared .mask) (s .shared .outputs)
+      s .party .readiness .number ≡
+      readinessOf (s .party .domain) (s .party .instructions) (s .shared .mask) (seenOutputs (s .party .birth .mine) (s .shared .outputs))
   unfolding workedOut
   stored-number = ap (λ (k : Readiness). k .number) stored-kept
 
@@ -41,7 +44,7 @@ module _ (s : Session) (r : Reached s) where
   pub start-reads : startRuleOf command.Start s ≡ toldBy (s .party .readiness .number)
   unfolding startRuleOf toldBy
   start-reads =
-      readiness-answer (s .party .domain) (s .party .instructions) (s .shared .mask) (s .shared .outputs) ∙
+      readiness-answer (s .party .domain) (s .party .instructions) (s .shared .mask) (seenOutputs (s .party .birth .mine) (s .shared .outputs)) ∙
       ap (λ (n : ℕ). pick (eqb n 0) (gives []) (refuses n)) (sym stored-number)
 
 -- what a step leaves, with what is kept of readiness set aside
@@ -118,13 +121,17 @@ parameter-aside : (s : Session) (w : ℕ) → asideOf (parameterStep (forgotten 
 unfolding parameterStep
 parameter-aside s w =
     let o = s .party .opened in
-    either-way (allowed (kindOf (o .line) (o .count)) w) _ _ _ _ (placing-aside (withParameter o w) s)
+    either-way (allowed (kindOf (o .line) (o .count)) w) _ _ _ _
+    (either-way (mayName (s .party .birth .mine) (kindOf (o .line) (o .count)) w) _ _ _ _ (placing-aside (withParameter o w) s)
+    (refusing-aside s 20))
     (refusing-aside s (faultOf (kindOf (o .line) (o .count))))
 
 header-aside : (s : Session) (w : ℕ) → asideOf (headerStep (forgotten s) w) ≡ asideOf (headerStep s w)
 unfolding headerStep
 header-aside s w =
-    either-way (ltb (placeOf w headers) (length headers)) _ _ _ _ (open-aside (atLine (placeOf w headers)) s) (refusing-aside s 2)
+    either-way (ltb (placeOf w headers) (length headers)) _ _ _ _
+    (either-way (mayOpen (s .party .birth .mine) (placeOf w headers)) _ _ _ _ (open-aside (atLine (placeOf w headers)) s) (refusing-aside s 20))
+    (refusing-aside s 2)
 
 step-aside : (s : Session) (w : ℕ) → asideOf (stepOf (forgotten s) w) ≡ asideOf (stepOf s w)
 unfolding stepOf

@@ -7,25 +7,26 @@ use native.Mathlib.Omega.{arith}
 use lib.Dec.{eqb, leb, ltb}
 use lib.ListN.{length, getD, replicate, set}
 use borrow.Author.Tests.{eq-eqb, ne-eqb, le-leb, lt-leb, lt-ltb}
-use Rattle.laws.specs.Choice.{pick, placeOf}
+use Rattle.laws.specs.Choice.{_and_, pick, placeOf}
 use Rattle.laws.specs.Masks.{digit}
-use Rattle.laws.proofs.Choice.{pick-yes, pick-no, Tested, tested, holds, fails}
+use Rattle.laws.proofs.Choice.{pick-yes, pick-no, and-left, and-right, Tested, tested, holds, fails}
 use Rattle.refusal.specs.Told.{Told, gives, refuses}
 use Rattle.refusal.specs.Crossing.{statusOf}
 use Rattle.command.specs.Table.{headers, lineWith}
 use Rattle.command.specs.Kinds.{allowed, faultOf, kindOf}
-use Rattle.command.specs.declared.kinds.Kind.{Kind}
 use Rattle.command.proofs.Headers.{count-most}
-use Rattle.state.specs.State.{Open, Party, Session, atLine, none, newSession}
+use Rattle.owners.specs.Owners.{faultAt, mayName, mayOpen}
+use Rattle.state.specs.State.{Open, Party, Session, atLine, none, newShared, newPartyOf, newParty, newSession}
 use Rattle.state.specs.Start.{isEdition, editionTold}
 use Rattle.state.specs.Effects.{limit, opening, took, stop, withParameter}
 use Rattle.session.specs.Step.{stillOpen, refused, Stepped, refusing, placing, parameterStep, headerStep, stepOf}
 use Rattle.state.specs.Valid.{Valid}
-use Rattle.state.specs.Asked.{Held, Given}
+use Rattle.state.specs.Asked.{Held, HeldOwn, Given}
 use Rattle.session.specs.Asked.{Left, Read, OpenAsked, ParameterAsked}
 use Rattle.session.specs.Answers.{Begins}
 use Rattle.state.specs.Cells.{Sized, partyOf, partyCells, tallyCells, sharedOf, sharedCells, sessionOf, ownLength}
 use Rattle.state.proofs.Cells.{own-canon, tally-canon, shared-canon}
+use Rattle.session.proofs.Numbers.{numbered, read-answered, fault-number}
 use Rattle.session.proofs.Stepping.{refusing-left}
 
 told-apart : {v : List ℕ} {n : ℕ} → gives v ≡ refuses n → ⊥
@@ -44,24 +45,49 @@ module _ (l t s : List ℕ) (w : ℕ) (a : OpenAsked l t s) where
   unfolding partyOf
   kind-asked = (a .line, count-lt)
 
-  module _ (r : Bool) (e : r ≡ allowed (kindOf (getD l 2 0) (getD l 3 0)) w) where
-    pub kind-refused : r ≡ false → (k : Kind) → k ≡ kindOf (getD l 2 0) (getD l 3 0) → (n : ℕ) → n ≡ faultOf k → (l1 : List ℕ) →
-        l1 ≡ partyCells (stop (partyOf l [])) → Left (parameterStep so w) (refused n) l1 t s
-    unfolding parameterStep partyOf
-    kind-refused fails-it k at n f l1 q =
-        subst (λ (x : Stepped). Left x (refused n) l1 t s)
-        (ap (refusing so) (f ∙ ap faultOf at) ∙ sym (pick-no _ _ (sym e ∙ fails-it)))
-        (refusing-left l t s (a .given .sized) n l1 q)
+  -- its kind doesn't allow it, or it names what isn't one's own
+  kind-refused : (n : ℕ) → (allowed (kindOf (getD l 2 0) (getD l 3 0)) w and mayName (getD l 17 0) (kindOf (getD l 2 0) (getD l 3 0)) w) ≡ false →
+      n ≡ faultAt (kindOf (getD l 2 0) (getD l 3 0)) w → (l1 : List ℕ) → l1 ≡ partyCells (stop (partyOf l [])) →
+      Left (parameterStep so w) (refused n) l1 t s
+  unfolding parameterStep faultAt partyOf
+  kind-refused n bad f l1 q =
+      subst (λ (x : Stepped). Left x (refused n) l1 t s)
+      (ap (refusing so) f ∙ sym (by-fault (allowed (kindOf (getD l 2 0) (getD l 3 0)) w) (mayName (getD l 17 0) (kindOf (getD l 2 0) (getD l 3 0)) w) bad
+      (placing (withParameter (so .party .opened) w) so) (faultOf (kindOf (getD l 2 0) (getD l 3 0)))))
+      (refusing-left l t s (a .given .sized) n l1 q)
+    where
+      by-fault : (x y : Bool) → (x and y) ≡ false → (u : Stepped) (m : ℕ) →
+          pick x (pick y u (refusing so 20)) (refusing so m) ≡ refusing so (pick x 20 m)
+      by-fault true true e u m = absurd (let z : _≡_ {A = ℕ} 0 1 = unfold _and_ in cc in omega arith)
+      by-fault true false e u m = unfold pick in refl
+      by-fault false y e u m = unfold pick in refl
+
+  module _ (r : Bool) (e : r ≡ (allowed (kindOf (getD l 2 0) (getD l 3 0)) w and mayName (getD l 17 0) (kindOf (getD l 2 0) (getD l 3 0)) w)) where
+    pub not-taken : r ≡ false → (n : ℕ) →
+        ((mine : ℕ) → (allowed (kindOf (getD l 2 0) (getD l 3 0)) w and mayName mine (kindOf (getD l 2 0) (getD l 3 0)) w) ≡ false →
+        n ≡ faultAt (kindOf (getD l 2 0) (getD l 3 0)) w) →
+        (l1 : List ℕ) → l1 ≡ partyCells (stop (partyOf l [])) → Read (parameterStep so w) n l1 t s
+    not-taken bad n f l1 q =
+        let cause = f (getD l 17 0) (sym e ∙ bad) in
+        read-answered (λ k. fault-number (kindOf (getD l 2 0) (getD l 3 0)) w (sym cause ∙ k)) (numbered (kind-refused n (sym e ∙ bad) cause l1 q))
 
     module _ (passes : r ≡ true) where
       pub parameter-asked : ParameterAsked l t s w
       parameter-asked =
-          record { given = a .given; taken = a .taken; line = a .line; kindAllows = unfold partyOf in (sym e ∙ passes) }
+          record {
+            given = a .given;
+            taken = a .taken;
+            line = a .line;
+            kindAllows = unfold partyOf in and-left _ _ (sym e ∙ passes);
+            named = unfold partyOf in and-right _ _ (sym e ∙ passes);
+          }
 
       pub kind-passed : (n : ℕ) (l1 : List ℕ) → Read (placing (withParameter (partyOf l [] .opened) w) so) n l1 t s →
           Read (parameterStep so w) n l1 t s
       unfolding parameterStep partyOf
-      kind-passed n l1 h = subst (λ (x : Stepped). Read x n l1 t s) (sym (pick-yes _ _ (sym e ∙ passes))) h
+      kind-passed n l1 h =
+          subst (λ (x : Stepped). Read x n l1 t s)
+          (sym (pick-yes _ _ (and-left _ _ (sym e ∙ passes)) ∙ pick-yes _ _ (and-right _ _ (sym e ∙ passes)))) h
 
 -- a word
 module _ (l t s : List ℕ) (w : ℕ) (g : Given l t s) where
@@ -117,6 +143,15 @@ module _ (l t s : List ℕ) (w : ℕ) (g : Given l t s) where
         unfolding partyOf
         line-asked = (g .sized .own-length, (k, none-open))
 
+        one-line : {x y : ℕ} → gives (x ∷ []) ≡ gives (y ∷ []) → x ≡ y
+        one-line h = cc
+
+        known : (n : ℕ) → lineWith w ≡ gives (n ∷ []) → Tested (ltb (placeOf w headers) (length headers)) →
+            (ltb (placeOf w headers) (length headers) ≡ true) × (placeOf w headers ≡ n)
+        unfolding lineWith
+        known n r (holds x) = (x, one-line (sym (pick-yes _ _ x) ∙ r))
+        known n r (fails x) = absurd (told-apart (sym r ∙ pick-no _ _ x))
+
         pub word-unknown : lineWith w ≡ refuses 2 → (l1 : List ℕ) → l1 ≡ partyCells (stop (partyOf l [])) →
             Left (stepOf sg w) (refused 2) l1 t s
         unfolding headerStep lineWith
@@ -128,38 +163,46 @@ module _ (l t s : List ℕ) (w : ℕ) (g : Given l t s) where
             unknown (holds x) = absurd (told-apart (sym (pick-yes _ _ x) ∙ r))
             unknown (fails x) = x
 
-        pub word-header : (n : ℕ) → lineWith w ≡ gives (n ∷ []) → (l1 : List ℕ) →
+        pub word-foreign : (n : ℕ) → lineWith w ≡ gives (n ∷ []) → mayOpen (getD l 17 0) n ≡ false → (l1 : List ℕ) →
+            l1 ≡ partyCells (stop (partyOf l [])) → Left (stepOf sg w) (refused 20) l1 t s
+        unfolding headerStep partyOf
+        word-foreign n r m l1 q =
+            subst (λ (x : Stepped). Left x (refused 20) l1 t s)
+            (sym (header ∙ pick-yes _ _ (known n r (tested _) .0) ∙ pick-no _ _ (ap (mayOpen (getD l 17 0)) (known n r (tested _) .1) ∙ m)))
+            (refusing-left l t s (g .sized) 20 l1 q)
+
+        pub word-header : (n : ℕ) → lineWith w ≡ gives (n ∷ []) → mayOpen (getD l 17 0) n ≡ true → (l1 : List ℕ) →
             l1 ≡ partyCells (took (opening (atLine n) (partyOf l []))) → Left (stepOf sg w) stillOpen l1 t s
-        unfolding headerStep lineWith
-        word-header n r l1 q =
-            subst (λ (x : Stepped). Left x stillOpen l1 t s) (sym (header ∙ pick-yes _ _ (known (tested _) .0)))
+        unfolding headerStep partyOf
+        word-header n r m l1 q =
+            subst (λ (x : Stepped). Left x stillOpen l1 t s)
+            (sym (header ∙ pick-yes _ _ (known n r (tested _) .0) ∙ pick-yes _ _ (ap (mayOpen (getD l 17 0)) (known n r (tested _) .1) ∙ m)))
             (record {
               reply = refl;
               held =
                   record {
                     own-cells =
                         unfold partyOf partyCells in
-                        (q ∙ ap (λ (m : ℕ). partyCells (took (opening (atLine m) (partyOf l t)))) (sym (known (tested _) .1)));
+                        (q ∙ ap (λ (m : ℕ). partyCells (took (opening (atLine m) (partyOf l t)))) (sym (known n r (tested _) .1)));
                     tally-cells = unfold partyOf tallyCells in sym (tally-canon l t (g .sized .tallies-length));
                     shared-cells = sym (shared-canon s (g .sized .shared-length));
                   };
             })
-          where
-            one-line : {x y : ℕ} → gives (x ∷ []) ≡ gives (y ∷ []) → x ≡ y
-            one-line h = cc
 
-            known : Tested (ltb (placeOf w headers) (length headers)) →
-                (ltb (placeOf w headers) (length headers) ≡ true) × (placeOf w headers ≡ n)
-            known (holds x) = (x, one-line (sym (pick-yes _ _ x) ∙ r))
-            known (fails x) = absurd (told-apart (sym r ∙ pick-no _ _ x))
+-- a new party's cells, and new settings'
+pub party-begun :
+    (mine edition : ℕ) →
+    HeldOwn (newPartyOf mine edition)
+    (set (set (set (set (set (set (set (replicate ownLength 0) 17 mine) 18 edition) 2 21) 19 7) 21 4096) 22 4096) 23 1) (replicate 2 0)
+unfolding partyCells tallyCells
+party-begun mine edition = record { own-cells = refl; tally-cells = refl }
 
--- a new session's cells
-pub begun :
-    (edition : ℕ) →
-    Held (newSession edition) (set (set (set (set (set (set (replicate ownLength 0) 18 edition) 2 21) 19 7) 21 4096) 22 4096) 23 1)
-    (replicate 2 0) (set (replicate 101 0) 0 65535)
-unfolding partyCells tallyCells sharedCells
-begun edition = record { own-cells = refl; tally-cells = refl; shared-cells = refl }
+pub settings-begun : set (replicate 101 0) 0 65535 ≡ sharedCells newShared
+unfolding sharedCells
+settings-begun = refl
+
+pub begun : (edition : ℕ) {l t s : List ℕ} → HeldOwn (newParty edition) l t → s ≡ sharedCells newShared → Held (newSession edition) l t s
+begun edition h e = record { own-cells = h .own-cells; tally-cells = h .tally-cells; shared-cells = e }
 
 yes-no : true ≡ false → ⊥
 unfolding digit

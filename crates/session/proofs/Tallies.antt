@@ -18,14 +18,14 @@ use Rattle.session.proofs.Ways.{Way, wasStopped, stops, opens, fills, e
 -- the tallies of a later session, from those of an earlier one and the commands between them
 pub record Tallied (s : Session) (cs : List Command) (u : Session) : Type 0 where
   pub runs : u .party .tally .runs ≡ s .party .tally .runs + runsOf cs
-  pub claims : u .party .tally .claims ≡ s .party .tally .claims + claimsOf (s .party .birth .edition) cs (s .party .domain) (s .shared .mask) (s .shared .outputs)
+  pub claims : u .party .tally .claims ≡ s .party .tally .claims + claimsOf (s .party .birth) cs (s .party .domain) (s .shared .mask) (s .shared .outputs)
 
 -- one command between them
 record One (s : Session) (c : Command) (u : Session) : Type 0 where
   runs : u .party .tally .runs ≡ s .party .tally .runs + runOf c
-  claims : u .party .tally .claims ≡ s .party .tally .claims + claimBy (s .party .birth .edition) c (s .party .domain) (s .shared .mask) (s .shared .outputs)
+  claims : u .party .tally .claims ≡ s .party .tally .claims + claimBy (s .party .birth) c (s .party .domain) (s .shared .mask) (s .shared .outputs)
   domain : u .party .domain ≡ domainAfter c (s .party .domain)
-  mask : u .shared .mask ≡ maskAfter c (s .shared .mask)
+  mask : u .shared .mask ≡ maskAfter (s .party .birth) c (s .shared .mask)
   outputs : u .shared .outputs ≡ outputsAfter c (s .shared .outputs)
   birth : u .party .birth ≡ s .party .birth
   count : u .party .taken ≡ s .party .taken + 1
@@ -72,24 +72,24 @@ data Moved (s : Session) : Stepped → Type 0 where
 moved : (s : Session) (w : ℕ) {t : Stepped} → Way s w t → Moved s t
 moved s w (wasStopped e) = off 1 s (record { runs = refl; claims = refl; domain = refl; mask = refl; outputs = refl; birth = refl; count = sym (add-zero _) })
 moved s w (stops n e) = off n _ (record { runs = refl; claims = refl; domain = refl; mask = refl; outputs = refl; birth = refl; count = sym (add-zero _) })
-moved s w (opens r i k) = on _ (record { runs = refl; claims = refl; domain = refl; mask = refl; outputs = refl; birth = refl; count = refl })
+moved s w (opens r i k m) = on _ (record { runs = refl; claims = refl; domain = refl; mask = refl; outputs = refl; birth = refl; count = refl })
 moved s w (fills p m) = on _ (record { runs = refl; claims = refl; domain = refl; mask = refl; outputs = refl; birth = refl; count = refl })
 moved s w (ends p l c e u v r q) = whole c _ (one s c)
 
 module _ (s u : Session) (cs : List Command) (f : Session) (r : Tallied u cs f) where
   after-none : (n : ℕ) → None s n u → Tallied s cs f
   after-none n e =
-      let k : claimsOf (u .party .birth .edition) cs (u .party .domain) (u .shared .mask) (u .shared .outputs)
-      ≡ claimsOf (s .party .birth .edition) cs (s .party .domain) (s .shared .mask) (s .shared .outputs) = λ j. claimsOf (e .birth j .edition) cs (e .domain j) (e .mask j) (e .outputs j) in
+      let k : claimsOf (u .party .birth) cs (u .party .domain) (u .shared .mask) (u .shared .outputs)
+      ≡ claimsOf (s .party .birth) cs (s .party .domain) (s .shared .mask) (s .shared .outputs) = λ j. claimsOf (e .birth j) cs (e .domain j) (e .mask j) (e .outputs j) in
       record { runs = omega (arith, r .runs, e .runs); claims = omega (arith, r .claims, e .claims) }
 
   after-one : (c : Command) → One s c u → Tallied s (c ∷ cs) f
   unfolding runsOf claimsOf
   after-one c e =
       let k :
-      claimsOf (u .party .birth .edition) cs (u .party .domain) (u .shared .mask) (u .shared .outputs) ≡
-      claimsOf (s .party .birth .edition) cs (domainAfter c (s .party .domain)) (maskAfter c (s .shared .mask)) (outputsAfter c (s .shared .outputs))
-      = λ j. claimsOf (e .birth j .edition) cs (e .domain j) (e .mask j) (e .outputs j)
+      claimsOf (u .party .birth) cs (u .party .domain) (u .shared .mask) (u .shared .outputs) ≡
+      claimsOf (s .party .birth) cs (domainAfter c (s .party .domain)) (maskAfter (s .party .birth) c (s .shared .mask)) (outputsAfter c (s .shared .outputs))
+      = λ j. claimsOf (e .birth j) cs (e .domain j) (e .mask j) (e .outputs j)
       in
       record { runs = omega (arith, r .runs, e .runs); claims = omega (arith, r .claims, e .claims) }
 
@@ -117,7 +117,7 @@ module _ (edition : ℕ) (ws : List ℕ) where
 
   pub all-claims :
       feedOf (newSession edition) ws .session .party .tally .claims ≡
-      claimsOf edition (feedOf (newSession edition) ws .commands) (newSession edition .party .domain)
+      claimsOf (newSession edition .party .birth) (feedOf (newSession edition) ws .commands) (newSession edition .party .domain)
       (newSession edition .shared .mask) (newSession edition .shared .outputs)
   all-claims = tallied (newSession edition) ws .claims ∙ zero-add _
 

@@ -14,6 +14,7 @@ use Rattle.command.specs.Kinds.{allowed, faultOf, kindOf}
 use Rattle.command.specs.Commands.{commandOf}
 use Rattle.rules.specs.Rules.{lastRuleOf}
 use Rattle.command.specs.declared.commands.Command.{Command}
+use Rattle.owners.specs.Owners.{mayOpen, mayName}
 use Rattle.state.specs.State.{Open, Party, Shared, Session, none}
 use Rattle.state.specs.Effects.{limit, opening, took, stop, withParameter, after}
 use Rattle.session.specs.Step.{Reply, stillOpen, completed, refused, Stepped, refusing, startRuleOf, judged, completing, placing}
@@ -36,20 +37,21 @@ pub record Running (s : Session) : Type 0 where
   pub unstopped : eqb (s .party .stopped) 1 ≡ false
   pub unfilled : leb limit (s .party .taken) ≡ false
 
--- a parameter that its kind allows, with `o` the open command before it
+-- a parameter that its kind allows and that names nothing but one's own, with `o` the open command before it
 pub record Placed (s : Session) (w : ℕ) : Type 0 where
   pub running : Running s
   pub isOpen : eqb (s .party .opened .line) 21 ≡ false
   pub kindAllows : allowed (kindOf (s .party .opened .line) (s .party .opened .count)) w ≡ true
+  pub named : mayName (s .party .birth .mine) (kindOf (s .party .opened .line) (s .party .opened .count)) w ≡ true
 
 pub data Way (s : Session) (w : ℕ) : Stepped → Type 0 where
   -- 1
   wasStopped : eqb (s .party .stopped) 1 ≡ true → Way s w (record { reply = refused 1; session = s })
-  -- 2 to 9 and 17
+  -- 2 to 9, 17 and 20
   stops : (n : ℕ) → eqb (s .party .stopped) 1 ≡ false → Way s w (refusing s n)
   -- a header
   opens : Running s → eqb (s .party .opened .line) 21 ≡ true → ltb (placeOf w headers) (length headers) ≡ true →
-      Way s w (record { reply = stillOpen; session = goingOn (begun w) s })
+      mayOpen (s .party .birth .mine) (placeOf w headers) ≡ true → Way s w (record { reply = stillOpen; session = goingOn (begun w) s })
   -- a parameter that isn't the last
   fills : Placed s w → ltb (withParameter (s .party .opened) w .count) (countOf (s .party .opened .line)) ≡ true →
       Way s w (record { reply = stillOpen; session = goingOn (withParameter (s .party .opened) w) s })
@@ -90,13 +92,17 @@ module _ (s : Session) (w : ℕ) where
   parameter-way r i =
       by-pick (Way s w) _ _ _
       (λ a.
-      let p : Placed s w = record { running = r; isOpen = i; kindAllows = a } in
+      by-pick (Way s w) _ _ _
+      (λ m.
+      let p : Placed s w = record { running = r; isOpen = i; kindAllows = a; named = m } in
       by-pick (Way s w) _ _ _ (λ more. fills p more) (λ last. judged-way p last (whole o) refl (case _) (case _)))
+      (λ m. stops 20 (r .unstopped)))
       (λ a. stops _ (r .unstopped))
 
   header-way : Running s → eqb (s .party .opened .line) 21 ≡ true → Way s w (headerStep s w)
   unfolding headerStep
-  header-way r i = by-pick (Way s w) _ _ _ (λ k. opens r i k) (λ k. stops 2 (r .unstopped))
+  header-way r i =
+      by-pick (Way s w) _ _ _ (λ k. by-pick (Way s w) _ _ _ (λ m. opens r i k m) (λ m. stops 20 (r .unstopped))) (λ k. stops 2 (r .unstopped))
 
   pub way : Way s w (stepOf s w)
   unfolding stepOf

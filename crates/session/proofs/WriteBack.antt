@@ -80,7 +80,7 @@ module _ (s : Session) (w : ℕ) (v : Valid s) where
   unfolding accepts emitted
   taken-way t (wasStopped e) a = no-answer a
   taken-way t (stops n e) a = no-answer a
-  taken-way t (opens r i k) a = ap (λ (l : List ℕ). l ++ (w ∷ [])) (none-held (s .party .opened) i) ∙ sym after-header
+  taken-way t (opens r i k m) a = ap (λ (l : List ℕ). l ++ (w ∷ [])) (none-held (s .party .opened) i) ∙ sym after-header
     where
       not-none : {n : ℕ} → n ≡ 21 → n < 21 → ⊥
       not-none e h = omega arith

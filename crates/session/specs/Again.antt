@@ -38,11 +38,12 @@ pub data ReadAs (s : Session) (c : Command) : Fed → Type 0 where
       limit < s .party .taken + length (wordsOf c) →
       ReadAs s c (fed (limit - s .party .taken) [] (first 17) (refusing (atWord s limit none) 17 .session))
 
--- "the settings they first met": the same settings in two sessions
+-- "the settings they first met": the same settings in two sessions, of parties that own the same
 pub record SameSettings (s u : Session) : Type 0 where
   pub domain : s .party .domain ≡ u .party .domain
   pub instructions : s .party .instructions ≡ u .party .instructions
   pub shared : s .shared ≡ u .shared
+  pub mine : s .party .birth .mine ≡ u .party .birth .mine
 
 -- commands whose words are read again to the same commands and the same settings: `t` is the session that they left first, `f` the
 -- answer to their words

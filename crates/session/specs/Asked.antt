@@ -7,7 +7,10 @@ use lib.Dec.{eqb}
 use lib.ListN.{length}
 use Rattle.laws.specs.Choice.{pick}
 use Rattle.command.specs.Kinds.{allowed, kindOf}
-use Rattle.command.specs.Commands.{EachAllowed}
+use Rattle.command.specs.Commands.{EachAllowed, commandOf}
+use Rattle.command.specs.declared.commands.Command.{Command}
+use Rattle.owners.specs.Owners.{mayName, owned}
+use Rattle.state.specs.State.{Open}
 use Rattle.state.specs.Effects.{limit}
 use Rattle.session.specs.Step.{Reply, Stepped, stillOpen, completed, refused, completing}
 use Rattle.state.specs.Valid.{parametersOf}
@@ -45,12 +48,17 @@ pub record RefusalAsked (own : List ℕ) (line : ℕ) : Type 0 where
   pub own-length : length own ≡ ownLength
   pub unready : line ≡ 1 → IsNumber (storedIn own)
 
--- an open command with all its parameters, in a session that takes words
+-- the command that an open command with all its parameters is
+abbrev pub wholeOf : Open → Command
+wholeOf o = commandOf (o .line) (o .p0) (o .p1) (o .p2) (o .p3)
+
+-- an open command with all its parameters, which sets nothing but what the party owns, in a session that takes words
 pub record CompleteAsked (own tallies shared : List ℕ) : Type 0 where
   pub asked : OwnAsked own tallies shared
   pub taken : partyOf own tallies .taken < limit
   pub line : partyOf own tallies .opened .line < 21
   pub passed : EachAllowed (partyOf own tallies .opened .line) (parametersOf (partyOf own tallies .opened))
+  pub owner : owned (partyOf own tallies .birth .mine) (wholeOf (partyOf own tallies .opened)) ≡ true
 
 -- a word that was read: its step's number; or, with 64, the cells hold an open command with all its parameters, and the step is
 -- that command's completion
@@ -59,13 +67,16 @@ pub record Read (t : Stepped) (r : ℕ) (own tallies shared : List ℕ) : Type 0
   pub asked : r ≡ 64 → CompleteAsked own tallies shared
   pub completes : r ≡ 64 → t ≡ completing (partyOf own [] .opened) (sessionOf own tallies shared)
 
--- a valid session that takes words, with an open command whose next parameter's kind allows the word
+-- a valid session that takes words, with an open command whose next parameter's kind allows the word, which names nothing but one's own
 pub record ParameterAsked (own tallies shared : List ℕ) (w : ℕ) : Type 0 where
   pub given : Given own tallies shared
   pub taken : partyOf own tallies .taken < limit
   pub line : partyOf own tallies .opened .line < 21
   pub kindAllows :
       allowed (kindOf (partyOf own tallies .opened .line) (partyOf own tallies .opened .count)) w ≡ true
+  pub named :
+      mayName (partyOf own tallies .birth .mine) (kindOf (partyOf own tallies .opened .line) (partyOf own tallies .opened .count)) w ≡
+      true
 
 -- a valid session that takes words, with an open command
 pub record OpenAsked (own tallies shared : List ℕ) : Type 0 where

@@ -49,9 +49,9 @@ pub record ReadInFull (s : Session) (cs : List Command) (t u : Session) (f : Fed
   pub runs-first : t .party .tally .runs ≡ s .party .tally .runs + runsOf cs
   pub claims :
       f .session .party .tally .claims ≡
-      u .party .tally .claims + claimsOf (u .party .birth .edition) cs (s .party .domain) (s .shared .mask) (s .shared .outputs)
+      u .party .tally .claims + claimsOf (u .party .birth) cs (s .party .domain) (s .shared .mask) (s .shared .outputs)
   pub claims-first :
       t .party .tally .claims ≡
-      s .party .tally .claims + claimsOf (s .party .birth .edition) cs (s .party .domain) (s .shared .mask) (s .shared .outputs)
+      s .party .tally .claims + claimsOf (s .party .birth) cs (s .party .domain) (s .shared .mask) (s .shared .outputs)
   -- and it ends between two commands
   pub idle : Idle (f .session)

@@ -4,10 +4,12 @@ use Prim.Native.Nat.{ℕ, _≤_}
 use Rattle.state.specs.State.{Session}
 use Rattle.state.specs.Effects.{stop}
 
--- "In a session, refusals 2 to 9 and 17 also drop the open command and stop the session for good."
+-- "In a session, refusals 2 to 9 and 17 also drop the open command and stop the session for good."; "Like 2 to 9, 20 drops the open
+-- command and stops."
 pub data StopNumber : ℕ → Type 0 where
   low : {n : ℕ} → 2 ≤ n → n ≤ 9 → StopNumber n
   full : StopNumber 17
+  foreign : StopNumber 20
 
 -- the session after a word that was refused with a number: "settings, tallies .. stay the same"
 pub data RefusedTo (s : Session) : ℕ → Session → Type 0 where

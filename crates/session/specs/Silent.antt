@@ -11,6 +11,7 @@ use Rattle.command.specs.Format.{codeOf}
 use Rattle.command.specs.Commands.{wordsOf}
 use Rattle.command.specs.declared.commands.Command.the-variants as command
 use Rattle.state.specs.State.{Buffer, Domain, Session}
+use Rattle.state.specs.Seen.{seenOutputs}
 use Rattle.state.specs.Start.{output, isSet, silent, containsDomain, apart, complete, readyOf, pairsOf, claimOf}
 use Rattle.session.specs.Feed.{nothing, Fed}
 
@@ -18,14 +19,18 @@ use Rattle.session.specs.Feed.{nothing, Fed}
 pub record AllSilent (mask : ℕ) (outputs : List Buffer) : Type 0 where
   pub each-silent : (n : ℕ) → n < 4 → isSet outputs n ≡ true → silent mask n (output outputs n .format) ≡ true
 
+-- the outputs that a session's party sees
+abbrev pub seenBy : Session → List Buffer
+seenBy s = seenOutputs (s .party .birth .mine) (s .shared .outputs)
+
 -- settings that 7 doesn't refuse, and with every set output silent
 pub record SilentSettings (s : Session) : Type 0 where
   pub domain-set : s .party .domain .isSet ≡ 1
   pub instructions-set : s .party .instructions .isSet ≡ 1
   pub number : ℕ
   pub number-most : number < 4
-  pub output-set : isSet (s .shared .outputs) number ≡ true
-  pub all-silent : AllSilent (s .shared .mask) (s .shared .outputs)
+  pub output-set : isSet (seenBy s) number ≡ true
+  pub all-silent : AllSilent (s .shared .mask) (seenBy s)
 
 -- the words of a start
 abbrev pub startWords : List ℕ
@@ -72,6 +77,6 @@ claimInFull d outputs = pairsOf d * count 4 (countsInFull outputs)
 -- a start is document 01's: it is judged so, and claims so much
 pub record AsBefore (s : Session) : Type 0 where
   pub judged-so :
-      readyOf (s .party .domain) (s .party .instructions) (s .shared .mask) (s .shared .outputs) ≡
+      readyOf (s .party .domain) (s .party .instructions) (s .shared .mask) (seenBy s) ≡
       readyInFull (s .party .domain) (s .party .instructions) (s .shared .outputs)
-  pub claims-so : claimOf (s .party .birth .edition) (s .party .domain) (s .shared .mask) (s .shared .outputs) ≡ claimInFull (s .party .domain) (s .shared .outputs)
+  pub claims-so : claimOf (s .party .birth .edition) (s .party .domain) (s .shared .mask) (seenBy s) ≡ claimInFull (s .party .domain) (s .shared .outputs)

@@ -10,6 +10,7 @@ use Rattle.command.specs.Kinds.{allowed, faultOf, kindOf}
 use Rattle.command.specs.Commands.{commandOf}
 use Rattle.rules.specs.Rules.{lastRuleOf}
 use Rattle.command.specs.declared.commands.Command.{Command}
+use Rattle.owners.specs.Owners.{mayOpen, mayName}
 use Rattle.state.specs.State.{Open, Domain, Session, atLine, none}
 use Rattle.state.specs.Effects.{limit, opening, took, stop, withParameter, after}
 -- what a command asks of the settings, which a routine below this crate is stated by too
@@ -45,16 +46,19 @@ placing o s =
     (record { reply = stillOpen; session = record { party = opening o (took (s .party)); shared = s .shared } })
     (completing o s)
 
--- a word where a command is open: "Refusals 3 and 4 come with the word at fault"
+-- a word where a command is open: "Refusals 3 and 4 come with the word at fault"; "A number one doesn't own gets 20 at its word, after 4."
 unfoldable pub parameterStep : Session → ℕ → Stepped
 parameterStep s w =
     let o = s .party .opened in
-    pick (allowed (kindOf (o .line) (o .count)) w) (placing (withParameter o w) s) (refusing s (faultOf (kindOf (o .line) (o .count))))
+    pick (allowed (kindOf (o .line) (o .count)) w)
+    (pick (mayName (s .party .birth .mine) (kindOf (o .line) (o .count)) w) (placing (withParameter o w) s) (refusing s 20))
+    (refusing s (faultOf (kindOf (o .line) (o .count))))
 
--- a word where none is: "2: a header word stands in no line of the command table"
+-- a word where none is: "2: a header word stands in no line of the command table"; "party 1's header setting" what is party 0's "gets 20"
 unfoldable pub headerStep : Session → ℕ → Stepped
 headerStep s w =
     pick (ltb (placeOf w headers) (length headers))
+    (pick (mayOpen (s .party .birth .mine) (placeOf w headers))
     (record {
       reply = stillOpen;
       session =
@@ -63,6 +67,7 @@ headerStep s w =
             shared = s .shared;
           };
     })
+    (refusing s 20))
     (refusing s 2)
 
 -- a word

@@ -6,7 +6,9 @@ use Prim.Native.Nat.{ℕ, _+_}
 use lib.ListN.{set}
 use Rattle.command.specs.declared.commands.Command.{Command}
 use Rattle.command.specs.declared.commands.Command.the-variants as command
-use Rattle.state.specs.State.{Buffer, Domain}
+use Rattle.owners.specs.Owners.{maskBy}
+use Rattle.state.specs.State.{Buffer, Domain, Birth}
+use Rattle.state.specs.Seen.{seenOutputs}
 use Rattle.state.specs.Start.{claimOf}
 use Rattle.state.specs.Effects.{buffer}
 
@@ -23,18 +25,18 @@ runOf (command.OutputMask mask) = 0
 runOf (command.ConditionalMask mask) = 0
 runOf (command.Test test) = 0
 
--- what a command claims by an edition where this domain, this mask and these outputs are set
-unfoldable pub claimBy : ℕ → Command → Domain → ℕ → List Buffer → ℕ
-claimBy edition (command.Domain i0 j0 i1 j1) d mask outputs = 0
-claimBy edition command.Start d mask outputs = claimOf edition d mask outputs
-claimBy edition (command.Effectless what) d mask outputs = 0
-claimBy edition (command.Store what base format) d mask outputs = 0
-claimBy edition (command.Input number base format height) d mask outputs = 0
-claimBy edition (command.Output number base format height) d mask outputs = 0
-claimBy edition (command.Conditional base format height) d mask outputs = 0
-claimBy edition (command.OutputMask new) d mask outputs = 0
-claimBy edition (command.ConditionalMask new) d mask outputs = 0
-claimBy edition (command.Test test) d mask outputs = 0
+-- what a command claims, by an edition and what is owned, where this domain, this mask and these outputs are set
+unfoldable pub claimBy : Birth → Command → Domain → ℕ → List Buffer → ℕ
+claimBy b (command.Domain i0 j0 i1 j1) d mask outputs = 0
+claimBy b command.Start d mask outputs = claimOf (b .edition) d mask (seenOutputs (b .mine) outputs)
+claimBy b (command.Effectless what) d mask outputs = 0
+claimBy b (command.Store what base format) d mask outputs = 0
+claimBy b (command.Input number base format height) d mask outputs = 0
+claimBy b (command.Output number base format height) d mask outputs = 0
+claimBy b (command.Conditional base format height) d mask outputs = 0
+claimBy b (command.OutputMask new) d mask outputs = 0
+claimBy b (command.ConditionalMask new) d mask outputs = 0
+claimBy b (command.Test test) d mask outputs = 0
 
 -- the domain, the mask and the outputs after a command
 unfoldable pub domainAfter : Command → Domain → Domain
@@ -49,17 +51,17 @@ domainAfter (command.OutputMask mask) d = d
 domainAfter (command.ConditionalMask mask) d = d
 domainAfter (command.Test test) d = d
 
-unfoldable pub maskAfter : Command → ℕ → ℕ
-maskAfter (command.Domain i0 j0 i1 j1) mask = mask
-maskAfter command.Start mask = mask
-maskAfter (command.Effectless what) mask = mask
-maskAfter (command.Store what base format) mask = mask
-maskAfter (command.Input number base format height) mask = mask
-maskAfter (command.Output number base format height) mask = mask
-maskAfter (command.Conditional base format height) mask = mask
-maskAfter (command.OutputMask new) mask = new
-maskAfter (command.ConditionalMask new) mask = mask
-maskAfter (command.Test test) mask = mask
+unfoldable pub maskAfter : Birth → Command → ℕ → ℕ
+maskAfter b (command.Domain i0 j0 i1 j1) mask = mask
+maskAfter b command.Start mask = mask
+maskAfter b (command.Effectless what) mask = mask
+maskAfter b (command.Store what base format) mask = mask
+maskAfter b (command.Input number base format height) mask = mask
+maskAfter b (command.Output number base format height) mask = mask
+maskAfter b (command.Conditional base format height) mask = mask
+maskAfter b (command.OutputMask new) mask = maskBy (b .mine) new mask
+maskAfter b (command.ConditionalMask new) mask = mask
+maskAfter b (command.Test test) mask = mask
 
 unfoldable pub outputsAfter : Command → List Buffer → List Buffer
 outputsAfter (command.Domain i0 j0 i1 j1) outputs = outputs
@@ -78,8 +80,8 @@ unfoldable pub runsOf : List Command → ℕ
 runsOf [] = 0
 runsOf (c ∷ cs) = runOf c + runsOf cs
 
--- what commands claim by an edition, each start by the domain, the mask and the outputs that those before it left
-unfoldable pub claimsOf : ℕ → List Command → Domain → ℕ → List Buffer → ℕ
-claimsOf edition [] d mask outputs = 0
-claimsOf edition (c ∷ cs) d mask outputs =
-    claimBy edition c d mask outputs + claimsOf edition cs (domainAfter c d) (maskAfter c mask) (outputsAfter c outputs)
+-- what commands claim, by an edition and what is owned, each start by the domain, the mask and the outputs that those before it left
+unfoldable pub claimsOf : Birth → List Command → Domain → ℕ → List Buffer → ℕ
+claimsOf b [] d mask outputs = 0
+claimsOf b (c ∷ cs) d mask outputs =
+    claimBy b c d mask outputs + claimsOf b cs (domainAfter c d) (maskAfter b c mask) (outputsAfter c outputs)

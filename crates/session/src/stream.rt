@@ -13,12 +13,16 @@ use state::own::WordPosition;
 use state::settings;
 ghost use mathlib.Core.Path.{_≡_};
 ghost use mathlib.Core.List.{[]};
+ghost use Prim.Native.Nat.{_<_};
+ghost use Rattle.laws.specs.Choice.{_and_};
 ghost use Rattle.refusal.specs.Number.{numberOf};
-ghost use Rattle.state.specs.State.{newSession};
+ghost use Rattle.command.specs.Kinds.{allowed, kindOf};
+ghost use Rattle.owners.specs.Owners.{mayName};
+ghost use Rattle.state.specs.State.{newSession, newPartyOf, newShared};
 ghost use Rattle.state.specs.Effects.{withParameter};
 ghost use Rattle.session.specs.Step.{completing, parameterStep, placing, stepOf};
-ghost use Rattle.state.specs.Cells.{Sized, partyOf, sessionOf};
-ghost use Rattle.state.specs.Asked.{Given, Held};
+ghost use Rattle.state.specs.Cells.{partyOf, sessionOf, sharedCells};
+ghost use Rattle.state.specs.Asked.{Given, Held, HeldOwn};
 ghost use Rattle.session.specs.Asked.{CompleteAsked, Left, Numbered, OpenAsked, ParameterAsked, Read, RefusalAsked, refusalAt, storedIn};
 ghost use Rattle.session.specs.Answers.{Begins, PieceLeft, replyOf};
 ghost use Rattle.session.specs.Feed.{feedOf};
@@ -105,6 +109,18 @@ fn placed(
     WHOLE
 }
 
+// Whether a word is taken as parameter `count` of a line: its kind allows it, and it names nothing but what is owned.
+fn is_taken(mine: u32, line: u32, count: u32, word: u32) -> bool
+    requires { ⌜ (line < 21) × (count < 4) ⌝ }
+    ensures { λ r. ⌜ r ≡ (allowed (kindOf line count) word and mayName mine (kindOf line count) word) ⌝ }
+{
+    if kinds::place_allowed(line, count, word) {
+        owners::may_name(mine, line, count, word)
+    } else {
+        false
+    }
+}
+
 // A word where a command is open: judged by the kind of the parameter that it is.
 fn parameter(
     own: &mut [u32; state::OWN_CELLS],
@@ -117,10 +133,8 @@ fn parameter(
 {
     let line = own[own::LINE];
     let count = own[own::COUNT];
-    if kinds::place_allowed(line, count, word) {
-        if owners::may_name(own[own::MINE], line, count, word) {
-            return placed(own, tallies, shared, word);
-        }
+    if is_taken(own[own::MINE], line, count, word) {
+        return placed(own, tallies, shared, word);
     }
     let fault = owners::fault_at(line, count, word);
     own::stop(own);

@@ -241,6 +241,9 @@ fn by_channel(mine: u32, shared: &[u32; state::SHARED_CELLS]) -> u32
     ensures { λ r. ⌜ r ≡ channelsIn (sharedOf (now (shared .entry)) .mask) (seenOutputs mine (sharedOf (now (shared .entry)) .outputs)) ⌝ }
 {
     let mask = shared[settings::MASK];
+    let second = mask / 16;
+    let third = mask / 256;
+    let fourth = mask / 4096;
     let a = own_channels(
         owners::is_on(mine, 16),
         mask,
@@ -249,19 +252,19 @@ fn by_channel(mine: u32, shared: &[u32; state::SHARED_CELLS]) -> u32
     );
     let b = own_channels(
         owners::is_on(mine, 17),
-        mask / 16,
+        second,
         shared[settings::OUTPUT_1],
         shared[settings::OUTPUT_1 + 2],
     );
     let c = own_channels(
         owners::is_on(mine, 18),
-        mask / 256,
+        third,
         shared[settings::OUTPUT_2],
         shared[settings::OUTPUT_2 + 2],
     );
     let d = own_channels(
         owners::is_on(mine, 19),
-        mask / 4096,
+        fourth,
         shared[settings::OUTPUT_3],
         shared[settings::OUTPUT_3 + 2],
     );

@@ -1,7 +1,5 @@
 -- `session::stream::parameter` meets its contract. Assumes nothing.
-use mathlib.Core.Path.{_∙_, sym}
-use Rattle.session.proofs.Numbers.{numbered, read-answered, fault-number}
-use Rattle.session.proofs.Taking.{kind-asked, parameter-asked, kind-refused, kind-passed}
+use Rattle.session.proofs.Taking.{kind-asked, parameter-asked, not-taken, kind-passed}
 use borrow.Author.Needs.{needs}
 use Rattle.session.proofs.stream.parameter.Statement.{statement}
 use Rattle.session.proofs.stream.parameter.Tie as tie
@@ -12,59 +10,51 @@ element-copy-out-line c = search needs
 element-copy-out-count : tie.Need-element-copy-out-count
 element-copy-out-count c = search needs
 
-place-allowed-requires : tie.Need-place-allowed-requires
-place-allowed-requires c κs =
-    let entry = c .before .before in
+element-copy-out-is-taken : tie.Need-element-copy-out-is-taken
+element-copy-out-is-taken c = search needs
+
+is-taken-requires : tie.Need-is-taken-requires
+is-taken-requires c κs =
+    let entry = c .before .before .before in
     let args = entry .args in
     kind-asked (args .own .now) (args .tallies .now) (args .shared .now) (args .word) (entry .pre)
 
 placed-requires : tie.Need-placed-requires
 placed-requires c κs =
     let at-if1 = c .before in
-    let at-place-allowed = at-if1 .before in
-    let entry = at-place-allowed .before .before .before in
+    let at-is-taken = at-if1 .before in
+    let entry = at-is-taken .before .before .before .before in
     let args = entry .args in
     parameter-asked (args .own .now) (args .tallies .now) (args .shared .now) (args .word) (entry .pre) _
-    (at-place-allowed .place-allowed .ensures) (at-if1 .if1 .taken)
+    (at-is-taken .is-taken .ensures) (at-if1 .if1 .taken)
 
 returns : tie.Need-returns
 returns c =
     let at-if1 = c .before .before in
-    let at-place-allowed = at-if1 .before in
-    let entry = at-place-allowed .before .before .before in
+    let at-is-taken = at-if1 .before in
+    let entry = at-is-taken .before .before .before .before in
     let args = entry .args in
     kind-passed (args .own .now) (args .tallies .now) (args .shared .now) (args .word) (entry .pre) _
-    (at-place-allowed .place-allowed .ensures) (at-if1 .if1 .taken) _ _ (c .placed .ensures)
+    (at-is-taken .is-taken .ensures) (at-if1 .if1 .taken) _ _ (c .placed .ensures)
 
-kind-at-requires : tie.Need-kind-at-requires
-kind-at-requires c κs =
-    let entry = c .before .before .before .before in
+fault-at-requires : tie.Need-fault-at-requires
+fault-at-requires c κs =
+    let entry = c .before .before .before .before .before in
     let args = entry .args in
     kind-asked (args .own .now) (args .tallies .now) (args .shared .now) (args .word) (entry .pre)
 
 stop-requires : tie.Need-stop-requires
 stop-requires c κs = search needs
 
-fault-requires : tie.Need-fault-requires
-fault-requires c κs = search needs
-
-number-requires : tie.Need-number-requires
-number-requires c κs = search needs
-
 returns-2 : tie.Need-returns-2
 returns-2 c =
-    let at-fault = c .before in
-    let at-stop = at-fault .before in
-    let at-kind-at = at-stop .before .before in
-    let at-if1 = at-kind-at .before in
-    let at-place-allowed = at-if1 .before in
-    let entry = at-place-allowed .before .before .before in
+    let at-fault-at = c .before .before in
+    let at-if1 = at-fault-at .before in
+    let at-is-taken = at-if1 .before in
+    let entry = at-is-taken .before .before .before .before in
     let args = entry .args in
-    read-answered (λ e. fault-number _ (sym (c .number .ensures ∙ at-fault .fault .ensures) ∙ e))
-    (numbered
-    (kind-refused (args .own .now) (args .tallies .now) (args .shared .now) (args .word) (entry .pre) _
-    (at-place-allowed .place-allowed .ensures) (at-if1 .if1 .left) _ (at-kind-at .kind-at .ensures) _ (c .number .ensures ∙ at-fault .fault .ensures) _
-    (at-stop .stop .ensures)))
+    not-taken (args .own .now) (args .tallies .now) (args .shared .now) (args .word) (entry .pre) _
+    (at-is-taken .is-taken .ensures) (at-if1 .if1 .left) _ (at-fault-at .fault-at .ensures) _ (c .stop .ensures)
 
 pub parameter-spec : {M : Type 1} → statement M
 parameter-spec =
@@ -72,11 +62,10 @@ parameter-spec =
     (tie.spec
     element-copy-out-line
     element-copy-out-count
-    place-allowed-requires
+    element-copy-out-is-taken
+    is-taken-requires
     placed-requires
     returns
-    kind-at-requires
+    fault-at-requires
     stop-requires
-    fault-requires
-    number-requires
     returns-2)
