@@ -27,6 +27,7 @@
  *     18  the kind byte of a log's record is neither 1 nor 2
  *     19  a midnight's day isn't one more than the last, or it is the 401st midnight
  *     21  a lease line out of its bounds
+ *     22  a report over more than 64 logs
  *
  * What the caller owes: pointers to arrays of the lengths shown, no two of them overlapping where one is written (a session's
  * three arrays, a replay's five, rooms and memory are apart), and states as these functions left them: a session's arrays
@@ -160,6 +161,16 @@ uint32_t egretfold_score_lease(uint32_t edition, uint32_t first_day, uint32_t da
 uint32_t egretfold_score_month(const uint32_t log[EGRETFOLD_LOG], const uint64_t marks[EGRETFOLD_MARKS],
                                const uint64_t tallies[EGRETFOLD_TALLIES], uint32_t first_day, uint32_t days, uint32_t owed,
                                uint64_t claimed[EGRETFOLD_DAYS], uint64_t served[EGRETFOLD_DAYS], uint64_t month[3]);
+
+/* ---- A fleet's report, over the logs and lease lines of up to 64 stations ---- */
+
+/* logs: the stations' logs, one behind the other. numbers: four for each station, in the same order: its log's length, first day, days and
+ * the elements owed a day. Each log is replayed and scored by itself, by the edition. room, of 4 numbers: what was served and
+ * owed in all; the silent days, which owe more than 0 and are served 0; and the station with the smallest served part, counted from 0,
+ * the lower one where two are the same, 64 where none owes anything. 3 for the edition; 11 where count isn't a multiple of 4,
+ * room_length isn't 4 or the logs' lengths don't add up to length; 22 for more than 64 stations; then the first station's 21, 18 or 19. */
+uint32_t egretfold_fleet_report(uint32_t edition, const uint8_t *logs, size_t length, const uint64_t *numbers, size_t count,
+                                uint64_t *room, size_t room_length);
 
 /* ---- Commands by themselves ---- */
 

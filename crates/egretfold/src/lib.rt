@@ -4,6 +4,7 @@
 pub mod addresses;
 pub mod commands;
 pub mod elements;
+pub mod fleets;
 pub mod floats;
 pub mod groups;
 pub mod logs;

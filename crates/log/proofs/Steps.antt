@@ -111,6 +111,7 @@ number-between refusal.WordLimit = (omega arith, omega arith)
 number-between refusal.RecordKind = (omega arith, omega arith)
 number-between refusal.MidnightDay = (omega arith, omega arith)
 number-between refusal.LeaseLine = (omega arith, omega arith)
+number-between refusal.TooManyLogs = (omega arith, omega arith)
 
 -- one word, by the session's step
 module _

@@ -23,6 +23,7 @@ use Rattle.refusal.specs.declared.Refusal.the-variants.{
   RecordKind,
   MidnightDay,
   LeaseLine,
+  TooManyLogs,
 }
 
 abbrev pub numberOf : Refusal → ℕ
@@ -46,6 +47,7 @@ numberOf WordLimit = 17
 numberOf RecordKind = 18
 numberOf MidnightDay = 19
 numberOf LeaseLine = 21
+numberOf TooManyLogs = 22
 
 -- the number of some refusal
 pub record IsNumber (n : ℕ) : Type 0 where

@@ -8,7 +8,7 @@ pub enum Refusal {
     Stopped,
     // 2: a header word stands in no line of the command table.
     UnknownHeader,
-    // 3: a reserved bit or code is set, or a layout argument is malformed.
+    // 3: a reserved bit or code is set, a layout argument is malformed, or an edition is neither 1 nor 2.
     Malformed,
     // 4: input number over 15, output number over 3.
     NumberTooHigh,
@@ -44,9 +44,11 @@ pub enum Refusal {
     MidnightDay,
     // 21: a lease line out of its bounds.
     LeaseLine,
+    // 22: a report over more than 64 logs.
+    TooManyLogs,
 }
 
-// The number of a refusal, 1 to 19 and 21.
+// The number of a refusal, 1 to 19, 21 and 22.
 pub fn number(r: Refusal) -> u32
     ensures { λ n. ⌜ n ≡ numberOf r ⌝ }
 {
@@ -71,6 +73,7 @@ pub fn number(r: Refusal) -> u32
         Refusal::RecordKind => 18,
         Refusal::MidnightDay => 19,
         Refusal::LeaseLine => 21,
+        Refusal::TooManyLogs => 22,
     }
 }
 
@@ -99,6 +102,7 @@ pub fn with_number(number: u32) -> Refusal
         17 => Refusal::WordLimit,
         18 => Refusal::RecordKind,
         19 => Refusal::MidnightDay,
-        _ => Refusal::LeaseLine,
+        21 => Refusal::LeaseLine,
+        _ => Refusal::TooManyLogs,
     }
 }

@@ -98,6 +98,16 @@ extern "C" {
         month: &mut [u64; 3],
     ) -> u32;
 
+    pub fn egretfold_fleet_report(
+        edition: u32,
+        logs: *const u8,
+        length: usize,
+        numbers: *const u64,
+        count: usize,
+        room: *mut u64,
+        room_length: usize,
+    ) -> u32;
+
     pub fn egretfold_command_parameters(header: u32, count: &mut [u32; 1]) -> u32;
 
     pub fn egretfold_command_write(
