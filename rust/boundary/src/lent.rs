@@ -226,6 +226,29 @@ pub fn score_month(
     }
 }
 
+/// Over the logs, one behind the other, and four numbers for each: its length, first
+/// day, days and what a day owes. room, of four numbers: served, owed, silent days and
+/// the station with the smallest served part, 64 for none. 3; 11; 22; then 21, 18, 19.
+#[inline]
+pub fn fleet_report(edition: u32, logs: &[u8], numbers: &[u64], room: &mut [u64]) -> u32 {
+    let (start, length) = (logs.as_ptr(), logs.len());
+    let (of_stations, count) = (numbers.as_ptr(), numbers.len());
+    let (place, room_length) = (room.as_mut_ptr(), room.len());
+    // SAFETY: each pointer comes with its own slice's length; the room, which is
+    // written, is apart from both.
+    unsafe {
+        raw::egretfold_fleet_report(
+            edition,
+            start,
+            length,
+            of_stations,
+            count,
+            place,
+            room_length,
+        )
+    }
+}
+
 /// count: how many parameters a header announces. 2.
 #[inline]
 pub fn command_parameters(header: u32, count: &mut [u32; 1]) -> u32 {

@@ -20,6 +20,7 @@
 mod command;
 mod edition;
 mod element;
+mod fleet;
 mod flow;
 pub mod headers;
 mod layout;
@@ -34,6 +35,7 @@ mod session;
 pub use command::{parameters, write_command, Command};
 pub use edition::Edition;
 pub use element::{read, superfine, write, Element};
+pub use fleet::{Fleet, Station};
 pub use flow::{Group, Loop, Loops, Mode, Program, Report, Stepped};
 pub use layout::{layout, locate, translate, Layout, Translated, Window};
 pub use log::{BytesFed, Day, LogStatus, Part, RefusedWord, Replay};

@@ -29,7 +29,7 @@ pub fn other(edition: Edition) -> Edition {
 }
 
 /// A number that no edition has: beside the two, one of them with a bit too many, or any.
-fn none(random: &mut Random) -> u32 {
+pub fn none(random: &mut Random) -> u32 {
     match random.below(4) {
         0 => random.one_of(&[0, 3, 4, u32::MAX]),
         1 => random.between(1, 2) | 1 << random.between(2, 31),

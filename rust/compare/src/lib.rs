@@ -2,7 +2,7 @@
 //! made apart from it, on millions of made-up inputs: good ones, ones at the
 //! edges of the rules, damaged ones and noise.
 //!
-//! There are nine kinds of cases, one module each:
+//! There are ten kinds of cases, one module each:
 //!
 //! * [`addresses`]: layouts judged, pairs translated, addresses located back;
 //! * [`memory`]: elements read and written in lent memory, superfine reads;
@@ -12,7 +12,8 @@
 //! * [`logs`]: logs of a station over midnight, cut anywhere;
 //! * [`scores`]: months of such logs scored against lease lines;
 //! * [`modes`]: groups in full and in partial mode, side by side;
-//! * [`kills`]: groups killed in part between steps and runs, registers of floats.
+//! * [`kills`]: groups killed in part between steps and runs, registers of floats;
+//! * [`fleets`]: the logs and lease lines of up to 64 stations in one report.
 //!
 //! Every case is made from its kind, a seed and its number alone, so that any
 //! case can be run again by itself. The tests run fixed cases; the program
@@ -24,6 +25,7 @@ pub mod addresses;
 pub mod case;
 pub mod commands;
 pub mod editions;
+pub mod fleets;
 pub mod floats;
 pub mod flow;
 pub mod groups;
@@ -65,10 +67,11 @@ pub enum Kind {
     Scores,
     Modes,
     Kills,
+    Fleets,
 }
 
 impl Kind {
-    pub const ALL: [Kind; 9] = [
+    pub const ALL: [Kind; 10] = [
         Kind::Addresses,
         Kind::Memory,
         Kind::Streams,
@@ -78,6 +81,7 @@ impl Kind {
         Kind::Scores,
         Kind::Modes,
         Kind::Kills,
+        Kind::Fleets,
     ];
 
     pub fn name(self) -> &'static str {
@@ -91,6 +95,7 @@ impl Kind {
             Kind::Scores => "scores",
             Kind::Modes => "modes",
             Kind::Kills => "kills",
+            Kind::Fleets => "fleets",
         }
     }
 
@@ -109,6 +114,7 @@ impl Kind {
             Kind::Scores => scores::run(case),
             Kind::Modes => modes::run(case),
             Kind::Kills => kills::run(case),
+            Kind::Fleets => fleets::run(case),
         }
     }
 }
