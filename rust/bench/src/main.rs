@@ -37,6 +37,7 @@ fn main() {
     lines::feed::add(&mut table);
     lines::lessees::add(&mut table);
     lines::log::add(&mut table);
+    lines::fleet::add(&mut table);
     lines::writer::add(&mut table);
     lines::address::add(&mut table);
     lines::element::add(&mut table);

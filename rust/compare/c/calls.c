@@ -430,6 +430,38 @@ static void check_scores(void)
     check_month("score_month, rooms after a refusal", one, none, nothings);
 }
 
+/* Two stations of the log of check_log, which serves 1,728 elements on day 30 alone: 1,728 of 1,728, and 1,000 of 3,000. */
+static void check_fleet(void)
+{
+    static uint8_t logs[220];
+    uint64_t numbers[8] = {110, 30, 1, 1728, 110, 29, 3, 1000}, room[5] = {9, 9, 9, 9, 9};
+    const uint64_t report[4] = {2728, 4728, 2, 1}, none[4] = {0, 0, 0, 64};
+    put_log(logs);
+    put_log(logs + 110);
+    agree("fleet_report, edition 3", egretfold_fleet_report(3, logs, 220, numbers, 7, room, 5), 3);
+    agree("fleet_report, not in fours", egretfold_fleet_report(1, logs, 220, numbers, 7, room, 4), 11);
+    agree("fleet_report, room of five", egretfold_fleet_report(1, logs, 220, numbers, 8, room, 5), 11);
+    agree("fleet_report, a byte too many", egretfold_fleet_report(1, logs, 219, numbers, 8, room, 4), 11);
+    agree("fleet_report, room after a refusal", room[0] == 9 && room[3] == 9 && room[4] == 9, 1);
+    agree("fleet_report", egretfold_fleet_report(1, logs, 220, numbers, 8, room, 4), 0);
+    for (unsigned i = 0; i < 4; i++)
+        agree("fleet_report", room[i], report[i]);
+    agree("fleet_report, room past its four", room[4], 9);
+    agree("fleet_report, no logs", egretfold_fleet_report(2, logs, 0, numbers, 0, room, 4), 0);
+    for (unsigned i = 0; i < 4; i++)
+        agree("fleet_report, no logs", room[i], none[i]);
+    numbers[0] = numbers[4] = UINT64_C(1) << 63;
+    agree("fleet_report, lengths of 2^63 twice", egretfold_fleet_report(1, logs, 0, numbers, 8, room, 4), 11);
+    numbers[0] = numbers[4] = 110;
+    numbers[5] = UINT64_C(1) << 32;
+    agree("fleet_report, a day over 32 bits", egretfold_fleet_report(1, logs, 220, numbers, 8, room, 4), 21);
+    {
+        static uint64_t many[65 * 4];
+        agree("fleet_report, 65 stations", egretfold_fleet_report(1, logs, 0, many, 65 * 4, room, 4), 22);
+        agree("fleet_report, 64 stations of 0 days", egretfold_fleet_report(1, logs, 0, many, 64 * 4, room, 4), 21);
+    }
+}
+
 static void check_commands(void)
 {
     const uint32_t output[4] = {0, 0x800, 0x2010064, 0x12};
@@ -809,6 +841,7 @@ int main(void)
     check_log_days();
     check_lease_lines();
     check_scores();
+    check_fleet();
     check_commands();
     check_addresses();
     check_elements();

@@ -2,7 +2,7 @@
 //! made apart from it, on millions of made-up inputs: good ones, ones at the
 //! edges of the rules, damaged ones and noise.
 //!
-//! There are twelve kinds of cases, one module each:
+//! There are thirteen kinds of cases, one module each:
 //!
 //! * [`addresses`]: layouts judged, pairs translated, addresses located back;
 //! * [`memory`]: elements read and written in lent memory, superfine reads;
@@ -15,7 +15,8 @@
 //! * [`kills`]: groups killed in part between steps and runs, registers of floats;
 //! * [`lessees`]: words of two parties on one card, mixed, and one party's replaced;
 //! * [`surveys`]: conditional tests and surveys of domains;
-//! * [`pictures`]: rectangles painted into memory and copied out of it.
+//! * [`pictures`]: rectangles painted into memory and copied out of it;
+//! * [`fleets`]: the logs and lease lines of up to 64 stations in one report.
 //!
 //! Every case is made from its kind, a seed and its number alone, so that any
 //! case can be run again by itself. The tests run fixed cases; the program
@@ -27,6 +28,7 @@ pub mod addresses;
 pub mod case;
 pub mod commands;
 pub mod editions;
+pub mod fleets;
 pub mod floats;
 pub mod flow;
 pub mod groups;
@@ -76,10 +78,11 @@ pub enum Kind {
     Lessees,
     Surveys,
     Pictures,
+    Fleets,
 }
 
 impl Kind {
-    pub const ALL: [Kind; 12] = [
+    pub const ALL: [Kind; 13] = [
         Kind::Addresses,
         Kind::Memory,
         Kind::Streams,
@@ -92,6 +95,7 @@ impl Kind {
         Kind::Lessees,
         Kind::Surveys,
         Kind::Pictures,
+        Kind::Fleets,
     ];
 
     pub fn name(self) -> &'static str {
@@ -108,6 +112,7 @@ impl Kind {
             Kind::Lessees => "lessees",
             Kind::Surveys => "surveys",
             Kind::Pictures => "pictures",
+            Kind::Fleets => "fleets",
         }
     }
 
@@ -129,6 +134,7 @@ impl Kind {
             Kind::Lessees => lessees::run(case),
             Kind::Surveys => surveys::run(case),
             Kind::Pictures => pictures::run(case),
+            Kind::Fleets => fleets::run(case),
         }
     }
 }

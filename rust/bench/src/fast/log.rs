@@ -3,7 +3,7 @@
 //! A record that lies whole in a piece is read at once. Only what a piece's end cuts is kept, byte by byte.
 
 use super::refusal::{DAY, KIND};
-use super::session::Session;
+use super::session::{Edition, Session};
 
 const RECORD: usize = 5;
 const WORD: u8 = 1;
@@ -35,6 +35,14 @@ impl Replay {
     #[inline(never)]
     pub fn new() -> Replay {
         Replay::default()
+    }
+
+    /// A replay whose elements are claimed by this edition.
+    pub(super) fn new_in(edition: Edition) -> Replay {
+        Replay {
+            session: Session::new_in(edition),
+            ..Replay::default()
+        }
     }
 
     /// Takes a piece of bytes, one after another up to the first refused one. 18 or 19; both stop the replay.
@@ -163,6 +171,14 @@ impl Replay {
         };
         let end = mark(number);
         (end.0 - runs, end.1 - claims)
+    }
+
+    /// The elements claimed on the day of this number, 0 where no midnight has it.
+    pub(super) fn claimed_on(&self, day: u32) -> u64 {
+        match day.checked_sub(self.first_day) {
+            Some(place) if (place as usize) < self.marks.len() => self.part(place as usize + 1).1,
+            _ => 0,
+        }
     }
 
     pub fn session(&self) -> &Session {

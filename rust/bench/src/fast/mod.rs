@@ -8,6 +8,7 @@
 pub mod address;
 pub mod command;
 pub mod element;
+pub mod fleet;
 pub mod group;
 mod kill;
 pub mod layout;

@@ -4,6 +4,7 @@
 pub mod address;
 pub mod element;
 pub mod feed;
+pub mod fleet;
 pub mod flow;
 pub mod kill;
 pub mod lessees;

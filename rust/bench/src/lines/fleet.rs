@@ -1,0 +1,63 @@
+//! A fleet's report over 64 months of about 1 MB each.
+
+use crate::inputs::mixed_log;
+use crate::table::Table;
+use bench::fast::fleet as fast;
+use boundary::lent;
+
+const STATIONS: usize = 64;
+const DAYS: usize = 30;
+/// A record has five bytes: about 1 MB a log.
+const WORDS: usize = 200_000;
+/// Elements owed a day: some days of the log are served in full and some aren't.
+const OWED: u64 = 1_000_000;
+
+pub fn add(table: &mut Table) {
+    let name = "fleet report, 64 months of 1 MB, a byte";
+    if !table.wants(name) {
+        return;
+    }
+    let (logs, numbers) = fleet();
+    check(&logs, &numbers);
+    table.line(
+        name,
+        logs.len(),
+        || {
+            let mut room = [0; 4];
+            assert_eq!(lent::fleet_report(1, &logs, &numbers, &mut room), 0);
+            room.iter().sum()
+        },
+        || {
+            let mut room = [0; 4];
+            assert_eq!(fast::report(1, &logs, &numbers, &mut room), Ok(()));
+            room.iter().sum()
+        },
+    );
+}
+
+/// The logs, one behind the other, and four numbers for each. They differ in where they end.
+fn fleet() -> (Vec<u8>, Vec<u64>) {
+    let month = mixed_log(WORDS, WORDS / DAYS);
+    let (mut logs, mut numbers) = (Vec::new(), Vec::new());
+    for station in 0..STATIONS {
+        let length = month.len() - 5 * 7 * station;
+        logs.extend(&month[..length]);
+        numbers.extend([length as u64, 0, DAYS as u64, OWED]);
+    }
+    (logs, numbers)
+}
+
+/// Equal answers, under both editions and where a station is refused.
+fn check(logs: &[u8], numbers: &[u64]) {
+    let mut refused = numbers.to_vec();
+    refused[4 * 63 + 2] = 32;
+    for edition in [1, 2, 3] {
+        for numbers in [numbers, &refused[..]] {
+            let (mut product, mut rust) = ([7; 4], [7; 4]);
+            let number = lent::fleet_report(edition, logs, numbers, &mut product);
+            let by_rust = fast::report(edition, logs, numbers, &mut rust);
+            assert_eq!(number, by_rust.err().unwrap_or(0), "edition {edition}");
+            assert_eq!(product, rust, "edition {edition}");
+        }
+    }
+}
