@@ -294,7 +294,7 @@ uint32_t egretfold_conditional_survey(const uint32_t shared[EGRETFOLD_SHARED], u
 /* ---- Whole rectangles: the pairs of `columns` columns and `rows` rows from (x, y) on ----
  *
  * The room has the elements of the rectangle, row by row, and just their columns * rows * size bytes. Memory covers the window's
- * whole span and may have any length, as long as it ends at 2^32. A rectangle of no pairs is inside every window and moves nothing.
+ * whole span and may have any length, as long as it ends at 2^32 or below. A rectangle of no pairs is inside every window and moves nothing.
  * Each of the first two functions returns 3, 6, 10 where any pair is outside, or 11, in this order, and then touches nothing. */
 
 /* Stores the elements of the room at their pairs, and touches no other byte of memory. 3, 6, 10 or 11. */
