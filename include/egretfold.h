@@ -1,5 +1,5 @@
-/* Egretfold: CTM command streams, logs of them over midnight, their monthly score, tile addresses, elements in lent memory, and
- * flow words for one group.
+/* Egretfold: CTM command streams, logs of them over midnight, their monthly score, tile addresses, elements in lent memory,
+ * conditional output tests, and flow words for one group.
  *
  * Every function returns 0, or the number of a refusal of document 01 (egretfold_group_loops and the two functions on
  * registers return nothing, since they refuse nothing); a refusal touches no room and no state except where its function says
@@ -8,11 +8,12 @@
  *
  *      1  the session is stopped
  *      2  a header word stands in no line of the command table
- *      3  a reserved bit or code is set, a layout argument is malformed, or an edition is neither 1 nor 2
+ *      3  a reserved bit or code is set, a layout argument is malformed, or an edition is neither 1 nor 2; a conditional test on
+ *         another format than UINT16_1
  *      4  input number over 15, output number over 3
  *      5  i0 > i1 or j0 > j1
  *      6  window rule broken
- *      7  start without a domain, an instruction format or any output set
+ *      7  start without a domain, an instruction format or any output set; a conditional test without its buffer or its test set
  *      8  the domain is not inside every set output's window; silent outputs are passed over
  *      9  spans of two set outputs share a byte; silent outputs are passed over
  *     10  a pair is outside its window
@@ -26,12 +27,13 @@
  *     17  the session has taken 1,000,000,000 words
  *     18  the kind byte of a log's record is neither 1 nor 2
  *     19  a midnight's day isn't one more than the last, or it is the 401st midnight
+ *     20  a party's word names an input or output, or sets something of party 0's, that the party doesn't own
  *     21  a lease line out of its bounds
  *     22  a report over more than 64 logs
  *
  * What the caller owes: pointers to arrays of the lengths shown, no two of them overlapping where one is written (a session's
- * three arrays, a replay's five, rooms and memory are apart), and states as these functions left them: a session's arrays
- * from egretfold_session_begin on, a replay's from egretfold_log_begin on, a group's cells from an egretfold_group_begin
+ * three arrays, a pair's five, a replay's five, rooms and memory are apart), and states as these functions left them: a
+ * session's arrays from egretfold_session_begin on, a pair's from an egretfold_pair_begin that returned 0 on, a replay's from egretfold_log_begin on, a group's cells from an egretfold_group_begin
  * that returned 0 on. A state may be copied and kept (on disk, say) as it is. A pointer that comes with a length of 0 is not
  * read, but is not null. */
 #ifndef EGRETFOLD_H
@@ -70,6 +72,61 @@ enum { EGRETFOLD_CHANNELS = 4 };
 /* The most days of a lease line. */
 enum { EGRETFOLD_DAYS = 31 };
 
+/* The refusals of the table above, by name. */
+enum {
+    EGRETFOLD_REFUSAL_STOPPED = 1,
+    EGRETFOLD_REFUSAL_UNKNOWN_HEADER = 2,
+    EGRETFOLD_REFUSAL_MALFORMED = 3,
+    EGRETFOLD_REFUSAL_NUMBER_TOO_HIGH = 4,
+    EGRETFOLD_REFUSAL_DOMAIN_CROSSED = 5,
+    EGRETFOLD_REFUSAL_WINDOW_RULE = 6,
+    EGRETFOLD_REFUSAL_START_UNSET = 7,
+    EGRETFOLD_REFUSAL_DOMAIN_OUTSIDE = 8,
+    EGRETFOLD_REFUSAL_SPANS_SHARED = 9,
+    EGRETFOLD_REFUSAL_PAIR_OUTSIDE = 10,
+    EGRETFOLD_REFUSAL_WRONG_LENGTH = 11,
+    EGRETFOLD_REFUSAL_UNOWNED = 12,
+    EGRETFOLD_REFUSAL_FLOW_FIELD = 13,
+    EGRETFOLD_REFUSAL_AT_LIMIT = 14,
+    EGRETFOLD_REFUSAL_PAST_END = 15,
+    EGRETFOLD_REFUSAL_ENDED = 16,
+    EGRETFOLD_REFUSAL_WORD_LIMIT = 17,
+    EGRETFOLD_REFUSAL_RECORD_KIND = 18,
+    EGRETFOLD_REFUSAL_MIDNIGHT_DAY = 19,
+    EGRETFOLD_REFUSAL_NOT_OWNED = 20,
+    EGRETFOLD_REFUSAL_LEASE_LINE = 21,
+    EGRETFOLD_REFUSAL_TOO_MANY_LOGS = 22
+};
+
+/* What a month is called: egretfold_score_month's last number. */
+enum { EGRETFOLD_VERDICT_FULL = 0, EGRETFOLD_VERDICT_SHORT = 1, EGRETFOLD_VERDICT_NOTHING_OWED = 2 };
+
+/* The modes that egretfold_group_begin takes. */
+enum { EGRETFOLD_MODE_FULL = 0, EGRETFOLD_MODE_PARTIAL = 1 };
+
+/* The commands' header words, which are above what an enum of C99 can have. */
+#define EGRETFOLD_HEADER_SET_DOMAIN           UINT32_C(0xC0030700)
+#define EGRETFOLD_HEADER_START_PROGRAM        UINT32_C(0xC0000800)
+#define EGRETFOLD_HEADER_WAIT_FOR_IDLE        UINT32_C(0xC0000900)
+#define EGRETFOLD_HEADER_SET_INST_FMT         UINT32_C(0xC0010A00)
+#define EGRETFOLD_HEADER_SET_INP_FMT          UINT32_C(0xC0030B00)
+#define EGRETFOLD_HEADER_SET_OUT_FMT          UINT32_C(0xC0030C00)
+#define EGRETFOLD_HEADER_SET_COND_OUT_FMT     UINT32_C(0xC0020D00)
+#define EGRETFOLD_HEADER_SET_CONSTF_FMT       UINT32_C(0xC0010E00)
+#define EGRETFOLD_HEADER_SET_CONSTI_FMT       UINT32_C(0xC0010F00)
+#define EGRETFOLD_HEADER_SET_CONSTB_FMT       UINT32_C(0xC0011000)
+#define EGRETFOLD_HEADER_INV_INST_CACHE       UINT32_C(0xC0001100)
+#define EGRETFOLD_HEADER_INV_CONSTF_CACHE     UINT32_C(0xC0001200)
+#define EGRETFOLD_HEADER_INV_CONSTI_CACHE     UINT32_C(0xC0001300)
+#define EGRETFOLD_HEADER_INV_CONSTB_CACHE     UINT32_C(0xC0001400)
+#define EGRETFOLD_HEADER_INV_COND_OUT_CACHE   UINT32_C(0xC0001500)
+#define EGRETFOLD_HEADER_INV_INP_CACHE        UINT32_C(0xC0001600)
+#define EGRETFOLD_HEADER_FLUSH_OUT_CACHE      UINT32_C(0xC0001700)
+#define EGRETFOLD_HEADER_FLUSH_COND_OUT_CACHE UINT32_C(0xC0001800)
+#define EGRETFOLD_HEADER_SET_OUT_MASK         UINT32_C(0xC0001900)
+#define EGRETFOLD_HEADER_SET_COND_OUT_MASK    UINT32_C(0xC0001A00)
+#define EGRETFOLD_HEADER_SET_COND_TEST        UINT32_C(0xC0001B00)
+
 /* ---- Sessions ---- */
 
 /* A new session: nothing set, mask 65535. Its edition of the lease rule, 1 or 2, is fixed now and only changes what a start
@@ -78,7 +135,7 @@ uint32_t egretfold_session_begin(uint32_t own[EGRETFOLD_OWN], uint64_t tallies[E
                                  uint32_t shared[EGRETFOLD_SHARED], uint32_t edition);
 
 /* One word. command: 0 where a command is still open, else 1; then the completed command's header and its four parameters,
- * 0 past its last (and all 0 where a command is open). 1 to 9 or 17; all but 1 stop the session and drop the open command. */
+ * 0 past its last (and all 0 where a command is open). 1 to 9, 17 or 20; all but 1 stop the session and drop the open command. */
 uint32_t egretfold_session_word(uint32_t own[EGRETFOLD_OWN], uint64_t tallies[EGRETFOLD_TALLIES],
                                 uint32_t shared[EGRETFOLD_SHARED], uint32_t word, uint32_t command[6]);
 
@@ -110,6 +167,29 @@ uint32_t egretfold_session_format(const uint32_t own[EGRETFOLD_OWN], const uint3
 /* masks: the output mask; 1 if the conditional mask is set, else 0, and the mask; 1 if the test is set, else 0, and the
  * test. Returns 0. */
 uint32_t egretfold_session_masks(const uint32_t shared[EGRETFOLD_SHARED], uint32_t masks[5]);
+
+/* ---- Two parties on one card ----
+ *
+ * Each party has its own numbers and tallies (own0 and tallies0, own1 and tallies1); the settings are shared. egretfold_session_word
+ * and egretfold_session_feed take a party's words by that party's own and tallies with the shared settings, and the functions above
+ * that change nothing tell of a party by its own and tallies. Constants' formats and the conditional output's format, mask and test
+ * are party 0's. A party is refused with 20 at a header that sets what isn't its own, and at the number of an input or output that
+ * isn't; like 2 to 9 it drops the open command and stops that party alone. A mask changes the bits of one's own outputs only; 7 to
+ * 9, the elements that a start claims and what is kept of readiness look at one's own outputs only. The word limit is each party's
+ * own. A session from egretfold_session_begin, and a replay's, is one party that owns every number. */
+
+/* A new session of two parties: nothing set, mask 65535. Bit n of inputs (16 bits) and of outputs (4 bits) is set where input or
+ * output n is party 1's, and not where it is party 0's. 3 where the edition is neither 1 nor 2, then where a bit above these is set. */
+uint32_t egretfold_pair_begin(uint32_t own0[EGRETFOLD_OWN], uint64_t tallies0[EGRETFOLD_TALLIES], uint32_t own1[EGRETFOLD_OWN],
+                              uint64_t tallies1[EGRETFOLD_TALLIES], uint32_t shared[EGRETFOLD_SHARED], uint32_t inputs,
+                              uint32_t outputs, uint32_t edition);
+
+/* A piece of both parties' words, one after another to its end: it runs on past a refused word. Bit k of parties[i] is the party of
+ * word 32 i + k; bits past the last word are not looked at. fed: of party 0 the words taken, the commands that they completed, and
+ * its first refusal in this piece, 0 for none; then the same of party 1. Returns 0, or 11 where groups is not (length + 31) / 32. */
+uint32_t egretfold_pair_feed(uint32_t own0[EGRETFOLD_OWN], uint64_t tallies0[EGRETFOLD_TALLIES], uint32_t own1[EGRETFOLD_OWN],
+                             uint64_t tallies1[EGRETFOLD_TALLIES], uint32_t shared[EGRETFOLD_SHARED], const uint32_t *words,
+                             size_t length, const uint32_t *parties, size_t groups, uint64_t fed[6]);
 
 /* ---- A station's log over midnight: records of five bytes, one of kind and four of a number, low byte first ----
  *
@@ -214,6 +294,46 @@ uint32_t egretfold_element_write(uint32_t base, uint32_t pitch, uint32_t height,
 uint32_t egretfold_element_superfine(uint32_t base, uint32_t format, uint32_t height, uint32_t x, uint32_t y,
                                      const uint8_t *memory, size_t length, uint32_t first, uint8_t bytes[16],
                                      uint32_t count[1]);
+
+/* ---- Conditional output tests: a value held against the conditional buffer of a session's settings, in lent memory ----
+ *
+ * The settings are those of a session, stopped or not, and are only read; a refusal stops nothing. The test is `value op b`, where op is
+ * the test that is set: 0 never, 1 less, 2 less or equal, 3 equal, 4 at least, 5 greater, 6 not equal, 7 always; and b is the 16-bit
+ * number of the conditional buffer at the pair, low byte first. Asked in this order: 7 where no conditional buffer or no test is set, 3
+ * where the buffer's format isn't UINT16_1, 5 for a domain whose ends are crossed, 10 where a pair is outside the buffer's window, and
+ * 11 for memory that is longer than 65536 bytes, ends above 2^32 or doesn't hold every element asked for, or a room of another length.
+ * 10 and 11 come with the tests 0 and 7 too. */
+
+/* passed: 1 if the test passes at (x, y), else 0. 7, 3, 10 or 11. */
+uint32_t egretfold_conditional_test(const uint32_t shared[EGRETFOLD_SHARED], uint32_t value, uint32_t x, uint32_t y,
+                                    const uint8_t *memory, size_t length, uint32_t first, uint32_t passed[1]);
+
+/* The tests of all pairs from (i0, j0) to (i1, j1), both ends included. room, whose length is the number of these pairs: a byte 1 or 0
+ * for each, row by row. passed: how many pass. 7, 3, 5, 10 or 11. */
+uint32_t egretfold_conditional_survey(const uint32_t shared[EGRETFOLD_SHARED], uint32_t value, uint32_t i0, uint32_t j0,
+                                      uint32_t i1, uint32_t j1, const uint8_t *memory, size_t length, uint32_t first,
+                                      uint8_t *room, size_t room_length, uint32_t passed[1]);
+
+/* ---- Whole rectangles: the pairs of `columns` columns and `rows` rows from (x, y) on ----
+ *
+ * The room has the elements of the rectangle, row by row, and just their columns * rows * size bytes. Memory covers the window's
+ * whole span and may have any length, as long as it ends at 2^32. A rectangle of no pairs is inside every window and moves nothing.
+ * Each of the first two functions returns 3, 6, 10 where any pair is outside, or 11, in this order, and then touches nothing. */
+
+/* Stores the elements of the room at their pairs, and touches no other byte of memory. 3, 6, 10 or 11. */
+uint32_t egretfold_picture_paint(uint32_t base, uint32_t pitch, uint32_t height, uint32_t size, bool tiled, uint32_t x,
+                                 uint32_t y, uint32_t columns, uint32_t rows, uint8_t *memory, size_t length,
+                                 uint32_t first, const uint8_t *room, size_t room_length);
+
+/* Copies the elements of the pairs into the room. 3, 6, 10 or 11. */
+uint32_t egretfold_picture_copy_out(uint32_t base, uint32_t pitch, uint32_t height, uint32_t size, bool tiled, uint32_t x,
+                                    uint32_t y, uint32_t columns, uint32_t rows, const uint8_t *memory, size_t length,
+                                    uint32_t first, uint8_t *room, size_t room_length);
+
+/* addresses: where the elements of `columns` pairs from (x, y) on, in the same row, begin. 3, 6, or 10 where any of these pairs is
+ * outside. */
+uint32_t egretfold_picture_row(uint32_t base, uint32_t pitch, uint32_t height, uint32_t size, bool tiled, uint32_t x,
+                               uint32_t y, uint32_t *addresses, size_t columns);
 
 /* ---- Flow words for one group ---- */
 

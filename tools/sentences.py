@@ -30,6 +30,8 @@ HEAD = """\
 """
 # Document 00's demands that are statements of the product.
 DEMANDS = ("1", "2", "3")
+# Document 02's requests; a note with another number is of work that none of them asks for.
+REQUESTS = range(1, 15)
 # A sentence ends at a point before a capital, a digit, a command's name or a path; the points of `...` and `..` end none.
 END = re.compile(r'(?<=[^.]\.)\s+(?=["(]?[A-Z0-9]|\w+[_/]\w)')
 QUOTE = re.compile(r"“([^“”]*)”")
@@ -42,7 +44,7 @@ Run = collections.namedtuple("Run", "key first last")
 def landed():
     """The numbers of document 02's requests that have landed: those with a note, docs/landings/NN-NAME.md."""
     numbers = (int(note.name[:2]) for note in DOCS.glob("landings/[0-9][0-9]-*.md"))
-    return [str(number) for number in sorted(numbers) if number]
+    return [str(number) for number in sorted(numbers) if number in REQUESTS]
 
 
 def checksum(text):

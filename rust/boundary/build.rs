@@ -1,12 +1,16 @@
 //! Finds the static library that this crate is linked with, libegretfold.a: in
 //! the folder that the environment variable EGRETFOLD_LIB names, else in the
-//! repository's own target/staticlib.
+//! repository's own target/staticlib, or, where this crate was installed, in the
+//! same prefix's lib.
 
 use std::env;
+use std::fs;
 use std::path::{Path, PathBuf};
 use std::process::exit;
 
 const ARCHIVE: &str = "libegretfold.a";
+/// Where `./install` puts this crate, below its prefix.
+const INSTALLED: &str = "share/egretfold/rust/boundary";
 
 fn main() {
     println!("cargo:rerun-if-env-changed=EGRETFOLD_LIB");
@@ -21,12 +25,33 @@ fn main() {
     println!("cargo:rustc-link-search=native={}", folder.display());
     println!("cargo:rustc-link-lib=static=egretfold");
     println!("cargo:rustc-env=EGRETFOLD_ARCHIVE={}", archive.display());
+    let kit = kit(&folder);
+    println!("cargo:rustc-env=EGRETFOLD_KIT={kit}");
+    // For the build script of a crate that uses this one: DEP_EGRETFOLD_KIT.
+    println!("cargo:kit={kit}");
+}
+
+/// The kit that proved the archive, by the record that tools/prepare puts beside it
+/// and `./install` beside this crate's folder; empty where there is none.
+fn kit(folder: &Path) -> String {
+    let record = match is_installed() {
+        true => manifest_folder().join("../../kit.txt"),
+        false => folder.join("kit.txt"),
+    };
+    println!("cargo:rerun-if-changed={}", record.display());
+    let text = fs::read_to_string(record).unwrap_or_default();
+    text.lines().next().unwrap_or_default().trim().to_string()
+}
+
+fn is_installed() -> bool {
+    manifest_folder().ends_with(INSTALLED)
 }
 
 /// The folder that should hold the archive, as a full path where it exists.
 fn folder() -> PathBuf {
     let folder = match env::var_os("EGRETFOLD_LIB") {
         Some(folder) => PathBuf::from(folder),
+        None if is_installed() => manifest_folder().join("../../../../lib"),
         None => manifest_folder().join("../../target/staticlib"),
     };
     folder.canonicalize().unwrap_or(folder)

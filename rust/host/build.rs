@@ -1,6 +1,8 @@
 //! The version that the command tells: the package's, and the commit that it is
-//! built from where git knows one, with a + where files have changed since.
+//! built from where git knows one, with a + where files have changed since; and the
+//! kit that proved what it is linked with.
 
+use std::env;
 use std::process::Command;
 
 fn main() {
@@ -17,6 +19,13 @@ fn main() {
         None => version.to_string(),
     };
     println!("cargo:rustc-env=EGRETFOLD_VERSION={version}");
+    // The crate boundary tells it, by the record beside the archive.
+    let kit = env::var("DEP_EGRETFOLD_KIT").unwrap_or_default();
+    let kit = match kit.as_str() {
+        "" => "a kit that was not recorded",
+        kit => kit,
+    };
+    println!("cargo:rustc-env=EGRETFOLD_PROVED_WITH={kit}");
 }
 
 fn changed() -> &'static str {

@@ -1,38 +1,47 @@
 -- A command that sets an output or the mask, cell by cell as the code takes it: the windows that are kept are the outputs', so that
 -- what is renewed from them is what the settings give. Assumes nothing.
 use mathlib.Core.Path.{_≡_, refl, sym, ap, _∙_, subst}
+use mathlib.Core.Bool.{Bool, true}
 use mathlib.Core.List.{List, [], _∷_}
 use Prim.Native.Nat.{ℕ, _+_, _*_, _<_}
-use lib.ListN.{length, set, length-set}
+use lib.ListN.{length, getD, set, length-set}
 use Rattle.laws.specs.Choice.{pick}
+use Rattle.laws.proofs.Choice.{pick-yes}
 use Rattle.laws.proofs.Table.{each, _&_}
+use Rattle.owners.specs.Owners.{maskBy, ownsOutput}
 use Rattle.command.specs.Format.{windowOf, windowSeen}
 use Rattle.command.specs.declared.format.Window as seen
 use Rattle.command.specs.declared.commands.Command.{Command}
 use Rattle.command.specs.declared.commands.Command.the-variants as command
-use Rattle.state.specs.State.{Buffer, Window, Readiness, Party, Shared}
+use Rattle.state.specs.State.{Buffer, Window, Readiness, Party, Shared, unset}
+use Rattle.state.specs.Seen.{seenFrom, seenOutputs}
 use Rattle.state.specs.Start.{output, stepOfBuffer, spanOfBuffer}
 use Rattle.state.specs.Readiness.{windowFor, workedOut}
 use Rattle.state.specs.Effects.{buffer, renewed, sharedAfter, tookWords, windowFrom, withReadiness, withWindow}
 use Rattle.state.specs.Valid.{DomainValid}
 use Rattle.state.specs.Asked.{HeldOwn, OwnAsked}
 use Rattle.state.specs.Cells.{partyOf, partyCells, sharedOf, sharedCells, tallyCells, setBuffer, ownLength, sharedLength, talliesLength}
-use Rattle.state.proofs.Cells.{shared-back, tally-canon}
+use Rattle.state.proofs.Cells.{shared-back, shared-canon, tally-canon}
 use Rattle.state.proofs.SharedPuts.{output-shared, mask-shared}
 use Rattle.start.specs.Gauge.{WindowsKept, RenewAsked}
 
 -- the shared settings that the cells hold after an output or the mask was set
-module _ (h h1 : List ℕ) (z : length h ≡ sharedLength) where
+module _ (mine : ℕ) (h h1 : List ℕ) (z : length h ≡ sharedLength) where
   pub output-set : (n b f k : ℕ) → n < 4 → h1 ≡ setBuffer h (21 + 4 * n) (buffer b f k) →
-      sharedOf h1 ≡ sharedAfter (command.Output n b f k) (sharedOf h)
+      sharedOf h1 ≡ sharedAfter mine (command.Output n b f k) (sharedOf h)
   unfolding sharedAfter sharedOf
   output-set n b f k less e =
-      ap sharedOf (e ∙ output-shared h z n b f k less) ∙
-      shared-back (sharedAfter (command.Output n b f k) (sharedOf h)) (length-set (sharedOf h .outputs) n (buffer b f k)) refl
+      ap sharedOf (e ∙ output-shared mine h z n b f k less) ∙
+      shared-back (sharedAfter mine (command.Output n b f k) (sharedOf h)) (length-set (sharedOf h .outputs) n (buffer b f k)) refl
 
-  pub mask-set : (n : ℕ) → h1 ≡ set h 0 n → sharedOf h1 ≡ sharedAfter (command.OutputMask n) (sharedOf h)
+  pub mask-set : (n : ℕ) → h1 ≡ set h 0 (maskBy mine n (getD h 0 0)) → sharedOf h1 ≡ sharedAfter mine (command.OutputMask n) (sharedOf h)
   unfolding sharedAfter sharedOf
-  mask-set n e = ap sharedOf (e ∙ mask-shared h z n) ∙ shared-back (sharedAfter (command.OutputMask n) (sharedOf h)) refl refl
+  mask-set n e = ap sharedOf (e ∙ mask-shared mine h z n) ∙ shared-back (sharedAfter mine (command.OutputMask n) (sharedOf h)) refl refl
+
+-- another mask leaves the outputs as they are
+mask-outputs : (h h1 : List ℕ) → length h ≡ sharedLength → (n : ℕ) → h1 ≡ set h 0 n → sharedOf h1 .outputs ≡ sharedOf h .outputs
+unfolding sharedOf sharedCells
+mask-outputs h h1 z n e = ap (λ (x : List ℕ). sharedOf x .outputs) e ∙ ap (λ (x : List ℕ). sharedOf (set x 0 n) .outputs) (sym (shared-canon h z))
 
 -- the length of the shared cells stands
 pub set-length : (h h1 : List ℕ) → length h ≡ sharedLength → (n : ℕ) → h1 ≡ set h 0 n → length h1 ≡ sharedLength
@@ -47,18 +56,23 @@ put-length h h1 z at b e =
     length-set h at (b .isSet) ∙ z
 
 -- the window of the output that was set in the place of the old one's
-window-set : (l h : List ℕ) (n b f k : ℕ) → n < 4 → (w : Window) → w ≡ windowFor (buffer b f k) →
-    WindowsKept (partyOf l [] .readiness) (sharedOf h .outputs) →
-    WindowsKept (withWindow n w (partyOf l [] .readiness)) (set (sharedOf h .outputs) n (buffer b f k))
-unfolding output pick sharedOf
-window-set l h n b f k less w e kept =
-    each (λ x. WindowsKept (withWindow x w (partyOf l [] .readiness)) (set (sharedOf h .outputs) x (buffer b f k))) 4
+window-set : (mine : ℕ) (l h : List ℕ) (n b f k : ℕ) → n < 4 → ownsOutput mine n ≡ true → (w : Window) → w ≡ windowFor (buffer b f k) →
+    WindowsKept (partyOf l [] .readiness) (seenOutputs mine (sharedOf h .outputs)) →
+    WindowsKept (withWindow n w (partyOf l [] .readiness)) (seenOutputs mine (set (sharedOf h .outputs) n (buffer b f k)))
+unfolding output pick sharedOf seenFrom
+window-set mine l h n b f k less o w e kept =
+    each
+    (λ x. ownsOutput mine x ≡ true → WindowsKept (withWindow x w (partyOf l [] .readiness)) (seenOutputs mine (set (sharedOf h .outputs) x (buffer b f k))))
+    4
     (tt
-    & record { first = e; second = kept .second; third = kept .third; fourth = kept .fourth }
-    & record { first = kept .first; second = e; third = kept .third; fourth = kept .fourth }
-    & record { first = kept .first; second = kept .second; third = e; fourth = kept .fourth }
-    & record { first = kept .first; second = kept .second; third = kept .third; fourth = e })
-    n less
+    & (λ q. record { first = e ∙ seen q; second = kept .second; third = kept .third; fourth = kept .fourth })
+    & (λ q. record { first = kept .first; second = e ∙ seen q; third = kept .third; fourth = kept .fourth })
+    & (λ q. record { first = kept .first; second = kept .second; third = e ∙ seen q; fourth = kept .fourth })
+    & (λ q. record { first = kept .first; second = kept .second; third = kept .third; fourth = e ∙ seen q }))
+    n less o
+  where
+    seen : {t : Bool} → t ≡ true → windowFor (buffer b f k) ≡ windowFor (pick t (buffer b f k) unset)
+    seen q = ap windowFor (sym (pick-yes (buffer b f k) unset q))
 
 -- own cells `l`, and `l1` after `m` words were counted; shared cells `h`, and `h1` after the command set them
 module _ (l l1 h h1 : List ℕ) (m : ℕ) (e : l1 ≡ partyCells (tookWords m (partyOf l []))) (asked : RenewAsked l h) where
@@ -69,6 +83,10 @@ module _ (l l1 h h1 : List ℕ) (m : ℕ) (e : l1 ≡ partyCells (tookWords m (p
   counted-readiness : partyOf l1 [] .readiness ≡ partyOf l [] .readiness
   unfolding partyOf partyCells
   counted-readiness = ap (λ (x : List ℕ). partyOf x [] .readiness) e
+
+  counted-mine : partyOf l1 [] .birth .mine ≡ partyOf l [] .birth .mine
+  unfolding partyOf partyCells
+  counted-mine = ap (λ (x : List ℕ). partyOf x [] .birth .mine) e
 
   pub counted-length : length l1 ≡ ownLength
   unfolding partyCells
@@ -81,13 +99,16 @@ module _ (l l1 h h1 : List ℕ) (m : ℕ) (e : l1 ≡ partyCells (tookWords m (p
         own-length = counted-length;
         shared-length = set-length h h1 (asked .shared-length) n q;
         windows =
-            subst (λ (r : Readiness). WindowsKept r (sharedOf h1 .outputs)) (sym counted-readiness)
-            (subst (λ (s : Shared). WindowsKept (partyOf l [] .readiness) (s .outputs)) (sym (mask-set h h1 (asked .shared-length) n q))
-            (unfold sharedAfter in asked .windows));
+            subst (λ (o : List Buffer). WindowsKept (partyOf l1 [] .readiness) (seenOutputs (partyOf l1 [] .birth .mine) o))
+            (sym (mask-outputs h h1 (asked .shared-length) n q))
+            (subst (λ (x : ℕ). WindowsKept (partyOf l1 [] .readiness) (seenOutputs x (sharedOf h .outputs))) (sym counted-mine)
+            (subst (λ (r : Readiness). WindowsKept r (seenOutputs (partyOf l [] .birth .mine) (sharedOf h .outputs))) (sym counted-readiness)
+            (asked .windows)));
         domain = counted-domain;
       }
 
-  module _ (n b f k : ℕ) (less : n < 4) (w : seen.Window) (judged : w ≡ windowSeen (windowOf b f k)) (l2 : List ℕ)
+  module _ (n b f k : ℕ) (less : n < 4) (owns : ownsOutput (partyOf l [] .birth .mine) n ≡ true) (w : seen.Window)
+      (judged : w ≡ windowSeen (windowOf b f k)) (l2 : List ℕ)
       (e2 : l2 ≡ partyCells (withReadiness (withWindow n (windowFrom (w .step) (w .span)) (partyOf l1 [] .readiness)) (partyOf l1 []))) where
     judged-window : windowFrom (w .step) (w .span) ≡ windowFor (buffer b f k)
     unfolding windowFor stepOfBuffer spanOfBuffer
@@ -99,20 +120,28 @@ module _ (l l1 h h1 : List ℕ) (m : ℕ) (e : l1 ≡ partyCells (tookWords m (p
         stored : partyOf l2 [] .readiness ≡ withWindow n (windowFrom (w .step) (w .span)) (partyOf l1 [] .readiness)
         stored = unfold partyOf partyCells in ap (λ (x : List ℕ). partyOf x [] .readiness) e2
 
+    set-mine : partyOf l2 [] .birth .mine ≡ partyOf l [] .birth .mine
+    set-mine = stored ∙ counted-mine
+      where
+        stored : partyOf l2 [] .birth .mine ≡ partyOf l1 [] .birth .mine
+        stored = unfold partyOf partyCells in ap (λ (x : List ℕ). partyOf x [] .birth .mine) e2
+
     set-domain : DomainValid (partyOf l2 [] .domain)
     unfolding partyOf partyCells
     set-domain = subst (λ (x : List ℕ). DomainValid (partyOf x [] .domain)) (sym e2) counted-domain
 
     pub output-asked : h1 ≡ setBuffer h (21 + 4 * n) (buffer b f k) → RenewAsked l2 h1
     output-asked q =
+        let mine = partyOf l [] .birth .mine in
         record {
           own-length = unfold partyCells in ap length e2;
           shared-length = put-length h h1 (asked .shared-length) (21 + 4 * n) (buffer b f k) q;
           windows =
-              subst (λ (r : Readiness). WindowsKept r (sharedOf h1 .outputs)) (sym set-readiness)
-              (subst (λ (s : Shared). WindowsKept (withWindow n (windowFrom (w .step) (w .span)) (partyOf l [] .readiness)) (s .outputs))
-              (sym (output-set h h1 (asked .shared-length) n b f k less q))
-              (unfold sharedAfter in window-set l h n b f k less (windowFrom (w .step) (w .span)) judged-window (asked .windows)));
+              subst (λ (x : ℕ). WindowsKept (partyOf l2 [] .readiness) (seenOutputs x (sharedOf h1 .outputs))) (sym set-mine)
+              (subst (λ (r : Readiness). WindowsKept r (seenOutputs mine (sharedOf h1 .outputs))) (sym set-readiness)
+              (subst (λ (s : Shared). WindowsKept (withWindow n (windowFrom (w .step) (w .span)) (partyOf l [] .readiness)) (seenOutputs mine (s .outputs)))
+              (sym (output-set mine h h1 (asked .shared-length) n b f k less q))
+              (unfold sharedAfter in window-set mine l h n b f k less owns (windowFrom (w .step) (w .span)) judged-window (asked .windows))));
           domain = set-domain;
         }
 

@@ -16,6 +16,7 @@ use Rattle.laws.proofs.Table.{NoneOf, namedOr, otherwise}
 use Rattle.refusal.specs.Told.{Told, gives, refuses, isGiven}
 use Rattle.command.specs.Table.{headerOf, lineWith}
 use Rattle.command.specs.Commands.{noEffectLine, storedLine, lineOf, fieldsOf, wordsOf, commandOf}
+use Rattle.owners.specs.Owners.{maskBy, owned, ownsCommon, ownsInput, ownsOutput}
 use Rattle.rules.specs.Writer.{judgeCommandOf}
 use Rattle.command.specs.declared.commands.NoEffect.{NoEffect}
 use Rattle.command.specs.declared.commands.NoEffect.the-variants as noEffect
@@ -26,7 +27,8 @@ use Rattle.command.specs.declared.commands.Command.the-variants as command
 use Rattle.rules.proofs.Fitting.{start-fits, effectless-fits, store-decided, mask-decided, conditional-mask-decided, test-decided, given-fine}
 use Rattle.command.proofs.Headers.{accepted-listed}
 use Rattle.rules.proofs.Readable.{readable}
-use Rattle.state.specs.State.{Open, Tally, Readiness, Party, Shared, Session, mostExtent}
+use Rattle.state.specs.State.{Open, Birth, Tally, Readiness, Party, Shared, Session, mostExtent}
+use Rattle.state.specs.Seen.{seenOutputs}
 use Rattle.state.specs.Start.{readyOf, readinessOf}
 use Rattle.state.specs.Readiness.{readinessFor, workedOut}
 use Rattle.state.specs.Effects.{limit, buffer, domainFrom, withDomain, withInstructions, withReadiness, renewed, ownAfter, sharedAfter, after}
@@ -40,7 +42,7 @@ use Rattle.state.specs.Asked.{Given, Held, HeldOwn, OwnAsked}
 use Rattle.state.specs.Cells.{Sized, partyOf, partyCells, tallyCells, sharedOf, sharedCells, sessionOf, setBuffer, ownLength, sharedLength, talliesLength}
 use Rattle.state.proofs.Cells.{own-canon, tally-canon}
 use Rattle.state.specs.Effects.{tookWords}
-use Rattle.accept.specs.Whole.{Ready, RoomFor, Denied, byWords, byFields, bySettings, Tried, untaken, accepted, Begun, begun, unbegun}
+use Rattle.accept.specs.Whole.{Ready, RoomFor, Denied, byWords, byFields, byOwner, bySettings, Tried, untaken, accepted, Begun, begun, unbegun}
 use Rattle.accept.specs.Whole.{OwnTried, SharedTried, KeptAt, everyWord}
 use Rattle.state.proofs.OwnPuts.{
   stored-cells,
@@ -75,7 +77,7 @@ use Rattle.accept.proofs.Outputs.{output-set, mask-set, renewed-own, re
 
 -- what a command does to the party's own settings and to what is kept of readiness, the words counted before or after it
 own-at-word : (c : Command) (n : ℕ) (h : Shared) (p : Party) →
-    renewed (sharedAfter c h) (ownAfter c h (tookWords n p)) ≡
+    renewed (sharedAfter (p .birth .mine) c h) (ownAfter c h (tookWords n p)) ≡
     atWord (after c (record { party = p; shared = h })) (p .taken + n) (p .opened) .party
 unfolding after ownAfter sharedAfter
 own-at-word (command.Domain i0 j0 i1 j1) n h p = refl
@@ -110,7 +112,7 @@ Unmoving (command.Test test) = Unit
 
 -- such a command leaves what is kept as it is worked out
 unmoved : (c : Command) → Unmoving c → (h : Shared) (p : Party) → p .readiness ≡ readinessFor p h →
-    ownAfter c h p ≡ renewed (sharedAfter c h) (ownAfter c h p)
+    ownAfter c h p ≡ renewed (sharedAfter (p .birth .mine) c h) (ownAfter c h p)
 unfolding Unmoving ownAfter sharedAfter
 unmoved (command.Domain i0 j0 i1 j1) u h p e = absurd u
 unmoved command.Start u h p e = λ k. withReadiness (e k) (ownAfter command.Start h p)
@@ -134,14 +136,18 @@ module _ (c : Command) (n : ℕ) (l t h l1 : List ℕ) (e1 : l1 ≡ partyCells (
   abbrev left : Session
   left = atWord (after c (sessionOf l t h)) (partyOf l t .taken + n) (partyOf l t .opened)
 
-  abbrev then : Party → Party
-  then p = renewed (sharedAfter c (sharedOf h)) (ownAfter c (sharedOf h) p)
+  abbrev set-by : Shared
+  set-by = sharedAfter (partyOf l t .birth .mine) c (sharedOf h)
 
-  module _ (rest ws : List ℕ) (begins : ws ≡ wordsOf c ++ rest) (fine : judgeCommandOf c ≡ gives []) (rule : startRuleOf c (sessionOf l t h) ≡ gives []) where
+  abbrev then : Party → Party
+  then p = renewed set-by (ownAfter c (sharedOf h) p)
+
+  module _ (rest ws : List ℕ) (begins : ws ≡ wordsOf c ++ rest) (fine : judgeCommandOf c ≡ gives [])
+      (own : owned (getD l 17 0) c ≡ true) (rule : startRuleOf c (sessionOf l t h) ≡ gives []) where
     pub tried : (l2 t2 h2 : List ℕ) → HeldOwn (then (partyOf l1 t)) l2 t2 →
-        h2 ≡ sharedCells (sharedAfter c (sharedOf h)) → Tried c ws n l t h n l2 t2 h2
+        h2 ≡ sharedCells set-by → Tried c ws n l t h n l2 t2 h2
     unfolding after
-    tried l2 t2 h2 held e = accepted rest l2 t2 h2 begins fine rule kept
+    tried l2 t2 h2 held e = accepted rest l2 t2 h2 begins fine (unfold partyOf in own) rule kept
       where
         own-held : HeldOwn (left .party) l2 t2
         own-held =
@@ -152,7 +158,7 @@ module _ (c : Command) (n : ℕ) (l t h l1 : List ℕ) (e1 : l1 ≡ partyCells (
 
     -- the same of a command that sets nothing that readiness is worked out from
     pub unmoving-tried : Unmoving c → OwnAsked l t h → (l2 t2 h2 : List ℕ) → HeldOwn (ownAfter c (sharedOf h) (partyOf l1 t)) l2 t2 →
-        h2 ≡ sharedCells (sharedAfter c (sharedOf h)) → Tried c ws n l t h n l2 t2 h2
+        h2 ≡ sharedCells set-by → Tried c ws n l t h n l2 t2 h2
     unmoving-tried u a l2 t2 h2 held =
         tried l2 t2 h2
         (subst (λ (p : Party). HeldOwn p l2 t2)
@@ -161,7 +167,8 @@ module _ (c : Command) (n : ℕ) (l t h l1 : List ℕ) (e1 : l1 ≡ partyCells (
 
 -- "start reads it": the stored number is the one worked out from the settings
 stored-number : (l t h : List ℕ) → OwnAsked l t h →
-    getD l 19 0 ≡ readinessOf (partyOf l t .domain) (partyOf l t .instructions) (sharedOf h .mask) (sharedOf h .outputs)
+    getD l 19 0 ≡ readinessOf (partyOf l t .domain) (partyOf l t .instructions) (sharedOf h .mask)
+    (seenOutputs (partyOf l t .birth .mine) (sharedOf h .outputs))
 unfolding partyOf workedOut
 stored-number l t h a = ap (λ (r : Readiness). r .number) (a .kept)
 
@@ -179,7 +186,7 @@ counted-length l l1 n e = ap length e
 pub output-most : (n b f k : ℕ) → judgeCommandOf (command.Output n b f k) ≡ gives [] → n < 4
 output-most n b f k e = numbered (command.Output n b f k) (readable (command.Output n b f k) e .fields-allowed)
 
-input-most : (n b f k : ℕ) → judgeCommandOf (command.Input n b f k) ≡ gives [] → n < 16
+pub input-most : (n b f k : ℕ) → judgeCommandOf (command.Input n b f k) ≡ gives [] → n < 16
 input-most n b f k e = numbered (command.Input n b f k) (readable (command.Input n b f k) e .fields-allowed)
 
 pub output-place : (n b f k : ℕ) → judgeCommandOf (command.Output n b f k) ≡ gives [] → 21 + 4 * n < 98
@@ -194,19 +201,14 @@ module _ (l l1 : List ℕ) (m : ℕ) (e : l1 ≡ partyCells (tookWords m (partyO
   sized = counted-length l l1 m e
 
   -- what is kept after the words were counted
-  kept-counted : (t h : List ℕ) → OwnAsked l t h → partyOf l1 t .readiness ≡ readinessFor (partyOf l t) (sharedOf h)
-  unfolding partyOf partyCells
-  kept-counted t h a = ap (λ (x : List ℕ). partyOf x t .readiness) e ∙ a .kept
+  abbrev keptIn : List ℕ → List ℕ → Birth → Readiness
+  keptIn t h b =
+      workedOut (b .edition) (partyOf l t .domain) (partyOf l t .instructions) (sharedOf h .mask) (seenOutputs (b .mine) (sharedOf h .outputs))
 
-  -- the same by the edition that the counted cells hold
-  kept-born : (t h : List ℕ) → OwnAsked l t h →
-      partyOf l1 t .readiness ≡
-      workedOut (partyOf l1 t .birth .edition) (partyOf l t .domain) (partyOf l t .instructions) (sharedOf h .mask) (sharedOf h .outputs)
+  kept-counted : (t h : List ℕ) → OwnAsked l t h → partyOf l1 t .readiness ≡ keptIn t h (partyOf l1 t .birth)
   unfolding partyOf partyCells
-  kept-born t h a =
-      kept-counted t h a ∙
-      ap (λ (x : List ℕ).
-      workedOut (partyOf x t .birth .edition) (partyOf l t .domain) (partyOf l t .instructions) (sharedOf h .mask) (sharedOf h .outputs)) (sym e)
+  kept-counted t h a =
+      ap (λ (x : List ℕ). partyOf x t .readiness) e ∙ a .kept ∙ ap (λ (x : List ℕ). keptIn t h (partyOf x t .birth)) (sym e)
 
   domain-counted : (t h : List ℕ) → OwnAsked l t h → DomainValid (partyOf l1 t .domain)
   unfolding partyOf partyCells
@@ -228,7 +230,7 @@ module _ (l l1 : List ℕ) (m : ℕ) (e : l1 ≡ partyCells (tookWords m (partyO
 
     domain-held : (t h : List ℕ) → OwnAsked l t h → (l2 l3 : List ℕ) → l2 ≡ partyCells (domainSet []) →
         l3 ≡ partyCells (settled (partyOf l2 [])) →
-        HeldOwn (renewed (sharedAfter (command.Domain i0 j0 i1 j1) (sharedOf h)) (ownAfter (command.Domain i0 j0 i1 j1) (sharedOf h) (partyOf l1 t))) l3 t
+        HeldOwn (renewed (sharedAfter (partyOf l t .birth .mine) (command.Domain i0 j0 i1 j1) (sharedOf h)) (ownAfter (command.Domain i0 j0 i1 j1) (sharedOf h) (partyOf l1 t))) l3 t
     unfolding ownAfter sharedAfter
     domain-held t h z l2 l3 e2 e3 =
         subst (λ (p : Party). HeldOwn p l3 t)
@@ -240,17 +242,17 @@ module _ (l l1 : List ℕ) (m : ℕ) (e : l1 ≡ partyCells (tookWords m (partyO
         OwnTried (command.Domain i0 j0 i1 j1) (headerOf 0 ∷ i0 ∷ j0 ∷ i1 ∷ j1 ∷ []) m m l l3
     unfolding wordsOf lineOf fieldsOf startRuleOf
     domain-tried l2 e2 l3 e3 t h rest z =
-        tried (command.Domain i0 j0 i1 j1) m l t h l1 e rest _ refl fine refl l3 t h (domain-held t h z l2 l3 e2 e3)
-        (domain-shared h (z .sized .shared-length) i0 j0 i1 j1)
+        tried (command.Domain i0 j0 i1 j1) m l t h l1 e rest _ refl fine (unfold owned in refl) refl l3 t h (domain-held t h z l2 l3 e2 e3)
+        (domain-shared _ h (z .sized .shared-length) i0 j0 i1 j1)
 
   pub effectless-tried : (n : ℕ) → n ≡ 0 → (what : NoEffect) →
       OwnTried (command.Effectless what) (headerOf (noEffectLine what) ∷ n ∷ []) m m l l1
   unfolding wordsOf lineOf fieldsOf startRuleOf
   effectless-tried n none what t h rest z =
       unmoving-tried (command.Effectless what) m l t h l1 e rest _
-      (ap {B = List ℕ} (λ (x : ℕ). headerOf (noEffectLine what) ∷ x ∷ rest) none) (effectless-fits what) refl (unfold Unmoving in tt) z l1 t h
+      (ap {B = List ℕ} (λ (x : ℕ). headerOf (noEffectLine what) ∷ x ∷ rest) none) (effectless-fits what) (unfold owned in refl) refl (unfold Unmoving in tt) z l1 t h
       (effectless-own l1 sized t (z .sized .tallies-length) (sharedOf h) what)
-      (effectless-shared h (z .sized .shared-length) what)
+      (effectless-shared _ h (z .sized .shared-length) what)
 
   module _ (b f : ℕ) (fine : judgeCommandOf (command.Store stored.Instructions b f) ≡ gives []) where
     abbrev formatSet : List ℕ → Party
@@ -258,7 +260,7 @@ module _ (l l1 : List ℕ) (m : ℕ) (e : l1 ≡ partyCells (tookWords m (partyO
 
     instructions-held : (t h : List ℕ) → OwnAsked l t h → (l2 l3 : List ℕ) → l2 ≡ partyCells (formatSet []) →
         l3 ≡ partyCells (settled (partyOf l2 [])) →
-        HeldOwn (renewed (sharedAfter (command.Store stored.Instructions b f) (sharedOf h)) (ownAfter (command.Store stored.Instructions b f) (sharedOf h) (partyOf l1 t))) l3 t
+        HeldOwn (renewed (sharedAfter (partyOf l t .birth .mine) (command.Store stored.Instructions b f) (sharedOf h)) (ownAfter (command.Store stored.Instructions b f) (sharedOf h) (partyOf l1 t))) l3 t
     unfolding ownAfter sharedAfter
     instructions-held t h z l2 l3 e2 e3 =
         subst (λ (p : Party). HeldOwn p l3 t)
@@ -270,48 +272,49 @@ module _ (l l1 : List ℕ) (m : ℕ) (e : l1 ≡ partyCells (tookWords m (partyO
         OwnTried (command.Store stored.Instructions b f) (headerOf 3 ∷ b ∷ f ∷ []) m m l l3
     unfolding wordsOf lineOf storedLine fieldsOf startRuleOf
     instructions-tried l2 e2 l3 e3 t h rest z =
-        tried (command.Store stored.Instructions b f) m l t h l1 e rest _ refl fine refl l3 t h (instructions-held t h z l2 l3 e2 e3)
-        (instructions-shared h (z .sized .shared-length) b f)
+        tried (command.Store stored.Instructions b f) m l t h l1 e rest _ refl fine (unfold owned in refl) refl l3 t h (instructions-held t h z l2 l3 e2 e3)
+        (instructions-shared _ h (z .sized .shared-length) b f)
 
   -- commands that change shared cells, `h` to `h1`
   module _ (h h1 : List ℕ) where
-    pub conditional-tried : (b f k : ℕ) → judgeCommandOf (command.Conditional b f k) ≡ gives [] → h1 ≡ setBuffer h 17 (buffer b f k) →
+    pub conditional-tried : (b f k : ℕ) → judgeCommandOf (command.Conditional b f k) ≡ gives [] → owned (getD l 17 0) (command.Conditional b f k) ≡ true → h1 ≡ setBuffer h 17 (buffer b f k) →
         SharedTried (command.Conditional b f k) (headerOf 6 ∷ b ∷ f ∷ k ∷ []) m m l h l1 h1
     unfolding wordsOf lineOf fieldsOf startRuleOf
-    conditional-tried b f k fine p t rest z =
-        unmoving-tried (command.Conditional b f k) m l t h l1 e rest _ refl fine refl (unfold Unmoving in tt) z l1 t h1
+    conditional-tried b f k fine own p t rest z =
+        unmoving-tried (command.Conditional b f k) m l t h l1 e rest _ refl fine own refl (unfold Unmoving in tt) z l1 t h1
         (conditional-own l1 sized t (z .sized .tallies-length) (sharedOf h) b f k)
-        (p ∙ conditional-shared h (z .sized .shared-length) b f k)
+        (p ∙ conditional-shared _ h (z .sized .shared-length) b f k)
 
-    pub output-tried : (n b f k : ℕ) → judgeCommandOf (command.Output n b f k) ≡ gives [] →
+    pub output-tried : (n b f k : ℕ) → judgeCommandOf (command.Output n b f k) ≡ gives [] → owned (getD l 17 0) (command.Output n b f k) ≡ true →
         h1 ≡ setBuffer h (21 + 4 * n) (buffer b f k) → (r : Readiness) (l2 : List ℕ) →
         l2 ≡ partyCells (withReadiness r (partyOf l1 [])) → (l3 : List ℕ) → l3 ≡ partyCells (renewed (sharedOf h1) (partyOf l2 [])) →
         SharedTried (command.Output n b f k) (headerOf 5 ∷ n ∷ b ∷ f ∷ k ∷ []) m m l h l3 h1
     unfolding wordsOf lineOf fieldsOf startRuleOf
-    output-tried n b f k fine p r l2 e2 l3 e3 t rest z =
+    output-tried n b f k fine own p r l2 e2 l3 e3 t rest z =
         let less = output-most n b f k fine in
-        tried (command.Output n b f k) m l t h l1 e rest _ refl fine refl l3 t h1
+        tried (command.Output n b f k) m l t h l1 e rest _ refl fine own refl l3 t h1
         (unfold ownAfter in
-        renewed-own l1 l2 t h1 (sharedAfter (command.Output n b f k) (sharedOf h)) r (output-set h h1 (z .sized .shared-length) n b f k less p)
+        renewed-own l1 l2 t h1 (sharedAfter (partyOf l t .birth .mine) (command.Output n b f k) (sharedOf h)) r
+        (output-set (partyOf l t .birth .mine) h h1 (z .sized .shared-length) n b f k less p)
         (z .sized .tallies-length) e2 l3 e3)
-        (p ∙ output-shared h (z .sized .shared-length) n b f k less)
+        (p ∙ output-shared _ h (z .sized .shared-length) n b f k less)
 
-    pub input-tried : (n b f k : ℕ) → judgeCommandOf (command.Input n b f k) ≡ gives [] →
+    pub input-tried : (n b f k : ℕ) → judgeCommandOf (command.Input n b f k) ≡ gives [] → owned (getD l 17 0) (command.Input n b f k) ≡ true →
         h1 ≡ setBuffer h (37 + 4 * n) (buffer b f k) →
         SharedTried (command.Input n b f k) (headerOf 4 ∷ n ∷ b ∷ f ∷ k ∷ []) m m l h l1 h1
     unfolding wordsOf lineOf fieldsOf startRuleOf
-    input-tried n b f k fine p t rest z =
-        unmoving-tried (command.Input n b f k) m l t h l1 e rest _ refl fine refl (unfold Unmoving in tt) z l1 t h1
+    input-tried n b f k fine own p t rest z =
+        unmoving-tried (command.Input n b f k) m l t h l1 e rest _ refl fine own refl (unfold Unmoving in tt) z l1 t h1
         (input-own l1 sized t (z .sized .tallies-length) (sharedOf h) n b f k)
-        (p ∙ input-shared h (z .sized .shared-length) n b f k (input-most n b f k fine))
+        (p ∙ input-shared _ h (z .sized .shared-length) n b f k (input-most n b f k fine))
 
     -- a constants' format, whichever it is
-    constants-shared : (what : Stored) (at b f : ℕ) → KeptAt what at → length h ≡ sharedLength →
-        setBuffer h at (buffer b f 1) ≡ sharedCells (sharedAfter (command.Store what b f) (sharedOf h))
-    constants-shared stored.Instructions at b f a z = absurd a
-    constants-shared stored.Floats at b f a z = ap (λ (k : ℕ). setBuffer h k (buffer b f 1)) a ∙ floats-shared h z b f
-    constants-shared stored.Integers at b f a z = ap (λ (k : ℕ). setBuffer h k (buffer b f 1)) a ∙ integers-shared h z b f
-    constants-shared stored.Booleans at b f a z = ap (λ (k : ℕ). setBuffer h k (buffer b f 1)) a ∙ booleans-shared h z b f
+    constants-shared : (mine : ℕ) (what : Stored) (at b f : ℕ) → KeptAt what at → length h ≡ sharedLength →
+        setBuffer h at (buffer b f 1) ≡ sharedCells (sharedAfter mine (command.Store what b f) (sharedOf h))
+    constants-shared mine stored.Instructions at b f a z = absurd a
+    constants-shared mine stored.Floats at b f a z = ap (λ (k : ℕ). setBuffer h k (buffer b f 1)) a ∙ floats-shared mine h z b f
+    constants-shared mine stored.Integers at b f a z = ap (λ (k : ℕ). setBuffer h k (buffer b f 1)) a ∙ integers-shared mine h z b f
+    constants-shared mine stored.Booleans at b f a z = ap (λ (k : ℕ). setBuffer h k (buffer b f 1)) a ∙ booleans-shared mine h z b f
 
     constants-own : (what : Stored) (at b f : ℕ) → KeptAt what at → l1 ≡ stored-cells l1 sized what b f
     constants-own stored.Instructions at b f a = absurd a
@@ -326,39 +329,46 @@ module _ (l l1 : List ℕ) (m : ℕ) (e : l1 ≡ partyCells (tookWords m (partyO
     constants-unmoving stored.Integers at b f a = tt
     constants-unmoving stored.Booleans at b f a = tt
 
-    pub constants-tried : (at b f : ℕ) → ((what : Stored) → judgeCommandOf (command.Store what b f) ≡ gives []) →
+    constants-owned : (what : Stored) (at b f : ℕ) → KeptAt what at → ownsCommon (getD l 17 0) ≡ true → owned (getD l 17 0) (command.Store what b f) ≡ true
+    unfolding owned
+    constants-owned stored.Instructions at b f a o = absurd a
+    constants-owned stored.Floats at b f a o = o
+    constants-owned stored.Integers at b f a o = o
+    constants-owned stored.Booleans at b f a o = o
+
+    pub constants-tried : (at b f : ℕ) → ((what : Stored) → judgeCommandOf (command.Store what b f) ≡ gives []) → ownsCommon (getD l 17 0) ≡ true →
         h1 ≡ setBuffer h at (buffer b f 1) → (what : Stored) → KeptAt what at →
         SharedTried (command.Store what b f) (headerOf (storedLine what) ∷ b ∷ f ∷ []) m m l h l1 h1
     unfolding wordsOf lineOf fieldsOf startRuleOf
-    constants-tried at b f fine p what a t rest z =
-        unmoving-tried (command.Store what b f) m l t h l1 e rest _ refl (fine what) refl (constants-unmoving what at b f a) z l1 t h1
+    constants-tried at b f fine own p what a t rest z =
+        unmoving-tried (command.Store what b f) m l t h l1 e rest _ refl (fine what) (constants-owned what at b f a own) refl (constants-unmoving what at b f a) z l1 t h1
         (store-own l1 sized t (z .sized .tallies-length) (sharedOf h) what b f (constants-own what at b f a))
-        (p ∙ constants-shared what at b f a (z .sized .shared-length))
+        (p ∙ constants-shared _ what at b f a (z .sized .shared-length))
 
-    pub mask-tried : (n : ℕ) → judgeCommandOf (command.OutputMask n) ≡ gives [] → h1 ≡ set h 0 n → (l3 : List ℕ) →
+    pub mask-tried : (n : ℕ) → judgeCommandOf (command.OutputMask n) ≡ gives [] → h1 ≡ set h 0 (maskBy (getD l 17 0) n (getD h 0 0)) → (l3 : List ℕ) →
         l3 ≡ partyCells (renewed (sharedOf h1) (partyOf l1 [])) →
         SharedTried (command.OutputMask n) (headerOf 18 ∷ n ∷ []) m m l h l3 h1
     unfolding wordsOf lineOf fieldsOf startRuleOf
     mask-tried n fine p l3 e3 t rest z =
-        tried (command.OutputMask n) m l t h l1 e rest _ refl fine refl l3 t h1
+        tried (command.OutputMask n) m l t h l1 e rest _ refl fine (unfold owned in refl) refl l3 t h1
         (unfold ownAfter in
-        renewed-own l1 l1 t h1 (sharedAfter (command.OutputMask n) (sharedOf h)) (partyOf l1 [] .readiness)
-        (mask-set h h1 (z .sized .shared-length) n p) (z .sized .tallies-length) (sym (own-canon l1 [] sized)) l3 e3)
-        (p ∙ mask-shared h (z .sized .shared-length) n)
+        renewed-own l1 l1 t h1 (sharedAfter (partyOf l t .birth .mine) (command.OutputMask n) (sharedOf h)) (partyOf l1 [] .readiness)
+        (mask-set (partyOf l t .birth .mine) h h1 (z .sized .shared-length) n (unfold partyOf in p)) (z .sized .tallies-length) (sym (own-canon l1 [] sized)) l3 e3)
+        (unfold partyOf in (p ∙ mask-shared _ h (z .sized .shared-length) n))
 
-    pub conditional-mask-tried : (n : ℕ) → judgeCommandOf (command.ConditionalMask n) ≡ gives [] → h1 ≡ set (set h 1 1) 2 n →
+    pub conditional-mask-tried : (n : ℕ) → judgeCommandOf (command.ConditionalMask n) ≡ gives [] → owned (getD l 17 0) (command.ConditionalMask n) ≡ true → h1 ≡ set (set h 1 1) 2 n →
         SharedTried (command.ConditionalMask n) (headerOf 19 ∷ n ∷ []) m m l h l1 h1
     unfolding wordsOf lineOf fieldsOf startRuleOf
-    conditional-mask-tried n fine p t rest z =
-        unmoving-tried (command.ConditionalMask n) m l t h l1 e rest _ refl fine refl (unfold Unmoving in tt) z l1 t h1
-        (conditional-mask-own l1 sized t (z .sized .tallies-length) (sharedOf h) n) (p ∙ conditional-mask-shared h (z .sized .shared-length) n)
+    conditional-mask-tried n fine own p t rest z =
+        unmoving-tried (command.ConditionalMask n) m l t h l1 e rest _ refl fine own refl (unfold Unmoving in tt) z l1 t h1
+        (conditional-mask-own l1 sized t (z .sized .tallies-length) (sharedOf h) n) (p ∙ conditional-mask-shared _ h (z .sized .shared-length) n)
 
-    pub test-tried : (n : ℕ) → judgeCommandOf (command.Test n) ≡ gives [] → h1 ≡ set (set h 3 1) 4 n
+    pub test-tried : (n : ℕ) → judgeCommandOf (command.Test n) ≡ gives [] → owned (getD l 17 0) (command.Test n) ≡ true → h1 ≡ set (set h 3 1) 4 n
         → SharedTried (command.Test n) (headerOf 20 ∷ n ∷ []) m m l h l1 h1
     unfolding wordsOf lineOf fieldsOf startRuleOf
-    test-tried n fine p t rest z =
-        unmoving-tried (command.Test n) m l t h l1 e rest _ refl fine refl (unfold Unmoving in tt) z l1 t h1
-        (test-own l1 sized t (z .sized .tallies-length) (sharedOf h) n) (p ∙ test-shared h (z .sized .shared-length) n)
+    test-tried n fine own p t rest z =
+        unmoving-tried (command.Test n) m l t h l1 e rest _ refl fine own refl (unfold Unmoving in tt) z l1 t h1
+        (test-own l1 sized t (z .sized .tallies-length) (sharedOf h) n) (p ∙ test-shared _ h (z .sized .shared-length) n)
 
   -- a start, where the settings let it pass
   module _ (t h : List ℕ) (a : OwnAsked l t h) where
@@ -383,10 +393,49 @@ module _ (l l1 : List ℕ) (m : ℕ) (e : l1 ≡ partyCells (tookWords m (partyO
         (rest : List ℕ) → Tried command.Start (headerOf 1 ∷ n ∷ rest) m l t h m l1 t1 h
     unfolding wordsOf lineOf fieldsOf startRuleOf partyOf
     start-tried n none fine t1 e1 rest =
-        unmoving-tried command.Start m l t h l1 e rest _ (ap {B = List ℕ} (λ (x : ℕ). headerOf 1 ∷ x ∷ rest) none) start-fits
+        unmoving-tried command.Start m l t h l1 e rest _ (ap {B = List ℕ} (λ (x : ℕ). headerOf 1 ∷ x ∷ rest) none) start-fits (unfold owned in refl)
         (number-given _ _ _ _ (sym (stored-number l t h a) ∙ fine)) (unfold Unmoving in tt) a l1 t1 h
         (start-own l1 sized t (a .sized .tallies-length) (sharedOf h) e1)
-        (start-shared h (a .sized .shared-length))
+        (start-shared _ h (a .sized .shared-length))
+
+-- a command that sets what the party doesn't own
+pub unowned : {c : Command} {ws l t h : List ℕ} {m : ℕ} → owned (getD l 17 0) c ≡ false → Tried c ws m l t h 0 l t h
+unfolding partyOf
+unowned e = untaken (byOwner e)
+
+-- what the tests of an owner's bit found
+module _ (l : List ℕ) {r : Bool} where
+  pub owner-at : (n : ℕ) → r ≡ ownsOutput (getD l 17 0) n → r ≡ true → ownsOutput (partyOf l [] .birth .mine) n ≡ true
+  unfolding partyOf
+  owner-at n e y = sym e ∙ y
+
+  pub input-owner : {y : Bool} (n b f k : ℕ) → r ≡ ownsInput (getD l 17 0) n → r ≡ y → owned (getD l 17 0) (command.Input n b f k) ≡ y
+  unfolding owned
+  input-owner n b f k e y = sym e ∙ y
+
+  pub output-owner : {y : Bool} (n b f k : ℕ) → r ≡ ownsOutput (getD l 17 0) n → r ≡ y → owned (getD l 17 0) (command.Output n b f k) ≡ y
+  unfolding owned
+  output-owner n b f k e y = sym e ∙ y
+
+  pub conditional-owner : {y : Bool} (b f k : ℕ) → r ≡ ownsCommon (getD l 17 0) → r ≡ y → owned (getD l 17 0) (command.Conditional b f k) ≡ y
+  unfolding owned
+  conditional-owner b f k e y = sym e ∙ y
+
+  pub conditional-mask-owner : {y : Bool} (n : ℕ) → r ≡ ownsCommon (getD l 17 0) → r ≡ y → owned (getD l 17 0) (command.ConditionalMask n) ≡ y
+  unfolding owned
+  conditional-mask-owner n e y = sym e ∙ y
+
+  pub test-owner : {y : Bool} (n : ℕ) → r ≡ ownsCommon (getD l 17 0) → r ≡ y → owned (getD l 17 0) (command.Test n) ≡ y
+  unfolding owned
+  test-owner n e y = sym e ∙ y
+
+  pub constants-unowned : (what : Stored) (at b f : ℕ) → KeptAt what at → r ≡ ownsCommon (getD l 17 0) → r ≡ false →
+      owned (getD l 17 0) (command.Store what b f) ≡ false
+  unfolding owned
+  constants-unowned stored.Instructions at b f a e n = absurd a
+  constants-unowned stored.Floats at b f a e n = sym e ∙ n
+  constants-unowned stored.Integers at b f a e n = sym e ∙ n
+  constants-unowned stored.Booleans at b f a e n = sym e ∙ n
 
 -- a command that isn't taken
 pub denied : {c : Command} {ws l t h : List ℕ} {m : ℕ} {r : Bool} → r ≡ isGiven (judgeCommandOf c) → r ≡ false →

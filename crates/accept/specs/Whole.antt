@@ -1,12 +1,13 @@
 -- What taking a command whole asks of the cells, and what it leaves in them. Assumes nothing.
 use mathlib.Core.Path.{_≡_}
-use mathlib.Core.Bool.{false}
+use mathlib.Core.Bool.{true, false}
 use mathlib.Core.List.{List, [], _∷_, _++_}
 use Prim.Native.Nat.{ℕ, _+_, _≤_}
 use lib.ListN.{length, getD}
 use Rattle.refusal.specs.Told.{gives, isGiven}
 use Rattle.command.specs.Table.{headerOf, lineWith}
 use Rattle.command.specs.Commands.{wordsOf, commandOf}
+use Rattle.owners.specs.Owners.{owned}
 use Rattle.rules.specs.Writer.{judgeCommandOf}
 use Rattle.command.specs.declared.commands.Stored.{Stored}
 use Rattle.command.specs.declared.commands.Stored.the-variants as stored
@@ -33,10 +34,12 @@ pub record Ready (own tallies shared : List ℕ) : Type 0 where
   pub idle : Idle (sessionOf own tallies shared)
   pub room : partyOf own tallies .taken + mostWords ≤ limit
 
--- why a command isn't taken: the words aren't its own (a reserved parameter isn't 0), its fields cause a refusal, or the settings do
+-- why a command isn't taken: the words aren't its own (a reserved parameter isn't 0), its fields cause a refusal, it sets what the party
+-- doesn't own, or the settings refuse it
 pub data Denied (c : Command) (ws : List ℕ) (s : Session) : Type 0 where
   byWords : ((rest : List ℕ) → ws ≡ wordsOf c ++ rest → ⊥) → Denied c ws s
   byFields : isGiven (judgeCommandOf c) ≡ false → Denied c ws s
+  byOwner : owned (s .party .birth .mine) c ≡ false → Denied c ws s
   bySettings : isGiven (startRuleOf c s) ≡ false → Denied c ws s
 
 -- an attempt at a command whose words a list begins with: it was accepted and so many words counted, or it can't be accepted, 0 is
@@ -45,7 +48,7 @@ pub data Tried (c : Command) (ws : List ℕ) (words : ℕ) (own tallies shared :
   untaken : Denied c ws (sessionOf own tallies shared) → Tried c ws words own tallies shared 0 own tallies shared
   accepted :
       (rest own1 tallies1 shared1 : List ℕ) → ws ≡ wordsOf c ++ rest → judgeCommandOf c ≡ gives [] →
-      startRuleOf c (sessionOf own tallies shared) ≡ gives [] →
+      owned (partyOf own tallies .birth .mine) c ≡ true → startRuleOf c (sessionOf own tallies shared) ≡ gives [] →
       Held (atWord (after c (sessionOf own tallies shared)) (partyOf own tallies .taken + words) (partyOf own tallies .opened)) own1 tallies1 shared1 →
       Tried c ws words own tallies shared words own1 tallies1 shared1
 

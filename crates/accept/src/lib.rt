@@ -110,9 +110,13 @@ fn take_constants(
     ensures { λ r. ⌜ ((what : Stored) → KeptAt what at → SharedTried (Command.Store what base format) (headerOf (storedLine what) ∷ base ∷ format ∷ []) words r (now (own .entry)) (now (shared .entry)) (now (own .exit)) (now (shared .exit))) ⌝ }
 {
     if fits::window(base, format, 1) {
-        own::count_words(own, words);
-        settings::put(shared, at, base, format, 1);
-        words
+        if owners::is_on(own[own::MINE], owners::COMMON) {
+            own::count_words(own, words);
+            settings::put(shared, at, base, format, 1);
+            words
+        } else {
+            0
+        }
     } else {
         0
     }
@@ -131,15 +135,19 @@ fn take_input(
     ensures { λ r. ⌜ SharedTried (Command.Input number base format height) (headerOf 4 ∷ number ∷ base ∷ format ∷ height ∷ []) words r (now (own .entry)) (now (shared .entry)) (now (own .exit)) (now (shared .exit)) ⌝ }
 {
     if fits::input(number, base, format, height) {
-        own::count_words(own, words);
-        settings::put(
-            shared,
-            settings::INPUTS + 4 * number as usize,
-            base,
-            format,
-            height,
-        );
-        words
+        if owners::is_on(own[own::MINE], number) {
+            own::count_words(own, words);
+            settings::put(
+                shared,
+                settings::INPUTS + 4 * number as usize,
+                base,
+                format,
+                height,
+            );
+            words
+        } else {
+            0
+        }
     } else {
         0
     }
@@ -158,18 +166,22 @@ fn take_output(
     ensures { λ r. ⌜ SharedTried (Command.Output number base format height) (headerOf 5 ∷ number ∷ base ∷ format ∷ height ∷ []) words r (now (own .entry)) (now (shared .entry)) (now (own .exit)) (now (shared .exit)) ⌝ }
 {
     if fits::output(number, base, format, height) {
-        own::count_words(own, words);
-        settings::put(
-            shared,
-            settings::OUTPUTS + 4 * number as usize,
-            base,
-            format,
-            height,
-        );
-        let window = format::window_of(base, format, height);
-        own::set_window(own, number, window.step, window.span);
-        ready::renew(own, shared);
-        words
+        if owners::is_on(own[own::MINE], owners::FIRST_OUTPUT + number) {
+            own::count_words(own, words);
+            settings::put(
+                shared,
+                settings::OUTPUTS + 4 * number as usize,
+                base,
+                format,
+                height,
+            );
+            let window = format::window_of(base, format, height);
+            own::set_window(own, number, window.step, window.span);
+            ready::renew(own, shared);
+            words
+        } else {
+            0
+        }
     } else {
         0
     }
@@ -187,9 +199,13 @@ fn take_conditional(
     ensures { λ r. ⌜ SharedTried (Command.Conditional base format height) (headerOf 6 ∷ base ∷ format ∷ height ∷ []) words r (now (own .entry)) (now (shared .entry)) (now (own .exit)) (now (shared .exit)) ⌝ }
 {
     if fits::window(base, format, height) {
-        own::count_words(own, words);
-        settings::put(shared, settings::CONDITIONAL, base, format, height);
-        words
+        if owners::is_on(own[own::MINE], owners::COMMON) {
+            own::count_words(own, words);
+            settings::put(shared, settings::CONDITIONAL, base, format, height);
+            words
+        } else {
+            0
+        }
     } else {
         0
     }
@@ -205,8 +221,9 @@ fn take_mask(
     ensures { λ r. ⌜ SharedTried (Command.OutputMask mask) (headerOf 18 ∷ mask ∷ []) words r (now (own .entry)) (now (shared .entry)) (now (own .exit)) (now (shared .exit)) ⌝ }
 {
     if mask < 65536 {
+        let own_bits = owners::blended(own[own::MINE], mask, shared[settings::MASK]);
         own::count_words(own, words);
-        shared[settings::MASK] = mask;
+        shared[settings::MASK] = own_bits;
         ready::renew(own, shared); // the mask tells which outputs count
         words
     } else {
@@ -224,10 +241,14 @@ fn take_conditional_mask(
     ensures { λ r. ⌜ SharedTried (Command.ConditionalMask mask) (headerOf 19 ∷ mask ∷ []) words r (now (own .entry)) (now (shared .entry)) (now (own .exit)) (now (shared .exit)) ⌝ }
 {
     if mask < 2 {
-        own::count_words(own, words);
-        shared[settings::CONDITIONAL_MASK_SET] = 1;
-        shared[settings::CONDITIONAL_MASK] = mask;
-        words
+        if owners::is_on(own[own::MINE], owners::COMMON) {
+            own::count_words(own, words);
+            shared[settings::CONDITIONAL_MASK_SET] = 1;
+            shared[settings::CONDITIONAL_MASK] = mask;
+            words
+        } else {
+            0
+        }
     } else {
         0
     }
@@ -243,10 +264,14 @@ fn take_test(
     ensures { λ r. ⌜ SharedTried (Command.Test test) (headerOf 20 ∷ test ∷ []) words r (now (own .entry)) (now (shared .entry)) (now (own .exit)) (now (shared .exit)) ⌝ }
 {
     if test < 8 {
-        own::count_words(own, words);
-        shared[settings::TEST_SET] = 1;
-        shared[settings::TEST] = test;
-        words
+        if owners::is_on(own[own::MINE], owners::COMMON) {
+            own::count_words(own, words);
+            shared[settings::TEST_SET] = 1;
+            shared[settings::TEST] = test;
+            words
+        } else {
+            0
+        }
     } else {
         0
     }

@@ -1,4 +1,4 @@
 pub mod Entries
-pub mod Opposites
+pub mod Rows
 pub mod Surveys
 pub mod Tests

@@ -24,7 +24,9 @@ use Rattle.address.proofs.Runs.{clash}
 use Rattle.memory.specs.Elements.{heldAt, inOrder}
 use Rattle.memory.proofs.Copies.{copy-step, copy-done}
 use Rattle.memory.proofs.Pairs.{is-inside, goes-to, stays-out}
-use Rattle.conditional.specs.Asked.{DomainAsked, StartAsked, FillAsked}
+use Rattle.conditions.specs.Spans.{written}
+use Rattle.conditions.proofs.Written.{written-none, written-one}
+use Rattle.conditional.specs.Asked.{DomainAsked}
 use Rattle.conditional.specs.Conditional.{columns, pairs, pairX, pairY, allInside, allHeld, passesAt, pairOf, bitAt, listed, domainOf, roomAfter, Answers}
 
 module _ (i0 j0 i1 j1 : ℕ) (hi : i0 ≤ i1) (hj : j0 ≤ j1) where
@@ -40,65 +42,12 @@ module _ (i0 j0 i1 j1 : ℕ) (hi : i0 ≤ i1) (hj : j0 ≤ j1) where
   abbrev Y : ℕ → ℕ
   Y k = pairY i0 j0 i1 j1 k
 
-  -- the first pair
-  pub first-x : i0 ≡ X 0
-  first-x = omega (arith, ap (λ (n : ℕ). n % w) {x = 0} {y = 0 * w + 0} (omega arith), digits-mod 0 w-pos)
-
-  pub first-y : j0 ≡ Y 0
-  first-y = omega (arith, ap (λ (n : ℕ). n / w) {x = 0} {y = 0 * w + 0} (omega arith), digits-div 0 w-pos)
-
   -- every pair lies in the domain
   pub x-most : (k : ℕ) → X k ≤ i1
   x-most k = omega (arith, mod-lt k w-pos)
 
   pub y-most : (k : ℕ) → k < pairs i0 j0 i1 j1 → Y k ≤ j1
   y-most k h = omega (arith, div-lt-iff-lt-mul {x = k} {y = suc j1 - j0} w-pos .1 h)
-
-  -- from one pair to the next
-  module _ (k : ℕ) where
-    abbrev r : ℕ
-    r = k % w
-
-    abbrev q : ℕ
-    q = k / w
-
-    r-lt : r < w
-    r-lt = mod-lt k w-pos
-
-    whole : q * w + r ≡ k
-    whole = div-add-mod' k w
-
-    in-row : suc r < w → k + 1 ≡ q * w + suc r
-    in-row h = omega (arith, whole)
-
-    at-end : suc r ≡ w → k + 1 ≡ suc q * w + 0
-    at-end h = omega (arith, whole, add-mul 1 q w)
-
-    pub next-x : pick (ltb (X k) i1) (X k + 1) i0 ≡ X (k + 1)
-    next-x = go (tested (ltb (X k) i1))
-      where
-        go : Tested (ltb (X k) i1) → pick (ltb (X k) i1) (X k + 1) i0 ≡ X (k + 1)
-        go (holds t) =
-            let h : X k < i1 = ltb-true _ _ t in
-            let small : suc r < w = omega (arith, h) in
-            pick-yes _ _ t ∙ omega (arith, ap (λ (n : ℕ). n % w) (in-row small), digits-mod q small)
-        go (fails t) =
-            let h : i1 ≤ X k = ltb-false _ _ t in
-            let last : suc r ≡ w = omega (arith, h, r-lt) in
-            pick-no _ _ t ∙ omega (arith, ap (λ (n : ℕ). n % w) (at-end last), digits-mod (suc q) w-pos)
-
-    pub next-y : pick (ltb (X k) i1) (Y k) (Y k + 1) ≡ Y (k + 1)
-    next-y = go (tested (ltb (X k) i1))
-      where
-        go : Tested (ltb (X k) i1) → pick (ltb (X k) i1) (Y k) (Y k + 1) ≡ Y (k + 1)
-        go (holds t) =
-            let h : X k < i1 = ltb-true _ _ t in
-            let small : suc r < w = omega (arith, h) in
-            pick-yes _ _ t ∙ omega (arith, ap (λ (n : ℕ). n / w) (in-row small), digits-div q small)
-        go (fails t) =
-            let h : i1 ≤ X k = ltb-false _ _ t in
-            let last : suc r ≡ w = omega (arith, h, r-lt) in
-            pick-no _ _ t ∙ omega (arith, ap (λ (n : ℕ). n / w) (at-end last), digits-div (suc q) w-pos)
 
 pub none-before : (i : ℕ) → i < 0 → ⊥
 none-before i h = omega arith
@@ -115,63 +64,6 @@ module _ (l : Layout) (i0 j0 i1 j1 : ℕ) (a : DomainAsked l i0 j0 i1 j1) where
       and-intro
       (lt-ltb (pairX i0 j0 i1 j1 k) (stepOf l) (omega (arith, x-most i0 j0 i1 j1 (a .columns) (a .rows) k, last .column)))
       (lt-ltb (pairY i0 j0 i1 j1 k) (l .height) (omega (arith, y-most i0 j0 i1 j1 (a .columns) (a .rows) k h, last .row)))
-
-  -- the pair that the code is at
-  pub at-pair :
-      (x y k : ℕ) → x ≡ pairX i0 j0 i1 j1 k → y ≡ pairY i0 j0 i1 j1 k → k < pairs i0 j0 i1 j1 → inside l x y ≡ true
-  at-pair x y k ex ey h = rw (ex, ey) (pair-inside k h)
-
-  pub row-few : (k : ℕ) → k < pairs i0 j0 i1 j1 → pairY i0 j0 i1 j1 k < 4096
-  row-few k h =
-      let b = rule-bounds (l .base .0) (l .tiled) (l .size) (stepOf l) (l .height) (a .accepted .window) in
-      let last = is-inside l i1 j1 (a .last) in
-      omega (arith, y-most i0 j0 i1 j1 (a .columns) (a .rows) k h, last .row, b .height-most)
-
-  module _ (first m : ℕ) where
-    abbrev pub held : ℕ → Bool
-    held k = heldAt l (pairX i0 j0 i1 j1 k) (pairY i0 j0 i1 j1 k) first m
-
-    pub unheld : (k : ℕ) → k < pairs i0 j0 i1 j1 → held k ≡ false → false ≡ allHeld i0 j0 i1 j1 l first m
-    unfolding allHeld
-    unheld k h e = go (tested (every (pairs i0 j0 i1 j1) held))
-      where
-        go : Tested (every (pairs i0 j0 i1 j1) held) → false ≡ every (pairs i0 j0 i1 j1) held
-        go (holds t) = absurd (clash (sym (every-at (pairs i0 j0 i1 j1) held t k h) ∙ e))
-        go (fails t) = sym t
-
-    pub held-all :
-        (k : ℕ) → pairs i0 j0 i1 j1 ≤ k → ((i : ℕ) → i < k → held i ≡ true) → true ≡ allHeld i0 j0 i1 j1 l first m
-    unfolding allHeld
-    held-all k h each = sym (every-of (pairs i0 j0 i1 j1) held (λ i hi. each i (omega arith)))
-
-    pub held-so-far :
-        (k : ℕ) → ((i : ℕ) → i < k → held i ≡ true) → held k ≡ true → (i : ℕ) → i < k + 1 → held i ≡ true
-    held-so-far k each here i h = go (tested (ltb i k))
-      where
-        go : Tested (ltb i k) → held i ≡ true
-        go (holds t) = each i (ltb-true i k t)
-        go (fails t) =
-            let same : i ≡ k = omega (arith, h, ltb-false i k t) in
-            ap held same ∙ here
-
--- every pair of a domain that memory holds
-pub start-asked :
-    (base pitch height : ℕ) (tiled : Bool) (i0 j0 i1 j1 first n room x y k : ℕ) →
-    FillAsked (layoutOf base pitch height 2 tiled) i0 j0 i1 j1 first n room → x ≡ pairX i0 j0 i1 j1 k → y ≡ pairY i0 j0 i1 j1 k → k < room →
-    StartAsked (layoutOf base pitch height 2 tiled) x y first n
-unfolding allHeld
-start-asked base pitch height tiled i0 j0 i1 j1 first n room x y k a ex ey h =
-    record {
-      accepted = a .domain .accepted;
-      pair = at-pair (layoutOf base pitch height 2 tiled) i0 j0 i1 j1 (a .domain) x y k ex ey below;
-      held =
-          rw (ex, ey)
-          (every-at (pairs i0 j0 i1 j1) (held (layoutOf base pitch height 2 tiled) i0 j0 i1 j1 (a .domain) first n) (a .held) k below);
-      size = refl;
-    }
-  where
-    below : k < pairs i0 j0 i1 j1
-    below = subst (λ (z : ℕ). k < z) (a .long) h
 
 -- a domain inside has at most 4,096 by 4,096 pairs
 pub pairs-few : (l : Layout) (i0 j0 i1 j1 : ℕ) → DomainAsked l i0 j0 i1 j1 → pairs i0 j0 i1 j1 ≤ 16777216
@@ -205,27 +97,18 @@ module _ (n : ℕ) (f : ℕ → ℕ) (before : List ℕ) (same : length before �
   all-put room k er h =
       er ∙ copy-done before (listed n f) k (same ∙ sym (length-listed n f)) (subst (λ (z : ℕ). z ≤ k) (sym (length-listed n f)) h)
 
-pub one-more : (f : ℕ → ℕ) (k passed bit : ℕ) → passed ≡ sum k f → bit ≡ f k → passed + bit ≡ sum (k + 1) f
-one-more f k passed bit ep eb =
-    ap₂ (λ (a b : ℕ). a + b) ep eb ∙ sym (sum-last k f) ∙ ap (λ (n : ℕ). sum n f) {x = suc k} {y = k + 1} (omega arith)
-
-pub all-counted : (f : ℕ → ℕ) (n k passed : ℕ) → passed ≡ sum k f → k ≤ n → n ≤ k → passed ≡ sum n f
-all-counted f n k passed ep h h' = ep ∙ ap (λ (z : ℕ). sum z f) {x = k} {y = n} (omega arith)
-
-pub none-counted : (f : ℕ → ℕ) → 0 ≡ sum 0 f
-unfolding sum
-none-counted f = refl
-
-module _ (l : Layout) (test v first : ℕ) (m : List ℕ) (i0 j0 i1 j1 : ℕ) where
-  pub bits-few : (k : ℕ) → sum k (bitAt l test v first m i0 j0 i1 j1) ≤ k
-  unfolding bitAt count
-  bits-few k = count-bounded k (λ i. passesAt l test v first m (pairX i0 j0 i1 j1 i) (pairY i0 j0 i1 j1 i))
-
-  pub bit-here :
-      (x y k : ℕ) → x ≡ pairX i0 j0 i1 j1 k → y ≡ pairY i0 j0 i1 j1 k →
-      digit (passesAt l test v first m x y) ≡ bitAt l test v first m i0 j0 i1 j1 k
-  unfolding bitAt
-  bit-here x y k ex ey = ap₂ (λ (a b : ℕ). digit (passesAt l test v first m a b)) ex ey
+-- all bytes of a domain written, one after the other
+pub written-listed : (n : ℕ) (f : ℕ → ℕ) (before : List ℕ) → length before ≡ n → written 0 f n before ≡ listed n f
+written-listed n f before same = all-put n f before same _ n (go n (omega arith)) (omega arith)
+  where
+    go : (k : ℕ) → k ≤ n → written 0 f k before ≡ take k (listed n f) ++ drop k before
+    go zero h = sym (written-none 0 f before)
+    go (suc k) h =
+        ap (λ (z : ℕ). written 0 f z before) {x = suc k} {y = k + 1} (omega arith) ∙
+        sym (written-one 0 f k before _ (f k) refl refl) ∙
+        ap (λ (p : ℕ). set (written 0 f k before) p (f k)) {x = 0 + k} {y = k} (omega arith) ∙
+        put-byte n f before same (written 0 f k before) k (f k) (go k (omega (arith, h))) (omega (arith, h)) refl ∙
+        ap (λ (z : ℕ). take z (listed n f) ++ drop z before) {x = k + 1} {y = suc k} (omega arith)
 
 -- what a survey answers: one law a return of the code
 pub answers-refused :
@@ -334,5 +217,5 @@ pub byte-tested :
 unfolding pairOf inOrder allHeld bitAt
 byte-tested l test v first m i0 j0 i1 j1 a h k below =
     answered l (a .accepted) _ ∙ pick-yes _ _ (pair-inside l i0 j0 i1 j1 a k below) ∙
-    pick-yes _ _ (every-at (pairs i0 j0 i1 j1) (held l i0 j0 i1 j1 a first (length m)) h k below) ∙
+    pick-yes _ _ (every-at (pairs i0 j0 i1 j1) (λ i. heldAt l (pairX i0 j0 i1 j1 i) (pairY i0 j0 i1 j1 i) first (length m)) h k below) ∙
     ap (λ (z : ℕ). gives (z ∷ [])) (sym (get-listed (pairs i0 j0 i1 j1) (bitAt l test v first m i0 j0 i1 j1) k below))

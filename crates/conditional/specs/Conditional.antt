@@ -2,11 +2,11 @@
 -- pair: result v op b, for UINT16_1 only (other formats get 3 here), low byte first, from lent memory". The unit reads a session's
 -- settings and nothing else of it. Assumes nothing.
 use mathlib.Core.Path.{_≡_}
-use mathlib.Core.Bool.{Bool, true, false, not}
+use mathlib.Core.Bool.{Bool}
 use mathlib.Core.List.{List, [], _∷_}
 use Prim.Native.Nat.{ℕ, zero, suc, _+_, _-_, _*_, _/_, _%_}
-use lib.Dec.{leb, ltb, eqb}
-use lib.ListN.{length, getD}
+use lib.Dec.{leb, eqb}
+use lib.ListN.{length}
 use Rattle.laws.specs.Below.{every, sum}
 use Rattle.laws.specs.Choice.{_and_, pick}
 use Rattle.laws.specs.Masks.{digit}
@@ -17,19 +17,15 @@ use Rattle.address.specs.Address.{ifAccepted, inside, addressOf}
 use Rattle.memory.specs.Elements.{heldAt, inOrder}
 use Rattle.command.specs.Format.{pitchOf, tiledOf, codeOf}
 use Rattle.state.specs.State.{Buffer, Shared}
+use Rattle.conditions.specs.Conditions.{passes, wordIn}
 use Rattle.conditional.specs.declared.Tested.{Tested}
 use Rattle.conditional.specs.declared.Tested.the-variants as tested
 use Rattle.conditional.specs.declared.Surveyed.{Surveyed}
 use Rattle.conditional.specs.declared.Surveyed.the-variants as surveyed
 
--- "Document 000's or 004's condition list decides the numbers; where it can't be read, house: 0 never, 1 less, 2 less or equal, 3 equal,
--- 4 at least, 5 greater, 6 not equal, 7 always". 0 and 1 can be read in 004 and are these; 2 to 7 are house. "result v op b".
-unfoldable pub passes : ℕ → ℕ → ℕ → Bool
-passes test v b = getD (false ∷ ltb v b ∷ leb v b ∷ eqb v b ∷ leb b v ∷ ltb b v ∷ not (eqb v b) ∷ true ∷ []) test false
-
--- "low byte first, from lent memory": the two bytes at an address, in memory `m` that stands at `first`
+-- "low byte first, from lent memory": the number at an address, in memory `m` that stands at `first`
 unfoldable pub wordAt : ℕ → List ℕ → ℕ → ℕ
-wordAt first m a = getD m (a - first) 0 + 256 * getD m (a - first + 1) 0
+wordAt first m a = wordIn m (a - first)
 
 -- the conditional buffer's layout: "UINT16_1, 2 bytes"
 abbrev pub bufferLayout : Buffer → Layout

@@ -14,6 +14,7 @@ use Rattle.laws.specs.Choice.{_and_, pick, placeOf}
 use Rattle.laws.specs.Below.{some, every, sum, count, least}
 use Rattle.laws.specs.Masks.{_or_, differ, digit, on, pack}
 use Rattle.refusal.specs.Told.{Told, gives, refuses}
+use Rattle.refusal.specs.Crossing.{Crosses}
 use Rattle.layout.specs.Sizes.{isSize, widthOf, heightOf}
 use Rattle.layout.specs.Layout.{wellFormed, unitOf, rowStep, tileRows, spanOf, inBounds, windowRule, judgeOf}
 use Rattle.layout.specs.declared.Layout.{Layout}
@@ -139,6 +140,7 @@ use Rattle.flow.proofs.Looping.{step-led, rep-times, loop-times, al-shown-up, a
 use Rattle.flow.proofs.Counting.{mask-count, mask-first, mask-none}
 use Rattle.flow.specs.Cases.{oneWord, c9, c10, c11, c12}
 use Rattle.element_rooms.specs.Rooms.{WriteCrosses}
+use Rattle.picture_rooms.specs.Rooms.{copyOf, PaintCrosses}
 use Rattle.session_rooms.specs.Rooms.{WordCrosses, FeedCrosses}
 use Rattle.replay.specs.Cells.{ReplayHeld, ReplayGiven}
 use Rattle.log.proofs.Handed.{begun-given}
@@ -152,6 +154,7 @@ use Rattle.demands.specs.Days.{added, replayed, goneOn, AtMidnight, with
 use Rattle.demands.specs.Flow.{Agree, AllAgree, Made, Ran, Refused}
 use Rattle.demands.specs.Flow as flow
 use Rattle.demands.specs.Painting.{Painting, Painted}
+use Rattle.demands.specs.Rectangles.{RectanglePainted, RectangleRead}
 use Rattle.demands.specs.Pieces.{Handed, WordRefused, InTurn, AsOne}
 use Rattle.demands.specs.Refused.{FirstRefused, Reported}
 use Rattle.demands.specs.Windows.{Fits, PairOutside, ByteShared}
@@ -162,6 +165,7 @@ use Rattle.demands.specs.Editions.{FitTallies}
 use Rattle.demands.proofs.Editions.{before-line, greatest, fit-tallies}
 use Rattle.demands.proofs.Flow.{step-made, step-refused, run-walks, same-step, same-run, handed-made, begun-mode, step-mode, run-mode}
 use Rattle.demands.proofs.Painting.{every-order}
+use Rattle.demands.proofs.Rectangles.{rectangle-painted, rectangle-read}
 use Rattle.demands.proofs.Pieces.{handed-reached, handed-given, word-refused, as-one}
 use Rattle.demands.proofs.Refused.{refused-place}
 use Rattle.demands.proofs.Windows.{passes, gets-eight, gets-nine}
@@ -820,6 +824,19 @@ picture-orders = every-order
 -- There are such scenes: two outputs, one tiled and one linear, in 4,096 bytes of memory.
 pub picture-example : Lent example 2 exampleDomain 0 4096
 picture-example = example-lent
+
+-- One call that paints a rectangle leaves the picture of the theorem, in memory of any length: each pair has its element of the room, bytes
+-- that no pair of the rectangle owns are unchanged, and calls of the element writer, in any order, leave the same in memory that they take.
+pub rectangle-picture :
+    (l : Layout) (x y w h first : ℕ) (room m m' : List ℕ) → (0 < w) × (0 < h) → PaintCrosses l x y w h first room 0 m m' →
+    RectanglePainted l x y w h first room m m'
+rectangle-picture = rectangle-painted
+
+-- One call that copies a rectangle out leaves the reads of its pairs in the room, row by row.
+pub rectangle-reads :
+    (l : Layout) (x y w h first : ℕ) (m room room' : List ℕ) → (0 < w) × (0 < h) →
+    Crosses (copyOf l x y w h first (length room) m) 0 room room' → RectangleRead l x y w h first m room'
+rectangle-reads = rectangle-read
 
 -- THE WORKED CASES
 

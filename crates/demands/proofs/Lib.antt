@@ -7,5 +7,6 @@ pub mod Flow
 pub mod Numbers
 pub mod Painting
 pub mod Pieces
+pub mod Rectangles
 pub mod Refused
 pub mod Windows

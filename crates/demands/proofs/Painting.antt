@@ -10,7 +10,7 @@ use Rattle.picture.proofs.Pictures.{picture}
 use Rattle.demands.specs.Painting.{Painting, done, then, Painted}
 
 -- what the calls leave is what document 01's writes leave
-calls-paint : (c : Scene) (first : ℕ) (ks : List Spot) (m m' : List ℕ) → Painting c first ks m m' → m' ≡ painted c first ks m
+pub calls-paint : (c : Scene) (first : ℕ) (ks : List Spot) (m m' : List ℕ) → Painting c first ks m m' → m' ≡ painted c first ks m
 unfolding painted
 calls-paint c first [] m _ (done _) = refl
 calls-paint c first (k ∷ ks) m m' (then _ _ r _ m1 _ wrote later) =

@@ -5,5 +5,6 @@ pub mod Editions
 pub mod Flow
 pub mod Painting
 pub mod Pieces
+pub mod Rectangles
 pub mod Refused
 pub mod Windows

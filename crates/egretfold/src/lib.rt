@@ -3,10 +3,13 @@
 // The same functions as C sees them, with their answers and refusals: include/egretfold.h.
 pub mod addresses;
 pub mod commands;
+pub mod conditionals;
 pub mod elements;
 pub mod fleets;
 pub mod floats;
 pub mod groups;
 pub mod logs;
+pub mod pairs;
+pub mod pictures;
 pub mod scores;
 pub mod sessions;

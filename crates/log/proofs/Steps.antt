@@ -110,6 +110,7 @@ number-between refusal.Ended = (omega arith, omega arith)
 number-between refusal.WordLimit = (omega arith, omega arith)
 number-between refusal.RecordKind = (omega arith, omega arith)
 number-between refusal.MidnightDay = (omega arith, omega arith)
+number-between refusal.NotOwned = (omega arith, omega arith)
 number-between refusal.LeaseLine = (omega arith, omega arith)
 number-between refusal.TooManyLogs = (omega arith, omega arith)
 

@@ -41,12 +41,15 @@ pub example-lent : Lent example 2 exampleDomain 0 4096
 example-lent =
     record {
       long = omega arith;
-      high = omega arith;
-      accepted = accepted;
-      columns = λ o h. steps o;
-      rows = λ o h. ends o .0;
-      low = λ o h. ends o .1;
-      covers = λ o h. ends o .2;
-      apart = apart;
-      sizes = λ o x y h w. length-replicate (outputs o .size) (64 * o + 16 * y + x);
+      framed =
+          record {
+            high = omega arith;
+            accepted = accepted;
+            columns = λ o h. steps o;
+            rows = λ o h. ends o .0;
+            low = λ o h. ends o .1;
+            covers = λ o h. ends o .2;
+            apart = apart;
+            sizes = λ o x y h w. length-replicate (outputs o .size) (64 * o + 16 * y + x);
+          };
     }

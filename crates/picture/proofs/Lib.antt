@@ -1,13 +1,4 @@
-pub mod Blocks
 pub mod Example
-pub mod Inside
-pub mod Moves
 pub mod Patches
 pub mod Pictures
-pub mod Plans
-pub mod Rectangles
-pub mod RowMoves
-pub mod RowParts
 pub mod Spots
-pub mod Stretches
-pub mod TileRows

@@ -1,7 +1,1 @@
-// Pictures: rectangles of elements in lent memory.
-mod bulk;
-mod parts;
-mod plan;
-mod rows;
-mod runs;
-mod tiles;
+// Request 13, that every order of writes paints the same picture: definitions and the theorem. No code.

@@ -22,6 +22,7 @@ use Rattle.refusal.specs.declared.Refusal.the-variants.{
   WordLimit,
   RecordKind,
   MidnightDay,
+  NotOwned,
   LeaseLine,
   TooManyLogs,
 }
@@ -46,6 +47,7 @@ numberOf Ended = 16
 numberOf WordLimit = 17
 numberOf RecordKind = 18
 numberOf MidnightDay = 19
+numberOf NotOwned = 20
 numberOf LeaseLine = 21
 numberOf TooManyLogs = 22
 

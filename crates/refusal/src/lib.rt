@@ -42,13 +42,15 @@ pub enum Refusal {
     RecordKind,
     // 19: a midnight's day isn't one more than the last, or it is the 401st midnight.
     MidnightDay,
+    // 20: a number, or a setting of party 0's, that the party doesn't own.
+    NotOwned,
     // 21: a lease line out of its bounds.
     LeaseLine,
     // 22: a report over more than 64 logs.
     TooManyLogs,
 }
 
-// The number of a refusal, 1 to 19, 21 and 22.
+// The number of a refusal, 1 to 22.
 pub fn number(r: Refusal) -> u32
     ensures { λ n. ⌜ n ≡ numberOf r ⌝ }
 {
@@ -72,6 +74,7 @@ pub fn number(r: Refusal) -> u32
         Refusal::WordLimit => 17,
         Refusal::RecordKind => 18,
         Refusal::MidnightDay => 19,
+        Refusal::NotOwned => 20,
         Refusal::LeaseLine => 21,
         Refusal::TooManyLogs => 22,
     }
@@ -102,6 +105,7 @@ pub fn with_number(number: u32) -> Refusal
         17 => Refusal::WordLimit,
         18 => Refusal::RecordKind,
         19 => Refusal::MidnightDay,
+        20 => Refusal::NotOwned,
         21 => Refusal::LeaseLine,
         _ => Refusal::TooManyLogs,
     }

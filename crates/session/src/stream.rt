@@ -118,11 +118,13 @@ fn parameter(
     let line = own[own::LINE];
     let count = own[own::COUNT];
     if kinds::place_allowed(line, count, word) {
-        return placed(own, tallies, shared, word);
+        if owners::may_name(own[own::MINE], line, count, word) {
+            return placed(own, tallies, shared, word);
+        }
     }
-    let kind = kinds::kind_at(line, count);
+    let fault = owners::fault_at(line, count, word);
     own::stop(own);
-    refusal::number(kinds::fault(kind))
+    fault
 }
 
 // One word up to a command's end. 1 comes before 17, and 17 before the word is looked at.
@@ -151,8 +153,12 @@ fn read(
             UNKNOWN_HEADER
         }
         Line::At(line) => {
-            own::open_line(own, line);
-            OPEN
+            if owners::may_open(own[own::MINE], line) {
+                own::open_line(own, line);
+                return OPEN;
+            }
+            own::stop(own);
+            owners::NOT_OWNED
         }
     }
 }
@@ -213,7 +219,35 @@ pub fn word(
     }
 }
 
-// A new session of an edition: nothing set, mask 65535; a start would get 7, and no output asks anything of a domain.
+// A new party of an edition, that owns so much: no word taken; a start would get 7, and no output asks anything of a domain.
+pub fn begin_party(
+    own: &mut [u32; state::OWN_CELLS],
+    tallies: &mut [u64; state::TALLIES],
+    mine: u32,
+    edition: u32,
+)
+    ensures { λ _. ⌜ HeldOwn (newPartyOf mine edition) (now (own .exit)) (now (tallies .exit)) ⌝ }
+{
+    *own = [0; state::OWN_CELLS];
+    own[own::MINE] = mine;
+    own[own::EDITION] = edition;
+    own[own::LINE] = own::NO_LINE;
+    own[own::READINESS] = ready::UNSET;
+    own[own::COLUMNS] = ready::MOST_EXTENT;
+    own[own::ROWS] = ready::MOST_EXTENT;
+    own[own::APART] = 1;
+    *tallies = [0; state::TALLIES];
+}
+
+// New settings: nothing set, mask 65535.
+pub fn begin_settings(shared: &mut [u32; state::SHARED_CELLS])
+    ensures { λ _. ⌜ now (shared .exit) ≡ sharedCells newShared ⌝ }
+{
+    *shared = [0; state::SHARED_CELLS];
+    shared[settings::MASK] = 65535;
+}
+
+// A new session of an edition, of one party that owns every number.
 fn make(
     own: &mut [u32; state::OWN_CELLS],
     tallies: &mut [u64; state::TALLIES],
@@ -222,16 +256,8 @@ fn make(
 )
     ensures { λ _. ⌜ Held (newSession edition) (now (own .exit)) (now (tallies .exit)) (now (shared .exit)) ⌝ }
 {
-    *own = [0; state::OWN_CELLS];
-    own[own::EDITION] = edition;
-    own[own::LINE] = own::NO_LINE;
-    own[own::READINESS] = ready::UNSET;
-    own[own::COLUMNS] = ready::MOST_EXTENT;
-    own[own::ROWS] = ready::MOST_EXTENT;
-    own[own::APART] = 1;
-    *tallies = [0; state::TALLIES];
-    *shared = [0; state::SHARED_CELLS];
-    shared[settings::MASK] = 65535;
+    begin_party(own, tallies, owners::EVERYTHING, edition);
+    begin_settings(shared);
 }
 
 // Begins a session of an edition, 0; 3 where it is neither 1 nor 2, and nothing is touched then.

@@ -12,6 +12,7 @@ use Rattle.laws.specs.Masks.{digit}
 use Rattle.laws.proofs.Choice.{pick-yes, pick-no, Tested, holds, fails, tested}
 use Rattle.refusal.specs.Told.{Told, gives, refuses}
 use Rattle.state.specs.State.{Buffer, Domain, Readiness, Party, Shared, mostExtent}
+use Rattle.state.specs.Seen.{seenOutputs}
 use Rattle.state.specs.Start.{stepOfBuffer, output, isSet, counts, containsDomain, complete, covered, disjoint, readyOf, numberTold, readinessOf}
 use Rattle.state.specs.Readiness.{lesser, leastExtent, columnsLeft, rowsLeft, gaugeOf, workedOut}
 use Rattle.state.specs.Effects.{withNumber, withReadiness, renewed}
@@ -100,9 +101,10 @@ module _ (edition mask : ℕ) (outputs : List Buffer) (d : Domain) (i : Buffer) 
 
 -- what was kept of the same mask and outputs, settled, is what the settings give
 pub settled-kept : (p : Party) (h : Shared) (d : Domain) (i : Buffer) → p .domain .i1 < mostExtent → p .domain .j1 < mostExtent →
-    p .readiness ≡ workedOut (p .birth .edition) d i (h .mask) (h .outputs) → settled p ≡ renewed h p
+    p .readiness ≡ workedOut (p .birth .edition) d i (h .mask) (seenOutputs (p .birth .mine) (h .outputs)) → settled p ≡ renewed h p
 unfolding workedOut
 settled-kept p h d i column row e =
+    let outputs = seenOutputs (p .birth .mine) (h .outputs) in
     ap (λ (r : Readiness). withReadiness (withNumber (readyBy (p .domain) (p .instructions) (r .gauge)) r) p) e ∙
-    ap (λ (n : ℕ). withReadiness (withNumber n (workedOut (p .birth .edition) d i (h .mask) (h .outputs))) p)
-    (readiness-gauged (p .birth .edition) (h .mask) (h .outputs) (p .domain) (p .instructions) column row)
+    ap (λ (n : ℕ). withReadiness (withNumber n (workedOut (p .birth .edition) d i (h .mask) outputs)) p)
+    (readiness-gauged (p .birth .edition) (h .mask) outputs (p .domain) (p .instructions) column row)

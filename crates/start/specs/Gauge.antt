@@ -6,6 +6,7 @@ use lib.Dec.{eqb, ltb}
 use lib.ListN.{length}
 use Rattle.laws.specs.Choice.{_and_}
 use Rattle.state.specs.State.{Buffer, Domain, Gauge, Readiness, Party}
+use Rattle.state.specs.Seen.{seenOutputs}
 use Rattle.state.specs.Start.{output}
 use Rattle.state.specs.Readiness.{windowFor}
 use Rattle.state.specs.Effects.{withNumber, withReadiness}
@@ -31,9 +32,9 @@ pub record WindowsKept (r : Readiness) (outputs : List Buffer) : Type 0 where
   pub third : r .window2 ≡ windowFor (output outputs 2)
   pub fourth : r .window3 ≡ windowFor (output outputs 3)
 
--- cells with their outputs' windows kept and a domain in range
+-- cells with one's own outputs' windows kept and a domain in range
 pub record RenewAsked (own shared : List ℕ) : Type 0 where
   pub own-length : length own ≡ ownLength
   pub shared-length : length shared ≡ sharedLength
-  pub windows : WindowsKept (partyOf own [] .readiness) (sharedOf shared .outputs)
+  pub windows : WindowsKept (partyOf own [] .readiness) (seenOutputs (partyOf own [] .birth .mine) (sharedOf shared .outputs))
   pub domain : DomainValid (partyOf own [] .domain)

@@ -15,6 +15,10 @@ use Rattle.state.specs.Readiness.{lesser}
 unfoldable pub countsBy : ℕ → ℕ → ℕ → Bool
 countsBy bits flag format = eqb flag 1 and unmasked bits 0 format
 
+-- a buffer that is shown as not set where it is another party's: nothing else of it is then looked at
+abbrev pub muted : Bool → Buffer → Buffer
+muted owned b = record { isSet = pick owned (b .isSet) 0; base = b .base; format = b .format; height = b .height }
+
 -- how many of four bits are ones
 unfoldable pub onesIn : ℕ → ℕ
 onesIn four = count 4 (λ c. on c four)

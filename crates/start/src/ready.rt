@@ -15,9 +15,10 @@ ghost use Rattle.command.specs.Format.{channelsOf};
 ghost use Rattle.state.specs.Cells.{bufferAt, partyOf, partyCells, sharedOf, ownLength, sharedLength};
 ghost use Rattle.state.specs.Effects.{renewed, windowFrom};
 ghost use Rattle.state.specs.Readiness.{lesser as lesserOf};
+ghost use Rattle.state.specs.Seen.{seenOutputs};
 ghost use Rattle.state.specs.Start.{unmasked};
 ghost use Rattle.start.specs.Gauge.{RenewAsked, settled};
-ghost use Rattle.start.specs.Windows.{channelsBy, channelsIn, columnsBy, countBy, countsBy, creditBy, eachApart, extentLeft, firstOf, keepsApart, onesIn, outputBy, rowsBy, someSet, spansApart};
+ghost use Rattle.start.specs.Windows.{channelsBy, channelsIn, columnsBy, countBy, countsBy, creditBy, eachApart, extentLeft, firstOf, keepsApart, muted, onesIn, outputBy, rowsBy, someSet, spansApart};
 
 // The most columns and the most rows that a window has.
 pub const MOST_EXTENT: u32 = 4096;
@@ -73,6 +74,13 @@ pub fn is_counted(bits: u32, flag: u32, format: u32) -> bool
     }
 }
 
+// A flag, where it is one's own to see.
+fn shown(owned: bool, flag: u32) -> u32
+    ensures { λ r. ⌜ r ≡ pick owned flag 0 ⌝ }
+{
+    if owned { flag } else { 0 }
+}
+
 // The number of ones among four bits: a digit is looked up, so that no branch is taken on them.
 fn ones(four: u32) -> u32
     requires { ⌜ four < 16 ⌝ }
@@ -94,8 +102,17 @@ fn channels(bits: u32, flag: u32, format: u32) -> u32
     }
 }
 
-// The output whose cells begin at a place, with the row step and span that are kept of it.
+// The unmasked channels of an output that is the party's own, none of another's.
+fn own_channels(owned: bool, bits: u32, flag: u32, format: u32) -> u32
+    ensures value { λ r. ⌜ r ≡ channelsBy bits (pick owned flag 0) format ⌝ }
+    ensures most { λ r. ⌜ r ≤ 4 ⌝ }
+{
+    channels(bits, shown(owned, flag), format)
+}
+
+// The output whose cells begin at a place, with the row step and span that are kept of it; another party's is as if it weren't set.
 fn output_at(
+    owned: bool,
     bits: u32,
     shared: &[u32; state::SHARED_CELLS],
     at: usize,
@@ -103,9 +120,9 @@ fn output_at(
     span: u32,
 ) -> Output
     requires { ⌜ (length (now shared) ≡ sharedLength) × (at < 98) ⌝ }
-    ensures { λ r. ⌜ r ≡ outputBy bits (bufferAt (now (shared .entry)) at) (windowFrom step span) ⌝ }
+    ensures { λ r. ⌜ r ≡ outputBy bits (muted owned (bufferAt (now (shared .entry)) at)) (windowFrom step span) ⌝ }
 {
-    let flag = shared[at];
+    let flag = shown(owned, shared[at]);
     let counts = is_counted(bits, flag, shared[at + 2]);
     Output {
         set: flag == 1,
@@ -218,28 +235,32 @@ fn by_output(a: Output, b: Output, c: Output, d: Output) -> u32
     digit(a.counts) + digit(b.counts) + digit(c.counts) + digit(d.counts)
 }
 
-// The number of their unmasked channels.
-fn by_channel(shared: &[u32; state::SHARED_CELLS]) -> u32
+// The number of the unmasked channels of the outputs that a party owns.
+fn by_channel(mine: u32, shared: &[u32; state::SHARED_CELLS]) -> u32
     requires { ⌜ length (now shared) ≡ sharedLength ⌝ }
-    ensures { λ r. ⌜ r ≡ channelsIn (sharedOf (now (shared .entry)) .mask) (sharedOf (now (shared .entry)) .outputs) ⌝ }
+    ensures { λ r. ⌜ r ≡ channelsIn (sharedOf (now (shared .entry)) .mask) (seenOutputs mine (sharedOf (now (shared .entry)) .outputs)) ⌝ }
 {
     let mask = shared[settings::MASK];
-    let a = channels(
+    let a = own_channels(
+        owners::is_on(mine, 16),
         mask,
         shared[settings::OUTPUT_0],
         shared[settings::OUTPUT_0 + 2],
     );
-    let b = channels(
+    let b = own_channels(
+        owners::is_on(mine, 17),
         mask / 16,
         shared[settings::OUTPUT_1],
         shared[settings::OUTPUT_1 + 2],
     );
-    let c = channels(
+    let c = own_channels(
+        owners::is_on(mine, 18),
         mask / 256,
         shared[settings::OUTPUT_2],
         shared[settings::OUTPUT_2 + 2],
     );
-    let d = channels(
+    let d = own_channels(
+        owners::is_on(mine, 19),
         mask / 4096,
         shared[settings::OUTPUT_3],
         shared[settings::OUTPUT_3 + 2],
@@ -247,9 +268,10 @@ fn by_channel(shared: &[u32; state::SHARED_CELLS]) -> u32
     a + b + c + d
 }
 
-// What a pair is credited, and so claims. The outputs are those of the shared settings.
+// What a pair is credited, and so claims. The outputs are those of the shared settings that the party owns.
 fn credit(
     edition: u32,
+    mine: u32,
     a: Output,
     b: Output,
     c: Output,
@@ -257,10 +279,10 @@ fn credit(
     shared: &[u32; state::SHARED_CELLS],
 ) -> u32
     requires { ⌜ length (now shared) ≡ sharedLength ⌝ }
-    ensures { λ r. ⌜ r ≡ creditBy a b c d edition (channelsIn (sharedOf (now (shared .entry)) .mask) (sharedOf (now (shared .entry)) .outputs)) ⌝ }
+    ensures { λ r. ⌜ r ≡ creditBy a b c d edition (channelsIn (sharedOf (now (shared .entry)) .mask) (seenOutputs mine (sharedOf (now (shared .entry)) .outputs))) ⌝ }
 {
     if edition == edition::BY_CHANNEL {
-        by_channel(shared)
+        by_channel(mine, shared)
     } else {
         by_output(a, b, c, d)
     }
@@ -302,9 +324,11 @@ pub fn renew(own: &mut [u32; state::OWN_CELLS], shared: &[u32; state::SHARED_CEL
     requires { ⌜ RenewAsked (now own) (now shared) ⌝ }
     ensures { λ _. ⌜ now (own .exit) ≡ partyCells (renewed (sharedOf (now (shared .entry))) (partyOf (now (own .entry)) [])) ⌝ }
 {
+    let mine = own[own::MINE];
     let edition = own[own::EDITION];
     let mask = shared[settings::MASK];
     let a = output_at(
+        owners::is_on(mine, 16),
         mask,
         shared,
         settings::OUTPUT_0,
@@ -312,6 +336,7 @@ pub fn renew(own: &mut [u32; state::OWN_CELLS], shared: &[u32; state::SHARED_CEL
         own[own::SPAN_0],
     );
     let b = output_at(
+        owners::is_on(mine, 17),
         mask / 16,
         shared,
         settings::OUTPUT_1,
@@ -319,6 +344,7 @@ pub fn renew(own: &mut [u32; state::OWN_CELLS], shared: &[u32; state::SHARED_CEL
         own[own::SPAN_1],
     );
     let c = output_at(
+        owners::is_on(mine, 18),
         mask / 256,
         shared,
         settings::OUTPUT_2,
@@ -326,6 +352,7 @@ pub fn renew(own: &mut [u32; state::OWN_CELLS], shared: &[u32; state::SHARED_CEL
         own[own::SPAN_2],
     );
     let d = output_at(
+        owners::is_on(mine, 19),
         mask / 4096,
         shared,
         settings::OUTPUT_3,
@@ -340,7 +367,7 @@ pub fn renew(own: &mut [u32; state::OWN_CELLS], shared: &[u32; state::SHARED_CEL
         columns(a, b, c, d),
         rows(a, b, c, d),
         apart,
-        credit(edition, a, b, c, d, shared),
+        credit(edition, mine, a, b, c, d, shared),
     );
     settle(own);
 }

@@ -11,8 +11,7 @@ use Rattle.command.specs.declared.commands.Stored.the-variants as stored
 use Rattle.command.specs.declared.commands.Command.{Command}
 use Rattle.command.specs.declared.commands.Command.the-variants as command
 use Rattle.state.specs.State.{Buffer, Party, Shared, newShared}
-use Rattle.state.specs.Start.{claimOf}
-use Rattle.state.specs.Effects.{domainFrom, buffer, withDomain, withInstructions, ownAfter}
+use Rattle.state.specs.Effects.{domainFrom, buffer, withDomain, withInstructions, claimFor, ownAfter}
 use Rattle.state.specs.Asked.{HeldOwn}
 use Rattle.state.specs.Cells.{partyOf, partyCells, tallyCells, sharedOf, ownLength}
 use Rattle.state.proofs.Cells.{own-canon, tally-canon}
@@ -47,7 +46,7 @@ module _ (l : List ℕ) (h : length l ≡ ownLength) where
     unfolding partyOf tallyCells
     second-tally v = ap (λ (x : List ℕ). getD (set x 0 v) 1 0) (sym (tally-canon l t k))
 
-    pub start-tallies : (s : Shared) (c : ℕ) → c ≡ claimOf (partyOf l [] .birth .edition) (partyOf l [] .domain) (s .mask) (s .outputs) →
+    pub start-tallies : (s : Shared) (c : ℕ) → c ≡ claimFor (partyOf l []) s →
         set (set t 0 (getD t 0 0 + 1)) 1 (getD (set t 0 (getD t 0 0 + 1)) 1 0 + c) ≡ tallyCells (ownAfter command.Start s p)
     unfolding partyOf tallyCells ownAfter
     start-tallies s c e =

@@ -8,15 +8,16 @@ use Rattle.command.specs.declared.commands.NoEffect.{NoEffect}
 use Rattle.command.specs.declared.commands.Stored.the-variants as stored
 use Rattle.command.specs.declared.commands.Command.{Command}
 use Rattle.command.specs.declared.commands.Command.the-variants as command
+use Rattle.owners.specs.Owners.{maskBy}
 use Rattle.state.specs.State.{Buffer, Shared}
 use Rattle.state.specs.Effects.{buffer, sharedAfter}
 use Rattle.state.specs.Cells.{setBuffer, sharedOf, sharedCells, sharedLength}
 use Rattle.state.proofs.Cells.{shared-canon}
 
-module _ (l : List ℕ) (h : length l ≡ sharedLength) where
-  -- the shared cells after a command
+module _ (mine : ℕ) (l : List ℕ) (h : length l ≡ sharedLength) where
+  -- the shared cells after a command of a party that owns so much
   abbrev pub cellsAfter : Command → List ℕ
-  cellsAfter c = sharedCells (sharedAfter c (sharedOf l))
+  cellsAfter c = sharedCells (sharedAfter mine c (sharedOf l))
 
   -- commands that set nothing shared
   pub domain-shared : (i0 j0 i1 j1 : ℕ) → l ≡ cellsAfter (command.Domain i0 j0 i1 j1)
@@ -67,9 +68,9 @@ module _ (l : List ℕ) (h : length l ≡ sharedLength) where
       (tt & refl & refl & refl & refl & refl & refl & refl & refl & refl & refl & refl & refl & refl & refl & refl & refl) n less
 
   -- masks and the test
-  pub mask-shared : (m : ℕ) → set l 0 m ≡ cellsAfter (command.OutputMask m)
+  pub mask-shared : (m : ℕ) → set l 0 (maskBy mine m (getD l 0 0)) ≡ cellsAfter (command.OutputMask m)
   unfolding sharedAfter sharedOf sharedCells
-  mask-shared m = ap (λ (x : List ℕ). set x 0 m) (sym (shared-canon l h))
+  mask-shared m = ap (λ (x : List ℕ). set x 0 (maskBy mine m (getD l 0 0))) (sym (shared-canon l h))
 
   pub conditional-mask-shared : (m : ℕ) → set (set l 1 1) 2 m ≡ cellsAfter (command.ConditionalMask m)
   unfolding sharedAfter sharedOf sharedCells

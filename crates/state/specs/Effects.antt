@@ -4,10 +4,12 @@ use Prim.Native.Nat.{ℕ, _+_, _<_}
 use lib.Dec.{eqb}
 use lib.ListN.{set}
 use Rattle.laws.specs.Choice.{pick}
+use Rattle.owners.specs.Owners.{maskBy}
 use Rattle.command.specs.declared.commands.Stored.the-variants as stored
 use Rattle.command.specs.declared.commands.Command.{Command}
 use Rattle.command.specs.declared.commands.Command.the-variants as command
 use Rattle.state.specs.State.{Buffer, Open, Domain, Tally, Window, Gauge, Readiness, Party, Shared, Session, none}
+use Rattle.state.specs.Seen.{seenOutputs}
 use Rattle.state.specs.Start.{claimOf}
 use Rattle.state.specs.Readiness.{readinessFor}
 
@@ -210,13 +212,17 @@ withShared m cs cm ts t f i b c o n =
       inputs = n;
     }
 
+-- what a start claims: of one's own outputs
+abbrev pub claimFor : Party → Shared → ℕ
+claimFor p h = claimOf (p .birth .edition) (p .domain) (h .mask) (seenOutputs (p .birth .mine) (h .outputs))
+
 -- what a command without its session's open part does to the party's own settings; "A start that passes adds one to the runs,
 -- and to the claimed elements the number of pairs in the domain times the number of set outputs." The silent ones claim nothing,
 -- by the mask that stands at the start's last word.
 unfoldable pub ownAfter : Command → Shared → Party → Party
 ownAfter (command.Domain i0 j0 i1 j1) h p = withDomain (domainFrom i0 j0 i1 j1) p
 ownAfter command.Start h p =
-    withTally (record { runs = p .tally .runs + 1; claims = p .tally .claims + claimOf (p .birth .edition) (p .domain) (h .mask) (h .outputs) }) p
+    withTally (record { runs = p .tally .runs + 1; claims = p .tally .claims + claimFor p h }) p
 ownAfter (command.Effectless what) h p = p
 ownAfter (command.Store stored.Instructions base format) h p = withInstructions (buffer base format 1) p
 ownAfter (command.Store stored.Floats base format) h p = p
@@ -229,37 +235,37 @@ ownAfter (command.OutputMask mask) h p = p
 ownAfter (command.ConditionalMask mask) h p = p
 ownAfter (command.Test test) h p = p
 
--- and to the shared ones
-unfoldable pub sharedAfter : Command → Shared → Shared
-sharedAfter (command.Domain i0 j0 i1 j1) h = h
-sharedAfter command.Start h = h
-sharedAfter (command.Effectless what) h = h
-sharedAfter (command.Store stored.Instructions base format) h = h
-sharedAfter (command.Store stored.Floats base format) h =
+-- and to the shared ones, where the party owns so much: "A set_out_mask changes only the bits of one's own outputs."
+unfoldable pub sharedAfter : ℕ → Command → Shared → Shared
+sharedAfter mine (command.Domain i0 j0 i1 j1) h = h
+sharedAfter mine command.Start h = h
+sharedAfter mine (command.Effectless what) h = h
+sharedAfter mine (command.Store stored.Instructions base format) h = h
+sharedAfter mine (command.Store stored.Floats base format) h =
     withShared (h .mask) (h .conditionalMaskSet) (h .conditionalMask) (h .testSet) (h .test) (buffer base format 1) (h .integers)
     (h .booleans) (h .conditional) (h .outputs) (h .inputs)
-sharedAfter (command.Store stored.Integers base format) h =
+sharedAfter mine (command.Store stored.Integers base format) h =
     withShared (h .mask) (h .conditionalMaskSet) (h .conditionalMask) (h .testSet) (h .test) (h .floats) (buffer base format 1)
     (h .booleans) (h .conditional) (h .outputs) (h .inputs)
-sharedAfter (command.Store stored.Booleans base format) h =
+sharedAfter mine (command.Store stored.Booleans base format) h =
     withShared (h .mask) (h .conditionalMaskSet) (h .conditionalMask) (h .testSet) (h .test) (h .floats) (h .integers)
     (buffer base format 1) (h .conditional) (h .outputs) (h .inputs)
-sharedAfter (command.Input number base format height) h =
+sharedAfter mine (command.Input number base format height) h =
     withShared (h .mask) (h .conditionalMaskSet) (h .conditionalMask) (h .testSet) (h .test) (h .floats) (h .integers)
     (h .booleans) (h .conditional) (h .outputs) (set (h .inputs) number (buffer base format height))
-sharedAfter (command.Output number base format height) h =
+sharedAfter mine (command.Output number base format height) h =
     withShared (h .mask) (h .conditionalMaskSet) (h .conditionalMask) (h .testSet) (h .test) (h .floats) (h .integers)
     (h .booleans) (h .conditional) (set (h .outputs) number (buffer base format height)) (h .inputs)
-sharedAfter (command.Conditional base format height) h =
+sharedAfter mine (command.Conditional base format height) h =
     withShared (h .mask) (h .conditionalMaskSet) (h .conditionalMask) (h .testSet) (h .test) (h .floats) (h .integers)
     (h .booleans) (buffer base format height) (h .outputs) (h .inputs)
-sharedAfter (command.OutputMask mask) h =
-    withShared mask (h .conditionalMaskSet) (h .conditionalMask) (h .testSet) (h .test) (h .floats) (h .integers) (h .booleans)
+sharedAfter mine (command.OutputMask mask) h =
+    withShared (maskBy mine mask (h .mask)) (h .conditionalMaskSet) (h .conditionalMask) (h .testSet) (h .test) (h .floats) (h .integers) (h .booleans)
     (h .conditional) (h .outputs) (h .inputs)
-sharedAfter (command.ConditionalMask mask) h =
+sharedAfter mine (command.ConditionalMask mask) h =
     withShared (h .mask) 1 mask (h .testSet) (h .test) (h .floats) (h .integers) (h .booleans) (h .conditional) (h .outputs)
     (h .inputs)
-sharedAfter (command.Test test) h =
+sharedAfter mine (command.Test test) h =
     withShared (h .mask) (h .conditionalMaskSet) (h .conditionalMask) 1 test (h .floats) (h .integers) (h .booleans)
     (h .conditional) (h .outputs) (h .inputs)
 
@@ -280,6 +286,6 @@ Numbered (command.Test test) = Unit {0}
 unfoldable pub after : Command → Session → Session
 after c s =
     record {
-      party = renewed (sharedAfter c (s .shared)) (ownAfter c (s .shared) (opening none (took (s .party))));
-      shared = sharedAfter c (s .shared);
+      party = renewed (sharedAfter (s .party .birth .mine) c (s .shared)) (ownAfter c (s .shared) (opening none (took (s .party))));
+      shared = sharedAfter (s .party .birth .mine) c (s .shared);
     }

@@ -7,6 +7,7 @@ use Rattle.laws.specs.Choice.{pick}
 use Rattle.laws.specs.Below.{some}
 use Rattle.laws.specs.Masks.{digit}
 use Rattle.state.specs.State.{Buffer, Domain, Window, Gauge, Readiness, Party, Shared, mostExtent}
+use Rattle.state.specs.Seen.{seenOutputs}
 use Rattle.state.specs.Start.{stepOfBuffer, spanOfBuffer, output, isSet, counts, disjoint, readinessOf, creditOf}
 
 -- the lesser of two numbers
@@ -53,6 +54,6 @@ workedOut edition d instructions mask outputs =
       window3 = windowFor (output outputs 3);
     }
 
--- the same from a party's settings and the shared ones
+-- the same from a party's settings and the shared ones: "Refusals 7 to 9 and the stored readiness look only at one's own outputs"
 abbrev pub readinessFor : Party → Shared → Readiness
-readinessFor p h = workedOut (p .birth .edition) (p .domain) (p .instructions) (h .mask) (h .outputs)
+readinessFor p h = workedOut (p .birth .edition) (p .domain) (p .instructions) (h .mask) (seenOutputs (p .birth .mine) (h .outputs))

@@ -2,6 +2,7 @@
 -- is all zeros. Assumes nothing.
 use mathlib.Core.List.{List, [], _∷_}
 use Prim.Native.Nat.{ℕ}
+use Rattle.owners.specs.Owners.{everything}
 
 -- a buffer as it was set: base, format word and height
 pub record Buffer : Type 0 where
@@ -33,7 +34,7 @@ pub record Tally : Type 0 where
   pub claims : ℕ
 
 -- what is fixed when a session begins: the numbers that a party owns, a bit each (0 to 15 inputs, 16 to 19 outputs, 20 what belongs
--- to party 0; all zeros until a request uses them), and the edition of the lease rule
+-- to party 0), and the edition of the lease rule
 pub record Birth : Type 0 where
   pub mine : ℕ
   pub edition : ℕ
@@ -101,9 +102,9 @@ atLine line = record { line = line; count = 0; p0 = 0; p1 = 0; p2 = 0; p3 = 0 }
 abbrev pub none : Open
 none = atLine 21
 
--- "A session's edition .. is fixed at its birth"
-abbrev pub bornIn : ℕ → Birth
-bornIn edition = record { mine = 0; edition = edition }
+-- "A session's edition .. is fixed at its birth", and so is what a party owns
+abbrev pub born : ℕ → ℕ → Birth
+born mine edition = record { mine = mine; edition = edition }
 
 abbrev pub noWindow : Window
 noWindow = record { step = 0; span = 0 }
@@ -124,19 +125,23 @@ newReadiness =
       window3 = noWindow;
     }
 
--- "A new session has nothing set and mask 65535."
-abbrev pub newParty : ℕ → Party
-newParty edition =
+-- "A new session has nothing set and mask 65535.": a party that owns so much
+abbrev pub newPartyOf : ℕ → ℕ → Party
+newPartyOf mine edition =
     record {
       stopped = 0;
       taken = 0;
       opened = none;
       domain = record { isSet = 0; i0 = 0; j0 = 0; i1 = 0; j1 = 0 };
       instructions = unset;
-      birth = bornIn edition;
+      birth = born mine edition;
       readiness = newReadiness;
       tally = record { runs = 0; claims = 0 };
     }
+
+-- the one party of a session, which owns every number
+abbrev pub newParty : ℕ → Party
+newParty edition = newPartyOf everything edition
 
 abbrev pub newShared : Shared
 newShared =

@@ -9,6 +9,7 @@ use Rattle.state.specs.Start.{isEdition, mostClaim}
 use Rattle.laws.specs.Choice.{pick}
 use Rattle.command.specs.Table.{headerOf, countOf}
 use Rattle.command.specs.Kinds.{allowed, kindOf}
+use Rattle.owners.specs.Owners.{everything, mayOpen, mayName}
 use Rattle.state.specs.State.{Open, Domain, Tally, Session, none}
 use Rattle.state.specs.Readiness.{readinessFor}
 use Rattle.state.specs.Effects.{limit}
@@ -21,6 +22,11 @@ parametersOf o = o .p0 ∷ o .p1 ∷ o .p2 ∷ o .p3 ∷ []
 pub record OpenValid (o : Open) : Type 0 where
   pub fewer : o .count < countOf (o .line)
   pub passed : (k : ℕ) → k < o .count → allowed (kindOf (o .line) k) (getD (parametersOf o) k 0) ≡ true
+
+-- and it sets nothing but what the party owns, as far as its words tell: its header and its number passed
+pub record OpenOwned (mine : ℕ) (o : Open) : Type 0 where
+  pub line : mayOpen mine (o .line) ≡ true
+  pub number : 0 < o .count → mayName mine (kindOf (o .line) 0) (o .p0) ≡ true
 
 pub record DomainValid (d : Domain) : Type 0 where
   pub columns : d .i0 ≤ d .i1
@@ -42,8 +48,8 @@ pub record Valid (s : Session) : Type 0 where
   pub opened : s .party .opened .line < 21 → OpenValid (s .party .opened)
   pub domain : DomainValid (s .party .domain)
   pub tally : TallyValid (s .party .tally) (s .party .taken)
-  -- a place that request 9 uses
-  pub birth : s .party .birth .mine ≡ 0
+  pub mine-most : s .party .birth .mine ≤ everything
+  pub owned : s .party .opened .line < 21 → OpenOwned (s .party .birth .mine) (s .party .opened)
   -- "A session's edition (1 or 2 ..) is fixed at its birth"
   pub edition : isEdition (s .party .birth .edition) ≡ true
   -- "The stored number must always equal the one worked out from the settings"; a stopped session's too

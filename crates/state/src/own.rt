@@ -48,6 +48,9 @@ pub const INSTRUCTIONS_FORMAT: usize = 15;
 
 pub const INSTRUCTIONS_HEIGHT: usize = 16;
 
+// What the party owns, a bit for each number.
+pub const MINE: usize = 17;
+
 // The edition of the lease rule, fixed when the session begins.
 pub const EDITION: usize = 18;
 

@@ -35,11 +35,14 @@ fn main() {
         false => Table::begin(options.repeats, options.only),
     };
     lines::feed::add(&mut table);
+    lines::lessees::add(&mut table);
     lines::log::add(&mut table);
     lines::fleet::add(&mut table);
     lines::writer::add(&mut table);
     lines::address::add(&mut table);
     lines::element::add(&mut table);
+    lines::survey::add(&mut table);
+    lines::picture::add(&mut table);
     lines::flow::add(&mut table);
     lines::kill::add(&mut table);
     table.end();

@@ -98,6 +98,20 @@ impl Table {
         );
     }
 
+    /// A line whose other side does less than the product or does it another way, such as a plain copy: it is printed with the
+    /// others, and the last line doesn't count it.
+    pub fn beside(
+        &mut self,
+        name: &str,
+        units: usize,
+        product: impl FnMut() -> u64,
+        other: impl FnMut() -> u64,
+    ) {
+        let counted = self.rows.len();
+        self.line(name, units, product, other);
+        self.rows.truncate(counted);
+    }
+
     fn row(&mut self, name: &str, product: f64, rust: f64) {
         // rounded first, so that the last line counts what the table shows
         let ratio = (product / rust * 100.0).round() / 100.0;

@@ -10,6 +10,16 @@ pub struct Command {
     pub fields: [u32; 4],
 }
 
+impl Command {
+    /// The command that a word completed, by the room that its answer is written to;
+    /// none where a command is still open.
+    #[inline]
+    pub(crate) fn completed(room: &[u32; 6]) -> Option<Command> {
+        let [is_complete, header, fields @ ..] = *room;
+        (is_complete != 0).then_some(Command { header, fields })
+    }
+}
+
 /// How many parameters a header announces, 1 to 4. 2.
 #[inline]
 pub fn parameters(header: u32) -> Answer<u32> {

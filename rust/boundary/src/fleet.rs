@@ -1,62 +1,45 @@
-//! A fleet's report: the months of up to 64 stations in one.
+//! The months of several stations in one report.
 
-use crate::{answer, lent, Answer, Edition};
+use crate::{answer, lent, Answer, Edition, Lease};
 
-/// A station's log and lease line. The numbers are as wide as the product takes them;
-/// it refuses those of a lease line that are out of their bounds.
+/// The most stations that a report takes; as a station it means that none owes
+/// anything.
+pub const MOST_STATIONS: usize = 64;
+
+/// What the months of some stations come to.
 #[derive(Clone, Copy, Debug, PartialEq, Eq)]
-pub struct Station<'a> {
-    pub log: &'a [u8],
-    pub first_day: u64,
-    pub days: u64,
-    /// Elements owed a day.
-    pub owed: u64,
-}
-
-#[derive(Clone, Copy, Debug, PartialEq, Eq)]
-pub struct Fleet {
+pub struct FleetReport {
     pub served: u64,
     pub owed: u64,
     /// Days that owe more than 0 and are served 0.
     pub silent_days: u64,
-    /// The station with the smallest served part, counted from 0, the lower one where
+    /// The station whose served part is smallest, counted from 0, the lower one where
     /// two are the same; none where no station owes anything.
-    pub smallest: Option<usize>,
+    pub station: Option<usize>,
 }
 
-/// As a station's number: none owes anything.
-const NONE: u64 = 64;
-
-impl Fleet {
-    /// The report of these stations. 22 for more than 64; then the first station's 21,
-    /// 18 or 19.
-    pub fn report(edition: Edition, stations: &[Station]) -> Answer<Fleet> {
-        let logs = stations.iter().map(|station| station.log);
-        let logs: Vec<u8> = logs.collect::<Vec<_>>().concat();
-        let numbers = stations.iter().flat_map(|station| {
-            let length = station.log.len() as u64;
-            [length, station.first_day, station.days, station.owed]
-        });
-        Fleet::of_numbers(edition, &logs, &numbers.collect::<Vec<_>>())
-    }
-
-    /// The same of logs that lie one behind the other, with four numbers for each: its
-    /// length, first day, days and what a day owes. 11 where these aren't in fours or
-    /// the lengths don't add up to the logs'; then as [`Fleet::report`].
-    pub fn of_numbers(edition: Edition, logs: &[u8], numbers: &[u64]) -> Answer<Fleet> {
-        let mut room = [0; 4];
-        answer(lent::fleet_report(
-            edition.number(),
-            logs,
-            numbers,
-            &mut room,
-        ))?;
-        let [served, owed, silent_days, station] = room;
-        Ok(Fleet {
-            served,
-            owed,
-            silent_days,
-            smallest: (station != NONE).then_some(station as usize),
-        })
-    }
+/// The report of these logs, which stand one behind the other, of a length and a lease
+/// line each; every log is replayed and scored by itself. 11 where the lengths don't add
+/// up to that of the logs, 22 for more than [`MOST_STATIONS`], then the first station's
+/// 18 or 19.
+pub fn fleet_report(
+    edition: Edition,
+    logs: &[u8],
+    stations: &[(usize, Lease)],
+) -> Answer<FleetReport> {
+    let numbers = |(length, lease): &(usize, Lease)| {
+        let line = [lease.first_day(), lease.days(), lease.owed()].map(u64::from);
+        [*length as u64, line[0], line[1], line[2]]
+    };
+    let numbers: Vec<u64> = stations.iter().flat_map(numbers).collect();
+    let mut room = [0; 4];
+    let number = lent::fleet_report(edition.number(), logs, &numbers, &mut room);
+    answer(number)?;
+    let [served, owed, silent_days, station] = room;
+    Ok(FleetReport {
+        served,
+        owed,
+        silent_days,
+        station: (station < MOST_STATIONS as u64).then_some(station as usize),
+    })
 }

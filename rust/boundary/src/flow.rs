@@ -130,6 +130,17 @@ impl Group {
 
     /// One step, with the integer words that LOOP and REP take by their number. 13
     /// to 16; a refusal changes nothing.
+    ///
+    /// ```
+    /// use boundary::{Group, Program};
+    ///
+    /// // A slot that all processors leave for the program's end.
+    /// let program = Program::load(&[0xFF00, 0x0001_0000])?;
+    /// let mut group = Group::begin(8)?;
+    /// let stepped = group.step(&program, 0, 0, 0, &[])?;
+    /// assert_eq!((stepped.jumped, stepped.position), (true, 1));
+    /// # Ok::<(), boundary::Refusal>(())
+    /// ```
     #[inline]
     pub fn step(
         &mut self,

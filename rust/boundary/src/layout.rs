@@ -46,6 +46,14 @@ pub struct Translated {
 }
 
 /// Where the element at (x, y) stands. 3, 6 or 10.
+///
+/// ```
+/// use boundary::{translate, Layout, Translated};
+///
+/// let layout = Layout { base: 0, pitch: 100, height: 20, size: 4, tiled: true };
+/// // Three elements of the row lie at consecutive addresses from there on.
+/// assert_eq!(translate(&layout, 37, 18), Ok(Translated { address: 9828, run: 3 }));
+/// ```
 #[inline]
 pub fn translate(layout: &Layout, x: u32, y: u32) -> Answer<Translated> {
     let mut address = [0; 2];
@@ -58,6 +66,14 @@ pub fn translate(layout: &Layout, x: u32, y: u32) -> Answer<Translated> {
 
 /// The pair that owns the byte at the address, and the byte's place in the
 /// pair's element: x, y, place. 3, 6 or 12.
+///
+/// ```
+/// use boundary::{locate, Layout, Refusal};
+///
+/// let layout = Layout { base: 0, pitch: 100, height: 20, size: 4, tiled: true };
+/// assert_eq!(locate(&layout, 9830), Ok((37, 18, 2)));
+/// assert_eq!(locate(&layout, 1 << 20), Err(Refusal::Unowned));
+/// ```
 #[inline]
 pub fn locate(layout: &Layout, address: u32) -> Answer<(u32, u32, u32)> {
     let mut pair = [0; 3];

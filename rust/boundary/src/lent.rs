@@ -11,16 +11,19 @@
 //!   an empty slice's pointer is not null);
 //! * nothing written overlaps anything else: every array that is written comes
 //!   as a `&mut`, which nothing else can share;
-//! * states as the library left them: [`Session`], [`Replay`] and [`Group`] keep
-//!   their arrays private and are made only by a begin that was accepted. A
+//! * states as the library left them: [`Session`], [`Pair`], [`Replay`] and [`Group`]
+//!   keep their arrays private and are made only by a begin that was accepted. A
 //!   replay's session is shown but never handed out to be changed.
 
 use crate::flow::{Group, Program};
 use crate::layout::Layout;
 use crate::lengths::{CELLS, CHANNELS, DAYS, LOG, MARKS, OWN, SHARED, SLOTS, TALLIES};
 use crate::log::Replay;
+use crate::pair::{Owners, Pair, Party};
+use crate::picture::Rectangle;
 use crate::raw;
 use crate::session::Session;
+use crate::view::View;
 use crate::{answer, Answer};
 
 /// Arrays that no begin has filled yet.
@@ -81,39 +84,122 @@ pub fn session_feed(session: &mut Session, words: &[u32], fed: &mut [u64; 2]) ->
 /// status: words taken, 1 if stopped, the open command's header and how many of
 /// its parameters were taken, what the settings give a start, and the edition.
 #[inline]
-pub fn session_status(session: &Session, status: &mut [u32; 6]) -> u32 {
-    // SAFETY: the array is a session's that the library gave out.
-    unsafe { raw::egretfold_session_status(&session.own, status) }
+pub fn session_status(party: View, status: &mut [u32; 6]) -> u32 {
+    // SAFETY: the array is a party's that the library gave out.
+    unsafe { raw::egretfold_session_status(party.own, status) }
 }
 
 /// counts: runs and claimed elements.
 #[inline]
-pub fn session_tallies(session: &Session, counts: &mut [u64; 2]) -> u32 {
-    // SAFETY: the array is a session's that the library gave out.
-    unsafe { raw::egretfold_session_tallies(&session.tallies, counts) }
+pub fn session_tallies(party: View, counts: &mut [u64; 2]) -> u32 {
+    // SAFETY: the array is a party's that the library gave out.
+    unsafe { raw::egretfold_session_tallies(party.tallies, counts) }
 }
 
 /// domain: 1 if it is set, then i0, j0, i1, j1.
 #[inline]
-pub fn session_domain(session: &Session, domain: &mut [u32; 5]) -> u32 {
-    // SAFETY: the array is a session's that the library gave out.
-    unsafe { raw::egretfold_session_domain(&session.own, domain) }
+pub fn session_domain(party: View, domain: &mut [u32; 5]) -> u32 {
+    // SAFETY: the array is a party's that the library gave out.
+    unsafe { raw::egretfold_session_domain(party.own, domain) }
 }
 
 /// format: 1 if it is set, then base, format word and height. 2, 4.
 #[inline]
-pub fn session_format(session: &Session, header: u32, number: u32, format: &mut [u32; 4]) -> u32 {
-    let Session { own, shared, .. } = session;
-    // SAFETY: the arrays are a session's that the library gave out.
+pub fn session_format(party: View, header: u32, number: u32, format: &mut [u32; 4]) -> u32 {
+    let View { own, shared, .. } = party;
+    // SAFETY: the arrays are a party's that the library gave out.
     unsafe { raw::egretfold_session_format(own, shared, header, number, format) }
 }
 
 /// masks: the output mask; 1 if the conditional mask is set, and the mask; 1 if
 /// the test is set, and the test.
 #[inline]
-pub fn session_masks(session: &Session, masks: &mut [u32; 5]) -> u32 {
-    // SAFETY: the array is a session's that the library gave out.
-    unsafe { raw::egretfold_session_masks(&session.shared, masks) }
+pub fn session_masks(party: View, masks: &mut [u32; 5]) -> u32 {
+    // SAFETY: the array is a party's that the library gave out.
+    unsafe { raw::egretfold_session_masks(party.shared, masks) }
+}
+
+/// A new session of two parties under the edition with this number. 3.
+#[inline]
+pub fn pair_begin(edition: u32, owners: Owners) -> Answer<Pair> {
+    let mut pair = Pair {
+        owners,
+        own: [[0; OWN]; 2],
+        tallies: [[0; TALLIES]; 2],
+        shared: [0; SHARED],
+    };
+    answer(pair_begin_anew(&mut pair, edition, owners))?;
+    Ok(pair)
+}
+
+/// A new session of two parties in the arrays of this one, under the edition with this number. 3: then it stays as it was.
+#[inline]
+pub fn pair_begin_anew(pair: &mut Pair, edition: u32, owners: Owners) -> u32 {
+    let (own0, tallies0, own1, tallies1, shared) = arrays_of_both(pair);
+    let Owners { inputs, outputs } = owners;
+    // SAFETY: five separate arrays of the right lengths; no state is read.
+    let number = unsafe {
+        raw::egretfold_pair_begin(
+            own0, tallies0, own1, tallies1, shared, inputs, outputs, edition,
+        )
+    };
+    if number == 0 {
+        pair.owners = owners;
+    }
+    number
+}
+
+/// The arrays of both parties, then the settings.
+type ArraysOfBoth<'a> = (
+    &'a mut [u32; OWN],
+    &'a mut [u64; TALLIES],
+    &'a mut [u32; OWN],
+    &'a mut [u64; TALLIES],
+    &'a mut [u32; SHARED],
+);
+
+#[inline]
+fn arrays_of_both(pair: &mut Pair) -> ArraysOfBoth<'_> {
+    let [own0, own1] = &mut pair.own;
+    let [tallies0, tallies1] = &mut pair.tallies;
+    (own0, tallies0, own1, tallies1, &mut pair.shared)
+}
+
+/// One word of a party, as [`session_word`]. 1 to 9, 17 or 20.
+#[inline]
+pub fn pair_word(pair: &mut Pair, party: Party, word: u32, command: &mut [u32; 6]) -> u32 {
+    let own = &mut pair.own[party.place()];
+    let tallies = &mut pair.tallies[party.place()];
+    // SAFETY: the arrays are a party's that the library gave out, with the settings
+    // that it shares; the room is apart from them.
+    unsafe { raw::egretfold_session_word(own, tallies, &mut pair.shared, word, command) }
+}
+
+/// A piece of one party's words, as [`session_feed`].
+#[inline]
+pub fn pair_party_feed(pair: &mut Pair, party: Party, words: &[u32], fed: &mut [u64; 2]) -> u32 {
+    let own = &mut pair.own[party.place()];
+    let tallies = &mut pair.tallies[party.place()];
+    let (start, length) = (words.as_ptr(), words.len());
+    // SAFETY: as for a party's word; start and length are one slice's.
+    unsafe { raw::egretfold_session_feed(own, tallies, &mut pair.shared, start, length, fed) }
+}
+
+/// A piece of both parties' words. parties: bit k of number i is the party of word 32
+/// i + k. fed: of party 0 the words taken, the commands completed and the first
+/// refusal in this piece, 0 for none; then the same of party 1. 11.
+#[inline]
+pub fn pair_feed(pair: &mut Pair, words: &[u32], parties: &[u32], fed: &mut [u64; 6]) -> u32 {
+    let (own0, tallies0, own1, tallies1, shared) = arrays_of_both(pair);
+    let (start, length) = (words.as_ptr(), words.len());
+    let (bits, groups) = (parties.as_ptr(), parties.len());
+    // SAFETY: the arrays are a pair's that the library gave out; both pointers come
+    // with their own slice's length; the room is apart from all of them.
+    unsafe {
+        raw::egretfold_pair_feed(
+            own0, tallies0, own1, tallies1, shared, start, length, bits, groups, fed,
+        )
+    }
 }
 
 /// A replay's five arrays, its session's last.
@@ -226,27 +312,16 @@ pub fn score_month(
     }
 }
 
-/// Over the logs, one behind the other, and four numbers for each: its length, first
-/// day, days and what a day owes. room, of four numbers: served, owed, silent days and
-/// the station with the smallest served part, 64 for none. 3; 11; 22; then 21, 18, 19.
+/// Of the number of an edition, logs that stand one behind the other, and four numbers a
+/// station: its log's length, first day, days and elements owed a day. room, of 4
+/// numbers: served, owed, silent days and the station with the smallest part, 64 where
+/// none owes anything. 3, 11, 22; then the first station's 21, 18 or 19.
 #[inline]
 pub fn fleet_report(edition: u32, logs: &[u8], numbers: &[u64], room: &mut [u64]) -> u32 {
-    let (start, length) = (logs.as_ptr(), logs.len());
-    let (of_stations, count) = (numbers.as_ptr(), numbers.len());
-    let (place, room_length) = (room.as_mut_ptr(), room.len());
-    // SAFETY: each pointer comes with its own slice's length; the room, which is
-    // written, is apart from both.
-    unsafe {
-        raw::egretfold_fleet_report(
-            edition,
-            start,
-            length,
-            of_stations,
-            count,
-            place,
-            room_length,
-        )
-    }
+    let (length, count, room_length) = (logs.len(), numbers.len(), room.len());
+    let (logs, numbers, room) = (logs.as_ptr(), numbers.as_ptr(), room.as_mut_ptr());
+    // SAFETY: each pointer comes with its slice's length; the room is apart from both.
+    unsafe { raw::egretfold_fleet_report(edition, logs, length, numbers, count, room, room_length) }
 }
 
 /// count: how many parameters a header announces. 2.
@@ -367,6 +442,108 @@ pub fn element_superfine(
     unsafe {
         raw::egretfold_element_superfine(
             base, format, height, x, y, start, length, first, bytes, count,
+        )
+    }
+}
+
+/// passed: 1 if the session's test passes at (x, y), else 0. 7, 3, 10 or 11.
+#[inline]
+pub fn conditional_test(
+    session: &Session,
+    value: u32,
+    (x, y): (u32, u32),
+    memory: &[u8],
+    first: u32,
+    passed: &mut [u32; 1],
+) -> u32 {
+    let shared = &session.shared;
+    let (start, length) = (memory.as_ptr(), memory.len());
+    // SAFETY: the array is a session's that the library gave out; start and length
+    // are one slice's; the room is apart from both.
+    unsafe { raw::egretfold_conditional_test(shared, value, x, y, start, length, first, passed) }
+}
+
+/// The session's test at all pairs of a domain, i0, j0, i1, j1. room: a byte 1 or 0
+/// for each, row by row; passed: how many pass. 7, 3, 5, 10 or 11.
+#[inline]
+pub fn conditional_survey(
+    session: &Session,
+    value: u32,
+    domain: [u32; 4],
+    memory: &[u8],
+    first: u32,
+    room: &mut [u8],
+    passed: &mut [u32; 1],
+) -> u32 {
+    let shared = &session.shared;
+    let [i0, j0, i1, j1] = domain;
+    let (start, length) = (memory.as_ptr(), memory.len());
+    let (bytes, count) = (room.as_mut_ptr(), room.len());
+    // SAFETY: the array is a session's that the library gave out; start and length
+    // are one slice's, bytes and count another's; the two rooms are apart from both
+    // and from each other.
+    unsafe {
+        raw::egretfold_conditional_survey(
+            shared, value, i0, j0, i1, j1, start, length, first, bytes, count, passed,
+        )
+    }
+}
+
+/// The room's elements, row by row, to the rectangle's pairs in the memory. 3, 6, 10
+/// or 11.
+#[inline]
+pub fn picture_paint(
+    layout: &Layout,
+    rectangle: &Rectangle,
+    memory: &mut [u8],
+    first: u32,
+    room: &[u8],
+) -> u32 {
+    let (l, r) = (layout, rectangle);
+    let (start, length) = (memory.as_mut_ptr(), memory.len());
+    let (bytes, count) = (room.as_ptr(), room.len());
+    // SAFETY: start and length are one slice's, which nothing else can share; bytes
+    // and count are another's.
+    unsafe {
+        raw::egretfold_picture_paint(
+            l.base, l.pitch, l.height, l.size, l.tiled, r.x, r.y, r.columns, r.rows, start, length,
+            first, bytes, count,
+        )
+    }
+}
+
+/// room: the elements of the rectangle's pairs, row by row. 3, 6, 10 or 11.
+#[inline]
+pub fn picture_copy_out(
+    layout: &Layout,
+    rectangle: &Rectangle,
+    memory: &[u8],
+    first: u32,
+    room: &mut [u8],
+) -> u32 {
+    let (l, r) = (layout, rectangle);
+    let (start, length) = (memory.as_ptr(), memory.len());
+    let (bytes, count) = (room.as_mut_ptr(), room.len());
+    // SAFETY: start and length are one slice's; bytes and count are another's, which
+    // nothing else can share.
+    unsafe {
+        raw::egretfold_picture_copy_out(
+            l.base, l.pitch, l.height, l.size, l.tiled, r.x, r.y, r.columns, r.rows, start, length,
+            first, bytes, count,
+        )
+    }
+}
+
+/// addresses: where the elements of as many pairs begin, from (x, y) on in the row.
+/// 3, 6 or 10.
+#[inline]
+pub fn picture_row(layout: &Layout, x: u32, y: u32, addresses: &mut [u32]) -> u32 {
+    let l = layout;
+    let (start, columns) = (addresses.as_mut_ptr(), addresses.len());
+    // SAFETY: start and columns are one slice's.
+    unsafe {
+        raw::egretfold_picture_row(
+            l.base, l.pitch, l.height, l.size, l.tiled, x, y, start, columns,
         )
     }
 }

@@ -2,7 +2,7 @@
 //! across all days, and what each day came to.
 
 use crate::lengths::{LOG, MARKS};
-use crate::{answer, lent, Edition, Session};
+use crate::{answer, lent, Answer, Edition, Refusal, Session};
 
 /// A replay's state. Its arrays are private, so that it is always one that the
 /// library gave out. It may be cloned and both copies used.
@@ -20,14 +20,13 @@ pub struct BytesFed {
     /// Bytes taken. Where a byte was refused, its place in the piece.
     pub taken: u64,
     /// The refusal of the first refused byte, or none.
-    pub refusal: Option<u32>,
+    pub refusal: Option<Refusal>,
 }
 
 /// The first word of a log that its session refused.
 #[derive(Clone, Copy, Debug, PartialEq, Eq)]
 pub struct RefusedWord {
-    /// The refusal.
-    pub number: u32,
+    pub refusal: Refusal,
     /// How many midnights came before it.
     pub midnights: u32,
     /// The number of its record, from 0 on.
@@ -38,7 +37,7 @@ pub struct RefusedWord {
 #[derive(Clone, Copy, Debug, PartialEq, Eq)]
 pub struct LogStatus {
     /// 18 or 19, where one of them has stopped the replay.
-    pub stopped: Option<u32>,
+    pub stopped: Option<Refusal>,
     pub refused: Option<RefusedWord>,
     pub midnights: u32,
     /// The first day and the last one, none before the first midnight.
@@ -89,7 +88,7 @@ impl Replay {
 
     /// Takes one byte. 18 or 19, as [`Replay::feed`].
     #[inline]
-    pub fn byte(&mut self, byte: u8) -> Result<(), u32> {
+    pub fn byte(&mut self, byte: u8) -> Answer<()> {
         answer(lent::log_byte(self, byte))
     }
 
@@ -99,8 +98,8 @@ impl Replay {
         let [stopped, number, before, midnights, first, last, unfinished] = status;
         LogStatus {
             stopped: answer(stopped).err(),
-            refused: answer(number).err().map(|number| RefusedWord {
-                number,
+            refused: answer(number).err().map(|refusal| RefusedWord {
+                refusal,
                 midnights: before,
                 record: self.words_taken() + u64::from(before),
             }),

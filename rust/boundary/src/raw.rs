@@ -45,6 +45,30 @@ extern "C" {
 
     pub fn egretfold_session_masks(shared: &[u32; SHARED], masks: &mut [u32; 5]) -> u32;
 
+    pub fn egretfold_pair_begin(
+        own0: &mut [u32; OWN],
+        tallies0: &mut [u64; TALLIES],
+        own1: &mut [u32; OWN],
+        tallies1: &mut [u64; TALLIES],
+        shared: &mut [u32; SHARED],
+        inputs: u32,
+        outputs: u32,
+        edition: u32,
+    ) -> u32;
+
+    pub fn egretfold_pair_feed(
+        own0: &mut [u32; OWN],
+        tallies0: &mut [u64; TALLIES],
+        own1: &mut [u32; OWN],
+        tallies1: &mut [u64; TALLIES],
+        shared: &mut [u32; SHARED],
+        words: *const u32,
+        length: usize,
+        parties: *const u32,
+        groups: usize,
+        fed: &mut [u64; 6],
+    ) -> u32;
+
     pub fn egretfold_log_begin(
         log: &mut [u32; LOG],
         marks: &mut [u64; MARKS],
@@ -188,6 +212,78 @@ extern "C" {
         first: u32,
         bytes: &mut [u8; 16],
         count: &mut [u32; 1],
+    ) -> u32;
+
+    pub fn egretfold_conditional_test(
+        shared: &[u32; SHARED],
+        value: u32,
+        x: u32,
+        y: u32,
+        memory: *const u8,
+        length: usize,
+        first: u32,
+        passed: &mut [u32; 1],
+    ) -> u32;
+
+    pub fn egretfold_conditional_survey(
+        shared: &[u32; SHARED],
+        value: u32,
+        i0: u32,
+        j0: u32,
+        i1: u32,
+        j1: u32,
+        memory: *const u8,
+        length: usize,
+        first: u32,
+        room: *mut u8,
+        room_length: usize,
+        passed: &mut [u32; 1],
+    ) -> u32;
+
+    pub fn egretfold_picture_paint(
+        base: u32,
+        pitch: u32,
+        height: u32,
+        size: u32,
+        tiled: bool,
+        x: u32,
+        y: u32,
+        columns: u32,
+        rows: u32,
+        memory: *mut u8,
+        length: usize,
+        first: u32,
+        room: *const u8,
+        room_length: usize,
+    ) -> u32;
+
+    pub fn egretfold_picture_copy_out(
+        base: u32,
+        pitch: u32,
+        height: u32,
+        size: u32,
+        tiled: bool,
+        x: u32,
+        y: u32,
+        columns: u32,
+        rows: u32,
+        memory: *const u8,
+        length: usize,
+        first: u32,
+        room: *mut u8,
+        room_length: usize,
+    ) -> u32;
+
+    pub fn egretfold_picture_row(
+        base: u32,
+        pitch: u32,
+        height: u32,
+        size: u32,
+        tiled: bool,
+        x: u32,
+        y: u32,
+        addresses: *mut u32,
+        columns: usize,
     ) -> u32;
 
     pub fn egretfold_program_load(

@@ -75,6 +75,17 @@ impl Lease {
 impl Replay {
     /// The month of the log so far, under the replay's edition. 18 or 19, where it stopped the replay; refused
     /// words and unfinished records refuse nothing.
+    ///
+    /// ```
+    /// use boundary::{Edition, Lease, Replay, Verdict};
+    ///
+    /// // A record is its kind, 2 for a midnight, and a number of four bytes: day 101 begins.
+    /// let mut replay = Replay::new(Edition::First);
+    /// replay.feed(&[2, 101, 0, 0, 0]);
+    /// let month = replay.score(&Lease::new(101, 1, 500)?)?;
+    /// assert_eq!((month.served, month.owed, month.verdict), (0, 500, Verdict::Short));
+    /// # Ok::<(), boundary::Refusal>(())
+    /// ```
     pub fn score(&self, lease: &Lease) -> Answer<Month> {
         let numbers = (lease.first_day, lease.days, lease.owed);
         let (mut claimed, mut served, mut month) = ([0; DAYS], [0; DAYS], [0; 3]);

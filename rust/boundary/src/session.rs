@@ -2,9 +2,9 @@
 //! they leave, and the tallies.
 
 use crate::lengths::{OWN, SHARED, TALLIES};
-use crate::{answer, lent, Answer, Command, Edition};
+use crate::{answer, lent, Answer, Command, Edition, Owned, Refusal, View};
 
-/// A session's state. Its arrays are private, so that it is always one that the
+/// A session's state, of one party that owns every number. Its arrays are private, so that it is always one that the
 /// library gave out. It may be cloned and both copies used.
 #[derive(Clone, Debug, PartialEq, Eq)]
 pub struct Session {
@@ -30,7 +30,7 @@ pub struct Fed {
     /// Commands that these words completed.
     pub commands: u64,
     /// The refusal of the first refused word, or none.
-    pub refusal: Option<u32>,
+    pub refusal: Option<Refusal>,
 }
 
 /// Where a session stands.
@@ -69,16 +69,22 @@ impl Session {
     pub fn word(&mut self, word: u32) -> Answer<Reply> {
         let mut room = [0; 6];
         answer(lent::session_word(self, word, &mut room))?;
-        if room[0] == 0 {
-            return Ok(Reply::Open);
-        }
-        Ok(Reply::Done(Command {
-            header: room[1],
-            fields: [room[2], room[3], room[4], room[5]],
-        }))
+        Ok(Command::completed(&room).map_or(Reply::Open, Reply::Done))
     }
 
     /// Takes a piece of words, one after another up to the first refused one.
+    ///
+    /// ```
+    /// use boundary::headers::{START_PROGRAM, WAIT_FOR_IDLE};
+    /// use boundary::{Edition, Refusal, Session};
+    ///
+    /// let mut session = Session::new(Edition::First);
+    /// let fed = session.feed(&[WAIT_FOR_IDLE, 0, START_PROGRAM, 0]);
+    /// // Nothing is set yet, so the start's last word is refused; what came before stands.
+    /// assert_eq!((fed.taken, fed.commands), (3, 1));
+    /// assert_eq!(fed.refusal, Some(Refusal::StartUnset));
+    /// assert!(session.status().stopped);
+    /// ```
     #[inline]
     pub fn feed(&mut self, words: &[u32]) -> Fed {
         let mut fed = [0; 2];
@@ -90,99 +96,99 @@ impl Session {
         }
     }
 
+    /// What can be asked of it; the functions below are the same for short.
+    #[inline]
+    pub fn view(&self) -> View<'_> {
+        View {
+            own: &self.own,
+            tallies: &self.tallies,
+            shared: &self.shared,
+            owned: Owned::ALL,
+        }
+    }
+
     #[inline]
     pub fn status(&self) -> Status {
-        let mut status = [0; 6];
-        lent::session_status(self, &mut status);
-        let [taken, stopped, header, parameters, readiness, edition] = status;
-        Status {
-            taken,
-            stopped: stopped != 0,
-            // No header of the table is 0, so 0 says that none is open.
-            open: set(header, (header, parameters)),
-            readiness,
-            edition: match edition {
-                1 => Edition::First,
-                2 => Edition::Second,
-                other => unreachable!("the library has no edition {other}"),
-            },
-        }
+        self.view().status()
     }
 
     /// Starts that passed.
     #[inline]
     pub fn runs(&self) -> u64 {
-        self.counts()[0]
+        self.view().runs()
     }
 
     /// The elements that those starts claimed.
     #[inline]
     pub fn claims(&self) -> u64 {
-        self.counts()[1]
-    }
-
-    #[inline]
-    fn counts(&self) -> [u64; 2] {
-        let mut counts = [0; 2];
-        lent::session_tallies(self, &mut counts);
-        counts
+        self.view().claims()
     }
 
     /// i0, j0, i1, j1, both ends included.
     #[inline]
     pub fn domain(&self) -> Option<[u32; 4]> {
-        let mut domain = [0; 5];
-        lent::session_domain(self, &mut domain);
-        set(domain[0], [domain[1], domain[2], domain[3], domain[4]])
+        self.view().domain()
     }
 
-    /// The format that the command with this header set; for inputs and outputs
-    /// the one with this number, else the number is not looked at. 2 for a header
-    /// that sets no format; 4.
+    /// The format that the command with this header set, as [`View::format`]. 2; 4.
     #[inline]
     pub fn format(&self, header: u32, number: u32) -> Answer<Option<Format>> {
-        let mut room = [0; 4];
-        answer(lent::session_format(self, header, number, &mut room))?;
-        let [is_set, base, format, height] = room;
-        let format = Format {
-            base,
-            format,
-            height,
-        };
-        Ok(set(is_set, format))
+        self.view().format(header, number)
     }
 
     #[inline]
     pub fn output_mask(&self) -> u32 {
-        self.masks()[0]
+        self.view().output_mask()
     }
 
     #[inline]
     pub fn conditional_mask(&self) -> Option<u32> {
-        let masks = self.masks();
-        set(masks[1], masks[2])
+        self.view().conditional_mask()
     }
 
     #[inline]
     pub fn test(&self) -> Option<u32> {
-        let masks = self.masks();
-        set(masks[3], masks[4])
+        self.view().test()
     }
 
+    /// Whether the conditional test passes at the pair (x, y): `value op b`, where op is
+    /// the test that is set and b what the conditional buffer holds there, in memory of
+    /// which the first byte stands at address `first`. The session may be stopped, and
+    /// a refusal stops nothing. 7 where no conditional buffer or no test is set, 3 where
+    /// the buffer isn't UINT16_1; then 10 or 11.
     #[inline]
-    fn masks(&self) -> [u32; 5] {
-        let mut masks = [0; 5];
-        lent::session_masks(self, &mut masks);
-        masks
+    pub fn conditional_test(
+        &self,
+        value: u32,
+        x: u32,
+        y: u32,
+        memory: &[u8],
+        first: u32,
+    ) -> Answer<bool> {
+        let mut passed = [0];
+        let pair = (x, y);
+        let number = lent::conditional_test(self, value, pair, memory, first, &mut passed);
+        answer(number)?;
+        Ok(passed[0] != 0)
     }
-}
 
-/// The value of a setting, where its mark says that it is set.
-#[inline]
-fn set<T>(mark: u32, value: T) -> Option<T> {
-    if mark == 0 {
-        None
-    } else {
-        Some(value)
+    /// The conditional test at all pairs of a domain, i0, j0, i1, j1, both ends
+    /// included, with one value: how many pass, and in the room, whose length is the
+    /// number of pairs, a byte 1 or 0 for each, row by row. 7, 3, 5 where the ends are
+    /// crossed, 10 where a pair is outside, or 11.
+    #[inline]
+    pub fn survey(
+        &self,
+        value: u32,
+        domain: [u32; 4],
+        memory: &[u8],
+        first: u32,
+        room: &mut [u8],
+    ) -> Answer<u32> {
+        let mut passed = [0];
+        let number =
+            lent::conditional_survey(self, value, domain, memory, first, room, &mut passed);
+        answer(number)?;
+        Ok(passed[0])
     }
 }

@@ -3,7 +3,7 @@
 //! mask, which numbers are editions, and what stays the same in both.
 
 use boundary::headers::{SET_DOMAIN, SET_INST_FMT, SET_OUT_FMT, SET_OUT_MASK, START_PROGRAM};
-use boundary::{lent, Edition, Lease, Replay, Session, Verdict};
+use boundary::{lent, Edition, Lease, Refusal, Replay, Session, Verdict};
 
 const BOTH: [Edition; 2] = [Edition::First, Edition::Second];
 
@@ -51,9 +51,9 @@ fn another_edition_gets_3_and_nothing_is_touched() {
     let mut replay = Replay::new(Edition::Second);
     replay.feed(&[2, 1, 0, 0, 0, 1, 7]);
     for number in NONE {
-        assert_eq!(Edition::of(number), Err(3), "{number}");
-        assert_eq!(lent::session_begin(number), Err(3));
-        assert_eq!(lent::log_begin(number), Err(3));
+        assert_eq!(Edition::of(number), Err(Refusal::Malformed), "{number}");
+        assert_eq!(lent::session_begin(number), Err(Refusal::Malformed));
+        assert_eq!(lent::log_begin(number), Err(Refusal::Malformed));
         let mut arrays = session.clone();
         assert_eq!(lent::session_begin_anew(&mut arrays, number), 3);
         assert_eq!(arrays, session);
@@ -139,7 +139,8 @@ fn silent_outputs_are_passed_over_in_both() {
     // Output 1 lies over output 0 and is too low for the domain; FLOAT32_2 has no channels 2 and 3.
     let over = [SET_OUT_FMT, 1, 0, 0x0300_0020, 1];
     let words = [&READY[..], &output(0, 0, 4), &over].concat();
-    for (mask, refusal) in [(0xFFFF, Some(8)), (0xFFCF, None), (0xFFDF, Some(8))] {
+    let outside = Some(Refusal::DomainOutside);
+    for (mask, refusal) in [(0xFFFF, outside), (0xFFCF, None), (0xFFDF, outside)] {
         for edition in BOTH {
             let mut session = fed(edition, &words);
             let fed = session.feed(&[SET_OUT_MASK, mask, START_PROGRAM, 0]);

@@ -1,117 +1,90 @@
-//! Document 02, request 14's report over a fleet, asked through the safe functions.
+//! The report of several stations: its numbers, the order of its refusals, and that a
+//! refusal touches no room.
 
-use boundary::headers::{SET_DOMAIN, SET_INST_FMT, SET_OUT_FMT, START_PROGRAM};
-use boundary::{lent, Edition, Fleet, Station};
+use boundary::{fleet_report, lent, Answer, Edition, FleetReport, Lease, Refusal};
 
-/// What every start needs; it then claims 15 elements under edition 1, 60 under edition 2.
+/// Document 01's whole stream up to its start; a start then claims 96 x 18 elements.
 #[rustfmt::skip]
 const SETTINGS: [u32; 13] = [
-    SET_INST_FMT, 0x1000, 0x400_0010,
-    SET_OUT_FMT, 0, 0, 0x0400_0020, 4,
-    SET_DOMAIN, 3, 1, 7, 3,
+    0xC001_0A00, 0x1000, 0x0400_0010,
+    0xC003_0C00, 0, 0x800, 0x0201_0064, 18,
+    0xC003_0700, 0, 0, 95, 17,
 ];
+const CLAIM: u64 = 96 * 18;
 
-fn record(kind: u8, number: u32) -> Vec<u8> {
-    [&[kind][..], &number.to_le_bytes()].concat()
-}
-
-/// A log with days from day 5 on, with so many starts each.
-fn log(days: &[usize]) -> Vec<u8> {
+/// A log of days from day 5 on, with so many starts each.
+fn log(days: &[u32]) -> Vec<u8> {
+    let record = |kind: u8, number: u32| [&[kind][..], &number.to_le_bytes()].concat();
     let mut log: Vec<u8> = SETTINGS.iter().flat_map(|word| record(1, *word)).collect();
     for (day, starts) in (5..).zip(days) {
         log.extend(record(2, day));
-        let words = [START_PROGRAM, 0].repeat(*starts);
-        log.extend(words.iter().flat_map(|word| record(1, *word)));
+        for _ in 0..*starts {
+            log.extend([record(1, 0xC000_0800), record(1, 0)].concat());
+        }
     }
     log
 }
 
-fn station(log: &[u8], days: u64, owed: u64) -> Station<'_> {
-    Station {
-        log,
-        first_day: 5,
-        days,
-        owed,
-    }
+fn station(days: &[u32], owed: u64) -> (Vec<u8>, Lease) {
+    let lease = Lease::new(5, days.len() as u32, owed as u32);
+    (log(days), lease.expect("a lease"))
 }
 
-const ONE: Edition = Edition::First;
+fn told(stations: &[(Vec<u8>, Lease)]) -> Answer<FleetReport> {
+    let logs: Vec<u8> = stations.iter().flat_map(|(log, _)| log.clone()).collect();
+    let lengths: Vec<(usize, Lease)> = stations
+        .iter()
+        .map(|(log, lease)| (log.len(), *lease))
+        .collect();
+    fleet_report(Edition::First, &logs, &lengths)
+}
 
 #[test]
-fn sums_silent_days_and_the_smallest_part() {
-    let (full, half, dark) = (log(&[1, 1]), log(&[1, 0]), log(&[]));
-    let stations = [
-        station(&full, 2, 15),
-        station(&half, 2, 15),
-        station(&dark, 1, 0),
-        station(&half, 2, 15),
-    ];
-    let report = Fleet {
-        served: 60,
-        owed: 90,
-        silent_days: 2,
-        smallest: Some(1),
+fn served_owed_silent_days_and_the_smallest_part() {
+    let half = station(&[1, 0], CLAIM);
+    let third = station(&[0, 1, 0], CLAIM);
+    let also_third = station(&[1, 0, 0], CLAIM);
+    let nothing = station(&[0], 0);
+    let stations = [nothing.clone(), half, third, also_third];
+    let due = FleetReport {
+        served: 3 * CLAIM,
+        owed: 8 * CLAIM,
+        silent_days: 5,
+        station: Some(2),
     };
-    assert_eq!(Fleet::report(ONE, &stations), Ok(report));
-    // By channels the same starts serve days that owe four times as much.
-    let by_channels = stations.map(|station| Station {
-        owed: 4 * station.owed,
-        ..station
-    });
-    let told = Fleet::report(Edition::Second, &by_channels).expect("a report");
-    assert_eq!((told.served, told.owed), (240, 360));
-    assert_eq!((told.silent_days, told.smallest), (2, Some(1)));
+    assert_eq!(told(&stations), Ok(due));
+    assert_eq!(told(&[nothing]).map(|report| report.station), Ok(None));
+    let none = told(&[]).expect("a fleet of none");
+    assert_eq!((none.served, none.owed, none.station), (0, 0, None));
 }
 
 #[test]
-fn nothing_owed_and_no_stations() {
-    let log = log(&[1]);
-    let none = Fleet {
-        served: 0,
-        owed: 0,
-        silent_days: 0,
-        smallest: None,
-    };
-    assert_eq!(Fleet::report(ONE, &[]), Ok(none));
-    assert_eq!(Fleet::report(ONE, &[station(&log, 1, 0); 64]), Ok(none));
+fn more_than_64_are_refused() {
+    let one = station(&[1], CLAIM);
+    assert!(told(&vec![one.clone(); 64]).is_ok());
+    assert_eq!(told(&vec![one; 65]), Err(Refusal::TooManyLogs));
 }
 
 #[test]
-fn refusals_in_their_order() {
+fn refusals_come_in_their_order_and_touch_no_room() {
     let good = log(&[1]);
-    let damaged = [&good[..], &[3]].concat();
-    let skipped = [&good[..], &record(2, 9)].concat();
-    let (fine, line) = (station(&good, 1, 1), station(&good, 0, 1));
-    let (kind, day) = (station(&damaged, 1, 1), station(&skipped, 1, 1));
-    for (stations, number) in [
-        ([fine, line, kind], 21),
-        ([fine, kind, line], 18),
-        ([fine, day, line], 19),
-        ([station(&damaged, 32, 1), fine, fine], 21),
-        ([fine, fine, station(&good, 1, 1 << 32)], 21),
+    let length = good.len() as u64;
+    let numbers = [length, 5, 1, 1];
+    let many = [0, 5, 1, 1].repeat(65);
+    let damaged = [&good[..], &[9]].concat();
+    for (edition, logs, numbers, room, number) in [
+        (0, &good[..], &numbers[..3], 5, 3),
+        (1, &good[..], &numbers[..3], 4, 11),
+        (1, &good[..], &numbers[..], 3, 11),
+        (1, &good[1..], &numbers[..], 4, 11),
+        (2, &good[..], &many[..], 4, 11),
+        (2, &[][..], &many[..], 4, 22),
+        (1, &damaged[..], &[length + 1, 5, 32, 1][..], 4, 21),
+        (1, &damaged[..], &[length + 1, 5, 1, 1][..], 4, 18),
     ] {
-        assert_eq!(Fleet::report(ONE, &stations), Err(number));
-    }
-    assert_eq!(Fleet::report(ONE, &[line; 65]), Err(22));
-    assert_eq!(Fleet::report(ONE, &[line; 64]), Err(21));
-}
-
-/// A refusal touches no room.
-#[test]
-fn slices_that_do_not_fit_get_11() {
-    let half = 1 << 63;
-    for (logs, numbers, room) in [
-        (&[][..], &[0, 0, 1][..], 4),
-        (&[], &[0, 0, 1, 0, 0], 4),
-        (&[], &[0, 0, 1, 0], 3),
-        (&[], &[0, 0, 1, 0], 5),
-        (&[1], &[0, 0, 1, 0], 4),
-        (&[], &[half, 0, 1, 0, half, 0, 1, 0], 4),
-        (&[1], &[u64::MAX, 0, 1, 0, 2, 0, 1, 0], 4),
-    ] {
-        let mut told = vec![77; room];
-        assert_eq!(lent::fleet_report(1, logs, numbers, &mut told), 11);
-        assert_eq!(told, vec![77; room]);
-        assert_eq!(lent::fleet_report(3, logs, numbers, &mut told), 3);
+        let mut lent_room = vec![7; room];
+        let is = lent::fleet_report(edition, logs, numbers, &mut lent_room);
+        assert_eq!(is, number);
+        assert_eq!(lent_room, vec![7; room], "{number}");
     }
 }

@@ -2,7 +2,7 @@
 //! what the killed are skipped by, every refusal in its order, and the bits that the
 //! maximum and the choice copy.
 
-use boundary::{choice, lent, maximum, Group, Mode, Program};
+use boundary::{choice, lent, maximum, Group, Mode, Program, Refusal};
 
 const SIGN: u32 = 0x8000_0000;
 
@@ -143,13 +143,13 @@ fn refusals_come_in_their_order_and_change_nothing() {
     some.kill(&ended, &negative(3, 0b011), 1).unwrap();
     let (whole, living) = ([-1.0; 12], [-1.0; 4]);
     for (group, registers, mask, refusal) in [
-        (over, &whole[..0], 16, 16),
-        (over, &whole[..], 15, 16),
-        (some, &whole[..0], 16, 13),
-        (some, &whole[..], u32::MAX, 13),
-        (some, &living[..], 15, 11),
-        (some, &whole[..11], 0, 11),
-        (some, &whole[..0], 15, 11),
+        (over, &whole[..0], 16, Refusal::Ended),
+        (over, &whole[..], 15, Refusal::Ended),
+        (some, &whole[..0], 16, Refusal::FlowField),
+        (some, &whole[..], u32::MAX, Refusal::FlowField),
+        (some, &living[..], 15, Refusal::WrongLength),
+        (some, &whole[..11], 0, Refusal::WrongLength),
+        (some, &whole[..0], 15, Refusal::WrongLength),
     ] {
         let mut after = group;
         assert_eq!(after.kill(&ended, registers, mask), Err(refusal));

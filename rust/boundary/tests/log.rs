@@ -3,7 +3,7 @@
 
 use boundary::headers::{SET_DOMAIN, SET_INST_FMT, SET_OUT_FMT, START_PROGRAM};
 use boundary::{
-    lent, BytesFed, Day, Edition, Lease, LogStatus, Part, RefusedWord, Replay, Session,
+    lent, BytesFed, Day, Edition, Lease, LogStatus, Part, Refusal, RefusedWord, Replay, Session,
 };
 
 /// Document 01's whole stream up to its start, which claims 1,728 elements.
@@ -28,7 +28,7 @@ fn midnight(day: u32) -> Vec<u8> {
     record(2, day)
 }
 
-fn fed(taken: usize, refusal: Option<u32>) -> BytesFed {
+fn fed(taken: usize, refusal: Option<Refusal>) -> BytesFed {
     let taken = taken as u64;
     BytesFed { taken, refusal }
 }
@@ -146,11 +146,17 @@ fn bytes_one_by_one_are_a_piece() {
 fn a_wrong_kind_byte_is_18() {
     let mut replay = Replay::new(Edition::First);
     let bytes = [three_days(), vec![3], words(&[START_PROGRAM, 0])].concat();
-    assert_eq!(replay.feed(&bytes), fed(bytes.len() - 11, Some(18)));
+    assert_eq!(
+        replay.feed(&bytes),
+        fed(bytes.len() - 11, Some(Refusal::RecordKind))
+    );
     let stopped = replay.clone();
-    assert_eq!(stopped.status().stopped, Some(18));
+    assert_eq!(stopped.status().stopped, Some(Refusal::RecordKind));
     assert_eq!(stopped.status().unfinished, 0);
-    assert_eq!(replay.feed(&midnight(103)), fed(0, Some(18)));
+    assert_eq!(
+        replay.feed(&midnight(103)),
+        fed(0, Some(Refusal::RecordKind))
+    );
     assert_eq!(replay.feed(&[]), fed(0, None));
     assert_eq!(replay, stopped);
     assert_eq!(days(&replay), [day(100, 1), day(101, 2), day(102, 0)]);
@@ -162,11 +168,14 @@ fn a_wrong_day_is_19_at_its_last_byte() {
     for (first, next) in [(7, 7), (7, 6), (7, 9), (u32::MAX, 0), (0, u32::MAX)] {
         let mut replay = Replay::new(Edition::First);
         let bytes = [midnight(first), midnight(next), vec![1]].concat();
-        assert_eq!(replay.feed(&bytes), fed(9, Some(19)));
+        assert_eq!(replay.feed(&bytes), fed(9, Some(Refusal::MidnightDay)));
         let status = replay.status();
-        assert_eq!((status.stopped, status.midnights), (Some(19), 1));
+        assert_eq!(
+            (status.stopped, status.midnights),
+            (Some(Refusal::MidnightDay), 1)
+        );
         assert_eq!((status.days, status.unfinished), (Some((first, first)), 0));
-        assert_eq!(replay.feed(&[1]), fed(0, Some(19)));
+        assert_eq!(replay.feed(&[1]), fed(0, Some(Refusal::MidnightDay)));
     }
 }
 
@@ -181,10 +190,13 @@ fn four_hundred_midnights_come_and_no_more() {
     assert_eq!(replay.status().days, Some((first, u32::MAX)));
     assert_eq!(replay.days().count(), 400);
     assert_eq!(replay.days().last(), Some(day(u32::MAX, 1)));
-    assert_eq!(replay.feed(&midnight(0)), fed(4, Some(19)));
+    assert_eq!(
+        replay.feed(&midnight(0)),
+        fed(4, Some(Refusal::MidnightDay))
+    );
     let mut low = Replay::new(Edition::First);
     let all: Vec<u8> = (0..401).flat_map(midnight).collect();
-    assert_eq!(low.feed(&all), fed(2_004, Some(19)));
+    assert_eq!(low.feed(&all), fed(2_004, Some(Refusal::MidnightDay)));
     assert_eq!(low.status().days, Some((0, 399)));
 }
 
@@ -200,7 +212,7 @@ fn the_days_go_on_after_a_refused_word() {
     assert_eq!(replay.feed(&bytes), fed(bytes.len(), None));
     let status = replay.status();
     let refused = RefusedWord {
-        number: 4,
+        refusal: Refusal::NumberTooHigh,
         midnights: 3,
         record: three_days().len() as u64 / 5 + 1,
     };

@@ -1,7 +1,7 @@
 //! Loops in the stepper (request 4), over the boundary: turns and aL, what a loop
 //! overrides, and every refusal that loops added.
 
-use boundary::{lent, Group, Loop, Program, Stepped};
+use boundary::{lent, Answer, Group, Loop, Program, Stepped};
 
 const LOOP: u32 = 1;
 const ENDLOOP: u32 = 2;
@@ -43,7 +43,7 @@ fn opened(openings: &[(u32, u32)]) -> Group {
 }
 
 /// One step of this slot, which jumps to the program's end.
-fn step(group: &mut Group, first: u32, second: u32, integers: &[u32]) -> Result<Stepped, u32> {
+fn step(group: &mut Group, first: u32, second: u32, integers: &[u32]) -> Answer<Stepped> {
     let at = group.position();
     let mut slots = vec![[0x20, 0]; at as usize];
     slots.push([first, second | to(at + 1)]);
@@ -53,7 +53,8 @@ fn step(group: &mut Group, first: u32, second: u32, integers: &[u32]) -> Result<
 /// A step gets this number, and neither the group nor a room is touched.
 fn assert_refused(group: &Group, first: u32, second: u32, integers: &[u32], refusal: u32) {
     let mut after = *group;
-    assert_eq!(step(&mut after, first, second, integers), Err(refusal));
+    let stepped = step(&mut after, first, second, integers);
+    assert_eq!(stepped.map_err(u32::from), Err(refusal));
     assert_eq!(after, *group);
     let program = load(&vec![[first, second]; group.position() as usize + 1]);
     let mut taken = [7; 2];

@@ -1,7 +1,7 @@
 //! Request 7: groups in partial mode, beside groups in full mode.
 
 use boundary::lengths::CELLS;
-use boundary::{lent, Answer, Group, Mode, Program, Stepped};
+use boundary::{lent, Answer, Group, Mode, Program, Refusal, Stepped};
 
 /// A branch that those whose alu bit is set leave; where all do, to slot 0.
 const BRANCH: [u32; 2] = [0x0200_F000, 0];
@@ -47,12 +47,12 @@ fn partial_mode_has_no_loops() {
     // full mode gives 14 for.
     for (slot, full) in [
         ([1, 0], Ok(false)),
-        ([3, 0x0500], Err(13)),
-        ([2, 0], Err(14)),
-        ([4, 0], Err(14)),
+        ([3, 0x0500], Err(Refusal::FlowField)),
+        ([2, 0], Err(Refusal::AtLimit)),
+        ([4, 0], Err(Refusal::AtLimit)),
     ] {
         let mut group = Group::begin_in(4, Mode::Partial).unwrap();
-        assert_eq!(step(&mut group, slot, 0), Err(13));
+        assert_eq!(step(&mut group, slot, 0), Err(Refusal::FlowField));
         let mut group = Group::begin(4).unwrap();
         let stepped = step(&mut group, slot, 0).map(|stepped| stepped.jumped);
         assert_eq!(stepped, full);
@@ -65,7 +65,7 @@ fn partial_mode_has_no_returns_on_a_stay_either() {
     for first in [0x0000_FF80, 0x0000_FF40, 0x0000_00A0, 0x0000_0060] {
         let mut group = Group::begin_in(4, Mode::Partial).unwrap();
         let before = group;
-        assert_eq!(step(&mut group, [first, 0], 0), Err(13));
+        assert_eq!(step(&mut group, [first, 0], 0), Err(Refusal::FlowField));
         assert_eq!(group, before);
     }
 }
@@ -81,7 +81,7 @@ fn partial_mode_counts_to_five() {
         assert!(answer.is_ok(), "level {level}");
         assert_eq!(partial.counter(0), level);
     }
-    assert_eq!(step(&mut partial, BRANCH, 1 << 6), Err(14));
+    assert_eq!(step(&mut partial, BRANCH, 1 << 6), Err(Refusal::AtLimit));
     assert!(step(&mut full, BRANCH, 1 << 6).is_ok());
     assert_eq!((partial.counter(0), full.counter(0)), (5, 6));
 }

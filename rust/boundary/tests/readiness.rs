@@ -3,7 +3,7 @@
 use boundary::headers::{
     SET_DOMAIN, SET_INP_FMT, SET_INST_FMT, SET_OUT_FMT, SET_OUT_MASK, START_PROGRAM, WAIT_FOR_IDLE,
 };
-use boundary::{Edition, Session};
+use boundary::{Edition, Refusal, Session};
 
 /// UINT8_4, tiled, pitch 96: 32 columns a tile, 4 bytes an element.
 const FORMAT: u32 = 0x0101_0060;
@@ -87,8 +87,14 @@ fn a_stop_leaves_it() {
 #[test]
 fn a_start_gets_the_stored_number_after_1_and_3() {
     let mut session = Session::new(Edition::First);
-    assert_eq!(session.feed(&[START_PROGRAM, 1]).refusal, Some(3));
-    assert_eq!(session.feed(&[START_PROGRAM, 0]).refusal, Some(1));
+    assert_eq!(
+        session.feed(&[START_PROGRAM, 1]).refusal,
+        Some(Refusal::Malformed)
+    );
+    assert_eq!(
+        session.feed(&[START_PROGRAM, 0]).refusal,
+        Some(Refusal::Stopped)
+    );
     assert_eq!(session.status().readiness, 7);
     for (words, number) in [
         (vec![], 7),
@@ -103,7 +109,8 @@ fn a_start_gets_the_stored_number_after_1_and_3() {
     ] {
         let mut session = Session::new(Edition::First);
         assert_eq!(fed(&mut session, &words), number);
-        assert_eq!(session.feed(&[START_PROGRAM, 0]).refusal, Some(number));
+        let refusal = session.feed(&[START_PROGRAM, 0]).refusal;
+        assert_eq!(refusal.map(u32::from), Some(number));
         assert_eq!(session.status().readiness, number, "after the stop");
     }
 }

@@ -3,7 +3,7 @@
 
 use boundary::headers::{SET_DOMAIN, SET_INST_FMT, SET_OUT_FMT, START_PROGRAM};
 use boundary::lengths::DAYS;
-use boundary::{lent, Edition, Lease, Month, Replay, ScoredDay, Verdict};
+use boundary::{lent, Edition, Lease, Month, Refusal, Replay, ScoredDay, Verdict};
 
 /// Document 01's whole stream up to its start, which claims 1,728 elements.
 #[rustfmt::skip]
@@ -99,7 +99,7 @@ fn each_bound_of_the_lease_line_on_both_sides() {
         (u32::MAX - 29, 31, 1),
     ] {
         let answer = Lease::new(first, days, owed);
-        assert_eq!(answer, Err(21), "{first}, {days}, {owed}");
+        assert_eq!(answer, Err(Refusal::LeaseLine), "{first}, {days}, {owed}");
     }
 }
 
@@ -141,10 +141,13 @@ fn the_three_verdicts() {
 
 #[test]
 fn a_stopped_replay_has_no_score() {
-    for (end, number) in [(vec![3], 18), (midnight(104), 19)] {
+    for (end, refusal) in [
+        (vec![3], Refusal::RecordKind),
+        (midnight(104), Refusal::MidnightDay),
+    ] {
         let replay = replayed(&[three_days(), end].concat());
-        assert_eq!(replay.score(&lease(100, 3, CLAIM)), Err(number));
-        assert_eq!(replay.score(&lease(7, 1, 0)), Err(number));
+        assert_eq!(replay.score(&lease(100, 3, CLAIM)), Err(refusal));
+        assert_eq!(replay.score(&lease(7, 1, 0)), Err(refusal));
     }
 }
 
@@ -153,7 +156,7 @@ fn a_refused_word_and_an_unfinished_record_refuse_nothing() {
     let end = [words(&[7, START_PROGRAM, 0]), vec![2, 103]].concat();
     let replay = replayed(&[three_days(), end].concat());
     let status = replay.status();
-    assert_eq!(status.refused.map(|word| word.number), Some(2));
+    assert_eq!(status.refused.map(|word| word.refusal.number()), Some(2));
     assert_eq!(status.unfinished, 2);
     let full = month(&[day(102, CLAIM, CLAIM)], CLAIM, Verdict::Full);
     assert_eq!(replay.score(&lease(102, 1, CLAIM)), Ok(full));

@@ -3,7 +3,7 @@
 //! and what a start makes of silent outputs.
 
 use boundary::headers::{SET_DOMAIN, SET_INST_FMT, SET_OUT_FMT, SET_OUT_MASK, START_PROGRAM};
-use boundary::{Edition, Part, Replay, Session};
+use boundary::{Edition, Part, Refusal, Replay, Session};
 
 /// For each format code the nibbles under which its output is silent.
 const SILENT: [&[u32]; 5] = [
@@ -41,7 +41,7 @@ fn stream(mask: u32, outputs: &[[u32; 5]]) -> Vec<u32> {
 
 /// What the start comes to: its runs and claims, or its refusal. A piece and its
 /// words one by one must come to the same session.
-fn started(words: &[u32]) -> Result<(u64, u64), u32> {
+fn started(words: &[u32]) -> Result<(u64, u64), Refusal> {
     let mut whole = Session::new(Edition::First);
     let fed = whole.feed(words);
     let mut by_words = Session::new(Edition::First);
@@ -51,7 +51,7 @@ fn started(words: &[u32]) -> Result<(u64, u64), u32> {
     assert!(before.iter().all(Result::is_ok), "{words:X?}");
     assert_eq!(last.err(), fed.refusal);
     match fed.refusal {
-        Some(number) => Err(number),
+        Some(refusal) => Err(refusal),
         None => Ok((whole.runs(), whole.claims())),
     }
 }
@@ -90,31 +90,43 @@ fn silent_outputs_are_passed_over_in_8_and_9() {
     let float = output(0, 0, 2);
     // Over the first one's bytes.
     let over = output(1, 0, 2);
-    assert_eq!(started(&stream(0x0011, &[float, over])), Err(9));
+    assert_eq!(
+        started(&stream(0x0011, &[float, over])),
+        Err(Refusal::SpansShared)
+    );
     assert_eq!(started(&stream(0x00E1, &[float, over])), Ok((1, 15)));
     assert_eq!(started(&stream(0x00EE, &[float, over])), Ok((1, 0)));
     // Too low for the domain.
     let low = [SET_OUT_FMT, 2, 0x800, 0x0300_0020, 3];
-    assert_eq!(started(&stream(0x0201, &[float, low])), Err(8));
+    assert_eq!(
+        started(&stream(0x0201, &[float, low])),
+        Err(Refusal::DomainOutside)
+    );
     assert_eq!(started(&stream(0x0C01, &[float, low])), Ok((1, 15)));
     assert_eq!(started(&stream(0x0C00, &[float, low])), Ok((1, 0)));
     // 8 and 9 of those that count, in their order.
     let low_over = [SET_OUT_FMT, 3, 0, 0x0200_0020, 3];
     let all = [float, over, low_over];
-    assert_eq!(started(&stream(0x1011, &all)), Err(8));
-    assert_eq!(started(&stream(0x0011, &all)), Err(9));
+    assert_eq!(started(&stream(0x1011, &all)), Err(Refusal::DomainOutside));
+    assert_eq!(started(&stream(0x0011, &all)), Err(Refusal::SpansShared));
     assert_eq!(started(&stream(0x0010, &all)), Ok((1, 15)));
 }
 
 #[test]
 fn refusal_7_is_as_before() {
     for mask in [0, 0xFFFF] {
-        assert_eq!(started(&stream(mask, &[])), Err(7));
+        assert_eq!(started(&stream(mask, &[])), Err(Refusal::StartUnset));
         let silent = [&[SET_OUT_MASK, mask], &output(0, 0, 1)[..]].concat();
         let start = [START_PROGRAM, 0];
-        assert_eq!(started(&[&silent[..], &start].concat()), Err(7));
+        assert_eq!(
+            started(&[&silent[..], &start].concat()),
+            Err(Refusal::StartUnset)
+        );
         for missing in [&READY[..3], &READY[3..]] {
-            assert_eq!(started(&[&silent, missing, &start].concat()), Err(7));
+            assert_eq!(
+                started(&[&silent, missing, &start].concat()),
+                Err(Refusal::StartUnset)
+            );
         }
     }
 }

@@ -3,7 +3,7 @@
 
 use boundary::headers::{SET_DOMAIN, SET_INST_FMT, SET_OUT_FMT, START_PROGRAM};
 use boundary::{layout, locate, parameters, read, superfine, translate, write, write_command};
-use boundary::{Answer, Translated};
+use boundary::{Answer, Refusal, Translated};
 use boundary::{Command, Edition, Fed, Format, Group, Layout, Program, Reply, Session, Window};
 
 #[rustfmt::skip]
@@ -36,9 +36,9 @@ fn c1_and_c2_linear() {
     assert_eq!(layout(&c1), Ok(Window { step, span }));
     assert_eq!(translate(&c1, 5, 2), at(2836, 91));
     assert_eq!(locate(&c1, 2837), Ok((5, 2, 1)));
-    assert_eq!(locate(&c1, 2047), Err(12));
+    assert_eq!(locate(&c1, 2047), Err(Refusal::Unowned));
     assert_eq!(translate(&c1, 95, 0), at(2428, 1));
-    assert_eq!(translate(&c1, 96, 0), Err(10));
+    assert_eq!(translate(&c1, 96, 0), Err(Refusal::PairOutside));
 }
 
 #[test]
@@ -50,9 +50,12 @@ fn c3_to_c8_tiled_and_refused() {
     assert_eq!(translate(&c4, 0, 32), at(4608, 8));
     let c6 = shape(16, 0, 16, 8, true);
     assert_eq!(translate(&c6, 15, 7), at(1648, 1));
-    assert_eq!(layout(&shape(4, 0, 28, 1, true)), Err(6));
+    assert_eq!(layout(&shape(4, 0, 28, 1, true)), Err(Refusal::WindowRule));
     assert!(layout(&shape(4, 4_294_965_248, 8, 64, false)).is_ok());
-    assert_eq!(layout(&shape(4, 4_294_965_248, 8, 65, false)), Err(6));
+    assert_eq!(
+        layout(&shape(4, 4_294_965_248, 8, 65, false)),
+        Err(Refusal::WindowRule)
+    );
 }
 
 #[test]
@@ -64,8 +67,11 @@ fn elements_are_read_and_written_in_lent_memory() {
     let element = read(&c1, 5, 2, &memory, 2833).unwrap();
     assert_eq!(element.bytes(), [1, 2, 3, 4]);
     assert_eq!(element.len(), 4);
-    assert_eq!(read(&c1, 5, 2, &[], 2836), Err(11));
-    assert_eq!(write(&c1, 5, 2, &mut memory, 2833, &[]), Err(11));
+    assert_eq!(read(&c1, 5, 2, &[], 2836), Err(Refusal::WrongLength));
+    assert_eq!(
+        write(&c1, 5, 2, &mut memory, 2833, &[]),
+        Err(Refusal::WrongLength)
+    );
 }
 
 #[test]
@@ -74,7 +80,10 @@ fn a_superfine_read_takes_four_neighbours() {
     let four = superfine(2048, 0x202_0008, 2, 0, 0, &memory, 2048).unwrap();
     let expected = [4, 5, 6, 7, 32, 33, 34, 35, 36, 37, 38, 39, 0, 1, 2, 3];
     assert_eq!(four.bytes(), expected);
-    assert_eq!(superfine(2048, 0x200_0008, 2, 0, 0, &memory, 2048), Err(3));
+    assert_eq!(
+        superfine(2048, 0x200_0008, 2, 0, 0, &memory, 2048),
+        Err(Refusal::Malformed)
+    );
 }
 
 #[test]
@@ -101,8 +110,11 @@ fn the_whole_stream_makes_one_run() {
     };
     assert_eq!(session.format(SET_INST_FMT, 0), Ok(Some(instructions)));
     assert_eq!(session.format(SET_OUT_FMT, 1), Ok(None));
-    assert_eq!(session.format(SET_OUT_FMT, 4), Err(4));
-    assert_eq!(session.format(START_PROGRAM, 0), Err(2));
+    assert_eq!(session.format(SET_OUT_FMT, 4), Err(Refusal::NumberTooHigh));
+    assert_eq!(
+        session.format(START_PROGRAM, 0),
+        Err(Refusal::UnknownHeader)
+    );
     assert_eq!(session.output_mask(), 65_535);
     assert_eq!((session.conditional_mask(), session.test()), (None, None));
 }
@@ -111,10 +123,10 @@ fn the_whole_stream_makes_one_run() {
 fn a_refused_word_stops_the_session() {
     let mut session = Session::new(Edition::First);
     assert_eq!(session.word(START_PROGRAM), Ok(Reply::Open));
-    assert_eq!(session.word(0), Err(7));
+    assert_eq!(session.word(0), Err(Refusal::StartUnset));
     assert!(session.status().stopped);
-    assert_eq!(session.word(START_PROGRAM), Err(1));
-    assert_eq!(session.feed(&STREAM).refusal, Some(1));
+    assert_eq!(session.word(START_PROGRAM), Err(Refusal::Stopped));
+    assert_eq!(session.feed(&STREAM).refusal, Some(Refusal::Stopped));
     assert_eq!(session.feed(&[]).refusal, None);
 }
 
@@ -133,8 +145,14 @@ fn a_command_is_written_to_the_words_it_came_from() {
     assert_eq!(write_command(&command, &mut room), Ok(3));
     assert_eq!(room[..3], STREAM[..3]);
     assert_eq!(room[3], 7);
-    assert_eq!(write_command(&command, &mut room[..2]), Err(11));
-    assert_eq!((parameters(SET_INST_FMT), parameters(0)), (Ok(2), Err(2)));
+    assert_eq!(
+        write_command(&command, &mut room[..2]),
+        Err(Refusal::WrongLength)
+    );
+    assert_eq!(
+        (parameters(SET_INST_FMT), parameters(0)),
+        (Ok(2), Err(Refusal::UnknownHeader))
+    );
 }
 
 #[test]
@@ -153,8 +171,8 @@ fn c9_to_c12_steps() {
     let mut c10 = fresh;
     assert!(c10.step(&program, 0, 0, 0, &[]).unwrap().jumped);
     assert_eq!((c10.active(), c10.size(), c10.mask()), (15, 4, 15));
-    assert_eq!(Group::begin(33), Err(13));
-    assert_eq!(Program::load(&[0]), Err(15));
+    assert_eq!(Group::begin(33), Err(Refusal::FlowField));
+    assert_eq!(Program::load(&[0]), Err(Refusal::PastEnd));
 }
 
 #[test]
@@ -168,5 +186,5 @@ fn a_run_reports_and_returns_come_oldest_first() {
     assert_eq!(group.returns(), [1, 3]);
     assert_eq!((group.position(), group.counter(2)), (4, 0));
     assert_eq!(group.run(&program, &[0; 9], 0, &[]).unwrap().steps, 1);
-    assert_eq!(group.run(&program, &[], 0, &[]), Err(16));
+    assert_eq!(group.run(&program, &[], 0, &[]), Err(Refusal::Ended));
 }

@@ -193,6 +193,82 @@ static void check_editions(void)
     agree("session_begin, settings after a refusal", memcmp(s.shared, before.shared, sizeof s.shared) == 0, 1);
 }
 
+struct pair {
+    struct session zero;
+    uint32_t own1[EGRETFOLD_OWN];
+    uint64_t tallies1[EGRETFOLD_TALLIES];
+};
+
+static uint32_t begin_pair(struct pair *p, uint32_t inputs, uint32_t outputs, uint32_t edition)
+{
+    return egretfold_pair_begin(p->zero.own, p->zero.tallies, p->own1, p->tallies1, p->zero.shared, inputs, outputs, edition);
+}
+
+static uint32_t feed_pair(struct pair *p, const uint32_t *words, size_t length, const uint32_t *parties, size_t groups,
+                          uint64_t fed[6])
+{
+    return egretfold_pair_feed(p->zero.own, p->zero.tallies, p->own1, p->tallies1, p->zero.shared, words, length, parties, groups,
+                               fed);
+}
+
+static void check_fed(const char *call, const uint64_t fed[6], const uint64_t expected[6])
+{
+    for (unsigned i = 0; i < 6; i++)
+        agree(call, fed[i], expected[i]);
+}
+
+/* What that leaves: two runs of party 0, and party 1 stopped after three words. */
+static void check_parties(const struct pair *p)
+{
+    const uint32_t ended[6] = {3, 1, 0, 0, 7, 1};
+    uint32_t status[6] = {9, 9, 9, 9, 9, 9};
+    uint64_t counts[2] = {9, 9};
+    agree("session_status of party 1", egretfold_session_status(p->own1, status), 0);
+    agree_words("session_status of party 1", status, ended, 6);
+    agree("session_tallies of party 1", egretfold_session_tallies(p->tallies1, counts), 0);
+    agree("session_tallies of party 1, runs", counts[0], 0);
+    agree("session_tallies of party 0", egretfold_session_tallies(p->zero.tallies, counts), 0);
+    agree("session_tallies of party 0, runs", counts[0], 2);
+    agree("session_tallies of party 0, elements", counts[1], 2 * 1728);
+}
+
+static void check_pair_begin(struct pair *p)
+{
+    memset(p, 7, sizeof *p);
+    agree("pair_begin, input 16", begin_pair(p, 0x10000, 2, 1), 3);
+    agree("pair_begin, output 4", begin_pair(p, 0, 16, 1), 3);
+    agree("pair_begin, edition 3", begin_pair(p, 0, 2, 3), 3);
+    agree("pair_begin, party 0's numbers after a refusal", p->zero.own[0], 0x07070707);
+    agree("pair_begin, party 1's numbers after a refusal", p->own1[0], 0x07070707);
+    agree("pair_begin, settings after a refusal", p->zero.shared[0], 0x07070707);
+    agree("pair_begin", begin_pair(p, 0, 2, 1), 0);
+}
+
+/* Party 0 owns output 0 and sends the whole stream; party 1, which owns output 1, sends a word before each of the first three. Then
+ * party 0 begins a start, and party 1 names output 0: it gets 20, and party 0's run goes on. */
+static void check_pair(void)
+{
+    uint32_t words[18] = {0xC0000900, 0xC0010A00, 0, 0x1000, 0xC0030C00, 0x4000010};
+    const uint32_t start[2] = {0xC0000800, 0}, parties[1] = {0xFFFC0015}, second[1] = {2}, first[1] = {0};
+    const uint64_t filled[6] = {9, 9, 9, 9, 9, 9}, both[6] = {15, 4, 0, 3, 1, 0};
+    const uint64_t refused[6] = {1, 0, 0, 0, 0, 20}, alone[6] = {1, 1, 0, 0, 0, 0}, stopped[6] = {1, 0, 0, 0, 0, 1};
+    uint64_t fed[6] = {9, 9, 9, 9, 9, 9};
+    struct pair p;
+    memcpy(words + 6, stream + 3, 12 * sizeof *words);
+    check_pair_begin(&p);
+    agree("pair_feed, too few groups", feed_pair(&p, words, 18, parties, 0, fed), 11);
+    check_fed("pair_feed, room after a refusal", fed, filled);
+    agree("pair_feed", feed_pair(&p, words, 18, parties, 1, fed), 0);
+    check_fed("pair_feed, both parties", fed, both);
+    agree("pair_feed, another's output", feed_pair(&p, start, 2, second, 1, fed), 0);
+    check_fed("pair_feed, another's output", fed, refused);
+    agree("pair_feed, no word of party 1", feed_pair(&p, start + 1, 1, first, 1, fed), 0);
+    check_fed("pair_feed, no word of party 1", fed, alone);
+    agree("pair_feed, party 1 is stopped", feed_pair(&p, start, 2, second, 1, fed), 0);
+    check_fed("pair_feed, party 1 is stopped", fed, stopped);
+    check_parties(&p);
+}
+
 struct replay {
     uint32_t log[EGRETFOLD_LOG];
     uint64_t marks[EGRETFOLD_MARKS];
@@ -474,6 +550,90 @@ static void check_superfine(void)
     agree("element_superfine, count", count[0], 16);
 }
 
+/* A conditional buffer of 16 by 4 numbers from 2048 on, in which (x, y) holds 256 y + x; the test is "less or equal". The session is
+ * stopped by then, which changes nothing. */
+static void check_conditional(void)
+{
+    const uint32_t words[7] = {0xC0020D00, 2048, 16, 4, 0xC0001B00, 2, 0};
+    const uint8_t wanted[6] = {0, 0, 1, 1, 1, 1};
+    uint8_t memory[128], room[6];
+    uint32_t passed[1] = {9};
+    uint64_t fed[2];
+    struct session s;
+    for (unsigned i = 0; i < 64; i++)
+        memory[2 * i] = (uint8_t)(i % 16), memory[2 * i + 1] = (uint8_t)(i / 16);
+    memset(room, 9, sizeof room);
+    begin(&s);
+    agree("conditional_test, nothing set", egretfold_conditional_test(s.shared, 0, 0, 0, memory, 128, 2048, passed), 7);
+    agree("session_feed, buffer and test, then no header", feed(&s, words, 7, fed), 2);
+    agree("conditional_test (16, 0)", egretfold_conditional_test(s.shared, 0, 16, 0, memory, 0, 0, passed), 10);
+    agree("conditional_test, memory too short", egretfold_conditional_test(s.shared, 0, 15, 3, memory, 127, 2048, passed), 11);
+    agree("conditional_test, room after a refusal", passed[0], 9);
+    agree("conditional_test, 258 <= 258", egretfold_conditional_test(s.shared, 258, 2, 1, memory, 128, 2048, passed), 0);
+    agree("conditional_test, 258 <= 258", passed[0], 1);
+    agree("conditional_test, 258 <= 257", egretfold_conditional_test(s.shared, 258, 1, 1, memory, 128, 2048, passed), 0);
+    agree("conditional_test, 258 <= 257", passed[0], 0);
+    passed[0] = 9;
+    agree("conditional_survey, crossed",
+          egretfold_conditional_survey(s.shared, 258, 3, 0, 2, 9, memory, 0, 0, room, 0, passed), 5);
+    agree("conditional_survey, a pair outside",
+          egretfold_conditional_survey(s.shared, 258, 0, 3, 2, 4, memory, 128, 2048, room, 6, passed), 10);
+    agree("conditional_survey, room too short",
+          egretfold_conditional_survey(s.shared, 258, 0, 1, 2, 2, memory, 128, 2048, room, 5, passed), 11);
+    agree("conditional_survey, count after a refusal", passed[0], 9);
+    agree("conditional_survey, room after a refusal", room[0], 9);
+    agree("conditional_survey", egretfold_conditional_survey(s.shared, 258, 0, 1, 2, 2, memory, 128, 2048, room, 6, passed), 0);
+    agree("conditional_survey, how many", passed[0], 4);
+    agree_bytes("conditional_survey", room, wanted, 6);
+}
+
+/* A linear window of 8 by 3 elements of four bytes from 2048 on: 96 bytes, of which (1, 1) to (2, 2) are moved. */
+static void check_pictures(void)
+{
+    const uint8_t wanted[16] = {36, 37, 38, 39, 40, 41, 42, 43, 68, 69, 70, 71, 72, 73, 74, 75};
+    const uint32_t row_wanted[3] = {2080 + 4, 2080 + 8, 2080 + 12};
+    uint8_t memory[96], before[96], room[16];
+    uint32_t row[3] = {9, 9, 9}, address[2];
+    for (unsigned i = 0; i < 96; i++)
+        memory[i] = before[i] = (uint8_t)i;
+    memset(room, 200, sizeof room);
+    agree("picture_copy_out, size 3",
+          egretfold_picture_copy_out(2048, 8, 3, 3, false, 1, 1, 9, 2, memory, 95, 2048, room, 1), 3);
+    agree("picture_copy_out, height 0",
+          egretfold_picture_copy_out(2048, 8, 0, 4, false, 1, 1, 9, 2, memory, 95, 2048, room, 1), 6);
+    agree("picture_copy_out, a pair outside",
+          egretfold_picture_copy_out(2048, 8, 3, 4, false, 1, 1, 8, 2, memory, 95, 2048, room, 1), 10);
+    agree("picture_copy_out, memory that ends before the span",
+          egretfold_picture_copy_out(2048, 8, 3, 4, false, 1, 1, 2, 2, memory, 95, 2048, room, 16), 11);
+    agree("picture_copy_out, room too short",
+          egretfold_picture_copy_out(2048, 8, 3, 4, false, 1, 1, 2, 2, memory, 96, 2048, room, 15), 11);
+    agree("picture_paint, a pair outside",
+          egretfold_picture_paint(2048, 8, 3, 4, false, 1, 1, 2, 3, memory, 96, 2048, room, 16), 10);
+    agree("picture_paint, room too long",
+          egretfold_picture_paint(2048, 8, 3, 4, false, 1, 1, 2, 1, memory, 96, 2048, room, 16), 11);
+    agree("pictures, room after refusals", room[0], 200);
+    agree_bytes("pictures, memory after refusals", memory, before, 96);
+    agree("picture_paint, no pairs",
+          egretfold_picture_paint(2048, 8, 3, 4, false, 99, 99, 0, 2, memory, 96, 2048, room, 0), 0);
+    agree_bytes("picture_paint, memory after no pairs", memory, before, 96);
+    agree("picture_copy_out",
+          egretfold_picture_copy_out(2048, 8, 3, 4, false, 1, 1, 2, 2, memory, 96, 2048, room, 16), 0);
+    agree_bytes("picture_copy_out", room, wanted, 16);
+    for (unsigned i = 0; i < 16; i++)
+        room[i] = (uint8_t)(100 + i);
+    memcpy(before + 36, room, 8), memcpy(before + 68, room + 8, 8);
+    agree("picture_paint",
+          egretfold_picture_paint(2048, 8, 3, 4, false, 1, 1, 2, 2, memory, 96, 2048, room, 16), 0);
+    agree_bytes("picture_paint", memory, before, 96);
+    agree("picture_row, a pair outside", egretfold_picture_row(2048, 8, 3, 4, false, 6, 1, row, 3), 10);
+    agree("picture_row, room after a refusal", row[0], 9);
+    agree("picture_row", egretfold_picture_row(2048, 8, 3, 4, false, 1, 1, row, 3), 0);
+    agree_words("picture_row", row, row_wanted, 3);
+    agree("picture_row, tiled", egretfold_picture_row(0, 100, 20, 4, true, 37, 18, row, 1), 0);
+    agree("translate, tiled", egretfold_translate(0, 100, 20, 4, true, 37, 18, address), 0);
+    agree("picture_row, tiled", row[0], address[0]);
+}
+
 static uint32_t firsts[EGRETFOLD_SLOTS], seconds[EGRETFOLD_SLOTS], slots[1];
 
 /* An empty list of integer words: a pointer that isn't null, and 0. */
@@ -676,6 +836,7 @@ int main(void)
     check_refused_piece();
     check_silent();
     check_editions();
+    check_pair();
     check_log();
     check_log_days();
     check_lease_lines();
@@ -685,6 +846,8 @@ int main(void)
     check_addresses();
     check_elements();
     check_superfine();
+    check_conditional();
+    check_pictures();
     check_program();
     check_steps();
     check_run();

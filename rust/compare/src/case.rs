@@ -59,17 +59,23 @@ impl Case<'_> {
         }
     }
 
-    /// As `agree`, for an answer that may be a refusal: counted in the tally.
-    pub fn agree_answer<T: PartialEq + Debug>(
+    /// As `agree`, for an answer that may be a refusal, by its number: counted in the
+    /// tally.
+    pub fn agree_answer<T: PartialEq + Debug, R: Into<u32> + Copy>(
         &mut self,
         asked: impl FnOnce() -> String,
-        product: &Result<T, u32>,
+        product: &Result<T, R>,
         expected: &Result<T, u32>,
     ) -> Agreement {
-        self.agree(asked, product, expected)?;
+        let product = product.as_ref().map_err(|&refusal| refusal.into());
+        self.agree(
+            asked,
+            &product,
+            &expected.as_ref().map_err(|&number| number),
+        )?;
         self.tally.answer(match product {
             Ok(_) => 0,
-            Err(number) => *number,
+            Err(number) => number,
         });
         Ok(())
     }

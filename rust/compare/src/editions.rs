@@ -43,7 +43,8 @@ pub fn refuse_session(case: &mut Case, session: &Session, edition: Edition) -> A
     let number = none(&mut case.random);
     let asked = || format!("a session under edition {number}");
     let second = second::session::Session::new_in(number).map(drop);
-    case.agree(asked, &lent::session_begin(number).map(drop), &second)?;
+    let begun = lent::session_begin(number).map(drop).map_err(u32::from);
+    case.agree(asked, &begun, &second)?;
     let anew = |session: &mut Session, number| lent::session_begin_anew(session, number);
     in_place(case, session, (number, edition), anew, Session::new)
 }
@@ -53,7 +54,8 @@ pub fn refuse_replay(case: &mut Case, replay: &Replay, edition: Edition) -> Agre
     let number = none(&mut case.random);
     let asked = || format!("a replay under edition {number}");
     let second = second::log::Replay::new_in(number).map(drop);
-    case.agree(asked, &lent::log_begin(number).map(drop), &second)?;
+    let begun = lent::log_begin(number).map(drop).map_err(u32::from);
+    case.agree(asked, &begun, &second)?;
     let anew = |replay: &mut Replay, number| lent::log_begin_anew(replay, number);
     in_place(case, replay, (number, edition), anew, Replay::new)
 }

@@ -6,7 +6,7 @@ use crate::editions;
 use crate::random::Random;
 use crate::records::{self, record, MIDNIGHT, WORD};
 use boundary::headers::{SET_DOMAIN, SET_INST_FMT, SET_OUT_FMT, SET_OUT_MASK, START_PROGRAM};
-use boundary::{lent, Edition, Fleet, Station};
+use boundary::{fleet_report, lent, Edition, FleetReport, Lease as ProductLease};
 use second::fleet::report;
 use second::score::{score_in, Lease};
 
@@ -169,39 +169,42 @@ fn slices(stations: &[Given]) -> (Vec<u8>, Vec<u64>) {
 }
 
 /// A report as the product's comfortable form tells it, from the second program.
-fn as_fleet(report: second::fleet::Report) -> Fleet {
-    Fleet {
+fn as_product(report: second::fleet::Report) -> FleetReport {
+    FleetReport {
         served: report.served,
         owed: report.owed,
         silent_days: report.silent_days,
-        smallest: (report.station != MOST as u64).then_some(report.station as usize),
+        station: (report.station != MOST as u64).then_some(report.station as usize),
     }
 }
 
-/// The fleet as it is, by both forms of the product.
+/// The fleet as it is, by both forms of the product; the comfortable one is asked where all lease lines can be had.
 fn reported(case: &mut Case, edition: Edition, stations: &[Given]) -> Agreement {
     let (logs, numbers) = slices(stations);
     let asked = || format!("{edition:?}, {numbers:?}, {logs:X?}");
     let expected = report(edition.number(), &logs, &numbers, 4);
     case.tally.answer(expected.err().unwrap_or(0));
-    let expected = expected.map(as_fleet);
-    let product = Fleet::of_numbers(edition, &logs, &numbers);
-    case.agree(asked, &product, &expected)?;
-    let lent: Vec<Station> = stations
-        .iter()
-        .map(|station| Station {
-            log: &station.log,
-            first_day: station.lease[0],
-            days: station.lease[1],
-            owed: station.lease[2],
-        })
-        .collect();
-    case.agree(asked, &Fleet::report(edition, &lent), &expected)?;
     rooms(case, edition.number(), (&logs, &numbers), 4)?;
-    if let Ok(fleet) = expected {
-        count(case, edition, stations, &fleet);
+    if let Some(lines) = lines(stations) {
+        let product = fleet_report(edition, &logs, &lines).map_err(u32::from);
+        case.agree(asked, &product, &expected.map(as_product))?;
+        case.tally.mark("fleets by their lease lines");
+    }
+    if let Ok(report) = expected {
+        count(case, edition, stations, &as_product(report));
     }
     Ok(())
+}
+
+/// The length and the lease line of each station, where none is refused.
+fn lines(stations: &[Given]) -> Option<Vec<(usize, ProductLease)>> {
+    let narrow = |number: u64| u32::try_from(number).ok();
+    let line = |Given { log, lease }: &Given| {
+        let [first_day, days, owed] = *lease;
+        let lease = ProductLease::new(narrow(first_day)?, narrow(days)?, narrow(owed)?);
+        Some((log.len(), lease.ok()?))
+    };
+    stations.iter().map(line).collect()
 }
 
 /// The C function itself: what it returns, and what it leaves in a room of this length.
@@ -225,20 +228,22 @@ fn joined(case: &mut Case, edition: Edition, stations: &[Given]) -> Agreement {
     let at = case.random.between(0, stations.len() as u32) as usize;
     let fleet = |stations: &[Given]| {
         let (logs, numbers) = slices(stations);
-        Fleet::of_numbers(edition, &logs, &numbers)
+        let mut room = [0; 4];
+        let number = lent::fleet_report(edition.number(), &logs, &numbers, &mut room);
+        (number == 0).then_some(room)
     };
     let (one, two) = stations.split_at(at);
-    if let (Ok(all), Ok(one), Ok(two)) = (fleet(stations), fleet(one), fleet(two)) {
+    if let (Some(all), Some(one), Some(two)) = (fleet(stations), fleet(one), fleet(two)) {
         let asked = || format!("a fleet of {} joined of {at} and the rest", stations.len());
-        let sums = (
-            one.served + two.served,
-            one.owed + two.owed,
-            one.silent_days + two.silent_days,
-        );
-        case.agree(asked, &(all.served, all.owed, all.silent_days), &sums)?;
-        let moved = two.smallest.map(|station| station + at);
-        let named = all.smallest == one.smallest || all.smallest == moved;
-        case.agree(asked, &named, &true)?;
+        for place in 0..3 {
+            case.agree(asked, &all[place], &(one[place] + two[place]))?;
+        }
+        let none = MOST as u64;
+        let moved = match two[3] {
+            station if station == none => none,
+            station => station + at as u64,
+        };
+        case.agree(asked, &(all[3] == one[3] || all[3] == moved), &true)?;
         case.tally.mark("fleets joined of two");
     }
     Ok(())
@@ -288,20 +293,20 @@ fn wrapped(random: &mut Random, numbers: &mut Vec<u64>) {
 }
 
 /// What the fleet was, for the tests to look at.
-fn count(case: &mut Case, edition: Edition, stations: &[Given], fleet: &Fleet) {
+fn count(case: &mut Case, edition: Edition, stations: &[Given], fleet: &FleetReport) {
     let tally = &mut *case.tally;
     match stations.len() {
         0 => tally.mark("empty fleets"),
         MOST => tally.mark("fleets of 64 stations"),
         _ => {}
     }
-    if !stations.is_empty() && fleet.smallest.is_none() {
+    if !stations.is_empty() && fleet.station.is_none() {
         tally.mark("fleets that owe nothing");
     }
     if fleet.silent_days > 0 {
         tally.mark("fleets with silent days");
     }
-    if fleet.smallest.map_or(false, |station| station > 0) {
+    if fleet.station.map_or(false, |station| station > 0) {
         tally.mark("fleets that name a station but the first");
     }
     let parts: Vec<(u128, u128)> = stations

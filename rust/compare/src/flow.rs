@@ -249,13 +249,13 @@ pub fn step(
         answer: &expected,
     };
     if !turn.count(case) {
-        count_step(case, &product, &both.second);
+        count_step(case, &expected, &both.second);
     }
     if turn.is_of_op_0() {
         let mut alone = before.second.clone();
         let answer = alone.step(&program.second, alu, predicate, booleans);
         let asked = || format!("by document 01 alone, {}", asked());
-        case.agree(asked, &(&product, &both.second), &(&answer, &alone))?;
+        case.agree(asked, &(&expected, &both.second), &(&answer, &alone))?;
     }
     if product.is_err() {
         let before = before.product;

@@ -116,7 +116,7 @@ fn kill(
     case.agree_answer(asked, &product, &expected)?;
     both.agree(case, asked)?;
     case.tally.mark("kills compared");
-    count(case, &call, &before, &product);
+    count(case, &call, &before, &expected);
     if product.is_err() {
         let filled = [case.random.word()];
         let mut room = filled;

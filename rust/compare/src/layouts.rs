@@ -76,9 +76,15 @@ pub fn one_in(times: u32) -> Spoiled {
     Spoiled(times)
 }
 
-fn tile(size: u32) -> (u32, u32) {
+/// Width and height of the tile for a good size.
+pub fn tile(size: u32) -> (u32, u32) {
     let line = SIZES.iter().position(|good| *good == size);
     TILES[line.expect("one of the five sizes")]
+}
+
+/// The size itself, or one of the five where it is none of them.
+pub fn nearest_size(size: u32) -> u32 {
+    SIZES.into_iter().find(|good| *good == size).unwrap_or(4)
 }
 
 /// A pitch: small, anywhere, or beside a multiple of the unit that it is cut to.

@@ -2,7 +2,7 @@
 //! made apart from it, on millions of made-up inputs: good ones, ones at the
 //! edges of the rules, damaged ones and noise.
 //!
-//! There are ten kinds of cases, one module each:
+//! There are thirteen kinds of cases, one module each:
 //!
 //! * [`addresses`]: layouts judged, pairs translated, addresses located back;
 //! * [`memory`]: elements read and written in lent memory, superfine reads;
@@ -13,6 +13,9 @@
 //! * [`scores`]: months of such logs scored against lease lines;
 //! * [`modes`]: groups in full and in partial mode, side by side;
 //! * [`kills`]: groups killed in part between steps and runs, registers of floats;
+//! * [`lessees`]: words of two parties on one card, mixed, and one party's replaced;
+//! * [`surveys`]: conditional tests and surveys of domains;
+//! * [`pictures`]: rectangles painted into memory and copied out of it;
 //! * [`fleets`]: the logs and lease lines of up to 64 stations in one report.
 //!
 //! Every case is made from its kind, a seed and its number alone, so that any
@@ -31,11 +34,15 @@ pub mod flow;
 pub mod groups;
 pub mod kills;
 pub mod layouts;
+pub mod lessees;
 pub mod logs;
 pub mod loops;
 pub mod memory;
+pub mod mixture;
 pub mod modes;
 pub mod options;
+pub mod owned;
+pub mod pictures;
 pub mod programs;
 pub mod random;
 pub mod records;
@@ -43,6 +50,7 @@ pub mod scores;
 pub mod settings;
 pub mod starts;
 pub mod streams;
+pub mod surveys;
 pub mod tally;
 pub mod turns;
 pub mod words;
@@ -67,11 +75,14 @@ pub enum Kind {
     Scores,
     Modes,
     Kills,
+    Lessees,
+    Surveys,
+    Pictures,
     Fleets,
 }
 
 impl Kind {
-    pub const ALL: [Kind; 10] = [
+    pub const ALL: [Kind; 13] = [
         Kind::Addresses,
         Kind::Memory,
         Kind::Streams,
@@ -81,6 +92,9 @@ impl Kind {
         Kind::Scores,
         Kind::Modes,
         Kind::Kills,
+        Kind::Lessees,
+        Kind::Surveys,
+        Kind::Pictures,
         Kind::Fleets,
     ];
 
@@ -95,6 +109,9 @@ impl Kind {
             Kind::Scores => "scores",
             Kind::Modes => "modes",
             Kind::Kills => "kills",
+            Kind::Lessees => "lessees",
+            Kind::Surveys => "surveys",
+            Kind::Pictures => "pictures",
             Kind::Fleets => "fleets",
         }
     }
@@ -114,6 +131,9 @@ impl Kind {
             Kind::Scores => scores::run(case),
             Kind::Modes => modes::run(case),
             Kind::Kills => kills::run(case),
+            Kind::Lessees => lessees::run(case),
+            Kind::Surveys => surveys::run(case),
+            Kind::Pictures => pictures::run(case),
             Kind::Fleets => fleets::run(case),
         }
     }

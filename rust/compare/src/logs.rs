@@ -85,9 +85,9 @@ fn of_product(product: &Product, past: u32) -> Seen {
         }
     };
     Seen {
-        stopped: status.stopped,
+        stopped: status.stopped.map(u32::from),
         refused: status.refused.map(|word| RefusedWord {
-            number: word.number,
+            number: word.refusal.into(),
             record: word.record,
             midnights: word.midnights as usize,
         }),
@@ -148,7 +148,7 @@ fn given(case: &mut Case, product: &mut Product, piece: &[u8]) -> Fed {
     match *piece {
         [byte] if case.random.below(2) == 0 => {
             case.tally.mark("bytes by themselves");
-            let refusal = product.byte(byte).err();
+            let refusal = product.byte(byte).err().map(u32::from);
             Fed {
                 taken: u64::from(refusal.is_none()),
                 refusal,

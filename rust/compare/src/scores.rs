@@ -34,6 +34,7 @@ pub fn run(case: &mut Case) -> Agreement {
         // The product's comfortable form is asked where the lease line can be had.
         if let Ok(accepted) = ProductLease::new(lease.first_day, lease.days, lease.owed) {
             let month = product.score(&accepted).map(of_product);
+            let month = month.map_err(u32::from);
             case.agree(asked, &month, &expected)?;
         }
         count(case, &lease, &second, &expected);

@@ -6,7 +6,8 @@ use boundary::headers::{
     SET_COND_OUT_FMT, SET_CONSTB_FMT, SET_CONSTF_FMT, SET_CONSTI_FMT, SET_INP_FMT, SET_INST_FMT,
     SET_OUT_FMT,
 };
-use boundary::{lent, Edition};
+use boundary::{lent, Edition, Owned, Party, View};
+use second::lessees::Lessees;
 use second::session::Format;
 use second::Answer;
 
@@ -82,7 +83,7 @@ impl Both {
             _ => random.below(18),
         };
         let asked = || format!("format of {header:#X}, number {number}");
-        let product = format_of_product(&self.product, header, number);
+        let product = format_of_product(self.product.view(), header, number);
         let expected = format_of_second(&self.second, header, number);
         // Not counted among the refusals: those tell what the words caused.
         case.agree(asked, &product, &expected)?;
@@ -90,28 +91,84 @@ impl Both {
             case.tally.mark("questions refused");
             let filled = [case.random.word(); 4];
             let mut room = filled;
-            lent::session_format(&self.product, header, number, &mut room);
+            lent::session_format(self.product.view(), header, number, &mut room);
             case.untouched(asked, &room, &filled)?;
         }
         Ok(())
     }
 }
 
+impl Seen {
+    /// What a party of two owns of it: the numbers that are its own with their bits of the mask, and what is party 0's
+    /// alone only for that one.
+    pub fn own(mut self, owned: Owned) -> Seen {
+        for ((header, number), format) in formats().zip(&mut self.formats) {
+            let kept = match header {
+                SET_INST_FMT => true,
+                SET_OUT_FMT => owned.output(number),
+                SET_INP_FMT => owned.input(number),
+                _ => owned.common,
+            };
+            if !kept {
+                *format = Ok(None);
+            }
+        }
+        let nibbles = (0..4).filter(|number| owned.output(*number));
+        let bits: u32 = nibbles.map(|number| 0xF << (4 * number)).sum();
+        self.output_mask &= bits;
+        self.conditional_mask = self.conditional_mask.filter(|_| owned.common);
+        self.test = self.test.filter(|_| owned.common);
+        self
+    }
+}
+
 pub fn of_product(session: &boundary::Session) -> Seen {
-    let status = session.status();
-    let format = |(header, number)| format_of_product(session, header, number);
+    of_view(session.view())
+}
+
+/// What a party of the product is told.
+pub fn of_view(party: View) -> Seen {
+    let status = party.status();
+    let format = |(header, number)| format_of_product(party, header, number);
     Seen {
         taken: u64::from(status.taken),
         stopped: status.stopped,
         open: status.open,
-        runs: session.runs(),
-        claims: session.claims(),
-        domain: session.domain(),
+        runs: party.runs(),
+        claims: party.claims(),
+        domain: party.domain(),
         formats: formats().map(format).collect(),
-        output_mask: session.output_mask(),
-        conditional_mask: session.conditional_mask(),
-        test: session.test(),
+        output_mask: party.output_mask(),
+        conditional_mask: party.conditional_mask(),
+        test: party.test(),
         readiness: status.readiness,
+    }
+}
+
+/// What a party of the second program is told.
+pub fn of_lessee(lessees: &Lessees, party: Party) -> Seen {
+    let party = party == Party::One;
+    let format = |(header, number)| match header {
+        SET_INST_FMT => Ok(lessees.instructions(party)),
+        SET_CONSTF_FMT => Ok(lessees.floats()),
+        SET_CONSTI_FMT => Ok(lessees.integers()),
+        SET_CONSTB_FMT => Ok(lessees.booleans()),
+        SET_COND_OUT_FMT => Ok(lessees.conditional()),
+        SET_OUT_FMT => lessees.output(number),
+        _ => lessees.input(number),
+    };
+    Seen {
+        taken: lessees.taken(party),
+        stopped: lessees.stopped(party),
+        open: lessees.open(party),
+        runs: lessees.runs(party),
+        claims: lessees.claims(party),
+        domain: lessees.domain(party),
+        formats: formats().map(format).collect(),
+        output_mask: lessees.output_mask(),
+        conditional_mask: lessees.conditional_mask(),
+        test: lessees.test(),
+        readiness: lessees.readiness(party),
     }
 }
 
@@ -132,12 +189,8 @@ pub fn of_second(session: &second::session::Session) -> Seen {
     }
 }
 
-fn format_of_product(
-    session: &boundary::Session,
-    header: u32,
-    number: u32,
-) -> Answer<Option<Format>> {
-    let set = session.format(header, number)?;
+fn format_of_product(party: View, header: u32, number: u32) -> Answer<Option<Format>> {
+    let set = party.format(header, number)?;
     Ok(set.map(|format| Format {
         base: format.base,
         format: format.format,

@@ -84,7 +84,7 @@ pub fn word_by_word(case: &mut Case, mut both: Both, words: &[u32]) -> Agreed<Bo
     Ok(both)
 }
 
-fn reply_of_product(reply: boundary::Reply) -> Reply {
+pub fn reply_of_product(reply: boundary::Reply) -> Reply {
     match reply {
         boundary::Reply::Open => Reply::Open,
         boundary::Reply::Done(command) => Reply::Done(Command {
@@ -100,6 +100,7 @@ fn written_back(case: &Case, command: &Command, words: &[u32]) -> Agreement {
     let mut room = [0; 5];
     let product = boundary::write_command(&for_product(command), &mut room);
     let product = product.map(|count| room[..count.min(5)].to_vec());
+    let product = product.map_err(u32::from);
     case.agree(asked, &product, &Ok(words.to_vec()))?;
     case.agree(asked, &product, &write(command, words.len()))
 }
@@ -186,7 +187,7 @@ fn fed_piece(case: &mut Case, both: &mut Both, piece: &[u32], words: &[u32]) -> 
     let product = Fed {
         taken: product.taken,
         commands: product.commands,
-        refusal: product.refusal,
+        refusal: product.refusal.map(u32::from),
     };
     let expected = both.second.feed(piece);
     case.agree(asked, &product, &expected)?;

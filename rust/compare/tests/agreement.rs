@@ -9,6 +9,7 @@
 use compare::commands::{self, HEADERS};
 use compare::floats::CLASSES;
 use compare::layouts::SHAPES;
+use compare::surveys::TESTS;
 use compare::tally::Tally;
 use compare::{run_cases, Kind};
 use std::ops::Range;
@@ -339,9 +340,130 @@ fn fleets() {
     );
     marks(&tally, &[("products of 2^63 or more", 300)]);
     marks(&tally, &[("fleets joined of two", 30_000)]);
+    marks(&tally, &[("fleets by their lease lines", 30_000)]);
     let slices = [(3, 10_000), (11, 30_000), (22, 1_000)];
     let stations = [(18, 4_000), (19, 4_000), (21, 4_000)];
     refusals(&tally, &[slices, stations].concat());
+}
+
+fn lessees(numbers: Range<u64>) {
+    let tally = agree(Kind::Lessees, numbers);
+    editions(&tally, 0);
+    // For each case, of both parties, with the other's words replaced.
+    marks(&tally, &[("views that stayed the same", 2 * tally.cases)]);
+    let changed = "views that stayed while the other's changed";
+    marks(&tally, &[(changed, 90_000)]);
+    marks(&tally, &[("begins refused", tally.cases)]);
+    marks(&tally, &[("pieces refused for their groups", tally.cases)]);
+    marks(&tally, &[("pieces of both parties", 1_000_000)]);
+    marks(&tally, &[("pieces of one party alone", 1_000_000)]);
+    marks(&tally, &[("sessions of one party that owns all", 10_000)]);
+    marks(&tally, &[("starts of party 0", 100_000)]);
+    marks(&tally, &[("starts of party 1", 100_000)]);
+    marks(&tally, &[("starts beside a stopped party", 100_000)]);
+    marks(&tally, &[("words taken beside a stopped party", 1_000_000)]);
+    let shared = "starts with two outputs that share a byte";
+    marks(&tally, &[(shared, 30_000)]);
+    // 20 in each of its ways, and what comes before it.
+    marks(&tally, &[("headers of party 0's by party 1", 1_000)]);
+    marks(&tally, &[("inputs of party 0's by party 1", 300)]);
+    marks(&tally, &[("inputs of party 1's by party 0", 300)]);
+    marks(&tally, &[("outputs of party 0's by party 1", 3_000)]);
+    marks(&tally, &[("outputs of party 1's by party 0", 3_000)]);
+    marks(&tally, &[("numbers that nobody has", 2_000)]);
+    marks(&tally, &[("masks that leave another's bits", 30_000)]);
+    let both_ways = "masks that leave another's bits and change one's own";
+    marks(&tally, &[(both_ways, 30_000)]);
+    let words_at_fault = [(2, 10_000), (3, 10_000), (4, 2_000), (20, 10_000)];
+    let last_parameters = [(5, 500), (6, 500), (7, 1_000), (8, 5_000), (9, 500)];
+    let mut expected = vec![(1, 1_000_000)];
+    expected.extend(words_at_fault);
+    expected.extend(last_parameters);
+    refusals(&tally, &expected);
+}
+
+#[test]
+fn lessees_first_half() {
+    lessees(0..50_000);
+}
+
+#[test]
+fn lessees_second_half() {
+    lessees(50_000..100_000);
+}
+
+#[test]
+fn surveys() {
+    let tally = agree(Kind::Surveys, 0..100_000);
+    marks(&tally, &[("pairs surveyed", 1_000_000)]);
+    for test in TESTS {
+        marks(&tally, &[(test, 3_000)]);
+    }
+    for buffer in ["surveys of linear buffers", "surveys of tiled buffers"] {
+        marks(&tally, &[(buffer, 10_000)]);
+    }
+    marks(&tally, &[("surveys of stopped sessions", 10_000)]);
+    marks(&tally, &[("surveys inside an open command", 3_000)]);
+    marks(&tally, &[("surveys of more than 4,096 pairs", 50)]);
+    let mixed = "surveys that some pairs pass and some don't";
+    marks(&tally, &[(mixed, 10_000)]);
+    let bytes = "single tests that are a survey's bytes";
+    marks(&tally, &[(bytes, 50_000)]);
+    let tests = ["single tests that pass", "single tests that don't"];
+    marks(&tally, &tests.map(|name| (name, 50_000)));
+    for two in [
+        "surveys with two causes, of which 7 is first",
+        "surveys with two causes, of which 3 is first",
+        "surveys with two causes, of which 5 is first",
+        "surveys with two causes, of which 10 is first",
+    ] {
+        marks(&tally, &[(two, 2_000)]);
+    }
+    refusals(
+        &tally,
+        &[
+            (3, 20_000),
+            (5, 5_000),
+            (7, 50_000),
+            (10, 30_000),
+            (11, 50_000),
+        ],
+    );
+}
+
+#[test]
+fn pictures() {
+    let tally = agree(Kind::Pictures, 0..100_000);
+    let calls = ["paints accepted", "copies accepted", "rows accepted"];
+    marks(&tally, &calls.map(|name| (name, 30_000)));
+    for shape in SHAPES.concat() {
+        marks(&tally, &[(shape, 4_000)]);
+    }
+    for (kind, least) in [
+        ("rectangles without pairs", 3_000),
+        ("whole windows", 5_000),
+        ("rectangles with whole tile rows", 10_000),
+        ("rectangles with ragged edges", 20_000),
+        ("rectangles with both", 2_000),
+        ("pictures painted in another order", 5_000),
+        ("memory that just covers the span", 20_000),
+        ("memory over 65,536 bytes, accepted", 1_000),
+        ("memory that ends at 2^32, accepted", 2_000),
+        ("pictures refused for their room alone", 5_000),
+        ("pictures refused for the memory's front alone", 5_000),
+        ("pictures refused for the memory's end alone", 5_000),
+        ("pictures refused for memory above 2^32", 1_000),
+        ("pictures refused for memory and room", 2_000),
+        ("pictures with two causes, of which 3 is first", 500),
+        ("pictures with two causes, of which 6 is first", 200),
+        ("pictures with two causes, of which 10 is first", 5_000),
+    ] {
+        marks(&tally, &[(kind, least)]);
+    }
+    refusals(
+        &tally,
+        &[(3, 5_000), (6, 2_000), (10, 20_000), (11, 30_000)],
+    );
 }
 
 fn logs(numbers: Range<u64>) {

@@ -41,7 +41,7 @@ fn every_place_of_a_tile_has_its_run() {
                     run: at.run,
                 });
                 let wanted = translate_run(&layout, x, y);
-                assert_eq!(found, wanted, "({x}, {y}) of {layout:?}");
+                assert_eq!(found.map_err(u32::from), wanted, "({x}, {y}) of {layout:?}");
                 asked += 1;
             }
         }

@@ -145,9 +145,9 @@ fn named(name: &str, rest: &[&str]) -> Result<Vec<u32>, Fault> {
     let mut room = [0; 5];
     match boundary::write_command(&command, &mut room) {
         Ok(count) => Ok(room[..count].to_vec()),
-        Err(number) => {
-            let cause = cause::of_command(number, line, &fields);
-            Err(Fault::Refused(cause::refused(number, cause)))
+        Err(refusal) => {
+            let cause = cause::of_command(refusal, line, &fields);
+            Err(Fault::Refused(cause::refused(refusal, cause)))
         }
     }
 }
@@ -168,7 +168,7 @@ fn fields(line: &Line, mut fields: Vec<u32>) -> Result<Vec<u32>, Fault> {
     }
     if reserved && fields[0] != 0 {
         let cause = cause::reserved(Kind::Reserved, fields[0]);
-        return Err(Fault::Refused(cause::refused(3, Some(cause))));
+        return Err(Fault::Refused(cause::refused(3_u32, Some(cause))));
     }
     Ok(fields)
 }

@@ -5,14 +5,18 @@
 //! A folder a subcommand, whose first page is the subcommand itself:
 //!
 //! * `score`: a lease line and a log; its forms are the `card`, the `rows` for
-//!   programs and the `picture`; `checks` say what to look at before it is sent, and
+//!   programs, the `picture`, and the fleet's page; `checks` say what to look at before it is sent, and
 //!   `issue` by whom and when it is; `sample` is for no arguments, which scores
 //!   `station` 14's month;
+//! * `fleet`: a lease file and many logs, read side by side; its forms are the `text`, the
+//!   `rows` for programs, the `page` for browsers and the folder of `cards`;
 //! * `decode`: words given to a session by a `walk`; its forms are the `listing` and
 //!   `json`. `encode` is the way back, on one page;
 //! * `replay`: the `log` given to a replay; its forms are in `days`;
 //! * `address`, with `locate` and `tile`: the `work`ing of an address by hand,
 //!   and document 01's `tiles`;
+//! * `picture`: whole windows out of memory and back into it; `survey`: the conditional
+//!   test at all pairs of a domain;
 //! * `flow`: a program's `slots`, and the `steps` of a group;
 //! * `explain`: the table of `refusals`, and the `cause` of one that came;
 //! * `completions` and `manual`: the command line itself, for shells and for man.
@@ -27,11 +31,14 @@ mod completions;
 mod decode;
 mod encode;
 mod explain;
+mod fleet;
 mod flow;
 mod input;
 mod manual;
+mod picture;
 mod replay;
 mod score;
+mod survey;
 
 use clap::{CommandFactory, Parser, Subcommand};
 use common::failure::Outcome;
@@ -40,14 +47,21 @@ use common::visible;
 use std::io::{self, Write};
 use std::process::ExitCode;
 
+/// What `--version` tells; `-V` and the card have the first line alone.
+const LONG_VERSION: &str = concat!(
+    env!("EGRETFOLD_VERSION"),
+    "\nproved with ",
+    env!("EGRETFOLD_PROVED_WITH")
+);
+
 const AFTER: &str = "\
 Words and addresses are hex, with or without 0x; counts are decimal, or hex with 0x.
 With no command, a sample month is scored.
 Exit status: 0 fine, 1 something was refused, 2 a wrong command line or file, 3 a short month.";
 
-/// Months scored, logs replayed, command streams decoded, tile addresses worked both ways, flow programs stepped
+/// Months scored, logs replayed, command streams decoded, tile addresses worked both ways, pictures moved, flow programs stepped
 #[derive(Parser)]
-#[command(name = "egretfold", version = env!("EGRETFOLD_VERSION"), after_help = AFTER)]
+#[command(name = "egretfold", version = env!("EGRETFOLD_VERSION"), long_version = LONG_VERSION, after_help = AFTER)]
 struct Line {
     #[command(subcommand)]
     what: Option<What>,
@@ -60,6 +74,9 @@ enum What {
     /// A month of a station's log, scored against its lease line
     #[command(after_help = score::EXAMPLES)]
     Score(score::Options),
+    /// A month of many stations, scored against their lease lines
+    #[command(after_help = fleet::EXAMPLES)]
+    Fleet(fleet::Options),
     /// A stream of command words as a listing
     #[command(after_help = decode::EXAMPLES)]
     Decode(decode::Options),
@@ -78,6 +95,12 @@ enum What {
     /// A tile drawn, with the place of each block
     #[command(after_help = address::tile::EXAMPLES)]
     Tile(address::tile::Options),
+    /// A window of memory out to a picture, or a picture into it
+    #[command(after_help = picture::EXAMPLES)]
+    Picture(picture::Options),
+    /// The conditional test of a stream's settings at all pairs of a domain
+    #[command(after_help = survey::EXAMPLES)]
+    Survey(survey::Options),
     /// A flow program listed, or stepped with given masks
     #[command(after_help = flow::EXAMPLES)]
     Flow(flow::Options),
@@ -125,6 +148,10 @@ fn answer(line: &Line) -> Outcome {
             encode::ask_terminal(output.is_terminal())?;
             encode::run(options, &mut output)
         }
+        Some(What::Picture(options)) if options.is_binary() => {
+            picture::ask_terminal(output.is_terminal())?;
+            picture::run(options, &mut output)
+        }
         _ => run(line, &mut output.text()),
     };
     output.end(outcome)
@@ -134,12 +161,15 @@ fn run(line: &Line, out: &mut dyn Write) -> Outcome {
     match &line.what {
         None => score::sample::run(out),
         Some(What::Score(options)) => score::run(options, out),
+        Some(What::Fleet(options)) => fleet::run(options, out),
         Some(What::Decode(options)) => decode::run(options, out),
         Some(What::Encode(options)) => encode::run(options, out),
         Some(What::Replay(options)) => replay::run(options, out),
         Some(What::Address(options)) => address::run(options, out),
         Some(What::Locate(options)) => address::locate::run(options, out),
         Some(What::Tile(options)) => address::tile::run(options, out),
+        Some(What::Picture(options)) => picture::run(options, out),
+        Some(What::Survey(options)) => survey::run(options, out),
         Some(What::Flow(options)) => flow::run(options, out),
         Some(What::Explain(options)) => explain::run(options, out),
         Some(What::Completions(options)) => completions::run(options, Line::command(), out),

@@ -1,7 +1,9 @@
 //! Document 02, request 13, "Every order paints the same picture": a rectangle of
 //! elements put into lent memory or taken out of it, by single writes and reads.
-//! The order of the refusals is 3, 6, 10 (any pair of the rectangle), 11, and a
-//! refusal touches nothing.
+//! The memory covers the window's whole span, as the request's theorem has it, and
+//! may be a whole frame: document 01's bound of 65,536 bytes is that of its own
+//! entries. The order of the refusals is 3, 6, 10 (any pair of the rectangle), 11,
+//! and a refusal touches nothing.
 //!
 //! The unit tests paint in other orders, and once more from the other side: byte
 //! by byte of the memory, by the way back.
@@ -11,12 +13,6 @@ use crate::layout::{judge, Layout, END_OF_ADDRESSES};
 use crate::memory::{read, write};
 use crate::Answer;
 
-/// The most bytes that document 01's own entries are lent.
-pub const MOST_OF_ONE_ELEMENT: u64 = 65_536;
-
-/// As many bytes as there are addresses.
-pub const WHOLE_FRAMES: u64 = END_OF_ADDRESSES;
-
 /// The pairs from (x, y) on, so many columns and rows of them.
 #[derive(Clone, Copy, Debug, PartialEq, Eq)]
 pub struct Rectangle {
@@ -24,14 +20,6 @@ pub struct Rectangle {
     pub y: u32,
     pub columns: u64,
     pub rows: u64,
-}
-
-/// Memory that is lent: so many bytes from an address on, of which at most `most`
-/// are allowed.
-#[derive(Clone, Copy, Debug, PartialEq, Eq)]
-pub struct Lent {
-    pub first: u32,
-    pub most: u64,
 }
 
 impl Rectangle {
@@ -81,63 +69,55 @@ impl Rectangle {
     }
 }
 
-impl Lent {
-    /// Memory that may be lent whole, however long it is.
-    pub fn frame(first: u32) -> Lent {
-        let most = WHOLE_FRAMES;
-        Lent { first, most }
+/// 11 unless so many bytes from an address on end at 2^32 or below and cover the
+/// window's span, whichever of its pairs are asked.
+fn judge_memory(layout: &Layout, first: u32, length: usize) -> Answer<()> {
+    let span = judge(layout)?.span;
+    let (first, base) = (u64::from(first), u64::from(layout.base));
+    let end = first + length as u64;
+    if end > END_OF_ADDRESSES || first > base || base + span > end {
+        return Err(11);
     }
-
-    /// 11 for memory that is too long or ends above 2^32.
-    fn judge(&self, length: usize) -> Answer<()> {
-        let length = length as u64;
-        if length > self.most || u64::from(self.first) + length > END_OF_ADDRESSES {
-            return Err(11);
-        }
-        Ok(())
-    }
-
-    /// Where in the memory a pair's element begins, and where it ends; 11 unless
-    /// the memory holds it whole.
-    fn part(&self, layout: &Layout, pair: (u32, u32), length: usize) -> Answer<(usize, usize)> {
-        let address = translate(layout, pair.0, pair.1)?;
-        let place = address.checked_sub(self.first).ok_or(11u32)? as usize;
-        let end = place + layout.size as usize;
-        if end > length {
-            return Err(11);
-        }
-        Ok((place, end))
-    }
+    Ok(())
 }
 
-/// A pair with its element's part of the memory, as places in it.
+/// A pair with its element's part of the memory: its address, and where in the
+/// memory it begins and ends.
 struct Part {
     x: u32,
     y: u32,
+    address: u32,
     place: usize,
     end: usize,
 }
 
-/// Asks for all refusals: 3, 6, 10, then 11 for the memory, for a room that isn't s
-/// bytes a pair, and for memory that doesn't hold every element. Gives the
-/// rectangle's pairs row by row.
+/// Asks for all refusals: 3, 6, 10, then 11 for the memory and for a room that isn't
+/// s bytes a pair. Gives the rectangle's pairs row by row.
 fn judged_parts(
     layout: &Layout,
     rectangle: &Rectangle,
-    lent: &Lent,
-    length: usize,
+    (first, length): (u32, usize),
     room: usize,
 ) -> Answer<Vec<Part>> {
     rectangle.judge(layout)?;
-    lent.judge(length)?;
+    judge_memory(layout, first, length)?;
     let pairs = rectangle.pairs();
     if room != pairs.len() * layout.size as usize {
         return Err(11);
     }
     let mut parts = Vec::new();
     for (x, y) in pairs {
-        let (place, end) = lent.part(layout, (x, y), length)?;
-        parts.push(Part { x, y, place, end });
+        let address = translate(layout, x, y)?;
+        // In the span, which the memory covers.
+        let place = (address - first) as usize;
+        let end = place + layout.size as usize;
+        parts.push(Part {
+            x,
+            y,
+            address,
+            place,
+            end,
+        });
     }
     Ok(parts)
 }
@@ -148,15 +128,14 @@ pub fn paint(
     layout: &Layout,
     rectangle: &Rectangle,
     memory: &mut [u8],
-    lent: &Lent,
+    first: u32,
     room: &[u8],
 ) -> Answer<()> {
-    let parts = judged_parts(layout, rectangle, lent, memory.len(), room.len())?;
+    let parts = judged_parts(layout, rectangle, (first, memory.len()), room.len())?;
     let elements = room.chunks_exact(layout.size as usize);
     for (part, element) in parts.iter().zip(elements) {
         let own = &mut memory[part.place..part.end];
-        let address = lent.first + part.place as u32;
-        write(layout, part.x, part.y, own, address, element)?;
+        write(layout, part.x, part.y, own, part.address, element)?;
     }
     Ok(())
 }
@@ -166,15 +145,14 @@ pub fn copy_out(
     layout: &Layout,
     rectangle: &Rectangle,
     memory: &[u8],
-    lent: &Lent,
+    first: u32,
     room: &mut [u8],
 ) -> Answer<()> {
-    let parts = judged_parts(layout, rectangle, lent, memory.len(), room.len())?;
+    let parts = judged_parts(layout, rectangle, (first, memory.len()), room.len())?;
     let elements = room.chunks_exact_mut(layout.size as usize);
     for (part, element) in parts.iter().zip(elements) {
         let own = &memory[part.place..part.end];
-        let address = lent.first + part.place as u32;
-        element.copy_from_slice(&read(layout, part.x, part.y, own, address)?);
+        element.copy_from_slice(&read(layout, part.x, part.y, own, part.address)?);
     }
     Ok(())
 }
@@ -297,8 +275,7 @@ mod tests {
                 let bytes = (area.columns * area.rows) as usize * layout.size as usize;
                 let room = some_bytes(bytes, &mut seed);
                 let mut memory = before.clone();
-                let lent = Lent::frame(first);
-                assert_eq!(paint(&layout, &area, &mut memory, &lent, &room), Ok(()));
+                assert_eq!(paint(&layout, &area, &mut memory, first, &room), Ok(()));
                 for (place, owner) in owners.iter().enumerate() {
                     let wanted = match byte_for(*owner, &layout, &area) {
                         Some(of_room) => room[of_room],
@@ -308,7 +285,7 @@ mod tests {
                 }
                 // Each pair reads back its own element.
                 let mut back = vec![0; bytes];
-                assert_eq!(copy_out(&layout, &area, &memory, &lent, &mut back), Ok(()));
+                assert_eq!(copy_out(&layout, &area, &memory, first, &mut back), Ok(()));
                 assert_eq!(back, room);
             }
         }
@@ -339,8 +316,7 @@ mod tests {
                 let bytes = (area.columns * area.rows) as usize * layout.size as usize;
                 let room = some_bytes(bytes, &mut seed);
                 let mut memory = before.clone();
-                let lent = Lent::frame(first);
-                paint(&layout, &area, &mut memory, &lent, &room).unwrap();
+                paint(&layout, &area, &mut memory, first, &room).unwrap();
                 let rows = strokes(&layout, &area, &room);
                 let mut columns = rows.clone();
                 columns.sort_by_key(|((x, y), _)| (*x, *y));
@@ -370,7 +346,7 @@ mod tests {
             let before = vec![0x55; length];
             let room: Vec<u8> = (0..bytes).map(|_| next(&mut seed) as u8 | 0x80).collect();
             let mut memory = before.clone();
-            paint(&layout, &area, &mut memory, &Lent::frame(first), &room).unwrap();
+            paint(&layout, &area, &mut memory, first, &room).unwrap();
             let changed = memory.iter().filter(|byte| **byte != 0x55).count();
             assert_eq!(changed, bytes);
             for (place, byte) in memory.iter().enumerate() {
@@ -414,7 +390,7 @@ mod tests {
         let mut all = Vec::new();
         for number in 0..3 {
             let (layout, area) = (windows[number], areas[number]);
-            paint(&layout, &area, &mut memory, &Lent::frame(0), &rooms[number]).unwrap();
+            paint(&layout, &area, &mut memory, 0, &rooms[number]).unwrap();
             for (pair, element) in strokes(&layout, &area, &rooms[number]) {
                 all.push((layout, pair, element));
             }
@@ -430,8 +406,7 @@ mod tests {
         }
         for number in 0..3 {
             let mut back = vec![0; rooms[number].len()];
-            let lent = Lent::frame(0);
-            copy_out(&windows[number], &areas[number], &memory, &lent, &mut back).unwrap();
+            copy_out(&windows[number], &areas[number], &memory, 0, &mut back).unwrap();
             assert_eq!(back, rooms[number]);
         }
     }
@@ -441,15 +416,15 @@ mod tests {
         layout: &Layout,
         area: &Rectangle,
         length: usize,
-        lent: &Lent,
+        first: u32,
         room: usize,
         number: u32,
     ) {
         let mut memory = vec![3; length];
         let mut room = vec![5; room];
-        let painted = paint(layout, area, &mut memory, lent, &room);
+        let painted = paint(layout, area, &mut memory, first, &room);
         assert_eq!(painted, Err(number), "{layout:?} {area:?}");
-        let copied = copy_out(layout, area, &memory, lent, &mut room);
+        let copied = copy_out(layout, area, &memory, first, &mut room);
         assert_eq!(copied, Err(number), "{layout:?} {area:?}");
         assert!(memory.iter().all(|byte| *byte == 3));
         assert!(room.iter().all(|byte| *byte == 5));
@@ -461,22 +436,22 @@ mod tests {
         let rows = linear(4, 2048, 8, 3);
         let all = rectangle(0, 0, 8, 3);
         let outside = rectangle(0, 0, 9, 3);
-        let lent = Lent::frame(2048);
+        let first = 2048;
         let malformed = Layout { size: 3, ..rows };
         let broken = Layout { height: 0, ..rows };
-        assert_refused(&malformed, &outside, 0, &lent, 1, 3);
-        assert_refused(&Layout { base: 1, ..broken }, &outside, 0, &lent, 1, 3);
-        assert_refused(&broken, &outside, 0, &lent, 1, 6);
-        assert_refused(&broken, &rectangle(0, 0, 0, 0), 96, &lent, 0, 6);
-        assert_refused(&rows, &outside, 0, &lent, 1, 10);
-        assert_refused(&rows, &all, 95, &lent, 96, 11);
-        assert_refused(&rows, &all, 96, &lent, 95, 11);
+        assert_refused(&malformed, &outside, 0, first, 1, 3);
+        assert_refused(&Layout { base: 1, ..broken }, &outside, 0, first, 1, 3);
+        assert_refused(&broken, &outside, 0, first, 1, 6);
+        assert_refused(&broken, &rectangle(0, 0, 0, 0), 96, first, 0, 6);
+        assert_refused(&rows, &outside, 0, first, 1, 10);
+        assert_refused(&rows, &all, 95, first, 96, 11);
+        assert_refused(&rows, &all, 96, first, 95, 11);
     }
 
     #[test]
     fn any_pair_outside_gets_10() {
         for layout in [linear(4, 2048, 100, 3), tiled(4, 2048, 100, 3)] {
-            let lent = Lent::frame(2048);
+            let first = 2048;
             for area in [
                 rectangle(0, 0, 97, 1),
                 rectangle(0, 0, 1, 4),
@@ -490,11 +465,11 @@ mod tests {
                 rectangle(0, 1, 1, u64::MAX),
                 rectangle(u32::MAX, u32::MAX, u64::MAX, u64::MAX),
             ] {
-                assert_refused(&layout, &area, 20_000, &lent, 4, 10);
+                assert_refused(&layout, &area, 20_000, first, 4, 10);
             }
             let mut memory = vec![0; 20_000];
             let all = rectangle(0, 0, 96, 3);
-            assert_eq!(paint(&layout, &all, &mut memory, &lent, &[7; 1152]), Ok(()));
+            assert_eq!(paint(&layout, &all, &mut memory, first, &[7; 1152]), Ok(()));
         }
     }
 
@@ -517,54 +492,55 @@ mod tests {
     }
 
     #[test]
-    fn rooms_and_memory_that_do_not_fit_get_11() {
+    fn rooms_that_do_not_fit_get_11() {
         let rows = linear(4, 2048, 8, 3);
         let area = rectangle(2, 1, 3, 2);
-        let good = Lent::frame(2048);
         for room in (0..50).filter(|room| *room != 24) {
-            assert_refused(&rows, &area, 96, &good, room, 11);
+            assert_refused(&rows, &area, 96, 2048, room, 11);
         }
-        // The area's elements reach from 2,088 to 2,131.
-        let mut memory = vec![0; 44];
-        let close = Lent::frame(2088);
-        assert_eq!(paint(&rows, &area, &mut memory, &close, &[1; 24]), Ok(()));
-        assert_refused(&rows, &area, 43, &close, 24, 11);
-        assert_refused(&rows, &area, 43, &Lent::frame(2089), 24, 11);
-        assert_refused(&rows, &area, 44, &Lent::frame(2087), 24, 11);
-        assert_refused(&rows, &area, 0, &good, 24, 11);
-        assert_refused(&rows, &area, 96, &Lent::frame(u32::MAX), 24, 11);
-        // In a tile a later pair may lie lower: (0, 8) at 1,152 and (8, 8) at 1,024.
-        let tile = tiled(4, 0, 32, 16);
-        let row = rectangle(0, 8, 16, 1);
-        assert_refused(&tile, &row, 896, &Lent::frame(1152), 64, 11);
-        let mut memory = vec![0; 1024];
-        let whole = Lent::frame(1024);
-        assert_eq!(paint(&tile, &row, &mut memory, &whole, &[1; 64]), Ok(()));
+        let mut memory = vec![0; 96];
+        assert_eq!(paint(&rows, &area, &mut memory, 2048, &[1; 24]), Ok(()));
     }
 
     #[test]
-    fn memory_that_is_too_long_or_ends_too_high_gets_11() {
+    fn memory_that_does_not_cover_the_span_gets_11() {
         let rows = linear(4, 2048, 8, 3);
-        let one = rectangle(0, 0, 1, 1);
-        let bounded = Lent {
-            first: 0,
-            most: MOST_OF_ONE_ELEMENT,
-        };
-        let mut memory = vec![0; 65_537];
-        let whole = paint(&rows, &one, &mut memory, &Lent::frame(0), &[1; 4]);
-        assert_eq!(whole, Ok(()));
-        let most = paint(&rows, &one, &mut memory[..65_536], &bounded, &[1; 4]);
-        assert_eq!(most, Ok(()));
-        assert_refused(&rows, &one, 65_537, &bounded, 4, 11);
-        // Up to the last address of all.
+        // Every element of the area lies from 2,088 to 2,131; the span is asked.
+        let area = rectangle(2, 1, 3, 2);
+        for (length, first) in [
+            (44, 2088),
+            (95, 2048),
+            (95, 2049),
+            (96, 2049),
+            (96, 2047),
+            (0, 2048),
+            (0, 0),
+            (96, u32::MAX),
+        ] {
+            assert_refused(&rows, &area, length, first, 24, 11);
+        }
+        for (length, first) in [(96, 2048), (97, 2047), (97, 2048), (4096, 0)] {
+            let mut memory = vec![0; length];
+            assert_eq!(paint(&rows, &area, &mut memory, first, &[1; 24]), Ok(()));
+        }
+        // A row of tiles that is only begun is in the span whole.
+        let tile = tiled(4, 2048, 32, 1);
+        let row = rectangle(0, 0, 4, 1);
+        assert_refused(&tile, &row, 2047, 2048, 16, 11);
+        let mut memory = vec![0; 2048];
+        assert_eq!(paint(&tile, &row, &mut memory, 2048, &[1; 16]), Ok(()));
+    }
+
+    #[test]
+    fn memory_that_ends_above_the_last_address_gets_11() {
         let last = linear(4, 0xFFFF_F800, 8, 64);
         let end = rectangle(7, 63, 1, 1);
-        let lent = Lent::frame(0xFFFF_F800);
-        assert_eq!(
-            paint(&last, &end, &mut memory[..2048], &lent, &[1; 4]),
-            Ok(())
-        );
-        assert_refused(&last, &end, 2049, &lent, 4, 11);
+        let mut memory = vec![0; 2048];
+        let first = 0xFFFF_F800;
+        assert_eq!(paint(&last, &end, &mut memory, first, &[1; 4]), Ok(()));
+        assert_refused(&last, &end, 2049, first, 4, 11);
+        let low = linear(4, 0, 8, 3);
+        assert_refused(&low, &rectangle(0, 0, 1, 1), 2049, first, 4, 11);
     }
 
     #[test]
@@ -577,13 +553,13 @@ mod tests {
             rectangle(9, u32::MAX, u64::MAX, 0),
         ] {
             let mut memory = vec![3; 96];
-            assert_eq!(
-                paint(&rows, &area, &mut memory, &Lent::frame(0), &[]),
-                Ok(())
-            );
+            assert_eq!(paint(&rows, &area, &mut memory, 2048, &[]), Ok(()));
             assert_eq!(memory, [3; 96]);
-            assert_refused(&rows, &area, 96, &Lent::frame(2048), 4, 11);
-            assert_refused(&rows, &area, 96, &Lent::frame(u32::MAX), 0, 11);
+            assert_eq!(copy_out(&rows, &area, &memory, 2048, &mut []), Ok(()));
+            // Memory and room are asked all the same.
+            assert_refused(&rows, &area, 96, 2048, 4, 11);
+            assert_refused(&rows, &area, 95, 2048, 0, 11);
+            assert_refused(&rows, &area, 96, u32::MAX, 0, 11);
         }
     }
 
@@ -596,15 +572,14 @@ mod tests {
         let all = rectangle(0, 0, 256, 200);
         let room = some_bytes(256 * 200 * 4, &mut seed);
         let mut memory = vec![0; span + 2048];
-        let lent = Lent::frame(0);
-        assert_eq!(paint(&layout, &all, &mut memory, &lent, &room), Ok(()));
+        assert_eq!(paint(&layout, &all, &mut memory, 0, &room), Ok(()));
         for (x, y) in [(0, 0), (255, 199), (31, 16), (32, 15), (200, 100)] {
             let address = translate(&layout, x, y).unwrap() as usize;
             let element = (y * 256 + x) as usize * 4;
             assert_eq!(memory[address..address + 4], room[element..element + 4]);
         }
         let mut back = vec![0; room.len()];
-        assert_eq!(copy_out(&layout, &all, &memory, &lent, &mut back), Ok(()));
+        assert_eq!(copy_out(&layout, &all, &memory, 0, &mut back), Ok(()));
         assert!(back == room);
     }
 

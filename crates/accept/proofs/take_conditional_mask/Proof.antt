@@ -1,24 +1,59 @@
--- `accept::take_conditional_mask` meets its contract. Assumes nothing.
 use mathlib.Core.Path.{refl}
-use Rattle.accept.proofs.WholeCommands.{conditional-mask-tried, conditional-mask-below, conditional-mask-past}
+use Rattle.accept.proofs.WholeCommands.{conditional-mask-tried, conditional-mask-below, conditional-mask-past, conditional-mask-owner, unowned}
 use borrow.Author.Needs.{needs}
 use Rattle.accept.proofs.take_conditional_mask.Statement.{statement}
 use Rattle.accept.proofs.take_conditional_mask.Tie as tie
+use Rattle.accept.proofs.take_conditional_mask.Reads as reads
+use Rattle.accept.proofs.take_conditional_mask.Lts as lts
+use Rattle.owners.proofs.is_on.Reads as is-on-reads
+use Rattle.state.proofs.own.count_words.Reads as count-words-reads
 
+-- src/lib.rt:244:26
+element-copy-out-is-on : tie.Need-element-copy-out-is-on
+element-copy-out-is-on c = search needs
+
+-- src/lib.rt:244:12
+is-on-requires : tie.Need-is-on-requires
+is-on-requires c κs = search needs
+
+-- src/lib.rt:245:13
 count-words-requires : tie.Need-count-words-requires
 count-words-requires c κs = search needs
 
+-- src/lib.rt:246:13
 element-write-shared : tie.Need-element-write-shared
 element-write-shared c = search needs
 
+-- src/lib.rt:247:13
 element-write-shared-2 : tie.Need-element-write-shared-2
 element-write-shared-2 c = search needs
 
+-- src/lib.rt:234:1
 returns : tie.Need-returns
-returns c = conditional-mask-tried _ _ _ (c .count-words .ensures) _ _ _ (conditional-mask-below (c .before .before .if1 .taken)) refl
+returns c = 
+    let at-if2 = c .before .before in
+    let at-is-on = at-if2 .before in
+    let at-if1 = at-is-on .before .before in
+    conditional-mask-tried _ _ _ (c .count-words .ensures) _ _ _ (conditional-mask-below (at-if1 .if1 .taken))
+    (conditional-mask-owner (at-if1 .before .args .own .now) _ (at-is-on .is-on .ensures) (at-if2 .if2 .taken)) refl
 
+-- src/lib.rt:234:1
 returns-2 : tie.Need-returns-2
-returns-2 c t rest z = conditional-mask-past (c .if1 .left)
+returns-2 c = λ t rest z. unowned (conditional-mask-owner (c .before .before .before .before .args .own .now) _ (c .before .is-on .ensures) (c .if2 .left))
+
+-- src/lib.rt:234:1
+returns-3 : tie.Need-returns-3
+returns-3 c = λ t rest z. conditional-mask-past (c .if1 .left)
 
 pub take-conditional-mask-spec : {M : Type 1} → statement M
-take-conditional-mask-spec = tie.close (tie.spec count-words-requires element-write-shared element-write-shared-2 returns returns-2)
+take-conditional-mask-spec =
+    tie.close
+    (tie.spec
+    element-copy-out-is-on
+    is-on-requires
+    count-words-requires
+    element-write-shared
+    element-write-shared-2
+    returns
+    returns-2
+    returns-3)

@@ -21,6 +21,9 @@ word-at-requires c κs =
     let entry = at-find .before .before in
     two-inside _ _ _ _ (entry .args .memory .now) _ (entry .pre) (sym (at-find .find .ensures) ∙ ap toldPlace (c .before .a .given .1))
 
+wide-requires : tie.Need-wide-requires
+wide-requires c κs = search needs
+
 passes-test-requires : tie.Need-passes-test-requires
 passes-test-requires c κs = search needs
 
@@ -31,11 +34,12 @@ returns c =
 
 returns-2 : tie.Need-returns-2
 returns-2 c =
-    let at-word = c .before in
+    let at-wide = c .before in
+    let at-word = at-wide .before in
     let at-a = at-word .before .before in
     let at-find = at-a .before .before in
     let entry = at-find .before .before in
-    pair-tested _ _ _ _ (entry .args .memory .now) _ _ _ _ _ (sym (at-find .find .ensures) ∙ ap toldPlace (at-a .a .given .1)) (at-word .word-at .ensures)
+    pair-tested _ _ _ _ (entry .args .memory .now) _ _ _ _ _ (sym (at-find .find .ensures) ∙ ap toldPlace (at-a .a .given .1)) (at-wide .wide .ensures ∙ at-word .word-at .ensures)
     (c .passes-test .ensures)
 
 pub pair-of-spec : {M : Type 1} → statement M
@@ -46,6 +50,7 @@ pair-of-spec =
     enum-known-why
     enum-known-a
     word-at-requires
+    wide-requires
     passes-test-requires
     returns
     returns-2)

@@ -1,10 +1,11 @@
 -- `conditional::survey_inside` meets its contract: a law for each return. Assumes nothing.
-use mathlib.Core.Path.{sym, _∙_}
+use mathlib.Core.Path.{sym, ap, _∙_}
 use native.Mathlib.Omega.{arith}
 use lib.ListN.{length}
-use borrow.Author.Tests.{not-true, not-false}
+use Rattle.layout.specs.Layout.{toldJudged}
 use Rattle.address.specs.Address.{layoutOf}
-use Rattle.conditional.proofs.Surveys.{answers-refused, answers-given, wrong-room, not-held, all-surveyed, product, pairs-few}
+use Rattle.conditional.proofs.Surveys.{answers-refused, wrong-room, product, pairs-few}
+use Rattle.conditional.proofs.Rows.{judged-so, not-refused}
 use borrow.Author.Needs.{needs}
 use Rattle.conditional.proofs.survey_inside.Statement.{statement}
 use Rattle.conditional.proofs.survey_inside.Tie as tie
@@ -48,58 +49,51 @@ returns c =
     let as-many = product l (args .test) (args .v) (args .first) m (args .i0) (args .j0) (args .i1) (args .j1) n asked in
     answers-refused _ _ _ _ (wrong-room l (args .test) (args .v) (args .first) m (args .i0) (args .j0) (args .i1) (args .j1) n asked (λ e. c .if1 .taken (e ∙ sym as-many)))
 
-all-held-requires : tie.Need-all-held-requires
-all-held-requires c κs =
-    let entry = c .before .before .before in
-    let args = entry .args in
-    let l = layoutOf (args .base) (args .pitch) (args .height) 2 (args .tiled) in
-    let m = args .memory .now in
-    let n = length (args .room .now) in
-    let asked = entry .pre in
-    (asked, c .if1 .left ∙ product l (args .test) (args .v) (args .first) m (args .i0) (args .j0) (args .i1) (args .j1) n asked)
+judge-requires : tie.Need-judge-requires
+judge-requires c κs = search needs
 
-returns-2 : tie.Need-returns-2
-returns-2 c =
-    let entry = c .before .before .before .before .before in
-    let args = entry .args in
-    let l = layoutOf (args .base) (args .pitch) (args .height) 2 (args .tiled) in
-    let m = args .memory .now in
-    let n = length (args .room .now) in
-    let asked = entry .pre in
-    answers-refused _ _ _ _ (not-held l (args .test) (args .v) (args .first) m (args .i0) (args .j0) (args .i1) (args .j1) n asked (sym (c .before .all-held .ensures) ∙ not-true _ (c .if2 .taken)))
+enum-known-why : tie.Need-enum-known-why
+enum-known-why c = search needs
 
-fill-requires : tie.Need-fill-requires
-fill-requires c κs =
-    let entry = c .before .before .before .before .before .before in
+enum-known-step : tie.Need-enum-known-step
+enum-known-step c = search needs
+
+survey-judged-requires : tie.Need-survey-judged-requires
+survey-judged-requires c κs =
+    let at-step = c .before .before in
+    let at-judge = at-step .before .before in
+    let at-if = at-judge .before in
+    let entry = at-if .before .before .before in
     let args = entry .args in
+    let asked = entry .pre in
     let l = layoutOf (args .base) (args .pitch) (args .height) 2 (args .tiled) in
     let m = args .memory .now in
     let n = length (args .room .now) in
-    let asked = entry .pre in
+    let told = sym (ap toldJudged (at-step .step .given .1)) ∙ at-judge .judge .ensures in
+    let is = judged-so (args .base) (args .pitch) (args .height) (args .tiled) (asked .accepted) _ _ told in
     record {
       domain = asked;
-      held = sym (c .before .before .all-held .ensures) ∙ not-false _ (c .before .if2 .left);
-      long = c .before .before .before .if1 .left ∙ product l (args .test) (args .v) (args .first) m (args .i0) (args .j0) (args .i1) (args .j1) n asked;
+      step-is = is .0;
+      span-is = is .1;
+      long = at-if .if1 .left ∙ product l (args .test) (args .v) (args .first) m (args .i0) (args .j0) (args .i1) (args .j1) n asked;
     }
+
+-- a layout that is accepted isn't refused
+returns-2 : tie.Need-returns-2
+returns-2 c =
+    let at-why = c .before in
+    let at-judge = at-why .before .before in
+    let entry = at-judge .before .before .before .before in
+    let args = entry .args in
+    absurd
+    (not-refused (args .base) (args .pitch) (args .height) (args .tiled) (entry .pre .accepted) _
+    (sym (ap toldJudged (at-why .why .given .1)) ∙ at-judge .judge .ensures))
 
 same-length : tie.Need-same-length
 same-length c = search needs
 
 returns-3 : tie.Need-returns-3
-returns-3 c =
-    let entry = c .before .before .before .before .before .before .before .before .before in
-    let args = entry .args in
-    let l = layoutOf (args .base) (args .pitch) (args .height) 2 (args .tiled) in
-    let m = args .memory .now in
-    let n = length (args .room .now) in
-    let asked = entry .pre in
-    let as-many = product l (args .test) (args .v) (args .first) m (args .i0) (args .j0) (args .i1) (args .j1) n asked in
-    let at-fill = c .before .before in
-    let at-if2 = at-fill .before .before in
-    let at-all-held = at-if2 .before in
-    answers-given _ _ _ _ _
-    (all-surveyed l (args .test) (args .v) (args .first) m (args .i0) (args .j0) (args .i1) (args .j1) n asked _ (at-all-held .before .if1 .left ∙ as-many)
-    (sym (at-all-held .all-held .ensures) ∙ not-false _ (at-if2 .if2 .left)) (at-fill .fill .ensures .0)) (at-fill .fill .ensures .1)
+returns-3 c = search needs
 
 pub survey-inside-spec : {M : Type 1} → statement M
 survey-inside-spec =
@@ -113,8 +107,10 @@ survey-inside-spec =
     add-rows
     mul-if1
     returns
-    all-held-requires
+    judge-requires
+    enum-known-why
+    enum-known-step
+    survey-judged-requires
     returns-2
-    fill-requires
     same-length
     returns-3)

@@ -26,6 +26,7 @@ use Rattle.refusal.specs.declared.Refusal.the-variants.{
   WordLimit,
   RecordKind,
   MidnightDay,
+  NotOwned,
   LeaseLine,
   TooManyLogs,
 }
@@ -33,7 +34,7 @@ use Rattle.refusal.proofs.with_number.Statement.{statement}
 use Rattle.refusal.proofs.with_number.Tie as tie
 
 abbrev named : List ℕ
-named = 1 ∷ 2 ∷ 3 ∷ 4 ∷ 5 ∷ 6 ∷ 7 ∷ 8 ∷ 9 ∷ 10 ∷ 11 ∷ 12 ∷ 13 ∷ 14 ∷ 15 ∷ 16 ∷ 17 ∷ 18 ∷ 19 ∷ 21 ∷ []
+named = 1 ∷ 2 ∷ 3 ∷ 4 ∷ 5 ∷ 6 ∷ 7 ∷ 8 ∷ 9 ∷ 10 ∷ 11 ∷ 12 ∷ 13 ∷ 14 ∷ 15 ∷ 16 ∷ 17 ∷ 18 ∷ 19 ∷ 20 ∷ 21 ∷ []
 
 -- a refusal's number that the arms don't name
 left-over : (why : Refusal) (n : ℕ) → NoneOf Unit named n → numberOf why ≡ n → 22 ≡ n
@@ -56,7 +57,8 @@ left-over Ended n r e = absurd (none-at named Unit n 15 r (omega arith) (sym e))
 left-over WordLimit n r e = absurd (none-at named Unit n 16 r (omega arith) (sym e))
 left-over RecordKind n r e = absurd (none-at named Unit n 17 r (omega arith) (sym e))
 left-over MidnightDay n r e = absurd (none-at named Unit n 18 r (omega arith) (sym e))
-left-over LeaseLine n r e = absurd (none-at named Unit n 19 r (omega arith) (sym e))
+left-over NotOwned n r e = absurd (none-at named Unit n 19 r (omega arith) (sym e))
+left-over LeaseLine n r e = absurd (none-at named Unit n 20 r (omega arith) (sym e))
 left-over TooManyLogs n r e = e
 
 returns : tie.Need-returns
@@ -120,7 +122,10 @@ returns-20 : tie.Need-returns-20
 returns-20 c = sym (c .match .keys20)
 
 returns-21 : tie.Need-returns-21
-returns-21 c = left-over (c .before .pre .refusal) _ (c .match .rest) (c .before .pre .number)
+returns-21 c = sym (c .match .keys21)
+
+returns-22 : tie.Need-returns-22
+returns-22 c = left-over (c .before .pre .refusal) _ (c .match .rest) (c .before .pre .number)
 
 pub with-number-spec : {M : Type 1} → statement M
 with-number-spec =
@@ -146,4 +151,5 @@ with-number-spec =
     returns-18
     returns-19
     returns-20
-    returns-21)
+    returns-21
+    returns-22)

@@ -146,7 +146,7 @@ fn parts(shift: u32, x: u32, y: u32) -> (u32, u32, u32) {
 
 /// Bits 10 to 5 of the place.
 #[inline(always)]
-const fn mixed(u: u32, v: u32) -> u32 {
+pub(super) const fn mixed(u: u32, v: u32) -> u32 {
     let from_u = ((u & 1) << 5) | ((u & 6) << 6);
     let from_v = ((v & 9) << 6) | ((v & 2) << 7) | ((v & 4) << 8);
     from_u ^ ((u & 12) << 7) ^ from_v ^ ((v & 4) << 5)

@@ -41,6 +41,11 @@ const TEST_BITS: u32 = 7;
 const INPUT_BITS: u32 = 15;
 const OUTPUT_BITS: u32 = 3;
 
+/// What a party owns, a bit each: inputs from bit 0 on, outputs from here on, and what is party 0's alone.
+pub(super) const FIRST_OUTPUT: u32 = 16;
+const COMMON: u32 = 1 << 20;
+pub(super) const EVERYTHING: u32 = (1 << 21) - 1;
+
 /// A format as a command sets it. Instructions and constants have height 1.
 #[derive(Clone, Copy, Debug, PartialEq, Eq)]
 pub struct Format {
@@ -173,6 +178,8 @@ pub(super) enum Kind {
 
 /// A line of the command table: what each parameter word may not have.
 pub(super) struct Line {
+    /// The bits of what a party must own for its header.
+    pub(super) asks: u32,
     pub header: u32,
     /// Bits that refuse a parameter; none past the last one.
     pub refused: [u32; 4],
@@ -214,8 +221,22 @@ impl Line {
     }
 }
 
+/// What a party must own to send a line's header: the bit of what is party 0's, or nothing.
+const fn asked_for(kind: Kind) -> u32 {
+    match kind {
+        Kind::SetFloats
+        | Kind::SetIntegers
+        | Kind::SetBooleans
+        | Kind::SetConditional
+        | Kind::SetConditionalMask
+        | Kind::SetTest => COMMON,
+        _ => 0,
+    }
+}
+
 const fn line(header: u32, kind: Kind, refused: [u32; 4], format_at: u8) -> Line {
     Line {
+        asks: asked_for(kind),
         header,
         refused,
         first_refusal: MALFORMED,

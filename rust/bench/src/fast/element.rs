@@ -141,7 +141,7 @@ fn superfine_sized<const SIZE: usize>(
 
 /// Judges the memory itself, and finds where in it an address stands.
 #[inline(always)]
-fn start_of(length: usize, first: u32, address: u32) -> Answer<usize> {
+pub(super) fn start_of(length: usize, first: u32, address: u32) -> Answer<usize> {
     if length > MOST_MEMORY || u64::from(first) + length as u64 > 1 << 32 || address < first {
         return Err(ROOM);
     }
@@ -149,7 +149,7 @@ fn start_of(length: usize, first: u32, address: u32) -> Answer<usize> {
 }
 
 #[inline(always)]
-fn part_of<const SIZE: usize>(memory: &[u8], start: usize) -> Answer<[u8; SIZE]> {
+pub(super) fn part_of<const SIZE: usize>(memory: &[u8], start: usize) -> Answer<[u8; SIZE]> {
     let part = memory.get(start..start + SIZE).ok_or(ROOM)?;
     part.try_into().map_err(|_| ROOM)
 }

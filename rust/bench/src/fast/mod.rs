@@ -1,5 +1,5 @@
 //! Document 01 as a Rust programmer would write it for speed: sessions, logs over midnight, the writer, addresses, elements and
-//! flow words, with document 02's loops and kills.
+//! flow words, with document 02's loops, kills, conditional tests and whole pictures.
 //!
 //! Every entry that stands for one call of the product is marked `#[inline(never)]`. A host reaches the product through a
 //! call that nothing inlines; without the mark the compiler could melt these entries into the timing loop and move the work
@@ -12,13 +12,16 @@ pub mod fleet;
 pub mod group;
 mod kill;
 pub mod layout;
+pub mod lessees;
 pub mod log;
 mod loops;
+pub mod picture;
 pub mod planes;
 pub mod processors;
 pub mod program;
 pub mod refusal;
 pub mod session;
+pub mod survey;
 
 #[cfg(test)]
 mod worked;

@@ -22,5 +22,6 @@ pub const ENDED: u32 = 16;
 pub const FULL: u32 = 17;
 pub const KIND: u32 = 18;
 pub const DAY: u32 = 19;
+pub const NOT_OWNED: u32 = 20;
 pub const LEASE: u32 = 21;
 pub const STATIONS: u32 = 22;

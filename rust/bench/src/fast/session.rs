@@ -5,10 +5,11 @@
 //!
 //! What the settings alone give a start is kept: a command that sets one of them renews it, and a start reads it.
 
-use super::command::{line_of, Command, Domain, Format, Kind, Line};
+use super::command::{line_of, Command, Domain, Format, Kind, Line, EVERYTHING, FIRST_OUTPUT};
 use super::layout::Window;
 use super::refusal::{
-    Answer, DOMAIN_OUTSIDE, FULL, MALFORMED, NOT_READY, SPANS_SHARED, STOPPED, UNKNOWN_HEADER,
+    Answer, DOMAIN_OUTSIDE, FULL, MALFORMED, NOT_OWNED, NOT_READY, SPANS_SHARED, STOPPED,
+    UNKNOWN_HEADER,
 };
 
 /// How many words a session takes.
@@ -62,6 +63,8 @@ pub struct Fed {
 
 #[derive(Clone)]
 pub struct Session {
+    /// The numbers that the party owns, and what is party 0's alone: a bit each.
+    mine: u32,
     edition: Edition,
     taken: usize,
     stopped: bool,
@@ -102,7 +105,13 @@ impl Session {
     /// The same under an edition.
     #[inline(never)]
     pub fn new_in(edition: Edition) -> Session {
+        Session::new_of(edition, EVERYTHING)
+    }
+
+    /// A party that owns so much.
+    pub(super) fn new_of(edition: Edition, mine: u32) -> Session {
         Session {
+            mine,
             edition,
             taken: 0,
             stopped: false,
@@ -151,6 +160,12 @@ impl Session {
     /// Takes a piece of words, one after another up to the first refused one.
     #[inline(never)]
     pub fn feed(&mut self, words: &[u32]) -> Fed {
+        self.take_piece(words)
+    }
+
+    /// A piece, where the caller's loop is ours too.
+    #[inline(always)]
+    pub(super) fn take_piece(&mut self, words: &[u32]) -> Fed {
         let mut rest = words;
         let mut commands = 0;
         let mut refusal = None;
@@ -193,7 +208,7 @@ impl Session {
                 None => break,
             };
             let [r0, r1, r2, r3] = line.refused;
-            if p0 & r0 | p1 & r1 | p2 & r2 | p3 & r3 != 0 {
+            if p0 & r0 | p1 & r1 | p2 & r2 | p3 & r3 | line.asks & !self.mine != 0 {
                 break;
             }
             let command = match self.complete(line, [p0, p1, p2, p3]) {
@@ -233,12 +248,19 @@ impl Session {
         let line = match self.open {
             Some(line) => line,
             None => {
-                self.open = Some(line_of(word).ok_or(UNKNOWN_HEADER)?);
+                let line = line_of(word).ok_or(UNKNOWN_HEADER)?;
+                if line.asks & !self.mine != 0 {
+                    return Err(NOT_OWNED);
+                }
+                self.open = Some(line);
                 self.index = 0;
                 return Ok(Reply::Open);
             }
         };
         line.judge(self.index, word)?;
+        if self.index == 0 {
+            self.owns(line.kind, word)?;
+        }
         self.fields[self.index] = word;
         self.index += 1;
         if self.index < usize::from(line.parameters) {
@@ -295,8 +317,23 @@ impl Session {
         })
     }
 
+    /// 20 for a number that the party doesn't own; numbers over the range were judged before.
+    #[inline(always)]
+    fn owns(&self, kind: Kind, number: u32) -> Answer<()> {
+        let bit = match kind {
+            Kind::SetInput => number & 15,
+            Kind::SetOutput => FIRST_OUTPUT + (number & 3),
+            _ => return Ok(()),
+        };
+        match self.mine >> bit & 1 {
+            1 => Ok(()),
+            _ => Err(NOT_OWNED),
+        }
+    }
+
     #[inline(always)]
     fn set_input(&mut self, line: &Line, number: u32, format: Format) -> Answer<Command> {
+        self.owns(Kind::SetInput, number)?;
         if !line.allows_format(format.word) {
             return Err(MALFORMED);
         }
@@ -306,6 +343,7 @@ impl Session {
 
     #[inline(always)]
     fn set_output(&mut self, number: u32, format: Format) -> Answer<Command> {
+        self.owns(Kind::SetOutput, number)?;
         let Window { step, span } = format.window()?;
         // a window ends at 2^32 at the latest, so its last byte's address fits
         let last = format.base + (span - 1);
@@ -428,6 +466,11 @@ impl Session {
 
     pub fn conditional_mask(&self) -> Option<u32> {
         self.conditional_mask
+    }
+
+    #[inline(always)]
+    pub(super) fn conditional(&self) -> Option<Format> {
+        self.conditional
     }
 
     pub fn test(&self) -> Option<u32> {

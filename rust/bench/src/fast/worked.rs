@@ -4,6 +4,7 @@ use super::address::{locate, translate, translate_by_table, Translated};
 use super::command::{write_command, Command, Domain, Format};
 use super::element::{read, superfine, write};
 use super::layout::{judge, Layout};
+use super::lessees::Pair;
 use super::log::Replay;
 use super::program::{Program, Stepped};
 use super::refusal::Answer;
@@ -256,6 +257,39 @@ fn silent_outputs_claim_nothing() {
     }
     assert_eq!(started(&masked(0xFFFE, &[])), Ok((1, 0)));
     assert_eq!(started(&masked(0x0001, &[])), Ok((1, 1_728)));
+}
+
+#[test]
+fn two_parties_keep_to_what_is_theirs() {
+    // Output 1 and inputs 8 to 15 are party 1's; a mask changes one's own bits, and a piece runs on past a refused word.
+    let pair = || Pair::new(Edition::First, 0xFF00, 0x2).expect("owners of what there is");
+    let fed = |words: &[u32], party: u32| {
+        let mut pair = pair();
+        let groups = vec![party.wrapping_neg(); (words.len() + 31) / 32];
+        let told = pair.feed_both(words, &groups).expect("a group for each 32");
+        (told[party as usize].taken, told[party as usize].refusal)
+    };
+    for (words, zero, one) in [
+        ([0xC003_0C00, 0], (2, None), (1, Some(20))),
+        ([0xC003_0C00, 1], (1, Some(20)), (2, None)),
+        ([0xC003_0C00, 4], (1, Some(4)), (1, Some(4))),
+        ([0xC003_0B00, 8], (1, Some(20)), (2, None)),
+        ([0xC003_0B00, 16], (1, Some(4)), (1, Some(4))),
+        ([0xC001_0E00, 0], (2, None), (0, Some(20))),
+        ([0xC000_1B00, 0], (2, None), (0, Some(20))),
+        ([0xC000_1B01, 0], (0, Some(2)), (0, Some(2))),
+    ] {
+        assert_eq!((fed(&words, 0), fed(&words, 1)), (zero, one), "{words:X?}");
+    }
+    let mut mixed = pair();
+    let words = [0xC000_1900, 7, 0, 0xC000_0900, 7];
+    let told = mixed.feed_both(&words, &[0b01010]).expect("one group");
+    let zero = (told[0].taken, told[0].commands, told[0].refusal);
+    assert_eq!(zero, (2, 1, Some(2)));
+    assert_eq!((told[1].taken, told[1].refusal), (0, Some(2)));
+    assert_eq!(mixed.output_mask(), 0x00F0);
+    assert_eq!(mixed.feed_both(&words, &[]), Err(11));
+    assert!(Pair::new(Edition::First, 0x1_0000, 0).is_err());
 }
 
 #[test]

@@ -72,7 +72,7 @@ fn locate_line(table: &mut Table, layout: &Layout) {
     let addresses = addresses(layout, 6);
     for &address in &addresses {
         assert_eq!(
-            boundary::locate(&lent, address),
+            boundary::locate(&lent, address).map_err(u32::from),
             locate(layout, address),
             "locate of {address} in {layout:?}"
         );
@@ -109,8 +109,8 @@ fn either(answer: Result<Translated, u32>) -> u64 {
 }
 
 #[inline(always)]
-fn pair_sum(answer: Result<(u32, u32, u32), u32>) -> u64 {
-    answer.map_or_else(u64::from, |(x, y, place)| {
+fn pair_sum<R: Into<u64>>(answer: Result<(u32, u32, u32), R>) -> u64 {
+    answer.map_or_else(R::into, |(x, y, place)| {
         u64::from(x) + u64::from(y) + u64::from(place)
     })
 }

@@ -83,20 +83,22 @@ fn superfine_line(table: &mut Table, layout: &Layout, code: u32) {
 }
 
 fn check(
-    product: Result<boundary::Element, u32>,
+    product: boundary::Answer<boundary::Element>,
     rust: Result<Element, u32>,
     layout: &Layout,
     pair: &(u32, u32),
 ) {
     assert_eq!(
-        product.map(|element| element.bytes().to_vec()),
+        product
+            .map(|element| element.bytes().to_vec())
+            .map_err(u32::from),
         rust.map(|element| element.bytes[..element.length].to_vec()),
         "read of {pair:?} in {layout:?}"
     );
 }
 
 #[inline(always)]
-fn product_byte(answer: Result<boundary::Element, u32>) -> u64 {
+fn product_byte(answer: boundary::Answer<boundary::Element>) -> u64 {
     answer.map_or_else(u64::from, |element| element[0].into())
 }
 
@@ -114,8 +116,9 @@ fn write_line(table: &mut Table, layout: &Layout) {
     let pairs = pairs(layout, 9);
     let data = &memory()[..layout.size as usize];
     let (mut product_memory, mut rust_memory) = (memory(), memory());
-    let mut product =
-        |&(x, y): &(u32, u32)| boundary::write(&lent, x, y, &mut product_memory, BASE, data);
+    let mut product = |&(x, y): &(u32, u32)| {
+        boundary::write(&lent, x, y, &mut product_memory, BASE, data).map_err(u32::from)
+    };
     let mut rust = |&(x, y): &(u32, u32)| write(layout, x, y, &mut rust_memory, BASE, data);
     for pair in &pairs {
         assert_eq!(product(pair), rust(pair), "write of {pair:?} in {layout:?}");

@@ -3,12 +3,13 @@
 use crate::inputs::{domain, instructions, mixed_stream, output, settings, Random};
 use crate::table::Table;
 use bench::fast::command::{write_command, Command, Format};
+use bench::fast::lessees;
 use bench::fast::session as fast;
 use boundary::headers::{
     SET_COND_OUT_FMT, SET_CONSTB_FMT, SET_CONSTF_FMT, SET_CONSTI_FMT, SET_INP_FMT, SET_INST_FMT,
     SET_OUT_FMT, START_PROGRAM, WAIT_FOR_IDLE,
 };
-use boundary::Edition;
+use boundary::{Edition, Pair, Party, View};
 
 /// The mixed stream is about this long, a stream of one command about half.
 const WORDS: usize = 1 << 16;
@@ -109,7 +110,7 @@ fn product_word(session: &mut boundary::Session, word: u32) -> u64 {
     match session.word(word) {
         Ok(boundary::Reply::Open) => 0,
         Ok(boundary::Reply::Done(_)) => 1,
-        Err(number) => u64::from(number) << 32,
+        Err(refusal) => u64::from(refusal) << 32,
     }
 }
 
@@ -174,7 +175,8 @@ fn check_pieces(product: &boundary::Session, rust: &fast::Session, stream: &[u32
     let (mut product, mut rust) = (product.clone(), rust.clone());
     for piece in stream.chunks(length) {
         let (by_product, by_rust) = (product.feed(piece), rust.feed(piece));
-        let by_product = (by_product.taken, by_product.commands, by_product.refusal);
+        let refusal = by_product.refusal.map(u32::from);
+        let by_product = (by_product.taken, by_product.commands, refusal);
         let by_rust = (by_rust.taken, by_rust.commands, by_rust.refusal);
         assert_eq!(by_product, by_rust, "feed of {piece:X?}");
         assert_eq!(by_rust.2, None, "the benchmark's streams are good");
@@ -193,7 +195,11 @@ fn check_words(stream: &[u32]) {
             fast::Reply::Open => boundary::Reply::Open,
             fast::Reply::Done(command) => boundary::Reply::Done(lent_command(&command)),
         });
-        assert_eq!(product.word(word), by_rust, "word {word:X}");
+        assert_eq!(
+            product.word(word).map_err(u32::from),
+            by_rust,
+            "word {word:X}"
+        );
     }
     check_sessions(&product, &rust);
 }
@@ -211,6 +217,21 @@ pub fn lent_command(command: &Command) -> boundary::Command {
 
 /// Tallies, settings and standing of both sessions.
 pub fn check_sessions(product: &boundary::Session, rust: &fast::Session) {
+    check_party(product.view(), rust);
+    assert_eq!(product.output_mask(), rust.output_mask(), "mask");
+}
+
+/// The same of two parties, each with what it owns, and the mask of both.
+pub fn check_parties(product: &Pair, rust: &lessees::Pair) {
+    for party in Party::BOTH {
+        check_party(product.view(party), rust.party(party.number() as usize));
+    }
+    let mask = product.view(Party::Zero).output_mask();
+    assert_eq!(mask, rust.output_mask(), "mask");
+}
+
+fn check_party(product: View, rust: &fast::Session) {
+    let owned = product.owned();
     let status = product.status();
     assert_eq!(status.taken as usize, rust.taken(), "words taken");
     assert_eq!(status.stopped, rust.stopped(), "stopped");
@@ -220,7 +241,13 @@ pub fn check_sessions(product: &boundary::Session, rust: &fast::Session) {
     let domain = rust.domain().map(|set| [set.i0, set.j0, set.i1, set.j1]);
     assert_eq!(product.domain(), domain, "domain");
     for (header, count) in FORMATS {
-        for number in 0..count {
+        let own = |number: &u32| match header {
+            SET_INST_FMT => true,
+            SET_INP_FMT => owned.input(*number),
+            SET_OUT_FMT => owned.output(*number),
+            _ => owned.common,
+        };
+        for number in (0..count).filter(own) {
             let by_product = product.format(header, number).expect("a format's header");
             let by_product = by_product.map(|set| Format {
                 base: set.base,
@@ -231,8 +258,9 @@ pub fn check_sessions(product: &boundary::Session, rust: &fast::Session) {
             assert_eq!(by_product, by_rust, "format {header:X} {number}");
         }
     }
-    assert_eq!(product.output_mask(), rust.output_mask(), "mask");
-    assert_eq!(product.conditional_mask(), rust.conditional_mask());
-    assert_eq!(product.test(), rust.test(), "test");
+    if owned.common {
+        assert_eq!(product.conditional_mask(), rust.conditional_mask());
+        assert_eq!(product.test(), rust.test(), "test");
+    }
     assert_eq!(status.readiness, rust.readiness(), "readiness");
 }

@@ -74,7 +74,7 @@ impl Kills {
         let mut rust = Group::begin(PROCESSORS).expect("a group");
         for (list, mask) in self.each() {
             let (by_product, by_rust) = (
-                product.kill(&self.lent, list, mask),
+                product.kill(&self.lent, list, mask).map_err(u32::from),
                 rust.kill(&self.program, list, mask),
             );
             assert_eq!(by_product, by_rust, "a kill under {mask}");
@@ -84,12 +84,12 @@ impl Kills {
             );
             let short = &list[1..];
             assert_eq!(
-                product.kill(&self.lent, short, mask),
+                product.kill(&self.lent, short, mask).map_err(u32::from),
                 rust.kill(&self.program, short, mask)
             );
             let over = mask + WRITE_MASKS;
             assert_eq!(
-                product.kill(&self.lent, list, over),
+                product.kill(&self.lent, list, over).map_err(u32::from),
                 rust.kill(&self.program, list, over)
             );
         }

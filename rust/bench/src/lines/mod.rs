@@ -7,7 +7,10 @@ pub mod feed;
 pub mod fleet;
 pub mod flow;
 pub mod kill;
+pub mod lessees;
 pub mod log;
+pub mod picture;
+pub mod survey;
 pub mod writer;
 
 use bench::fast::layout::Layout;

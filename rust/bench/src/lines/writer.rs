@@ -54,7 +54,7 @@ fn check(commands: &[Command], lent: &[boundary::Command]) {
         for length in [1, 3, 6] {
             let (mut by_product, mut by_rust) = ([7; 6], [7; 6]);
             assert_eq!(
-                boundary::write_command(lent, &mut by_product[..length]),
+                boundary::write_command(lent, &mut by_product[..length]).map_err(u32::from),
                 write_command(command, &mut by_rust[..length]),
                 "writer of {command:?} in {length} words"
             );

@@ -6,7 +6,7 @@ use crate::common::names::Kind;
 use crate::common::text;
 use crate::explain::cause;
 use crate::input::numbers;
-use boundary::{headers, Command, Layout};
+use boundary::{headers, Command, Layout, Refusal};
 use clap::Args;
 
 #[derive(Args)]
@@ -102,7 +102,7 @@ fn judge_format(word: u32) -> Outcome {
         fields: [0, word, 1, 0],
     };
     match boundary::write_command(&command, &mut [0; 5]) {
-        Err(3) => {
+        Err(Refusal::Malformed) => {
             let cause = cause::reserved(Kind::Format, word);
             Err(Failure::Refused(format!(
                 "--format {word:08X}: refused 3, {cause}"

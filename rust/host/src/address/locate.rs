@@ -134,12 +134,12 @@ fn one(
             }
             Ok(None)
         }
-        Err(number) => {
-            let refused = cause::refused(number, cause::of_address(number, layout, address));
+        Err(refusal) => {
+            let refused = cause::refused(refusal, cause::of_address(refusal, layout, address));
             let work = options.work.then(|| work::refused(layout, &refused));
             if options.json {
                 let (at, cause) = (at.to_string(), &refused.cause);
-                let mut value = json!({"address": at, "refused": number, "cause": cause});
+                let mut value = json!({"address": at, "refused": refused.number, "cause": cause});
                 if let Some(work) = work {
                     value["work"] = work.json();
                 }

@@ -1,7 +1,7 @@
 //! `egretfold address`: a pair of a window to the address of its element and the run
 //! from there on.
 
-mod layouts;
+pub mod layouts;
 pub mod locate;
 mod owners;
 pub mod tile;
@@ -93,12 +93,12 @@ fn one(
             }
             Ok(None)
         }
-        Err(number) => {
-            let refused = cause::refused(number, cause::of_pair(number, layout, x, y));
+        Err(refusal) => {
+            let refused = cause::refused(refusal, cause::of_pair(refusal, layout, x, y));
             let work = options.work.then(|| work::refused(layout, &refused));
             if options.json {
                 let cause = &refused.cause;
-                let mut value = json!({"x": x, "y": y, "refused": number, "cause": cause});
+                let mut value = json!({"x": x, "y": y, "refused": refused.number, "cause": cause});
                 if let Some(work) = work {
                     value["work"] = work.json();
                 }

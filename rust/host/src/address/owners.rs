@@ -1,13 +1,11 @@
 //! `egretfold locate --stream`: which windows of a stream's settings own a byte.
 
 use crate::common::failure::{Failure, Outcome};
-use crate::common::kinds::{Address, Position};
+use crate::common::kinds::Address;
 use crate::common::settings::{self, Setting, Value};
-use crate::decode::walk::{Quiet, Walk};
+use crate::decode::settled;
 use crate::explain::cause;
-use crate::input::source::Source;
-use crate::input::words::Words;
-use boundary::{Edition, Layout};
+use boundary::Layout;
 use serde_json::json;
 use std::io::Write;
 use std::path::Path;
@@ -20,8 +18,7 @@ pub struct Read {
     pub refused: Option<Failure>,
 }
 
-/// Reads the stream, or its first so many words. A refused word ends it and is
-/// told; the settings before that word stand.
+/// Reads the stream, or its first so many words.
 pub fn read(
     file: &Path,
     hex: bool,
@@ -29,36 +26,11 @@ pub fn read(
     as_json: bool,
     out: &mut dyn Write,
 ) -> Outcome<Read> {
-    let mut words = Words::new(Source::open(Some(file))?, hex);
-    if let Some(most) = most {
-        words = words.first(most);
-    }
-    let totals = Walk::new(Edition::First, false).run(words, &mut Quiet)?;
-    if let Some((Position(at), refused)) = &totals.refused {
-        if as_json {
-            let refusal =
-                json!({"position": at, "refused": refused.number, "cause": refused.cause});
-            writeln!(out, "{}", json!({ "stream": refusal }))?;
-        } else {
-            writeln!(
-                out,
-                "# word {at}: {refused}; the settings before it are asked"
-            )?;
-        }
-    }
-    let settings = totals.settings;
-    let domain = settings.iter().find_map(|setting| match setting.value {
-        Value::Domain(domain) => Some(domain),
-        _ => None,
-    });
-    let refused = totals.refused.map(|(at, refused)| {
-        let told = format!("{}: word {at}: {refused}", totals.name);
-        Failure::Refused(told).hinted(totals.hint)
-    });
+    let settled = settled::read(file, hex, most, as_json, out)?;
     Ok(Read {
-        settings,
-        domain,
-        refused,
+        settings: settled.settings,
+        domain: settled.session.domain(),
+        refused: settled.refused,
     })
 }
 
@@ -91,7 +63,7 @@ pub fn answer(
     let owners = owners(read, address);
     let at = Address(address);
     let why = "no window of the stream's settings owns it";
-    let refused = cause::refused(12, Some(why.into()));
+    let refused = cause::refused(12_u32, Some(why.into()));
     if as_json {
         let list: Vec<_> = owners.iter().map(Owner::json).collect();
         let mut value = json!({"address": at.to_string(), "owners": list});

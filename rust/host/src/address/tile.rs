@@ -244,9 +244,9 @@ impl Drawn {
                 let begins = number * u64::from(TILE_BYTES);
                 Ok(((u64::from(at.address) - begins) as u32, at.run))
             }
-            Err(number) => Err(Failure::Refused(format!(
-                "tile in column {}, row {}: refused {number}, a window has at most 4096 columns and 4096 rows",
-                self.column, self.row
+            Err(refusal) => Err(Failure::Refused(format!(
+                "tile in column {}, row {}: refused {}, a window has at most 4096 columns and 4096 rows",
+                self.column, self.row, refusal.number()
             ))),
         }
     }

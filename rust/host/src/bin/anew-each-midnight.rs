@@ -48,7 +48,11 @@ fn main() {
     for (day, part) in month.days.iter().zip(parts(LOG)) {
         let (anew, replay) = scored(&part, day.number, 1);
         let refused = replay.status().refused.map_or(String::new(), |word| {
-            format!("  refused {} at its record {}", word.number, word.record)
+            format!(
+                "  refused {} at its record {}",
+                word.refusal.number(),
+                word.record
+            )
         });
         println!(
             "{:>5}  {:>11}  {:>18}{refused}",

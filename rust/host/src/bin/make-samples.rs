@@ -1,5 +1,5 @@
-//! Makes the logs in samples/ and the streams with masked cameras, so that what
-//! stands in them can be read here. From rust/:
+//! Makes the logs in samples/, the streams with masked cameras, and a camera's memory
+//! with its stream, so that what stands in them can be read here. From rust/:
 //!
 //!     cargo run -p host --bin make-samples
 //!
@@ -7,13 +7,18 @@
 
 #![forbid(unsafe_code)]
 
+#[path = "made/log.rs"]
+mod log;
 #[path = "../score/station.rs"]
 #[allow(dead_code)] // what it owes and its dates are for the score
 mod station;
 
 use boundary::headers::{
-    SET_DOMAIN, SET_INST_FMT, SET_OUT_FMT, SET_OUT_MASK, START_PROGRAM, WAIT_FOR_IDLE,
+    SET_COND_OUT_FMT, SET_COND_TEST, SET_CONSTF_FMT, SET_DOMAIN, SET_INST_FMT, SET_OUT_FMT,
+    SET_OUT_MASK, START_PROGRAM, WAIT_FOR_IDLE,
 };
+use boundary::{Layout, Rectangle};
+use log::{Log, CAMERAS, FRAME};
 use std::path::{Path, PathBuf};
 use std::{env, fs, io};
 
@@ -25,35 +30,6 @@ const SETTINGS: [u32; 13] = [
     SET_OUT_FMT, 0, 0x800, 0x0201_0064, 18,
     SET_DOMAIN, 0, 0, 95, 17,
 ];
-
-/// A log under way.
-struct Log {
-    bytes: Vec<u8>,
-}
-
-impl Log {
-    fn new() -> Log {
-        Log { bytes: Vec::new() }
-    }
-
-    /// One byte of kind, then the number's four bytes, low byte first.
-    fn record(&mut self, kind: u8, number: u32) {
-        self.bytes.push(kind);
-        self.bytes.extend(number.to_le_bytes());
-    }
-
-    fn words(mut self, words: &[u32]) -> Log {
-        for word in words {
-            self.record(1, *word);
-        }
-        self
-    }
-
-    fn midnight(mut self, day: u32) -> Log {
-        self.record(2, day);
-        self
-    }
-}
 
 /// Settings and a run before the first midnight; a start that the first midnight
 /// cuts, and a domain that the last one does.
@@ -83,18 +59,6 @@ fn refused() -> Log {
         .words(&[START_PROGRAM, 0])
 }
 
-/// Station 14's two cameras of 640 x 480 pixels, UINT8_4 in tiles, each with an output
-/// of its own. A frame claims 614,400 elements.
-#[rustfmt::skip]
-const CAMERAS: [u32; 18] = [
-    SET_INST_FMT, 0x1000, 0x0400_0010,
-    SET_OUT_FMT, 0, 0x0010_0000, 0x0101_0280, 480,
-    SET_OUT_FMT, 1, 0x0030_0000, 0x0101_0280, 480,
-    SET_DOMAIN, 0, 0, 639, 479,
-];
-
-const FRAME: [u32; 4] = [START_PROGRAM, 0, WAIT_FOR_IDLE, 0];
-
 /// A frame an hour.
 const FRAMES: usize = 24;
 
@@ -103,12 +67,6 @@ const SECOND_CAMERA_OFF: [u32; 2] = [SET_OUT_MASK, 0xFF0F];
 /// Channel 3 of output 1 masked off.
 const LAST_CHANNEL_OFF: [u32; 2] = [SET_OUT_MASK, 0xFF7F];
 const ALL_ON: [u32; 2] = [SET_OUT_MASK, 0xFFFF];
-
-impl Log {
-    fn frames(self, count: usize) -> Log {
-        self.words(&FRAME.repeat(count))
-    }
-}
 
 /// Station 14's month. The cameras are set up before the first midnight, with a frame
 /// that serves no day. From the ninth to the twelfth the log goes on without a frame. On
@@ -144,6 +102,19 @@ fn full_month() -> Log {
         log = log.midnight(day).frames(FRAMES);
     }
     log
+}
+
+/// Station 15's April, full, a file a week: the first has the set-up.
+fn station_15() -> Vec<Vec<u8>> {
+    let mut log = Log::new().words(&CAMERAS);
+    let mut weeks = Vec::new();
+    for date in 1..=station::DAYS {
+        log = log.midnight(station::FIRST_DAY + date - 1).frames(FRAMES);
+        if date % 7 == 0 || date == station::DAYS {
+            weeks.push(std::mem::take(&mut log.bytes));
+        }
+    }
+    weeks
 }
 
 /// Station 14's June: from the 8th to the 14th the second camera's last channel is masked
@@ -215,13 +186,132 @@ const CHANNELS: [u32; 15] = [
     START_PROGRAM, 0,
 ];
 
+/// One camera of 64 x 32 pixels, UINT8_4 in tiles, and a conditional buffer of 64 x 24
+/// numbers in tiles behind it; test 4, "at least".
+#[rustfmt::skip]
+const CAMERA: [u32; 21] = [
+    SET_INST_FMT, 0x4000, 0x0400_0010,
+    SET_OUT_FMT, 0, FRAME_OF_CAMERA.base, 0x0101_0040, FRAME_OF_CAMERA.height,
+    SET_COND_OUT_FMT, DISTANCES.base, 0x0001_0040, DISTANCES.height,
+    SET_COND_TEST, 4,
+    SET_DOMAIN, 0, 0, 47, 19,
+    START_PROGRAM, 0,
+];
+
+const FRAME_OF_CAMERA: Layout = Layout {
+    base: 0x800,
+    pitch: 64,
+    height: 32,
+    size: 4,
+    tiled: true,
+};
+
+const DISTANCES: Layout = Layout {
+    base: 0x2800,
+    pitch: 64,
+    height: 24,
+    size: 2,
+    tiled: true,
+};
+
+/// What stands where nothing was painted.
+const UNPAINTED: u8 = 0xEE;
+
+/// The camera's memory from its frame on: a frame whose red grows to the right and whose
+/// green grows downwards, with a blue disc; and numbers that grow from the disc's middle
+/// on. The last rows of the buffer's tiles belong to no pair.
+fn camera() -> Vec<u8> {
+    let from_the_middle = |x: u32, y: u32| {
+        let (x, y) = (x.abs_diff(24), y.abs_diff(10));
+        (x * x + 4 * y * y) as u16
+    };
+    let pixel = |x: u32, y: u32| {
+        let blue = if from_the_middle(x, y) < 300 { 255 } else { 0 };
+        vec![(4 * x) as u8, (8 * y) as u8, blue, 128]
+    };
+    let number = |x: u32, y: u32| from_the_middle(x, y).to_le_bytes().to_vec();
+    let mut memory = vec![UNPAINTED; 12_288];
+    paint(&FRAME_OF_CAMERA, &mut memory, pixel);
+    paint(&DISTANCES, &mut memory, number);
+    memory
+}
+
+/// Paints a window whole.
+fn paint(window: &Layout, memory: &mut [u8], element: impl Fn(u32, u32) -> Vec<u8>) {
+    let (columns, rows) = (window.pitch, window.height);
+    let pairs = (0..rows).flat_map(|y| (0..columns).map(move |x| (x, y)));
+    let room: Vec<u8> = pairs.flat_map(|(x, y)| element(x, y)).collect();
+    let whole = Rectangle {
+        x: 0,
+        y: 0,
+        columns,
+        rows,
+    };
+    let painted = boundary::paint(window, &whole, memory, FRAME_OF_CAMERA.base, &room);
+    painted.expect("the memory covers the window");
+}
+
+/// Two lessees of which each runs: party 1 owns output 1, which lies over the bytes of party 0's
+/// output 0. Its mask leaves its own output nothing, and then all again; party 0's output has its
+/// channels all the while. Last party 1 names output 0.
+#[rustfmt::skip]
+const SECOND_LESSEE: [u32; 22] = [
+    SET_INST_FMT, 0x2000, 0x0400_0010,
+    SET_OUT_FMT, 1, 0x800, 0x0201_0064, 18,
+    SET_DOMAIN, 0, 0, 47, 17,
+    SET_OUT_MASK, 0,
+    START_PROGRAM, 0,
+    SET_OUT_MASK, 0x00F0,
+    START_PROGRAM, 0,
+    SET_OUT_FMT,
+];
+/// Both of which party 0 sends: a start before what is refused and one behind it.
+const FIRST_STARTS: [u32; 4] = [START_PROGRAM, 0, START_PROGRAM, 0];
+
+/// An intruder: party 1, which owns output 1 alone, sets float constants, which are party 0's. It is
+/// stopped at that word, and nothing of what it sends then is taken: neither that output 0 be moved nor
+/// that it be masked off.
+#[rustfmt::skip]
+const INTRUDER: [u32; 10] = [
+    SET_CONSTF_FMT, 0x1000, 0x0400_0010,
+    SET_OUT_FMT, 0, 0x8000, 0x0201_0064, 1,
+    SET_OUT_MASK, 0,
+];
+
+/// Two parties' words, one of each in turn as long as both have any, and whose they are, in lines of
+/// sixteen.
+fn two_parties(zero: &[u32], one: &[u32]) -> (Vec<u8>, Vec<u8>) {
+    let (mut words, mut parties) = (Vec::new(), String::new());
+    for place in 0..zero.len().max(one.len()) {
+        for (party, list) in [('0', zero), ('1', one)] {
+            if let Some(word) = list.get(place) {
+                words.push(*word);
+                parties.push(party);
+            }
+        }
+    }
+    let digits: Vec<char> = parties.chars().collect();
+    let lines: Vec<String> = digits
+        .chunks(16)
+        .map(|line| line.iter().collect())
+        .collect();
+    (stream(&words), (lines.join("\n") + "\n").into_bytes())
+}
+
 /// A stream's words, low byte first.
 fn stream(words: &[u32]) -> Vec<u8> {
     words.iter().flat_map(|word| word.to_le_bytes()).collect()
 }
 
 /// The bytes of every file, by its name.
-fn files() -> [(&'static str, Vec<u8>); 9] {
+fn files() -> [(&'static str, Vec<u8>); 15] {
+    let whole = [&SETTINGS[..], &FIRST_STARTS].concat();
+    let second = [&SECOND_LESSEE[..], &[0]].concat();
+    let (lessees, of_lessees) = two_parties(
+        &[&[WAIT_FOR_IDLE, 0].repeat(4), &whole[..]].concat(),
+        &second,
+    );
+    let (intruder, of_intruder) = two_parties(&whole, &INTRUDER);
     [
         ("station-14.log", station_14().bytes),
         ("full-month.log", full_month().bytes),
@@ -231,7 +321,13 @@ fn files() -> [(&'static str, Vec<u8>); 9] {
         ("three-days.log", three_days().bytes),
         ("refused.log", refused().bytes),
         ("masked.ctm", stream(&[&SETTINGS[..], &MASKED].concat())),
+        ("lessees.ctm", lessees),
+        ("lessees.parties", of_lessees),
+        ("intruder.ctm", intruder),
+        ("intruder.parties", of_intruder),
         ("channels.ctm", stream(&[&SETTINGS[..], &CHANNELS].concat())),
+        ("camera.ctm", stream(&CAMERA)),
+        ("camera.mem", camera()),
     ]
 }
 
@@ -240,6 +336,11 @@ fn main() -> io::Result<()> {
     let folder = env::args_os().nth(1).map_or(samples, PathBuf::from);
     for (name, bytes) in files() {
         fs::write(folder.join(name), bytes)?;
+    }
+    let folder = folder.join("station-15");
+    fs::create_dir_all(&folder)?;
+    for (week, bytes) in (1..).zip(station_15()) {
+        fs::write(folder.join(format!("week-{week}.log")), bytes)?;
     }
     Ok(())
 }

@@ -62,13 +62,17 @@ impl Place {
         };
         let mut options = OpenOptions::new();
         let opened = match &beside {
-            Some(beside) => options.write(true).create_new(true).open(beside),
+            Some(beside) => {
+                // Before it is there, so that an interruption in between leaves none.
+                interrupt::remember(beside);
+                options.write(true).create_new(true).open(beside)
+            }
             None => options.write(true).open(&self.path),
         };
-        let file = opened.map_err(|error| self.failed(error))?;
-        if let Some(beside) = &beside {
-            interrupt::remember(beside);
-        }
+        let file = opened.map_err(|error| {
+            beside.iter().for_each(|beside| interrupt::forget(beside));
+            self.failed(error)
+        })?;
         Ok(Whole {
             place: self,
             beside,

@@ -19,7 +19,9 @@ pub fn prepare() {
         // Where there can be no handler, an interruption ends the program as ever.
         let _ = ctrlc::set_handler(|| {
             progress::clear();
-            for part in PARTS.lock().unwrap_or_else(PoisonError::into_inner).iter() {
+            // Held to the end, so that no other part is begun meanwhile.
+            let parts = PARTS.lock().unwrap_or_else(PoisonError::into_inner);
+            for part in parts.iter() {
                 let _ = fs::remove_file(part);
             }
             process::exit(INTERRUPTED);

@@ -10,6 +10,7 @@ pub mod interrupt;
 pub mod kinds;
 pub mod names;
 pub mod output;
+pub mod replaced;
 pub mod settings;
 pub mod text;
 pub mod visible;

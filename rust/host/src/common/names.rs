@@ -129,6 +129,34 @@ impl Kind {
     }
 }
 
+/// A conditional test: its name, and how it is written between value and buffer.
+pub struct Test {
+    pub name: &'static str,
+    /// None where nothing is compared.
+    pub sign: Option<&'static str>,
+}
+
+const fn test(name: &'static str, sign: Option<&'static str>) -> Test {
+    Test { name, sign }
+}
+
+/// The conditional tests by their numbers, 0 to 7.
+const TESTS: [Test; 8] = [
+    test("never", None),
+    test("less", Some("<")),
+    test("less or equal", Some("<=")),
+    test("equal", Some("=")),
+    test("at least", Some(">=")),
+    test("greater", Some(">")),
+    test("not equal", Some("<>")),
+    test("always", None),
+];
+
+/// The test with this number.
+pub fn conditional_test(number: u32) -> Option<&'static Test> {
+    TESTS.get(number as usize)
+}
+
 /// An element format: its name, its size in bytes and its channels.
 pub struct ElementFormat {
     pub name: &'static str,

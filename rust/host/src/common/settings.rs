@@ -1,10 +1,11 @@
-//! A session's settings as the product tells them, each with its name, and how
-//! they stand to one another.
+//! A party's settings as the product tells them, each with its name, and how they
+//! stand to one another. Of two parties each has the numbers that it owns; the one of
+//! a session owns all.
 
 use crate::common::kinds::Address;
 use crate::common::names::{self, FormatWord, Kind, Line};
 use crate::common::text;
-use boundary::{headers, Edition, Format, Layout, Session};
+use boundary::{headers, Edition, Format, Layout, Session, View};
 
 #[derive(Clone, Debug, PartialEq, Eq)]
 pub enum Value {
@@ -19,7 +20,11 @@ pub enum Value {
     /// Of instructions or constants.
     Store(Format),
     Domain([u32; 4]),
-    OutputMask(u32),
+    OutputMask {
+        mask: u32,
+        /// The outputs whose bits they are.
+        outputs: Vec<u32>,
+    },
     ConditionalMask(u32),
     Test(u32),
 }
@@ -39,16 +44,17 @@ const SINGLE: [(u32, &str); 4] = [
 ];
 
 /// All that is set, in an order of its own: formats, domain, masks, test.
-pub fn all(session: &Session) -> Vec<Setting> {
+pub fn all(party: View) -> Vec<Setting> {
     let mut list = Vec::new();
     let mut put = |name: String, value: Option<Value>| {
         list.extend(value.map(|value| Setting { name, value }));
     };
-    let store = |header| set_format(session, header, 0).map(Value::Store);
-    let array = |header, number| set_format(session, header, number).map(Value::Array);
-    let mask = session.output_mask();
+    let owned = party.owned();
+    let store = |header| own_format(party, header, 0).map(Value::Store);
+    let array = |header, number| own_format(party, header, number).map(Value::Array);
+    let mask = party.output_mask();
     let output = |number| {
-        let format = set_format(session, headers::SET_OUT_FMT, number)?;
+        let format = own_format(party, headers::SET_OUT_FMT, number)?;
         let silent = is_silent(mask, number, &format);
         Some(Value::Output { format, silent })
     };
@@ -68,31 +74,46 @@ pub fn all(session: &Session) -> Vec<Setting> {
         "conditional output".into(),
         array(headers::SET_COND_OUT_FMT, 0),
     );
-    put("domain".into(), session.domain().map(Value::Domain));
-    put("output mask".into(), Some(Value::OutputMask(mask)));
+    put("domain".into(), party.domain().map(Value::Domain));
+    let outputs: Vec<u32> = (0..names::OUTPUTS).filter(|n| owned.output(*n)).collect();
+    let own_bits: u32 = outputs.iter().map(|number| 0xF << (4 * number)).sum();
+    let mask = mask & own_bits;
+    let output_mask = (!outputs.is_empty()).then_some(Value::OutputMask { mask, outputs });
+    put("output mask".into(), output_mask);
+    let conditional = party.conditional_mask().filter(|_| owned.common);
     put(
         "conditional mask".into(),
-        session.conditional_mask().map(Value::ConditionalMask),
+        conditional.map(Value::ConditionalMask),
     );
-    put("test".into(), session.test().map(Value::Test));
+    let test = party.test().filter(|_| owned.common);
+    put("test".into(), test.map(Value::Test));
     list
 }
 
-fn set_format(session: &Session, header: u32, number: u32) -> Option<Format> {
-    session.format(header, number).ok().flatten()
+/// A format that is set, where the party owns it.
+fn own_format(party: View, header: u32, number: u32) -> Option<Format> {
+    let owned = party.owned();
+    let own = match header {
+        headers::SET_INST_FMT => true,
+        headers::SET_INP_FMT => owned.input(number),
+        headers::SET_OUT_FMT => owned.output(number),
+        _ => owned.common,
+    };
+    let set = party.format(header, number).ok().flatten();
+    set.filter(|_| own)
 }
 
-/// The outputs that are set, silent ones too, with their numbers.
-pub fn outputs(session: &Session) -> Vec<(u32, Format)> {
-    let output = |n| set_format(session, headers::SET_OUT_FMT, n).map(|format| (n, format));
+/// The party's outputs that are set, silent ones too, with their numbers.
+pub fn outputs(party: View) -> Vec<(u32, Format)> {
+    let output = |n| own_format(party, headers::SET_OUT_FMT, n).map(|format| (n, format));
     (0..names::OUTPUTS).filter_map(output).collect()
 }
 
 /// The set outputs that aren't silent: those that refusals 8 and 9 ask about and
 /// that claim.
-pub fn counted(session: &Session) -> Vec<(u32, Format)> {
-    let mask = session.output_mask();
-    let mut list = outputs(session);
+pub fn counted(party: View) -> Vec<(u32, Format)> {
+    let mask = party.output_mask();
+    let mut list = outputs(party);
     list.retain(|(number, format)| !is_silent(mask, *number, format));
     list
 }
@@ -161,7 +182,9 @@ impl Setting {
                 false => format_words(format),
             },
             Value::Domain(domain) => domain_words(domain),
-            Value::OutputMask(mask) => format!("{mask:04X}: {}", text::output_mask(*mask)),
+            Value::OutputMask { mask, outputs } => {
+                format!("{mask:04X}: {}", text::mask_of(*mask, outputs))
+            }
             Value::ConditionalMask(mask) => mask.to_string(),
             Value::Test(test) => test.to_string(),
         }
@@ -218,9 +241,9 @@ pub fn pairs(domain: &[u32; 4]) -> u64 {
 
 /// Where the domain leaves the window of an output that counts: refusal 8's two
 /// quantities.
-pub fn outside(session: &Session) -> Option<String> {
-    let [_, _, i1, j1] = session.domain()?;
-    counted(session).iter().find_map(|(number, format)| {
+pub fn outside(party: View) -> Option<String> {
+    let [_, _, i1, j1] = party.domain()?;
+    counted(party).iter().find_map(|(number, format)| {
         let step = boundary::layout(&layout(format)).ok()?.step;
         let height = format.height;
         if i1 >= step {
@@ -239,13 +262,13 @@ pub fn outside(session: &Session) -> Option<String> {
 
 /// The first two outputs that count and whose spans meet: refusal 9's two
 /// quantities.
-pub fn shared_bytes(session: &Session) -> Option<String> {
+pub fn shared_bytes(party: View) -> Option<String> {
     let bytes = |(number, format): (u32, Format)| {
         let window = boundary::layout(&layout(&format)).ok()?;
         let first = u64::from(format.base);
         Some((number, first, first + u64::from(window.span) - 1))
     };
-    let spans: Vec<(u32, u64, u64)> = counted(session).into_iter().filter_map(bytes).collect();
+    let spans: Vec<(u32, u64, u64)> = counted(party).into_iter().filter_map(bytes).collect();
     for (place, (a, a_first, a_last)) in spans.iter().enumerate() {
         for (b, b_first, b_last) in &spans[place + 1..] {
             if a_first.max(b_first) <= a_last.min(b_last) {

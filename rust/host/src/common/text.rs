@@ -109,6 +109,11 @@ pub fn layout_words(layout: &Layout) -> String {
 
 /// The output mask: for each output its updated channels.
 pub fn output_mask(mask: u32) -> String {
+    mask_of(mask, &[0, 1, 2, 3])
+}
+
+/// The same for these outputs.
+pub fn mask_of(mask: u32, outputs: &[u32]) -> String {
     let channels = |output: u32| -> String {
         (0..4)
             .map(|channel| match mask >> (4 * output + channel) & 1 {
@@ -117,6 +122,6 @@ pub fn output_mask(mask: u32) -> String {
             })
             .collect()
     };
-    let outputs: Vec<String> = (0..4).map(|n| format!("{n}:{}", channels(n))).collect();
-    outputs.join(" ")
+    let each = outputs.iter().map(|n| format!("{n}:{}", channels(*n)));
+    each.collect::<Vec<_>>().join(" ")
 }

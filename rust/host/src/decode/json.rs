@@ -7,7 +7,7 @@ use crate::common::kinds::{Address, Position, Word};
 use crate::common::names::{FormatWord, Kind};
 use crate::common::settings::{self, Setting, Value as SettingValue};
 use crate::decode::walk::{Came, Form, Output, Ready, Seen, Start, Totals};
-use boundary::{Format, Layout};
+use boundary::{Format, Layout, Party};
 use serde_json::{json, Map, Value};
 use std::io::Write;
 
@@ -41,6 +41,7 @@ impl Form for Json<'_> {
             }
             _ => {}
         }
+        put_party(&mut value, seen.party);
         writeln!(self.out, "{value}")?;
         Ok(())
     }
@@ -57,7 +58,7 @@ impl Form for Json<'_> {
         let settings: Vec<Value> = start.settings.iter().map(with_mark).collect();
         let outputs = start.outputs();
         let silent = outputs.iter().filter(|output| output.is_silent());
-        let value = json!({
+        let mut value = json!({
             "start": start.runs,
             "position": start.position.0,
             "claimed": start.claimed,
@@ -67,6 +68,7 @@ impl Form for Json<'_> {
             "channels": outputs.iter().map(channels).collect::<Vec<_>>(),
             "settings": settings,
         });
+        put_party(&mut value, start.party);
         writeln!(self.out, "{value}")?;
         Ok(())
     }
@@ -88,7 +90,7 @@ impl Form for Json<'_> {
             })
         });
         let settings: Vec<Value> = totals.settings.iter().map(as_json).collect();
-        let value = json!({"summary": {
+        let mut value = json!({"summary": {
             "input": totals.name,
             "words": totals.words,
             "taken": totals.taken,
@@ -102,18 +104,27 @@ impl Form for Json<'_> {
             "settings": settings,
             "ready": ready(&totals.ready),
         }});
+        put_party(&mut value["summary"], totals.party);
         writeln!(self.out, "{value}")?;
         Ok(())
     }
 
-    fn ready(&mut self, position: Position, change: &Ready) -> Outcome {
+    fn ready(&mut self, party: Option<Party>, position: Position, change: &Ready) -> Outcome {
         if self.summary {
             return Ok(());
         }
         let mut value = ready(change);
         value["position"] = json!(position.0);
+        put_party(&mut value, party);
         writeln!(self.out, "{value}")?;
         Ok(())
+    }
+}
+
+/// The party, where there are two.
+fn put_party(value: &mut Value, party: Option<Party>) {
+    if let Some(party) = party {
+        value["party"] = json!(party.number());
     }
 }
 
@@ -169,7 +180,7 @@ fn as_json(setting: &Setting) -> Value {
         SettingValue::Domain([i0, j0, i1, j1]) => {
             value["domain"] = json!({"i0": i0, "j0": j0, "i1": i1, "j1": j1});
         }
-        SettingValue::OutputMask(mask) => value["mask"] = json!(Word(*mask).to_string()),
+        SettingValue::OutputMask { mask, .. } => value["mask"] = json!(Word(*mask).to_string()),
         SettingValue::ConditionalMask(mask) => value["mask"] = json!(mask),
         SettingValue::Test(test) => value["test"] = json!(test),
     }

@@ -10,12 +10,28 @@ use crate::common::settings::{self, Setting};
 use crate::common::text;
 use crate::decode::walk::{Came, Form, Output, Ready, Seen, Start, Totals};
 use crate::explain::cause::Refused;
-use boundary::Edition;
+use boundary::{Edition, Party};
 use std::io::Write;
 
-/// A line a word, the settings at each start.
+/// Where party 1's column begins, behind party 0's.
+const COLUMN: usize = 44;
+
+/// A line a word, the settings at each start. Of two parties each has a column.
 pub struct Listing<'a> {
     pub out: &'a mut dyn Write,
+}
+
+impl Listing<'_> {
+    /// The columns' heads.
+    pub fn two_parties(&mut self) -> Outcome {
+        writeln!(self.out, "#{:20}{:COLUMN$}party 1", "", "party 0")?;
+        Ok(())
+    }
+}
+
+/// "party 1, " before what is told of one of two parties.
+pub fn whose(party: Option<Party>) -> String {
+    party.map_or(String::new(), |party| format!("party {}, ", party.number()))
 }
 
 impl Form for Listing<'_> {
@@ -29,9 +45,13 @@ impl Form for Listing<'_> {
             Came::After => "not taken".to_string(),
             _ => meaning(seen),
         };
-        writeln!(self.out, "{at:>8}:  {word}  {text}")?;
+        let column = match seen.party {
+            Some(Party::One) => COLUMN,
+            _ => 0,
+        };
+        writeln!(self.out, "{at:>8}:  {word}  {:column$}{text}", "")?;
         if let Came::Refused(refused) = &seen.came {
-            writeln!(self.out, "# word {at}: {refused}")?;
+            writeln!(self.out, "# {}word {at}: {refused}", whose(seen.party))?;
         }
         Ok(())
     }
@@ -58,8 +78,8 @@ impl Form for Listing<'_> {
         Ok(())
     }
 
-    fn ready(&mut self, _: Position, ready: &Ready) -> Outcome {
-        writeln!(self.out, "# {ready}")?;
+    fn ready(&mut self, party: Option<Party>, _: Position, ready: &Ready) -> Outcome {
+        writeln!(self.out, "# {}{ready}", whose(party))?;
         Ok(())
     }
 }
@@ -77,7 +97,8 @@ fn claim(start: &Start) -> String {
         claims,
         ..
     } = start;
-    format!("start {runs}: claims {claimed} in {counted}, {claims} so far")
+    let whose = whose(start.party);
+    format!("{whose}start {runs}: claims {claimed} in {counted}, {claims} so far")
 }
 
 fn by_outputs(outputs: &[Output]) -> String {
@@ -137,7 +158,8 @@ fn closing(totals: &Totals) -> Vec<String> {
         lines.push(format!("refused {number} at word {position}: {taken} taken before it, {after} after it not taken"));
     }
     lines.push(totals.ready.to_string());
-    lines
+    let whose = whose(totals.party);
+    lines.iter().map(|line| format!("{whose}{line}")).collect()
 }
 
 /// What a word that the session looked at says.
@@ -225,8 +247,8 @@ impl Form for Terse<'_> {
         Ok(())
     }
 
-    fn ready(&mut self, _: Position, ready: &Ready) -> Outcome {
-        writeln!(self.out, "# {ready}")?;
+    fn ready(&mut self, party: Option<Party>, _: Position, ready: &Ready) -> Outcome {
+        writeln!(self.out, "# {}{ready}", whose(party))?;
         Ok(())
     }
 }
@@ -253,7 +275,7 @@ impl Form for Summary<'_> {
 
     fn end(&mut self, totals: &Totals) -> Outcome {
         let out = &mut self.out;
-        writeln!(out, "{}", totals.name)?;
+        writeln!(out, "{}{}", whose(totals.party), totals.name)?;
         for line in closing(totals) {
             writeln!(out, "  {line}")?;
         }

@@ -2,6 +2,8 @@
 
 mod json;
 mod listing;
+mod parties;
+pub mod settled;
 pub mod walk;
 
 use crate::common::digits::Digits;
@@ -9,9 +11,11 @@ use crate::common::edition::{self, EditionOption};
 use crate::common::failure::{Failure, Outcome};
 use crate::decode::json::Json;
 use crate::decode::listing::{Listing, Summary, Terse};
-use crate::decode::walk::{Form, Walk};
+use crate::decode::parties::PartiesOptions;
+use crate::decode::walk::{Form, Totals};
 use crate::input::source::Source;
 use crate::input::words::Words;
+use boundary::{Edition, Pair, Party};
 use clap::Args;
 use std::io::Write;
 use std::path::PathBuf;
@@ -23,7 +27,8 @@ Examples, from the repository's root:
   egretfold decode --hex samples/refused.hex
   egretfold decode --ready --terse samples/several.ctm
   egretfold decode --summary --json samples/whole.ctm
-  egretfold decode --edition 2 --terse samples/masked.ctm";
+  egretfold decode --edition 2 --terse samples/channels.ctm
+  egretfold decode --parties samples/intruder.parties --owners 0:2 samples/intruder.ctm";
 
 #[derive(Args)]
 pub struct Options {
@@ -49,35 +54,73 @@ pub struct Options {
     plain: bool,
     #[command(flatten)]
     edition: EditionOption,
+    #[command(flatten)]
+    parties: PartiesOptions,
 }
 
 pub fn run(options: &Options, out: &mut dyn Write) -> Outcome {
     let edition = options.edition.accepted().map_err(edition::refused)?;
+    let lessees = options.parties.read(edition)?;
     let words = Words::new(Source::open(options.file.as_deref())?, options.hex);
     let summary = options.summary;
-    let walk = Walk::new(edition, options.ready);
+    let stream = Stream {
+        edition,
+        lessees,
+        changes: options.ready,
+        words,
+    };
     if options.json {
-        show(words, walk, &mut Json { out, summary })
+        stream.show(&mut Json { out, summary })
     } else if summary {
         let digits = Digits::plain(options.plain);
-        show(words, walk, &mut Summary { out, digits })
+        stream.show(&mut Summary { out, digits })
     } else if options.terse {
         let open = Vec::new();
-        show(words, walk, &mut Terse { out, open })
+        stream.show(&mut Terse { out, open })
     } else {
-        show(words, walk, &mut Listing { out })
+        let mut listing = Listing { out };
+        if stream.lessees.is_some() {
+            listing.two_parties()?;
+        }
+        stream.show(&mut listing)
     }
 }
 
-/// Walks the words and ends with the stream's refusal, if there is one.
-fn show(words: Words, walk: Walk, form: &mut dyn Form) -> Outcome {
-    let totals = walk.run(words, form)?;
-    match totals.refused {
-        Some((position, refused)) => {
-            let name = totals.name;
-            let told = Failure::Refused(format!("{name}: word {position}: {refused}"));
-            Err(told.hinted(totals.hint))
+/// A stream as it is asked for.
+struct Stream {
+    edition: Edition,
+    /// Two parties, and whose each word is; none where there is one.
+    lessees: Option<(Pair, Vec<Party>)>,
+    /// Whether each change of what a start would get is told.
+    changes: bool,
+    words: Words,
+}
+
+impl Stream {
+    /// Walks the words and ends with the stream's refusal, if there is one, of each party.
+    fn show(self, form: &mut dyn Form) -> Outcome {
+        let Stream {
+            edition,
+            changes,
+            words,
+            ..
+        } = self;
+        let totals = match self.lessees {
+            None => vec![walk::one(edition, changes, words, form)?],
+            Some((pair, parties)) => walk::two(pair, &parties, changes, words, form)?.into(),
+        };
+        let refused = |totals: &Totals| {
+            let (position, refused) = totals.refused.as_ref()?;
+            let whose = listing::whose(totals.party);
+            Some(format!(
+                "{}: {whose}word {position}: {refused}",
+                totals.name
+            ))
+        };
+        let told: Vec<String> = totals.iter().filter_map(refused).collect();
+        match told.is_empty() {
+            true => Ok(()),
+            false => Err(Failure::Refused(told.join("\n")).hinted(totals[0].hint.clone())),
         }
-        None => Ok(()),
     }
 }

@@ -1,13 +1,14 @@
 //! A stream of command words given to a session one by one, with what each word
-//! came to. The forms in which `decode` prints are told of every word.
+//! came to: the session of one party, or of two, whose words are mixed. The forms in
+//! which `decode` prints are told of every word.
 
-use crate::common::failure::Outcome;
+use crate::common::failure::{Failure, Outcome};
 use crate::common::kinds::Position;
 use crate::common::names::{self, Kind, Line};
 use crate::common::settings::{self, Setting};
 use crate::explain::cause::{self, Refused};
 use crate::input::words::Words;
-use boundary::{headers, Command, Edition, Reply, Session};
+use boundary::{headers, Answer, Command, Edition, Pair, Party, Reply, Session, View};
 use std::fmt;
 
 /// What a word came to.
@@ -16,12 +17,14 @@ pub enum Came {
     Open,
     Done(Command),
     Refused(Refused),
-    /// The session was stopped before this word.
+    /// Its party was stopped before this word.
     After,
 }
 
 /// A word of the stream.
 pub struct Seen<'a> {
+    /// Whose it is, where there are two.
+    pub party: Option<Party>,
     pub position: Position,
     pub word: u32,
     /// The command's words up to this one, its header first; empty for a word
@@ -39,6 +42,7 @@ pub struct Output {
 
 /// A start that passed.
 pub struct Start<'a> {
+    pub party: Option<Party>,
     pub position: Position,
     pub runs: u64,
     pub claims: u64,
@@ -47,7 +51,7 @@ pub struct Start<'a> {
     /// The settings in force, each with whether it changed since the last start;
     /// none for a form that doesn't want them.
     pub settings: &'a [(Setting, bool)],
-    session: &'a Session,
+    view: View<'a>,
 }
 
 /// What a start would get now.
@@ -60,8 +64,9 @@ pub struct Ready {
     pub cause: Option<String>,
 }
 
-/// The stream as a whole.
+/// The stream as a whole, or a party's part of it.
 pub struct Totals {
+    pub party: Option<Party>,
     /// The input's name.
     pub name: String,
     pub words: u64,
@@ -93,7 +98,7 @@ pub trait Form {
     fn end(&mut self, totals: &Totals) -> Outcome;
 
     /// A command has changed what a start would get of the settings. Told where it is asked for.
-    fn ready(&mut self, _: Position, _: &Ready) -> Outcome {
+    fn ready(&mut self, _: Option<Party>, _: Position, _: &Ready) -> Outcome {
         Ok(())
     }
 }
@@ -130,18 +135,18 @@ impl Seen<'_> {
 
 impl Start<'_> {
     pub fn edition(&self) -> Edition {
-        self.session.status().edition
+        self.view.status().edition
     }
 
     /// The outputs that are set. Asked of the product at each call, since not all forms tell of them.
     pub fn outputs(&self) -> Vec<Output> {
-        let mask = self.session.output_mask();
+        let mask = self.view.output_mask();
         let output = |(number, format)| Output {
             number,
             unmasked: settings::unmasked(mask, number, &format),
             channels: settings::channels(&format),
         };
-        let set = settings::outputs(self.session);
+        let set = settings::outputs(self.view);
         set.into_iter().map(output).collect()
     }
 }
@@ -153,12 +158,12 @@ impl Output {
 }
 
 impl Ready {
-    fn of(session: &Session) -> Ready {
-        let status = session.status();
+    fn of(party: View) -> Ready {
+        let status = party.status();
         Ready {
             stopped: status.stopped,
             number: status.readiness,
-            cause: cause::of_start(status.readiness, session),
+            cause: cause::of_start(status.readiness, party),
         }
     }
 }
@@ -196,9 +201,125 @@ impl Totals {
     }
 }
 
-pub struct Walk {
-    session: Session,
-    position: u64,
+/// Who takes the words: the session, or a party of two.
+trait Taker {
+    fn word(&mut self, word: u32) -> Answer<Reply>;
+    fn view(&self) -> View<'_>;
+}
+
+impl Taker for Session {
+    fn word(&mut self, word: u32) -> Answer<Reply> {
+        Session::word(self, word)
+    }
+
+    fn view(&self) -> View<'_> {
+        Session::view(self)
+    }
+}
+
+struct Lessee<'a> {
+    pair: &'a mut Pair,
+    party: Party,
+}
+
+impl Taker for Lessee<'_> {
+    fn word(&mut self, word: u32) -> Answer<Reply> {
+        self.pair.word(self.party, word)
+    }
+
+    fn view(&self) -> View<'_> {
+        self.pair.view(self.party)
+    }
+}
+
+/// Walks all words under an edition, telling each change of what a start would get, or none.
+pub fn one(edition: Edition, changes: bool, words: Words, form: &mut dyn Form) -> Outcome<Totals> {
+    through(&mut Session::new(edition), changes, words, form)
+}
+
+/// The same through a session at hand, for those who ask it afterwards.
+pub fn through(
+    session: &mut Session,
+    changes: bool,
+    words: Words,
+    form: &mut dyn Form,
+) -> Outcome<Totals> {
+    let mut walk = Walk::new(None, session.view(), changes);
+    let take = |at, word, form: &mut dyn Form| walk.word(at, word, session, form);
+    let (words, ended) = each(words, form, take)?;
+    let totals = walk.totals(session.view(), &words);
+    form.end(&totals)?;
+    ended.map_err(|failure| failure.hinted(totals.hint.clone()))?;
+    Ok(totals)
+}
+
+/// The same for two parties' words, where this names the party of each.
+pub fn two(
+    mut pair: Pair,
+    parties: &[Party],
+    changes: bool,
+    words: Words,
+    form: &mut dyn Form,
+) -> Outcome<[Totals; 2]> {
+    let mut walks = Party::BOTH.map(|party| Walk::new(Some(party), pair.view(party), changes));
+    let mut count = 0;
+    let take = |at: Position, word, form: &mut dyn Form| {
+        count = at.0 + 1;
+        // Words without a party are only counted.
+        let party = match parties.get(at.0 as usize) {
+            Some(party) => *party,
+            None => return Ok(()),
+        };
+        let pair = &mut pair;
+        let walk = &mut walks[party.number() as usize];
+        walk.word(at, word, &mut Lessee { pair, party }, form)
+    };
+    let (words, ended) = each(words, form, take)?;
+    let totals = Party::BOTH.map(|party| {
+        let walk = &walks[party.number() as usize];
+        walk.totals(pair.view(party), &words)
+    });
+    for each in &totals {
+        form.end(each)?;
+    }
+    ended.map_err(|failure| failure.hinted(words.hint()))?;
+    match count == parties.len() as u64 {
+        true => Ok(totals),
+        false => Err(Failure::wrong(format!(
+            "{}: {count} words, and the parties of {} are named",
+            words.name(),
+            parties.len()
+        ))),
+    }
+}
+
+/// Gives every word to this, with its position. Where the input fails on the way, the words before that are given all the
+/// same: the failure comes beside what is left of the input.
+fn each(
+    mut words: Words,
+    form: &mut dyn Form,
+    mut take: impl FnMut(Position, u32, &mut dyn Form) -> Outcome,
+) -> Outcome<(Words, Outcome)> {
+    let mut position = 0;
+    let ended = loop {
+        match words.piece() {
+            Ok([]) => break Ok(()),
+            Ok(piece) => {
+                for word in piece {
+                    take(Position(position), *word, form)?;
+                    position += 1;
+                }
+            }
+            Err(failure) => break Err(failure),
+        }
+    };
+    Ok((words, ended))
+}
+
+/// Where a party's words stand.
+struct Walk {
+    party: Option<Party>,
+    words: u64,
     open: Vec<u32>,
     commands: [u64; names::COMMANDS.len()],
     refused: Option<(Position, Refused)>,
@@ -209,53 +330,33 @@ pub struct Walk {
 }
 
 impl Walk {
-    /// A walk under an edition that tells each change of what a start would get, or none.
-    pub fn new(edition: Edition, changes: bool) -> Walk {
-        let session = Session::new(edition);
-        let last = settings::all(&session);
-        let ready = changes.then(|| session.status().readiness);
+    fn new(party: Option<Party>, view: View, changes: bool) -> Walk {
         Walk {
-            session,
-            position: 0,
+            party,
+            words: 0,
             open: Vec::new(),
             commands: [0; names::COMMANDS.len()],
             refused: None,
-            last,
-            ready,
+            last: settings::all(view),
+            ready: changes.then(|| view.status().readiness),
         }
     }
 
-    /// Walks all words. Where the input fails on the way, the words before that
-    /// and their totals are told all the same.
-    pub fn run(mut self, mut words: Words, form: &mut dyn Form) -> Outcome<Totals> {
-        let ended = loop {
-            match words.piece() {
-                Ok([]) => break Ok(()),
-                Ok(piece) => {
-                    for word in piece {
-                        self.word(*word, form)?;
-                    }
-                }
-                Err(failure) => break Err(failure),
-            }
-        };
-        let totals = self.totals(&words);
-        form.end(&totals)?;
-        match ended {
-            Ok(()) => Ok(totals),
-            Err(failure) => Err(failure.hinted(totals.hint)),
-        }
-    }
-
-    fn word(&mut self, word: u32, form: &mut dyn Form) -> Outcome {
-        let position = Position(self.position);
-        self.position += 1;
-        let claims = self.session.claims();
-        let came = self.take(position, word);
+    fn word(
+        &mut self,
+        position: Position,
+        word: u32,
+        taker: &mut dyn Taker,
+        form: &mut dyn Form,
+    ) -> Outcome {
+        self.words += 1;
+        let claims = taker.view().claims();
+        let came = self.take(position, word, taker);
         let start =
             matches!(&came, Came::Done(command) if command.header == headers::START_PROGRAM);
         let ends = !matches!(came, Came::Open);
         let seen = Seen {
+            party: self.party,
             position,
             word,
             open: &self.open,
@@ -266,30 +367,30 @@ impl Walk {
             self.open.clear();
         }
         if start {
-            self.start(position, claims, form)?;
+            self.start(position, claims, taker.view(), form)?;
         }
-        self.tell_ready(position, form)
+        self.tell_ready(position, taker.view(), form)
     }
 
     /// Tells what a start would get where this word has changed it.
-    fn tell_ready(&mut self, position: Position, form: &mut dyn Form) -> Outcome {
-        let now = self.session.status().readiness;
+    fn tell_ready(&mut self, position: Position, view: View, form: &mut dyn Form) -> Outcome {
+        let now = view.status().readiness;
         match self.ready {
             Some(before) if before != now => {
                 self.ready = Some(now);
-                form.ready(position, &Ready::of(&self.session))
+                form.ready(self.party, position, &Ready::of(view))
             }
             _ => Ok(()),
         }
     }
 
-    /// Gives the word to the session.
-    fn take(&mut self, position: Position, word: u32) -> Came {
+    /// Gives the word to the one who takes it.
+    fn take(&mut self, position: Position, word: u32, taker: &mut dyn Taker) -> Came {
         if self.refused.is_some() {
             return Came::After;
         }
         self.open.push(word);
-        match self.session.word(word) {
+        match taker.word(word) {
             Ok(Reply::Open) => Came::Open,
             Ok(Reply::Done(command)) => {
                 let line = names::COMMANDS
@@ -300,53 +401,61 @@ impl Walk {
                 }
                 Came::Done(command)
             }
-            Err(number) => {
-                let cause = cause::of_word(number, &self.session, &self.open);
-                let refused = cause::refused(number, cause);
+            Err(refusal) => {
+                let cause = cause::of_word(refusal, taker.view(), &self.open);
+                let refused = cause::refused(refusal, cause);
                 self.refused = Some((position, refused.clone()));
                 Came::Refused(refused)
             }
         }
     }
 
-    fn start(&mut self, position: Position, claims: u64, form: &mut dyn Form) -> Outcome {
+    fn start(
+        &mut self,
+        position: Position,
+        claims: u64,
+        view: View,
+        form: &mut dyn Form,
+    ) -> Outcome {
         let now = match form.wants_settings() {
-            true => settings::all(&self.session),
+            true => settings::all(view),
             false => Vec::new(),
         };
         let mark = |setting: &Setting| (setting.clone(), !self.last.contains(setting));
         let marked: Vec<(Setting, bool)> = now.iter().map(mark).collect();
         form.start(&Start {
+            party: self.party,
             position,
-            runs: self.session.runs(),
-            claims: self.session.claims(),
-            claimed: self.session.claims() - claims,
+            runs: view.runs(),
+            claims: view.claims(),
+            claimed: view.claims() - claims,
             settings: &marked,
-            session: &self.session,
+            view,
         })?;
         self.last = now;
         Ok(())
     }
 
-    fn totals(&self, words: &Words) -> Totals {
-        let status = self.session.status();
+    fn totals(&self, view: View, words: &Words) -> Totals {
+        let status = view.status();
         let counted = names::COMMANDS.iter().zip(self.commands);
         let due = |header| boundary::parameters(header).unwrap_or(0);
         Totals {
+            party: self.party,
             name: words.name().to_string(),
-            words: self.position,
+            words: self.words,
             taken: u64::from(status.taken),
             commands: counted.filter(|(_, count)| *count > 0).collect(),
             edition: status.edition,
-            runs: self.session.runs(),
-            claims: self.session.claims(),
+            runs: view.runs(),
+            claims: view.claims(),
             open: status
                 .open
                 .map(|(header, taken)| (names::command_name(header), taken, due(header))),
             refused: self.refused.clone(),
-            settings: settings::all(&self.session),
+            settings: settings::all(view),
             hint: words.hint(),
-            ready: Ready::of(&self.session),
+            ready: Ready::of(view),
         }
     }
 }

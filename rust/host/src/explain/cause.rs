@@ -8,8 +8,8 @@ use crate::common::names::{self, FormatWord, Kind, Line};
 use crate::common::settings;
 use crate::common::text;
 use crate::explain::refusals;
-use crate::score::LeaseLine;
-use boundary::{headers, Layout, Session};
+use crate::score::asked::LeaseLine;
+use boundary::{headers, Layout, Owners, View};
 use std::fmt;
 
 const MEMORY_END: u64 = 1 << 32;
@@ -33,7 +33,8 @@ impl fmt::Display for Refused {
 }
 
 /// The number with its cause, which is the table's where no better one is known.
-pub fn refused(number: u32, cause: Option<String>) -> Refused {
+pub fn refused(number: impl Into<u32>, cause: Option<String>) -> Refused {
+    let number = number.into();
     let cause = cause.unwrap_or_else(|| refusals::cause(number).to_string());
     Refused { number, cause }
 }
@@ -64,6 +65,16 @@ pub fn of_lease(line: &LeaseLine) -> Option<String> {
     })
 }
 
+/// 3 of owners: a bit for a number that there isn't.
+pub fn of_owners(owners: &Owners) -> Option<String> {
+    let above = |name: &str, bits: u32, count: u32| {
+        let over = bits >> count != 0;
+        over.then(|| format!("{name}s {bits:X} have a bit above {name} {}", count - 1))
+    };
+    above("input", owners.inputs, names::INPUTS)
+        .or_else(|| above("output", owners.outputs, names::OUTPUTS))
+}
+
 /// 3 or 6 of a layout.
 pub fn of_layout(number: u32, layout: &Layout) -> Option<String> {
     match number {
@@ -74,7 +85,8 @@ pub fn of_layout(number: u32, layout: &Layout) -> Option<String> {
 }
 
 /// 3, 6 or 10 of a pair.
-pub fn of_pair(number: u32, layout: &Layout, x: u32, y: u32) -> Option<String> {
+pub fn of_pair(number: impl Into<u32>, layout: &Layout, x: u32, y: u32) -> Option<String> {
+    let number = number.into();
     if number != 10 {
         return of_layout(number, layout);
     }
@@ -90,7 +102,8 @@ pub fn of_pair(number: u32, layout: &Layout, x: u32, y: u32) -> Option<String> {
 }
 
 /// 3, 6 or 12 of an address.
-pub fn of_address(number: u32, layout: &Layout, address: u32) -> Option<String> {
+pub fn of_address(number: impl Into<u32>, layout: &Layout, address: u32) -> Option<String> {
+    let number = number.into();
     match number {
         12 => Some(format!("no pair owns it: {}", unowned(layout, address)?)),
         _ => of_layout(number, layout),
@@ -154,9 +167,10 @@ fn window_rule(layout: &Layout) -> Option<String> {
     })
 }
 
-/// A session's refusal of the last of the open command's words. The session's
-/// settings are those that the word met, as a refusal leaves them.
-pub fn of_word(number: u32, session: &Session, open: &[u32]) -> Option<String> {
+/// The refusal of the last of a party's open command's words. The party's settings are
+/// those that the word met, as a refusal leaves them.
+pub fn of_word(number: impl Into<u32>, party: View, open: &[u32]) -> Option<String> {
+    let number = number.into();
     let word = *open.last()?;
     if number == 2 {
         let house = house_word(word).unwrap_or_default();
@@ -166,21 +180,37 @@ pub fn of_word(number: u32, session: &Session, open: &[u32]) -> Option<String> {
         ));
     }
     let line = names::command(open[0])?;
+    if number == 20 {
+        return another_owns(party, line, open.get(1).copied());
+    }
     let kind = *line.parameters.get(open.len().checked_sub(2)?)?;
     match number {
         3 => fault(line.header, kind, word),
         4 => too_large(kind, word),
-        7..=9 => of_start(number, session),
+        7..=9 => of_start(number, party),
         _ => of_command(number, line, &open[1..]),
     }
 }
 
+/// 20: at a header that sets what is party 0's, or at a number of the other party's.
+fn another_owns(party: View, line: &Line, number: Option<u32>) -> Option<String> {
+    let owner = match party.owned().common {
+        true => 1,
+        false => 0,
+    };
+    let kind = line.parameters.first()?.name();
+    Some(match number {
+        Some(number) => format!("{kind} {number} is party {owner}'s"),
+        None => format!("{} sets what is party {owner}'s", line.name),
+    })
+}
+
 /// What the settings refuse a start with: 7, 8 or 9.
-pub fn of_start(number: u32, session: &Session) -> Option<String> {
+pub fn of_start(number: u32, party: View) -> Option<String> {
     match number {
-        7 => Some(missing(session)),
-        8 => settings::outside(session),
-        9 => settings::shared_bytes(session),
+        7 => Some(missing(party)),
+        8 => settings::outside(party),
+        9 => settings::shared_bytes(party),
         _ => None,
     }
 }
@@ -197,7 +227,8 @@ fn house_word(word: u32) -> Option<String> {
 }
 
 /// The writer's refusal of a command: 3 to 6, by all its fields.
-pub fn of_command(number: u32, line: &Line, fields: &[u32]) -> Option<String> {
+pub fn of_command(number: impl Into<u32>, line: &Line, fields: &[u32]) -> Option<String> {
+    let number = number.into();
     let mut each = line.parameters.iter().zip(fields);
     match number {
         3 => each.find_map(|(kind, word)| fault(line.header, *kind, *word)),
@@ -252,7 +283,8 @@ fn superfine_channels(header: u32, kind: Kind, word: u32) -> Option<String> {
     })
 }
 
-fn crossed(fields: &[u32]) -> Option<String> {
+/// 5 of a domain: the ends that are crossed.
+pub fn crossed(fields: &[u32]) -> Option<String> {
     let [i0, j0, i1, j1] = *<&[u32; 4]>::try_from(fields).ok()?;
     if i0 > i1 {
         Some(format!("i0 {i0} is over i1 {i1}"))
@@ -263,13 +295,13 @@ fn crossed(fields: &[u32]) -> Option<String> {
     }
 }
 
-fn missing(session: &Session) -> String {
-    let outputs = settings::outputs(session).len() as u64;
+fn missing(party: View) -> String {
+    let outputs = settings::outputs(party).len() as u64;
     let mut missing = Vec::new();
-    if session.domain().is_none() {
+    if party.domain().is_none() {
         missing.push("a domain");
     }
-    if !matches!(session.format(headers::SET_INST_FMT, 0), Ok(Some(_))) {
+    if !matches!(party.format(headers::SET_INST_FMT, 0), Ok(Some(_))) {
         missing.push("an instruction format");
     }
     if outputs == 0 {

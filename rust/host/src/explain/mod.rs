@@ -71,7 +71,10 @@ fn quote(out: &mut dyn Write, document: &str, sentences: &[&str]) -> Outcome {
 }
 
 fn effect(number: u32) -> &'static str {
-    if refusals::stops(number) {
+    if refusals::is_of_a_party(number) {
+        "changes no setting; the word that gets it isn't counted, drops its party's open command and stops that party, \
+         and the other goes on"
+    } else if refusals::stops(number) {
         "changes no byte of lent memory and no setting; a session's word that gets it isn't counted, drops the open \
          command and stops the session"
     } else if refusals::stops_replay(number) {

@@ -13,7 +13,7 @@ pub struct Refusal {
     pub given: &'static str,
 }
 
-const STOPS: &[u32] = &[2, 3, 4, 5, 6, 7, 8, 9, 17];
+const STOPS: &[u32] = &[2, 3, 4, 5, 6, 7, 8, 9, 17, 20];
 
 /// Whether a session that gives this number to a word is stopped by it.
 pub fn stops(number: u32) -> bool {
@@ -25,9 +25,14 @@ pub fn stops_replay(number: u32) -> bool {
     number == 18 || number == 19
 }
 
-/// Whether it refuses a lease line.
+/// Whether it refuses a lease line, or a fleet of them.
 pub fn is_of_a_lease(number: u32) -> bool {
-    number == 21
+    matches!(number, 21 | 22)
+}
+
+/// Whether it refuses a word of one of two parties.
+pub fn is_of_a_party(number: u32) -> bool {
+    number == 20
 }
 
 pub fn refusal(number: u32) -> Option<&'static Refusal> {
@@ -41,6 +46,17 @@ pub fn cause(number: u32) -> &'static str {
 
 /// Request 11's sentence on a kill's refusals.
 const KILL_ORDER: &str = "An ended program gets 16, a write mask over 15 gets 13, a register list not of the starting group's length 11, in that order.";
+
+/// Request 12's sentence on the order of a test's refusals.
+const TEST_ORDER: &str = "With no conditional buffer or test set, 7; then 3, 5 for a bad domain, 10 at any pair, and 11.";
+
+/// Request 12's sentence on who is asked and what stops.
+const TEST_STOPS_NOTHING: &str =
+    "The unit only reads the session's settings, stopped or not, and its refusals stop nothing.";
+
+/// Request 13's sentence on what is painted into what.
+const PAINTED: &str =
+    "Take one accepted output window, a domain inside it and lent memory covering its span.";
 
 const fn entry(
     number: u32,
@@ -75,6 +91,15 @@ impl Refusal {
 
 const MASK: &str = "set_out_mask (bits 15:0, bit 4n+c for output n, channel c, house)";
 
+/// Requests 2 and 12.
+const MISSING: &[&str] = &[
+    SILENCE[0],
+    SILENCE[1],
+    SILENCE[2],
+    TEST_ORDER,
+    TEST_STOPS_NOTHING,
+];
+
 /// Request 2.
 const SILENCE: &[&str] = &[
     "An output is silent when no mask bit is set for a channel its format has.",
@@ -82,7 +107,7 @@ const SILENCE: &[&str] = &[
     "The channels are one, four, one, two and four for codes 0 to 4.",
 ];
 
-pub const ALL: [Refusal; 20] = [
+pub const ALL: [Refusal; 22] = [
     entry(
         1,
         "the session is stopped",
@@ -98,7 +123,7 @@ pub const ALL: [Refusal; 20] = [
     entry(
         3,
         "a reserved bit or code is set, or a layout argument is malformed",
-        "any parameter but an input's or output's number; the writer; calls that take a layout; the begin of a session, a replay or a score, for its edition",
+        "any parameter but an input's or output's number; the writer; calls that take a layout; the begin of a session, a replay or a score, for its edition; a conditional test or survey, for the buffer's format",
         &[
             "All bits not named are reserved; an input or output number is the whole word.",
             "Codes: 0 UINT16_1, 2 bytes; 1 UINT8_4, 4; 2 FLOAT32_1, 4; 3 FLOAT32_2, 8; 4 FLOAT32_4, 16; 5 to 7 refused.",
@@ -107,7 +132,12 @@ pub const ALL: [Refusal; 20] = [
             "Refusals 3 and 4 come with the word at fault",
         ],
     )
-    .changed_by(&["A session's edition (1 or 2, else 3 before all else) is fixed at its birth, also for replay and score; all answers but claimed totals, and what is reckoned from those, agree."]),
+    .changed_by(&[
+        "A session's edition (1 or 2, else 3 before all else) is fixed at its birth, also for replay and score; all answers but claimed totals, and what is reckoned from those, agree.",
+        "Build the unit that compares an unsigned 32-bit v with b read from the conditional buffer at the pair: result v op b, for UINT16_1 only (other formats get 3 here), low byte first, from lent memory.",
+        TEST_ORDER,
+        TEST_STOPS_NOTHING,
+    ]),
     entry(
         4,
         "input number over 15, output number over 3",
@@ -120,9 +150,10 @@ pub const ALL: [Refusal; 20] = [
     entry(
         5,
         "i0 > i1 or j0 > j1",
-        "the last parameter of set_domain; the writer",
+        "the last parameter of set_domain; the writer; a survey's domain",
         &["set_domain: i0, j0, i1, j1, each bits 11:0."],
-    ),
+    )
+    .changed_by(&[TEST_ORDER, TEST_STOPS_NOTHING]),
     entry(
         6,
         "window rule broken",
@@ -139,10 +170,10 @@ pub const ALL: [Refusal; 20] = [
     entry(
         7,
         "start without a domain, an instruction format or any output set",
-        "the parameter of start_program",
+        "the parameter of start_program; a conditional test or survey, for its buffer and its test",
         &["A new session has nothing set and mask 65535."],
     )
-    .changed_by(SILENCE),
+    .changed_by(MISSING),
     entry(
         8,
         "the domain is not inside every set output's window",
@@ -163,19 +194,25 @@ pub const ALL: [Refusal; 20] = [
     entry(
         10,
         "a pair is outside its window",
-        "a pair's address; elements read and written",
+        "a pair's address; elements read and written; a conditional test or survey, for any of its pairs; a whole picture, for any pair of its rectangle",
         &[
             "A pair is inside when x < E and y < H.",
             "C2 (95,0) inside; (96,0) gets 10.",
         ],
-    ),
+    )
+    .changed_by(&[TEST_ORDER, PAINTED]),
     entry(
         11,
         "a writer's room is shorter than its words; element data isn't s bytes; memory is over 65,536 bytes or ends above 2^32; memory doesn't hold the whole element",
-        "the writer; elements read and written; a kill, for the number of its registers",
+        "the writer; elements read and written; a kill, for the number of its registers; a conditional test or survey, for its memory and its room; a whole picture, for memory that doesn't cover the window's span, and for its room",
         &["Lent memory is up to 65,536 bytes standing at a given first address."],
     )
-    .changed_by(&[KILL_ORDER]),
+    .changed_by(&[
+        KILL_ORDER,
+        TEST_ORDER,
+        "A survey with one v over a given domain reports how many pairs pass, and writes a byte 1 or 0 a pair, row by row, into lent room whose length is the number of pairs, else 11.",
+        PAINTED,
+    ]),
     entry(
         12,
         "no pair of the window owns the address",
@@ -253,11 +290,31 @@ pub const ALL: [Refusal; 20] = [
         ],
     ),
     added(
+        20,
+        "a party's word sets what it doesn't own",
+        "of two parties on one card, party 1's header that sets what is party 0's; the first parameter of set_inp_fmt and set_out_fmt",
+        &[
+            "Each number is owned by party 0 or 1, fixed when the session begins; masks go with their outputs.",
+            "Constant formats and the conditional buffer, mask and test belong to party 0; party 1's header setting them gets 20.",
+            "A number one doesn't own gets 20 at its word, after 4. Like 2 to 9, 20 drops the open command and stops.",
+            "a stop stops only its party",
+        ],
+    ),
+    added(
         21,
         "a lease line is out of its bounds",
         "a lease line, before its log is read",
         &[
             "a station's log and lease line (first day, days from 1 to 31, elements owed a day, one number for all its days, from 0 to 100,000,000, last day below 2^32, else 21; then 18 or 19 from the log)",
+        ],
+    ),
+    added(
+        22,
+        "a report is asked for over more than 64 logs",
+        "the report of a fleet; the command's `fleet` asks for 64 stations at a time and joins the reports",
+        &[
+            "Over up to 64 logs with lease lines, and one edition, report totals served and owed as exact sums",
+            "Order: 3 for the edition, 11 if the numbers aren't in fours, the room isn't four or the lengths don't add up to the slice, 22 for more than 64 logs, then the refusal of the first station whose log or lease line is refused.",
         ],
     ),
 ];

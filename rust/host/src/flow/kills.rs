@@ -108,7 +108,7 @@ fn float(text: &str) -> Result<f32, String> {
 impl Kill {
     /// Kills; answers those who were killed now.
     pub fn make(&self, program: &Program, group: &mut Group) -> Result<u32, u32> {
-        group.kill(program, &self.registers, self.mask)
+        Ok(group.kill(program, &self.registers, self.mask)?)
     }
 
     /// Why it was refused.

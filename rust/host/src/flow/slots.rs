@@ -158,7 +158,13 @@ pub fn ended(program: &Program, group: &Group) -> String {
 }
 
 /// Why the group's next step was refused.
-pub fn cause(number: u32, program: &Program, group: &Group, integers: &[u32]) -> Option<String> {
+pub fn cause(
+    number: impl Into<u32>,
+    program: &Program,
+    group: &Group,
+    integers: &[u32],
+) -> Option<String> {
+    let number = number.into();
     let (position, slots) = (group.position(), program.slots());
     if number == 16 {
         return Some(ended(program, group));

@@ -40,6 +40,15 @@ pub fn two(text: &str) -> Option<(&str, &str)> {
     }
 }
 
+/// Four counts, "A,B,C,D", or parted by blanks.
+pub fn four(text: &str) -> Result<[u32; 4], String> {
+    let is_gap = |c: char| c == ',' || c.is_whitespace();
+    let parts = text.split(is_gap).filter(|part| !part.is_empty());
+    let list: Vec<u32> = parts.map(count).collect::<Result<_, _>>()?;
+    <[u32; 4]>::try_from(list)
+        .map_err(|list| format!("{text:?} has {} numbers, not four A,B,C,D", list.len()))
+}
+
 fn hex_prefix(text: &str) -> Option<&str> {
     text.strip_prefix("0x").or_else(|| text.strip_prefix("0X"))
 }
@@ -62,7 +71,7 @@ fn only_digits(text: &str, digits: &str, base: u32) -> Result<(), String> {
 
 #[cfg(test)]
 mod tests {
-    use super::{count, long_count, pair, word};
+    use super::{count, four, long_count, pair, word};
 
     #[test]
     fn counts_are_decimal_and_words_hex() {
@@ -93,5 +102,13 @@ mod tests {
         assert_eq!(pair("37,18"), Ok((37, 18)));
         assert_eq!(pair(" 37\t18 "), Ok((37, 18)));
         assert!(pair("37").is_err() && pair("1,2,3").is_err());
+    }
+
+    #[test]
+    fn four_numbers_are_four() {
+        assert_eq!(four("0,1,0x10, 3"), Ok([0, 1, 16, 3]));
+        let three = "\"1,2,3\" has 3 numbers, not four A,B,C,D";
+        assert_eq!(four("1,2,3"), Err(three.into()));
+        assert!(four("").is_err() && four("1,2,3,4,5").is_err() && four("1,2,3,x").is_err());
     }
 }

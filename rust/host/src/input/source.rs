@@ -46,6 +46,9 @@ pub fn is_read(path: &Path) -> bool {
     fs::metadata(path).map_or(false, |about| read.contains(&(about.dev(), about.ino())))
 }
 
+/// What standard input is called.
+pub const STANDARD: &str = "standard input";
+
 /// Whether the name says standard input.
 pub fn is_standard(file: Option<&Path>) -> bool {
     file.map_or(true, |path| path.as_os_str() == "-")
@@ -63,7 +66,9 @@ impl Source {
         let about = file.metadata().map_err(wrong)?;
         if about.is_dir() {
             // As reading it would fail, but before anything is answered.
-            return Err(Failure::Wrong(format!("{name}: is a folder")));
+            let empty = fs::read_dir(path).map_or(false, |mut entries| entries.next().is_none());
+            let what = if empty { "an empty folder" } else { "a folder" };
+            return Err(Failure::Wrong(format!("{name}: is {what}")));
         }
         let mut read = READ.lock().unwrap_or_else(PoisonError::into_inner);
         read.push((about.dev(), about.ino()));
@@ -78,7 +83,15 @@ impl Source {
                 "egretfold: reading standard input; Ctrl-D ends it"
             );
         }
-        Source::new("standard input".into(), Box::new(io::stdin()), None)
+        Source::new(STANDARD.into(), Box::new(io::stdin()), None)
+    }
+
+    /// The input's bytes as they stand: memory may begin as gzip's files do.
+    pub fn as_it_stands(self) -> Source {
+        Source {
+            fresh: false,
+            ..self
+        }
     }
 
     /// All of these files; standard input where none is named. All are opened first,
@@ -135,6 +148,29 @@ impl Source {
         match &self.error {
             Some(error) if filled == 0 => Err(self.wrong(self.failed(error))),
             _ => Ok(filled),
+        }
+    }
+
+    /// All bytes, up to so many and a piece more.
+    pub fn up_to(&mut self, most: u64) -> Outcome<Vec<u8>> {
+        let mut all = Vec::new();
+        loop {
+            let begin = all.len();
+            all.resize(begin + PIECE, 0);
+            let count = self.fill(&mut all[begin..])?;
+            all.truncate(begin + count);
+            if count == 0 || all.len() as u64 > most {
+                return Ok(all);
+            }
+        }
+    }
+
+    /// The whole input, of which that much is taken.
+    pub fn all(&mut self, most: usize) -> Outcome<Vec<u8>> {
+        let all = self.up_to(most as u64)?;
+        match all.len() > most {
+            true => Err(self.wrong(format!("is longer than {most} bytes"))),
+            false => Ok(all),
         }
     }
 

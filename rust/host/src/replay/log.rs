@@ -92,8 +92,9 @@ impl Log {
     }
 
     /// Reads all inputs, one behind the other. Where one fails on the way, what
-    /// came before that stands. After a stop the rest is only counted.
-    pub fn read(&mut self, sources: Vec<Source>) -> Outcome {
+    /// came before that stands. After a stop the rest is only counted. Each piece is
+    /// handed on as it is read.
+    pub fn read(&mut self, sources: Vec<Source>, also: &mut dyn FnMut(&[u8])) -> Outcome {
         let named = |source: &Source| (source.name.clone(), u64::MAX);
         self.inputs = sources.iter().map(named).collect();
         let mut room = vec![0; PIECE];
@@ -102,7 +103,10 @@ impl Log {
             loop {
                 match source.fill(&mut room)? {
                     0 => break,
-                    count => self.piece(&room[..count]),
+                    count => {
+                        self.piece(&room[..count]);
+                        also(&room[..count]);
+                    }
                 }
             }
             if place == 0 {
@@ -135,7 +139,9 @@ impl Log {
         if self.word.is_none() {
             self.word = self.refused_word(before, piece);
         }
-        self.stop = fed.refusal.map(|number| self.refused_byte(number, piece));
+        self.stop = fed
+            .refusal
+            .map(|refusal| self.refused_byte(refusal.number(), piece));
         let end = &piece[piece.len().saturating_sub(BACK)..];
         self.tail.extend(end);
         self.tail.drain(..self.tail.len().saturating_sub(BACK));
@@ -155,9 +161,9 @@ impl Log {
             .open
             .map_or(0, |(_, taken)| 1 + taken as usize);
         let words = self.near(piece).words(word.record, earlier + 1);
-        let cause = cause::of_word(word.number, session, &words);
+        let cause = cause::of_word(word.refusal, session.view(), &words);
         let place = self.place(byte, day_after(&status, word.midnights));
-        Some((place, cause::refused(word.number, cause)))
+        Some((place, cause::refused(word.refusal, cause)))
     }
 
     /// The byte that stopped the replay: the first one that wasn't taken.

@@ -45,7 +45,7 @@ pub struct Options {
 pub fn run(options: &Options, out: &mut dyn Write) -> Outcome {
     let edition = options.edition.accepted().map_err(edition::refused)?;
     let mut log = Log::new(edition);
-    let ended = log.read(Source::open_all(&options.files)?);
+    let ended = log.read(Source::open_all(&options.files)?, &mut |_| {});
     match (options.json, options.csv) {
         (true, _) => days::json(&log, out)?,
         (_, true) => days::csv(&log, out)?,

@@ -17,7 +17,7 @@ pub fn text(score: &Score, digits: Digits, out: &mut dyn Write) -> Outcome {
         writeln!(out, "{whose}")?;
     }
     writeln!(out, "{}", lease(score, digits))?;
-    writeln!(out, "{}", edition::rule(score.log.edition()))?;
+    writeln!(out, "{}", edition::rule(score.edition))?;
     writeln!(out)?;
     for line in table(score, digits) {
         writeln!(out, "{line}")?;

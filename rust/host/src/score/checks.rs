@@ -10,10 +10,10 @@ use serde_json::{json, Value};
 
 pub struct Check {
     /// For programs.
-    pub key: &'static str,
+    pub key: String,
     pub text: String,
     /// What a short month may come from by it.
-    pub explains: Option<&'static str>,
+    pub explains: Option<String>,
 }
 
 /// All that hold, those first that explain most.
@@ -24,12 +24,7 @@ pub fn all(log: &Log, lease: &Lease, days: &[Day]) -> Vec<Check> {
     refused(log, days, &mut checks);
     outside(log, lease, &mut checks);
     let mut put = |key, text: Option<String>| {
-        let explains = None;
-        checks.extend(text.map(|text| Check {
-            key,
-            text,
-            explains,
-        }));
+        checks.extend(text.map(|text| Check::new(key, text, None)));
     };
     put("open_command", days::open_command(log));
     put("unfinished_record", days::unfinished_record(log));
@@ -37,27 +32,31 @@ pub fn all(log: &Log, lease: &Lease, days: &[Day]) -> Vec<Check> {
 }
 
 impl Check {
+    pub fn new(key: &str, text: String, explains: Option<&str>) -> Check {
+        Check {
+            key: key.to_string(),
+            text,
+            explains: explains.map(String::from),
+        }
+    }
+
     pub fn json(&self) -> Value {
-        json!({"check": self.key, "text": self.text})
+        json!({"check": self.key, "text": self.text, "explains": self.explains})
     }
 }
 
 fn empty(log: &Log, checks: &mut Vec<Check>) {
     let mut put = |text, explains| {
-        checks.push(Check {
-            key: "empty_input",
-            text,
-            explains,
-        });
+        checks.push(Check::new("empty_input", text, Some(explains)));
     };
     if log.bytes == 0 {
-        return put("the log is empty".to_string(), Some("the log is empty"));
+        return put("the log is empty".to_string(), "the log is empty");
     }
     // Inputs that begin where the next one does.
     let ends = log.inputs.iter().skip(1).map(|(_, begin)| *begin);
     for ((name, begin), end) in log.inputs.iter().zip(ends.chain([log.bytes])) {
         if *begin == end {
-            put(format!("{name} is empty"), Some("an input is empty"));
+            put(format!("{name} is empty"), "an input is empty");
         }
     }
 }
@@ -67,12 +66,12 @@ fn covered(log: &Log, days: &[Day], checks: &mut Vec<Check>) {
     let (first, last) = match log.replay.status().days {
         Some(ends) => ends,
         None => {
-            return checks.push(Check {
-                key: "no_midnight",
-                text: "the log has no midnight at all, so it covers no day".to_string(),
+            return checks.push(Check::new(
+                "no_midnight",
+                "the log has no midnight at all, so it covers no day".to_string(),
                 // An empty one is explained by that.
-                explains: (log.bytes > 0).then_some("the log has no midnight"),
-            });
+                (log.bytes > 0).then_some("the log has no midnight"),
+            ));
         }
     };
     let among = days.iter().filter(|day| day.in_log).count();
@@ -85,13 +84,11 @@ fn covered(log: &Log, days: &[Day], checks: &mut Vec<Check>) {
     };
     let due = days.len();
     let verb = if among == 1 { "is" } else { "are" };
-    checks.push(Check {
-        key: "not_covered",
-        text: format!(
-            "the log covers {covers}, and {among} of the lease's {due} days {verb} among them"
-        ),
-        explains: Some("the log doesn't cover the lease"),
-    });
+    checks.push(Check::new(
+        "not_covered",
+        format!("the log covers {covers}, and {among} of the lease's {due} days {verb} among them"),
+        Some("the log doesn't cover the lease"),
+    ));
 }
 
 /// The first refused word, after which nothing counts.
@@ -105,19 +102,19 @@ fn refused(log: &Log, days: &[Day], checks: &mut Vec<Check>) {
         .iter()
         .any(|day| day.number >= from && day.served < day.owed);
     if refused.number == NOT_SET && nothing_is_set(log) {
-        checks.push(Check {
-            key: "set_up_missing",
-            text: "the first start was refused 7 before anything was set: files from the set-up on are missing"
+        checks.push(Check::new(
+            "set_up_missing",
+            "the first start was refused 7 before anything was set: files from the set-up on are missing"
                 .to_string(),
-            explains: short.then(|| "the set-up is missing"),
-        });
+            short.then(|| "the set-up is missing"),
+        ));
     }
     let after = text::count(log.words_after(), "word");
-    checks.push(Check {
-        key: "refused_word",
-        text: format!("{place}: word {refused}; the days go on, {after} after it without effect"),
-        explains: short.then(|| "a word was refused"),
-    });
+    checks.push(Check::new(
+        "refused_word",
+        format!("{place}: word {refused}; the days go on, {after} after it without effect"),
+        short.then(|| "a word was refused"),
+    ));
 }
 
 /// The refusal of a start without what it needs.
@@ -156,12 +153,10 @@ fn outside(log: &Log, lease: &Lease, checks: &mut Vec<Check>) {
     };
     let named: Vec<String> = parts.iter().map(named).collect();
     let days = text::count(count, "day");
-    checks.push(Check {
-        key: "outside_the_lease",
-        text: format!(
-            "the log has {days} outside the lease: {}",
-            named.join(" and ")
-        ),
-        explains: None,
-    });
+    let named = named.join(" and ");
+    checks.push(Check::new(
+        "outside_the_lease",
+        format!("the log has {days} outside the lease: {named}"),
+        None,
+    ));
 }

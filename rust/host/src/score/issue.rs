@@ -23,33 +23,37 @@ pub struct IssueOptions {
     issued: Option<Date>,
 }
 
+#[derive(Clone)]
 pub struct Issue {
     pub station: Option<String>,
     pub lessee: Option<String>,
     pub date: Date,
+    /// Of the command that scored.
+    pub version: String,
 }
 
 impl Issue {
-    /// The one place that asks for today.
     pub fn new(options: &IssueOptions) -> Issue {
+        let date = day_of(options.issued);
+        Issue::of(&options.station, &options.lessee, date)
+    }
+
+    pub fn of(station: &Option<String>, lessee: &Option<String>, date: Date) -> Issue {
         let name = |text: &Option<String>| {
             let text = text.as_deref().map(str::trim).unwrap_or_default();
             (!text.is_empty()).then(|| visible::line(text))
         };
         Issue {
-            station: name(&options.station),
-            lessee: name(&options.lessee),
-            date: options.issued.unwrap_or_else(Date::today),
+            station: name(station),
+            lessee: name(lessee),
+            date,
+            version: VERSION.to_string(),
         }
     }
 
     /// The card of the sample, which is nobody's.
     pub fn nobody() -> Issue {
-        Issue {
-            station: None,
-            lessee: None,
-            date: Date::today(),
-        }
+        Issue::of(&None, &None, Date::today())
     }
 
     /// "Station 14, leased to the harbour", as far as they are given.
@@ -64,13 +68,18 @@ impl Issue {
 
     /// "Issued 2026-05-02 by egretfold 0.1.0".
     pub fn told(&self) -> String {
-        format!("Issued {} by egretfold {VERSION}", self.date)
+        format!("Issued {} by egretfold {}", self.date, self.version)
     }
 
     pub fn put(&self, summary: &mut Value) {
         summary["station"] = json!(self.station);
         summary["lessee"] = json!(self.lessee);
         summary["issued"] = json!(self.date.to_string());
-        summary["version"] = json!(VERSION);
+        summary["version"] = json!(self.version);
     }
+}
+
+/// The date of issue that was asked for; the one place that asks for today.
+pub fn day_of(issued: Option<Date>) -> Date {
+    issued.unwrap_or_else(Date::today)
 }

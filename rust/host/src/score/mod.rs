@@ -1,33 +1,32 @@
 //! `egretfold score`: a month of a station's log, scored against its lease line.
 
+pub mod asked;
 mod card;
-mod checks;
-mod civil;
-mod issue;
-mod month;
-mod picture;
-mod rows;
+pub mod checks;
+pub mod civil;
+pub mod issue;
+pub mod month;
+pub mod picture;
+pub mod rows;
 pub mod sample;
 mod station;
 
-use crate::common::digits::{grouped, Digits};
+use crate::common::digits::Digits;
 use crate::common::edition::{self, EditionOption};
 use crate::common::failure::{Failure, Outcome};
-use crate::common::text;
-use crate::common::visible;
-use crate::explain::cause;
+use crate::common::replaced::{Goes, Kind};
+use crate::fleet::page;
 use crate::input::numbers;
-use crate::input::source::{self, Source};
+use crate::input::source::Source;
 use crate::replay::log::Log;
+use crate::score::asked::{accepted, dates, month_of, Asked, Card, LeaseLine};
 use crate::score::civil::Date;
 use crate::score::issue::Issue;
 use crate::score::month::Score;
-use crate::score::picture::file::Replaced;
-use crate::score::picture::unscored::{self, Unscored};
-use boundary::{Edition, Lease, Month, Verdict};
+use boundary::{Edition, Verdict};
 use clap::Args;
 use std::io::{self, Write};
-use std::path::{Path, PathBuf};
+use std::path::PathBuf;
 
 /// Printed behind the help text.
 pub const EXAMPLES: &str = "\
@@ -39,7 +38,7 @@ served nothing of what it owes.
 With --edition 2 a pair counts the unmasked channels of each output, where edition 1 counts an
 output that isn't silent once.
 Exit status: 0 full or nothing owed, 3 short, 1 refused, 2 a wrong command line or file.
-Where there is no score, a card asked for with --svg says so, in place of an earlier one.
+Where there is no score, a card asked for with --svg or --html says so, in place of an earlier one.
 
 Examples, from the repository's root:
   egretfold score samples/station-14.log --first-day 101 --days 30 --owed 14000000
@@ -77,229 +76,121 @@ pub struct Options {
     /// for standard output, in place of the text
     #[arg(long, value_name = "FILE")]
     svg: Option<PathBuf>,
+    /// Write the month as a page for a browser, whole in this file; an earlier page there is replaced, nothing else; -
+    /// for standard output, in place of the text
+    #[arg(long, value_name = "FILE")]
+    html: Option<PathBuf>,
     #[command(flatten)]
     edition: EditionOption,
     #[command(flatten)]
     issue: issue::IssueOptions,
 }
 
-/// A lease line as it was given.
-#[derive(Clone, Copy)]
-pub struct LeaseLine {
-    pub first_day: u32,
-    pub days: u32,
-    pub owed: u32,
-}
-
-/// What a score was asked for, as it was given.
-pub struct Asked {
-    /// The edition's number.
-    pub edition: u32,
-    pub line: LeaseLine,
-}
-
-/// Where the picture goes.
-enum Picture {
-    None,
-    /// In place of the text.
-    Standard,
-    File(Replaced),
-}
-
-impl Picture {
-    fn asked(options: &Options) -> Outcome<Picture> {
-        match options.svg.as_deref() {
-            None => Ok(Picture::None),
-            Some(name) if name == Path::new("-") => match options.json || options.csv {
-                true => Err(Failure::wrong(
-                    "--svg - goes to standard output, and so do --json and --csv",
-                )),
-                false => Ok(Picture::Standard),
+impl Options {
+    fn asked(&self) -> Asked {
+        Asked {
+            edition: self.edition.number,
+            line: LeaseLine {
+                first_day: self.first_day,
+                days: self.days,
+                owed: self.owed,
             },
-            Some(name) => Ok(Picture::File(Replaced::new(name)?)),
+            from: self.from,
+            files: self.files.clone(),
+            issue: Issue::new(&self.issue),
         }
     }
 
-    fn draw(&self, svg: impl FnOnce() -> String, out: &mut dyn Write) -> Outcome {
-        match self {
-            Picture::None => Ok(()),
-            Picture::Standard => Ok(out.write_all(svg().as_bytes())?),
-            Picture::File(file) => file.write(&svg()),
-        }
+    /// What goes to standard output beside a picture or a page that is asked for there.
+    fn form(&self) -> Option<&'static str> {
+        (self.json || self.csv).then_some("--json and --csv")
+    }
+}
+
+/// Where the picture and the page go.
+struct Places {
+    svg: Goes,
+    html: Goes,
+}
+
+impl Places {
+    fn asked(options: &Options) -> Outcome<Places> {
+        let svg = Goes::asked(options.svg.as_deref(), Kind::Svg, options.form())?;
+        let taken = options.form().or(svg.is_standard().then_some("--svg -"));
+        let html = Goes::asked(options.html.as_deref(), Kind::Html, taken)?;
+        Ok(Places { svg, html })
+    }
+
+    /// Where there is no score they say so, in place of earlier ones, which would no
+    /// longer be true.
+    fn write(&self, card: &Card, out: &mut dyn Write) -> Outcome {
+        let svg = self.svg.write(|| picture::svg(card), out);
+        let html = self.html.write(|| page::of_one(card), out);
+        svg.and(html)
+    }
+
+    fn take_standard(&self) -> bool {
+        self.svg.is_standard() || self.html.is_standard()
     }
 }
 
 pub fn run(options: &Options, out: &mut dyn Write) -> Outcome {
-    let line = LeaseLine {
-        first_day: options.first_day,
-        days: options.days,
-        owed: options.owed,
-    };
-    let asked = Asked {
-        edition: options.edition.number,
-        line,
-    };
-    let picture = Picture::asked(options)?;
-    let issue = Issue::new(&options.issue);
-    // Before any log is opened: the edition before all else, then the lease line.
+    let places = Places::asked(options)?;
+    let asked = options.asked();
+    let card = card(options, &asked)?;
+    let written = places.write(&card, out);
+    if !places.take_standard() {
+        show_as_asked(options, &card, out)?;
+    }
+    match (card.outcome(), written) {
+        (Err(Failure::Short) | Ok(()), Err(failure)) => Err(failure),
+        (Err(failure), Err(Failure::Wrong(text))) => Err(failure.hinted(Some(text))),
+        (outcome, _) => outcome,
+    }
+}
+
+/// Before any log is opened the edition is judged, before all else, then the lease line.
+fn card(options: &Options, asked: &Asked) -> Outcome<Card> {
     let edition = match options.edition.accepted() {
         Ok(edition) => edition,
         Err(refused) => {
-            if options.json {
-                rows::refused_asked(&asked, &refused, out)?;
-            }
-            return unscored(edition::refused(refused), options, &issue, &picture, out);
+            let failure = edition::refused(refused.clone());
+            return Ok(asked.refused(refused, failure));
         }
     };
-    let lease = match accepted(line) {
+    let lease = match asked.lease() {
         Ok(lease) => lease,
         Err(refused) => {
-            if options.json {
-                rows::refused_asked(&asked, &refused, out)?;
-            }
-            return unscored(refused_line(refused), options, &issue, &picture, out);
+            let failure = Failure::Refused(format!("lease line: {refused}"));
+            return Ok(asked.refused(refused, failure));
         }
     };
-    let dates = dates(options.from, &lease)?;
-    let mut log = Log::with_digest(edition);
-    // A score of a part of what was asked for would be no score: no card then.
-    let read = Source::open_all(&options.files).and_then(|sources| log.read(sources));
-    if let Err(failure) = read {
-        return unscored(failure, options, &issue, &picture, out);
-    }
-    let month = match month_of(&log, &lease) {
-        Ok(month) => month,
-        Err(failure) => {
-            if options.json {
-                rows::refused_log(&asked, &log, out)?;
-            }
-            return unscored(failure, options, &issue, &picture, out);
-        }
-    };
-    let score = Score::new(lease, dates, month, &log, issue);
-    let drawn = picture.draw(|| picture::svg(&score), out);
-    match (options.json, options.csv) {
-        _ if matches!(picture, Picture::Standard) => {}
-        (true, _) => rows::json(&score, &asked, out)?,
-        (_, true) => csv(&score, out)?,
-        _ => card::text(&score, Digits::plain(options.plain), out)?,
-    }
-    drawn?;
-    outcome(score.month.verdict)
+    let dates = asked.dates(&lease).map_err(wrong_from)?;
+    Ok(asked.score(edition, lease, dates, &mut |_| {}))
 }
 
-/// Ends without a score. Where a picture is asked for, one that says so takes the place of
-/// an earlier one, which would no longer be true.
-fn unscored(
-    failure: Failure,
-    options: &Options,
-    issue: &Issue,
-    picture: &Picture,
-    out: &mut dyn Write,
-) -> Outcome {
-    let (name, why) = match &failure {
-        Failure::Refused(why) => ("REFUSED", why),
-        Failure::Wrong(why) => ("NOT SCORED", why),
-        Failure::Short => return Err(failure),
-    };
-    let why = &without_folders(why, &options.files);
-    let card = Unscored {
-        name,
-        why,
-        title: options
-            .from
-            .map_or_else(|| lease_days(options), picture::month_of),
-        lease: format!(
-            "{}, {} elements owed a day, edition {}",
-            lease_days(options),
-            grouped(u64::from(options.owed)),
-            options.edition.number
-        ),
-        log: format!("Log {}", files(&options.files)),
-        issue,
-    };
-    match picture.draw(|| unscored::svg(&card), out) {
-        Ok(()) => Err(failure),
-        Err(Failure::Wrong(text)) => Err(failure.hinted(Some(text))),
-        Err(_) => Err(failure),
+fn show_as_asked(options: &Options, card: &Card, out: &mut dyn Write) -> Outcome {
+    match card {
+        _ if options.json => rows::json(card, out),
+        Card::Scored(score) if options.csv => csv(score, out),
+        Card::Scored(score) => card::text(score, Digits::plain(options.plain), out),
+        Card::Unscored(_) => Ok(()),
     }
 }
 
-/// The lease's days, also of a line that is refused.
-fn lease_days(options: &Options) -> String {
-    let days = text::count(u64::from(options.days), "day");
-    format!("{days} from day {} on", options.first_day)
-}
-
-/// A text that tells of files by their paths, with their names in place of these.
-fn without_folders(text: &str, files: &[PathBuf]) -> String {
-    let shown = |file: &PathBuf| visible::line(&file.display().to_string());
-    files
-        .iter()
-        .map(shown)
-        .fold(text.to_string(), |text, path| {
-            let name = path.rsplit('/').next().unwrap_or(&path).to_string();
-            match name.is_empty() {
-                true => text,
-                false => text.replace(&path, &name),
-            }
-        })
-}
-
-/// The files that were asked for, by their names.
-fn files(files: &[PathBuf]) -> String {
-    let name = |file: &PathBuf| match source::is_standard(Some(file)) {
-        true => "standard input".to_string(),
-        false => picture::file_name(&visible::line(&file.display().to_string())),
-    };
-    match files {
-        [] => "standard input".to_string(),
-        [file] => name(file),
-        [first, .., last] => format!("{} to {}, {} inputs", name(first), name(last), files.len()),
-    }
+fn wrong_from(text: String) -> Failure {
+    Failure::Wrong(format!("--from {text}"))
 }
 
 /// The card of a log that is at hand.
 pub fn show(source: Source, line: LeaseLine, from: Date, out: &mut dyn Write) -> Outcome<Verdict> {
-    let lease = accepted(line).map_err(refused_line)?;
+    let lease = accepted(line).map_err(Failure::wrong)?;
     let mut log = Log::new(Edition::First);
-    log.read(vec![source])?;
-    let dates = dates(Some(from), &lease)?;
+    log.read(vec![source], &mut |_| {})?;
+    let dates = dates(Some(from), &lease).map_err(wrong_from)?;
     let score = Score::new(lease, dates, month_of(&log, &lease)?, &log, Issue::nobody());
     card::text(&score, Digits::Grouped, out)?;
     Ok(score.month.verdict)
-}
-
-fn accepted(line: LeaseLine) -> Result<Lease, cause::Refused> {
-    let lease = Lease::new(line.first_day, line.days, line.owed);
-    lease.map_err(|number| cause::refused(number, cause::of_lease(&line)))
-}
-
-fn refused_line(refused: cause::Refused) -> Failure {
-    Failure::Refused(format!("lease line: {refused}"))
-}
-
-/// A date for each day of the lease, or none for all of them.
-fn dates(from: Option<Date>, lease: &Lease) -> Outcome<Vec<Option<Date>>> {
-    let from = match from {
-        Some(from) => from,
-        None => return Ok(vec![None; lease.days() as usize]),
-    };
-    let dates = from.run(lease.days()).ok_or_else(|| {
-        let days = lease.days();
-        Failure::Wrong(format!(
-            "--from {from}: {days} days from there go past 9999-12-31, the last date"
-        ))
-    })?;
-    Ok(dates.into_iter().map(Some).collect())
-}
-
-fn month_of(log: &Log, lease: &Lease) -> Outcome<Month> {
-    match (log.replay.score(lease), &log.stop) {
-        (Ok(month), _) => Ok(month),
-        (Err(_), Some(stop)) => Err(Failure::Refused(log.complaint(stop)).hinted(log.hint())),
-        (Err(number), None) => Err(Failure::Refused(cause::refused(number, None).to_string())),
-    }
 }
 
 /// The rows have no place for what is told below the card, so it goes to standard
@@ -312,12 +203,4 @@ fn csv(score: &Score, out: &mut dyn Write) -> Outcome {
         let _ = writeln!(io::stderr(), "check before sending: {}", check.text);
     }
     Ok(())
-}
-
-/// How a score ends.
-pub fn outcome(verdict: Verdict) -> Outcome {
-    match verdict {
-        Verdict::Full | Verdict::NothingOwed => Ok(()),
-        Verdict::Short => Err(Failure::Short),
-    }
 }

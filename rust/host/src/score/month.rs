@@ -1,16 +1,26 @@
 //! A scored month with all that its forms show of it.
 
 use crate::common::text;
+use crate::replay::days;
 use crate::replay::log::Log;
+use crate::score::asked::LeaseLine;
 use crate::score::checks::{self, Check};
 use crate::score::civil::Date;
 use crate::score::issue::Issue;
-use boundary::{Lease, Month, ScoredDay, Verdict};
+use boundary::{Edition, Lease, Month, ScoredDay, Verdict};
+use serde_json::Value;
 
-/// A month, its lease and the log that it is of.
-pub struct Score<'a> {
+/// A month, its lease and what is told of the log that it is of.
+pub struct Score {
+    /// The edition of the lease rule that it is scored by.
+    pub edition: Edition,
     pub lease: Lease,
-    pub log: &'a Log,
+    /// The log's inputs by their names.
+    pub inputs: Vec<String>,
+    /// The SHA-256 of the log's bytes, where it was asked for.
+    pub digest: Option<String>,
+    /// All of the log but its days, for programs.
+    pub log: Value,
     pub month: Month,
     pub days: Vec<Day>,
     /// What to look at before the card is sent.
@@ -54,16 +64,16 @@ impl Day {
     }
 }
 
-impl<'a> Score<'a> {
+impl Score {
     /// The product's month, with what is known of its days besides: a date for each or
     /// for none, and which of them the log has.
     pub fn new(
         lease: Lease,
         dates: Vec<Option<Date>>,
         month: Month,
-        log: &'a Log,
+        log: &Log,
         issue: Issue,
-    ) -> Score<'a> {
+    ) -> Score {
         let ends = log.replay.status().days;
         let in_log = |number| ends.map_or(false, |(first, last)| first <= number && number <= last);
         let day = |(day, date): (&ScoredDay, Option<Date>)| Day {
@@ -77,12 +87,24 @@ impl<'a> Score<'a> {
         let days: Vec<Day> = month.days.iter().zip(dates).map(day).collect();
         let checks = checks::all(log, &lease, &days);
         Score {
+            edition: log.edition(),
             lease,
-            log,
+            inputs: log.inputs.iter().map(|(name, _)| name.clone()).collect(),
+            digest: log.digest(),
+            log: days::summary(log),
             month,
             days,
             checks,
             issue,
+        }
+    }
+
+    /// The lease line as it was given.
+    pub fn line(&self) -> LeaseLine {
+        LeaseLine {
+            first_day: self.lease.first_day(),
+            days: self.lease.days(),
+            owed: self.lease.owed(),
         }
     }
 
@@ -99,16 +121,12 @@ impl<'a> Score<'a> {
 
     /// The log by its inputs' names.
     pub fn log_name(&self) -> String {
-        log_name(self.log, |name| name.to_string())
+        log_name(&self.inputs, |name| name.to_string())
     }
 
     /// What the month is called, in the request's words.
     pub fn verdict_name(&self) -> &'static str {
-        match self.month.verdict {
-            Verdict::Full => "full",
-            Verdict::Short => "short",
-            Verdict::NothingOwed => "nothing owed",
-        }
+        verdict_name(self.month.verdict)
     }
 
     /// The verdict with the days that it comes from.
@@ -132,15 +150,21 @@ impl<'a> Score<'a> {
 
     /// Where a check explains a short month, the verdict says so.
     fn explained(&self) -> String {
-        let explains: Vec<&str> = self
+        match self.explanation() {
+            Some(text) => format!("; this may be because {text}"),
+            None => String::new(),
+        }
+    }
+
+    /// What may explain a short month, where a check does.
+    pub fn explanation(&self) -> Option<String> {
+        let explains = self
             .checks
             .iter()
-            .filter_map(|check| check.explains)
-            .collect();
-        match explains.is_empty() {
-            true => String::new(),
-            false => format!("; this may be because {}", explains.join(" and ")),
-        }
+            .filter_map(|check| check.explains.clone());
+        let explains: Vec<String> = explains.collect();
+        let short = self.month.verdict == Verdict::Short && !explains.is_empty();
+        short.then(|| explains.join(" and "))
     }
 
     /// The part of what is owed that is served, in percent.
@@ -149,25 +173,35 @@ impl<'a> Score<'a> {
     }
 }
 
-/// The log by its inputs' names, each as this gives it.
-pub fn log_name(log: &Log, shown: impl Fn(&str) -> String) -> String {
-    match log.inputs.as_slice() {
-        [(name, _)] => shown(name),
-        [(first, _), .., (last, _)] => {
+/// A log by its inputs' names, each as this gives it.
+pub fn log_name(inputs: &[String], shown: impl Fn(&str) -> String) -> String {
+    match inputs {
+        [name] => shown(name),
+        [first, .., last] => {
             let (first, last) = (shown(first), shown(last));
-            format!("{first} to {last}, {} inputs", log.inputs.len())
+            format!("{first} to {last}, {} inputs", inputs.len())
         }
         [] => String::new(),
     }
 }
 
+/// The verdicts in the request's words.
+pub fn verdict_name(verdict: Verdict) -> &'static str {
+    match verdict {
+        Verdict::Full => "full",
+        Verdict::Short => "short",
+        Verdict::NothingOwed => "nothing owed",
+    }
+}
+
 /// A part in percent with two places, cut down, so that only all of it is 100; none
 /// where nothing is owed.
-fn percent(served: u64, owed: u64) -> Option<String> {
+pub fn percent(served: u64, owed: u64) -> Option<String> {
     if served == owed && owed > 0 {
         return Some("100 %".to_string());
     }
-    let hundredths = (served * 10_000).checked_div(owed)?;
+    // So wide that a fleet's sums can't wrap.
+    let hundredths = (u128::from(served) * 10_000).checked_div(u128::from(owed))?;
     Some(format!("{}.{:02} %", hundredths / 100, hundredths % 100))
 }
 

@@ -2,17 +2,27 @@
 //! values.
 
 use crate::common::failure::Outcome;
-use crate::explain::cause::Refused;
-use crate::replay::days;
-use crate::replay::log::Log;
+use crate::score::asked::{Card, LeaseLine, Unscored};
 use crate::score::checks::Check;
+use crate::score::civil::Date;
 use crate::score::month::{Score, Served};
-use crate::score::Asked;
 use serde_json::{json, Value};
 use std::io::Write;
 
-/// A line for each day, and one for the month.
-pub fn json(score: &Score, asked: &Asked, out: &mut dyn Write) -> Outcome {
+/// A line for each day, and one for the month; that one alone where there is no score.
+pub fn json(card: &Card, out: &mut dyn Write) -> Outcome {
+    let summary = match card {
+        Card::Scored(score) => {
+            days(score, out)?;
+            summary(score)
+        }
+        Card::Unscored(unscored) => unscored_summary(unscored),
+    };
+    writeln!(out, "{}", json!({ "summary": summary }))?;
+    Ok(())
+}
+
+fn days(score: &Score, out: &mut dyn Write) -> Outcome {
     for day in &score.days {
         let value = json!({
             "day": day.number,
@@ -25,9 +35,18 @@ pub fn json(score: &Score, asked: &Asked, out: &mut dyn Write) -> Outcome {
         });
         writeln!(out, "{value}")?;
     }
-    let mut summary = summary(asked, Value::Null);
+    Ok(())
+}
+
+fn summary(score: &Score) -> Value {
+    let from = score.dates().map(|(first, _)| first);
+    let mut summary = json!({
+        "edition": score.edition.number(),
+        "lease": lease(&score.line(), from),
+        "refusal": null,
+    });
     score.issue.put(&mut summary);
-    summary["sha256"] = json!(score.log.digest());
+    summary["sha256"] = json!(score.digest);
     let checks: Vec<Value> = score.checks.iter().map(Check::json).collect();
     summary["checks"] = json!(checks);
     summary["served"] = json!(score.month.served);
@@ -37,42 +56,38 @@ pub fn json(score: &Score, asked: &Asked, out: &mut dyn Write) -> Outcome {
     summary["full_days"] = json!(score.count(Served::InFull));
     summary["part_days"] = json!(score.count(Served::InPart));
     summary["dark_days"] = json!(score.count(Served::Dark));
-    summary["log"] = days::summary(score.log);
-    writeln!(out, "{}", json!({ "summary": summary }))?;
-    Ok(())
+    summary["log"] = score.log.clone();
+    summary
 }
 
-/// The one line of an edition or a lease line that was refused: no log was read.
-pub fn refused_asked(asked: &Asked, refused: &Refused, out: &mut dyn Write) -> Outcome {
-    let refusal = json!({"refused": refused.number, "cause": refused.cause});
-    writeln!(out, "{}", json!({ "summary": summary(asked, refusal) }))?;
-    Ok(())
+/// What was refused, or couldn't be read, in place of a score.
+fn unscored_summary(unscored: &Unscored) -> Value {
+    let lease = lease(&unscored.line, unscored.from);
+    let mut summary = json!({
+        "edition": unscored.edition,
+        "lease": lease,
+        "refusal": unscored.refusal,
+    });
+    unscored.issue.put(&mut summary);
+    summary["inputs"] = json!(unscored.inputs);
+    summary["unscored"] = json!({"name": unscored.name(), "why": unscored.why});
+    if !unscored.log.is_null() {
+        summary["log"] = unscored.log.clone();
+    }
+    summary
 }
 
-/// The one line of a log whose replay was stopped: no day has a score.
-pub fn refused_log(asked: &Asked, log: &Log, out: &mut dyn Write) -> Outcome {
-    let told = days::summary(log);
-    let mut summary = summary(asked, told["refusal"].clone());
-    summary["log"] = told;
-    writeln!(out, "{}", json!({ "summary": summary }))?;
-    Ok(())
-}
-
-/// The edition and the lease line, and what was refused in place of a score.
-fn summary(asked: &Asked, refusal: Value) -> Value {
-    let line = &asked.line;
-    json!({
-        "edition": asked.edition,
-        "lease": {"first_day": line.first_day, "days": line.days, "owed": line.owed},
-        "refusal": refusal,
-    })
+/// The lease line, with the first day's date.
+pub fn lease(line: &LeaseLine, from: Option<Date>) -> Value {
+    let from = from.map(|date| date.to_string());
+    json!({"first_day": line.first_day, "days": line.days, "owed": line.owed, "from": from})
 }
 
 /// A head and a row a day; numbers and dates need no quotes.
 pub fn csv(score: &Score, out: &mut dyn Write) -> Outcome {
     let date = score.dates().map_or("", |_| "date,");
     writeln!(out, "day,{date}claimed,served,owed,dark,in_log,edition")?;
-    let edition = score.log.edition().number();
+    let edition = score.edition.number();
     for day in &score.days {
         let date = day.date.map_or(String::new(), |date| format!("{date},"));
         let (claimed, served, owed) = (day.claimed, day.served, day.owed);

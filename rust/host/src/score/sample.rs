@@ -2,9 +2,10 @@
 
 use crate::common::failure::{Failure, Outcome};
 use crate::input::source::Source;
+use crate::score;
+use crate::score::asked::{self, LeaseLine};
 use crate::score::civil::Date;
 use crate::score::station::{DAYS, FIRST_DAY, FROM, OWED};
-use crate::score::{self, LeaseLine};
 use std::io::Write;
 
 const LOG: &[u8] = include_bytes!("../../../../samples/station-14.log");
@@ -27,5 +28,5 @@ pub fn run(out: &mut dyn Write) -> Outcome {
         out,
         "# egretfold --help tells of the rest; samples/README.md has more to try"
     )?;
-    score::outcome(verdict)
+    asked::outcome(verdict)
 }

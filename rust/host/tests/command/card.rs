@@ -6,6 +6,7 @@ use crate::common::{
 use boundary::headers::{SET_DOMAIN, START_PROGRAM};
 use serde_json::Value;
 use std::fs;
+use std::path::Path;
 use std::process::Command;
 
 const APRIL: &str = "--first-day 101 --days 30 --owed 14000000 --from 2026-04-01";
@@ -33,7 +34,7 @@ fn a_card_says_whose_it_is_and_what_it_is_of() {
     let output = with_input(line, b"");
     let heading = "\nStation 14 <north>, leased to Harbour & Sons\n";
     assert!(told(&output).contains(heading), "{}", told(&output));
-    let version = told(&egretfold("--version", b""));
+    let version = told(&egretfold("-V", b""));
     let mut sum = Command::new("sha256sum");
     sum.arg("samples/station-14.log");
     let sum = told(&with_input(sum, b""));
@@ -323,8 +324,18 @@ fn a_card_without_a_score_says_so() {
 }
 
 #[test]
+fn the_version_names_the_kit_that_proved_it() {
+    let long = told(&egretfold("--version", b""));
+    let short = told(&egretfold("-V", b""));
+    let kit = Path::new(boundary::ARCHIVE).with_file_name("kit.txt");
+    // An archive that was brought here has no record, and none is made up.
+    let kit = fs::read_to_string(kit).unwrap_or_else(|_| "a kit that was not recorded".into());
+    assert_eq!(long, format!("{short}proved with {}\n", kit.trim()));
+}
+
+#[test]
 fn the_version_names_its_commit() {
-    let version = told(&egretfold("--version", b""));
+    let version = told(&egretfold("-V", b""));
     let mut git = Command::new("git");
     git.args(["rev-parse", "--short=12", "HEAD"])
         .current_dir(root());

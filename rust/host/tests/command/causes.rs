@@ -1,9 +1,10 @@
 //! Refusals told with their place, their number and both quantities.
 
-use crate::common::{complained, egretfold, Folder};
-use boundary::{Edition, Group, Mode, Program, Session};
+use crate::common::{complained, egretfold, told, Folder};
+use boundary::{Edition, Group, Mode, Program, Refusal, Session};
 use compare::random::Random;
 use compare::{loops, programs, words};
+use serde_json::Value;
 
 /// A stream in hex text, and what is told of its refused word.
 const TOLD: &[(&str, &str)] = &[
@@ -125,7 +126,7 @@ fn refused_streams_get_more_than_the_bare_cause() {
     for case in 0..3_000 {
         let words = words::any(&mut Random::of_case(91, 3, case));
         let number = match Session::new(Edition::First).feed(&words).refusal {
-            Some(number) => number,
+            Some(refusal) => refusal.number(),
             None => continue,
         };
         let stream: Vec<u8> = words.iter().flat_map(|word| word.to_le_bytes()).collect();
@@ -205,7 +206,8 @@ fn refused_runs(kind: u64, mode: Mode, any: fn(&mut Random) -> Vec<u32>) -> [u32
         let told = complained(&output);
         match answer {
             Ok(_) => assert_eq!((output.status.code(), told.as_str()), (Some(0), "")),
-            Err(number) => {
+            Err(refusal) => {
+                let number = refusal.number();
                 assert_eq!(output.status.code(), Some(1), "{told}");
                 assert!(told.contains(&format!(": refused {number}, ")), "{told}");
                 let cause = told.split("; in full mode").next().unwrap_or_default();
@@ -219,4 +221,14 @@ fn refused_runs(kind: u64, mode: Mode, any: fn(&mut Random) -> Vec<u32>) -> [u32
         }
     }
     seen
+}
+
+/// `explain` has just the refusals that the library has, in their order.
+#[test]
+fn every_refusal_of_the_library_is_explained() {
+    let text = told(&egretfold("explain --json", b""));
+    let number = |line| serde_json::from_str::<Value>(line).expect("JSON")["number"].as_u64();
+    let explained: Vec<Option<u64>> = text.lines().map(number).collect();
+    let known = Refusal::ALL.iter().map(|&refusal| Some(refusal.into()));
+    assert_eq!(explained, known.collect::<Vec<Option<u64>>>());
 }

@@ -551,7 +551,7 @@ fn a_picture_goes_to_standard_output_and_behind_links() {
 }
 
 /// Runs a line of shell on a terminal of its own and gives what the terminal got.
-fn on_a_terminal(line: &str) -> String {
+pub fn on_a_terminal(line: &str) -> String {
     let mut script = Command::new("script");
     script.args(["-qec", line, "/dev/null"]).current_dir(root());
     let output = script.stdin(Stdio::null()).output().expect("it runs");

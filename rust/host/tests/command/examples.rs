@@ -2,7 +2,7 @@
 //! with the program that starts anew at each midnight, and, indented alike below it,
 //! what it prints. Each is run as it stands.
 
-use crate::common::{complained, root, told, with_input};
+use crate::common::{complained, egretfold, root, told, with_input};
 use std::fs;
 use std::process::Command;
 
@@ -68,12 +68,13 @@ fn all_hold(document: &str) -> usize {
 
 #[test]
 fn the_documents_print_what_the_examples_print() {
-    // The samples, the tour, a card, and a tile and an address for each of the five sizes.
+    // The samples, the tour, a card, a tile and an address for each of the five sizes, and a lease file.
     for (document, least) in [
         ("samples/README.md", 8),
         ("README.md", 1),
         ("docs/TOUR.md", 7),
         ("docs/ADDRESSES.md", 10),
+        ("docs/FLEET.md", 2),
     ] {
         let count = all_hold(document);
         assert!(count >= least, "{document} has {count} examples");
@@ -86,4 +87,21 @@ fn the_first_page_is_short() {
     let text = fs::read_to_string(root().join("README.md")).expect("the document is there");
     let lines = text.lines().count();
     assert!(lines <= 120, "README.md has {lines} lines");
+}
+
+#[test]
+fn the_first_page_lists_every_command() {
+    let text = fs::read_to_string(root().join("README.md")).expect("the document is there");
+    let help = told(&egretfold("--help", b""));
+    let commands = help.lines().skip_while(|line| *line != "Commands:").skip(1);
+    let names: Vec<&str> = commands
+        .map_while(|line| line.split_whitespace().next())
+        .filter(|name| *name != "help")
+        .collect();
+    assert!(names.contains(&"score"), "{help}");
+    for name in names {
+        let begins = [format!("`{name}`"), format!("`{name} ")];
+        let is_there = begins.iter().any(|begin| text.contains(begin));
+        assert!(is_there, "README.md doesn't list {name}");
+    }
 }

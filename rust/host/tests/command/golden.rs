@@ -52,7 +52,7 @@ const CASES: &[(&str, &str, &str)] = &[
     ),
     (
         "score-damaged-json",
-        "score samples/damaged.log --first-day 101 --days 30 --owed 14000000 --json",
+        "score samples/damaged.log --first-day 101 --days 30 --owed 14000000 --json --issued 2026-05-02",
         "",
     ),
     (
@@ -77,7 +77,7 @@ const CASES: &[(&str, &str, &str)] = &[
     ),
     (
         "score-lease-json",
-        "score samples/station-14.log --first-day 101 --days 32 --owed 1 --json",
+        "score samples/station-14.log --first-day 101 --days 32 --owed 1 --json --issued 2026-05-02",
         "",
     ),
     (
@@ -117,7 +117,48 @@ const CASES: &[(&str, &str, &str)] = &[
     ),
     (
         "score-edition-3-json",
-        "score samples/damaged.log --first-day 101 --days 32 --owed 1 --edition 3 --json",
+        "score samples/damaged.log --first-day 101 --days 32 --owed 1 --edition 3 --json --issued 2026-05-02",
+        "",
+    ),
+    ("fleet", "fleet samples/leases.csv", ""),
+    (
+        "fleet-edition-2",
+        "fleet samples/leases.csv --edition 2",
+        "",
+    ),
+    (
+        "fleet-edition-3",
+        "fleet samples/nothing.csv --edition 3",
+        "",
+    ),
+    (
+        "fleet-json",
+        "fleet samples/leases.csv --json --issued 2026-05-02",
+        "",
+    ),
+    (
+        "fleet-csv",
+        "fleet samples/leases.csv --csv --sort station",
+        "",
+    ),
+    (
+        "fleet-commands",
+        "fleet samples/leases.csv --commands --issued 2026-05-02",
+        "",
+    ),
+    (
+        "fleet-full",
+        "fleet - --plain",
+        "station,log,first day,days,owed\n15,samples/station-15,101,30,14000000\n9,samples/nothing-owed.log,42,28,0\n",
+    ),
+    (
+        "fleet-faults",
+        "fleet -",
+        "station,log,first day,days,owed\n15,samples/station-15,101,thirty,14000000\n,samples/station-15,42,32,0\n",
+    ),
+    (
+        "fleet-from-nothing",
+        "fleet --from-scores /dev/null",
         "",
     ),
     ("decode-whole", "decode samples/whole.ctm", ""),
@@ -193,6 +234,51 @@ const CASES: &[(&str, &str, &str)] = &[
         "decode-channels-edition-2-summary",
         "decode --edition 2 --summary samples/channels.ctm",
         "",
+    ),
+ (
+        "decode-lessees",
+        "decode --parties samples/lessees.parties --owners FF00:2 samples/lessees.ctm",
+        "",
+    ),
+    (
+        "decode-lessees-json",
+        "decode --parties samples/lessees.parties --owners FF00:2 --json samples/lessees.ctm",
+        "",
+    ),
+    (
+        "decode-lessees-summary",
+        "decode --parties samples/lessees.parties --owners FF00:2 --summary samples/lessees.ctm",
+        "",
+    ),
+    (
+        "decode-lessees-ready",
+        "decode --ready --edition 2 --parties samples/lessees.parties --owners FF00:2 samples/lessees.ctm",
+        "",
+    ),
+    (
+        "decode-intruder",
+        "decode --parties samples/intruder.parties --owners 0:2 samples/intruder.ctm",
+        "",
+    ),
+    (
+        "decode-intruder-json",
+        "decode --parties samples/intruder.parties --owners 0:2 --json samples/intruder.ctm",
+        "",
+    ),
+    (
+        "decode-owners",
+        "decode --parties samples/nothing.parties --owners 10000:2 samples/intruder.ctm",
+        "",
+    ),
+    (
+        "decode-parties-short",
+        "decode --hex --parties - --owners 0:F --summary samples/refused.hex",
+        "0110 # four words\n",
+    ),
+    (
+        "decode-parties-digit",
+        "decode --hex --parties - --owners 0:F --summary samples/refused.hex",
+        "01\n012\n",
     ),
     ("decode-edition-0", "decode --edition 0 samples/nothing.ctm", ""),
     ("decode-open", "decode --hex", "C0030700 0 0\n"),
@@ -339,6 +425,166 @@ const CASES: &[(&str, &str, &str)] = &[
     (
         "locate-stream-json",
         "locate --stream samples/whole.ctm --json 1000 31BF 0",
+        "",
+    ),
+    (
+        "survey",
+        "survey --stream samples/camera.ctm --memory samples/camera.mem --at 800 --value 300",
+        "",
+    ),
+    (
+        "survey-json",
+        "survey --stream samples/camera.ctm --memory samples/camera.mem --at 800 --value 300 --domain 38,8,45,10 --json",
+        "",
+    ),
+    (
+        "survey-wide",
+        "survey --stream - --hex --memory samples/station-14.log --at 0 --value 0x1000 --domain 0,0,191,9",
+        "C0020D00 0 C8 A C0001B00 1",
+    ),
+    (
+        "survey-stopped",
+        "survey --stream - --hex --memory samples/camera.mem --at 800 --value 4",
+        "C0020D00 2800 10040 18 C0001B00 3 C0030700 18 8 1F A 7",
+    ),
+    (
+        "survey-missing",
+        "survey --stream samples/whole.ctm --memory samples/camera.mem --at 800 --value 0",
+        "",
+    ),
+    (
+        "survey-no-test",
+        "survey --stream - --hex --memory samples/camera.mem --at 800 --value 0 --domain 0,0,0,0",
+        "C0020D00 2800 10040 18",
+    ),
+    (
+        "survey-no-buffer",
+        "survey --stream - --hex --memory samples/camera.mem --at 800 --value 0 --domain 0,0,0,0",
+        "C0001B00 1",
+    ),
+    (
+        "survey-format",
+        "survey --stream - --hex --memory samples/camera.mem --at 800 --value 0 --domain 0,0,0,0",
+        "C0020D00 2800 2000020 4 C0001B00 1",
+    ),
+    (
+        "survey-crossed",
+        "survey --stream samples/camera.ctm --memory samples/camera.mem --at 800 --value 300 --domain 5,0,4,9",
+        "",
+    ),
+    (
+        "survey-outside",
+        "survey --stream samples/camera.ctm --memory samples/camera.mem --at 800 --value 300 --domain 0,0,64,9",
+        "",
+    ),
+    (
+        "survey-outside-json",
+        "survey --stream samples/camera.ctm --memory samples/camera.mem --at 800 --value 300 --domain 0,0,0,4294967295 --json",
+        "",
+    ),
+    (
+        "survey-memory",
+        "survey --stream samples/camera.ctm --memory samples/camera.mem --at 0 --value 300",
+        "",
+    ),
+    (
+        "survey-above",
+        "survey --stream samples/camera.ctm --memory samples/camera.mem --at FFFFFFFF --value 300",
+        "",
+    ),
+    (
+        "survey-many",
+        "survey --stream - --hex --memory samples/camera.mem --at 800 --value 0 --domain 0,0,4095,15",
+        "C0020D00 0 1000 1000 C0001B00 7",
+    ),
+    (
+        "survey-no-domain",
+        "survey --stream - --hex --memory samples/camera.mem --at 800 --value 0",
+        "C0020D00 2800 10040 18 C0001B00 4",
+    ),
+    (
+        "picture-out",
+        "picture --memory samples/camera.mem --at 800 --stream samples/camera.ctm --window output-0 --out /dev/null",
+        "",
+    ),
+    (
+        "picture-out-json",
+        "picture --memory samples/camera.mem --at 800 --base 800 --pitch 64 --height 32 --size 4 --tiled --rectangle 20,4,24,16 --as raw --out /dev/null --json",
+        "",
+    ),
+    (
+        "picture-in",
+        "picture --memory samples/camera.mem --at 800 --base 800 --pitch 64 --height 32 --size 4 --tiled --in samples/camera.ppm --to /dev/null",
+        "",
+    ),
+    (
+        "picture-in-json",
+        "picture --memory samples/camera.mem --at 800 --base 800 --pitch 64 --height 32 --size 4 --tiled --in samples/camera.ppm --to /dev/null --json",
+        "",
+    ),
+    (
+        "picture-in-sides",
+        "picture --memory samples/camera.mem --at 800 --base 800 --pitch 64 --height 32 --size 4 --tiled --rectangle 0,0,32,32 --in samples/camera.ppm --to /dev/null",
+        "",
+    ),
+    (
+        "picture-in-length",
+        "picture --memory samples/camera.mem --at 800 --base 800 --pitch 64 --height 32 --size 4 --tiled --in samples/whole.ctm --to /dev/null",
+        "",
+    ),
+    (
+        "picture-outside",
+        "picture --memory samples/camera.mem --at 800 --base 800 --pitch 64 --height 32 --size 4 --tiled --rectangle 41,4,24,16 --out /dev/null",
+        "",
+    ),
+    (
+        "picture-outside-json",
+        "picture --memory samples/camera.mem --at 800 --base 800 --pitch 64 --height 32 --size 4 --tiled --rectangle 41,4,24,16 --out /dev/null --json",
+        "",
+    ),
+    (
+        "picture-below",
+        "picture --memory samples/camera.mem --at 800 --base 800 --pitch 64 --height 32 --size 4 --tiled --rectangle 0,1,24,4294967295 --out /dev/null",
+        "",
+    ),
+    (
+        "picture-span",
+        "picture --memory samples/camera.mem --at 1000 --base 800 --pitch 64 --height 32 --size 4 --tiled --out /dev/null",
+        "",
+    ),
+    (
+        "picture-above",
+        "picture --memory samples/camera.mem --at FFFFF800 --base 800 --pitch 64 --height 32 --size 4 --tiled --out /dev/null",
+        "",
+    ),
+    (
+        "picture-rule",
+        "picture --memory samples/camera.mem --at 800 --base 800 --pitch 28 --height 32 --size 4 --tiled --out /dev/null",
+        "",
+    ),
+    (
+        "picture-form",
+        "picture --memory samples/camera.mem --at 800 --base 800 --pitch 32 --height 4 --size 8 --as ppm --out /dev/null",
+        "",
+    ),
+    (
+        "picture-window",
+        "picture --memory samples/camera.mem --at 800 --stream samples/camera.ctm --out /dev/null",
+        "",
+    ),
+    (
+        "picture-no-window",
+        "picture --memory samples/camera.mem --at 800 --stream samples/camera.ctm --window output-3 --out /dev/null",
+        "",
+    ),
+    (
+        "picture-stands",
+        "picture --memory samples/camera.mem --at 800 --base 800 --pitch 64 --height 32 --size 4 --tiled --out samples/camera.ppm",
+        "",
+    ),
+    (
+        "picture-neither",
+        "picture --memory samples/camera.mem --at 800 --base 800 --pitch 64 --height 32 --size 4 --tiled",
         "",
     ),
     ("flow-list", "flow --hex samples/branch.hex", ""),
@@ -497,6 +743,9 @@ const CASES: &[(&str, &str, &str)] = &[
     ),
     ("explain", "explain", ""),
     ("explain-3", "explain 3", ""),
+    ("explain-5", "explain 5", ""),
+    ("explain-10", "explain 10", ""),
+    ("explain-11", "explain 11", ""),
     ("explain-6", "explain 6", ""),
     ("explain-7", "explain 7", ""),
     ("explain-8", "explain 8", ""),
@@ -509,6 +758,7 @@ const CASES: &[(&str, &str, &str)] = &[
     ("explain-19", "explain 19", ""),
     ("explain-20", "explain 20", ""),
     ("explain-21", "explain 21", ""),
+    ("explain-22", "explain 22", ""),
     ("explain-json-18", "explain --json 18", ""),
     ("missing-file", "decode samples/nothing.ctm", ""),
     ("a-folder", "decode samples", ""),
@@ -616,7 +866,7 @@ fn seen(arguments: &str, input: &str) -> String {
 /// The text without the commit that the command is built from, which no stored file can
 /// know.
 fn without_version(text: &str) -> String {
-    let version = told(&egretfold("--version", b""));
+    let version = told(&egretfold("-V", b""));
     let version = version.trim().trim_start_matches("egretfold ");
     text.replace(version, "VERSION")
 }

@@ -7,7 +7,7 @@ use std::fs;
 use std::io::Write;
 use std::process::{Command, Stdio};
 
-const SUBCOMMANDS: [&str; 11] = [
+const SUBCOMMANDS: [&str; 13] = [
     "score",
     "decode",
     "encode",
@@ -15,6 +15,8 @@ const SUBCOMMANDS: [&str; 11] = [
     "address",
     "locate",
     "tile",
+    "picture",
+    "survey",
     "flow",
     "explain",
     "completions",
@@ -48,6 +50,22 @@ fn a_wrong_line_ends_with_2_and_no_answer() {
         "locate --pitch 100 --height 3 --size 4 xyz",
         "locate --pitch 100 --height 3 --size 4 123456789",
         "locate --words 3 800",
+        "picture --memory samples/camera.mem --at 800 --stream samples/camera.ctm --window output-0",
+        "picture --memory samples/camera.mem --at 800 --stream samples/camera.ctm --in samples/camera.ppm",
+        "picture --memory samples/camera.mem --at 800 --pitch 64 --size 4 --out /dev/null",
+        "picture --memory samples/camera.mem --at 8x --pitch 64 --size 4 --height 32 --out /dev/null",
+        "picture --memory - --at 800 --pitch 64 --size 4 --height 32 --in - --to /dev/null",
+        "picture --memory samples/camera.mem --at 800 --pitch 64 --size 4 --height 32 --out - --json",
+        "picture --memory samples/camera.mem --at 800 --pitch 64 --size 4 --height 32 --rectangle 1,2,3 --out /dev/null",
+        "picture --memory samples/camera.mem --at 800 --pitch 64 --size 4 --height 32 --as gif --out /dev/null",
+        "survey --stream samples/camera.ctm --memory samples/camera.mem --value 300",
+        "survey --stream samples/camera.ctm --memory samples/camera.mem --at 800",
+        "survey --stream samples/camera.ctm --memory samples/camera.mem --at 800 --value -1",
+        "survey --stream samples/camera.ctm --memory samples/camera.mem --at 800 --value 1 --domain 1,2,3",
+        "survey --stream samples/camera.ctm --memory samples/camera.mem --at 800 --value 1 --pgm samples/camera.ctm",
+        "survey --stream samples/camera.ctm --memory samples/camera.mem --at 800 --value 1 --svg samples/camera.ppm",
+        "survey --stream - --memory - --at 800 --value 1",
+        "survey --stream samples/camera.ctm --memory samples/nothing.mem --at 800 --value 1",
         "flow --hex samples/branch.hex 1",
         "flow --hex --integers - -",
         "flow --hex samples/loops.hex --integers samples/nothing.integers",
@@ -171,7 +189,7 @@ fn the_examples_of_the_help_texts_run() {
                 .stdin(Stdio::null());
             let output = shell.output().expect("the line runs");
             let status = match () {
-                _ if line.contains("/refused.") => 1,
+                _ if line.contains("/refused.") || line.contains("/intruder.") => 1,
                 _ if line.contains(" score ") && line.contains("/station-14.") => 3,
                 _ => 0,
             };

@@ -28,13 +28,19 @@ fn the_samples_are_what_their_program_makes() {
     let ended = Command::new(program).arg(&folder.0).status();
     assert!(ended.expect("the program runs").success());
     let mut count = 0;
-    for entry in fs::read_dir(&folder.0).expect("the folder is there") {
-        let file = entry.expect("an entry").path();
-        let name = file.file_name().expect("a name").to_string_lossy();
-        assert_eq!(fs::read(&file).expect("a file"), sample(&name), "{name}");
-        count += 1;
+    for within in ["", "station-15/"] {
+        let folder = folder.0.join(within);
+        for entry in fs::read_dir(folder).expect("the folder is there") {
+            let file = entry.expect("an entry").path();
+            if file.is_file() {
+                let name = file.file_name().expect("a name").to_string_lossy();
+                let name = format!("{within}{name}");
+                assert_eq!(fs::read(&file).expect("a file"), sample(&name), "{name}");
+                count += 1;
+            }
+        }
     }
-    assert_eq!(count, 9);
+    assert_eq!(count, 20);
 }
 
 #[test]

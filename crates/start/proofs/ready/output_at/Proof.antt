@@ -1,63 +1,85 @@
--- `start::ready::output_at` meets its contract. Assumes nothing.
 use Rattle.start.proofs.Readiness.{output-told}
 use borrow.Author.Needs.{needs}
 use Rattle.start.proofs.ready.output_at.Statement.{statement}
 use Rattle.start.proofs.ready.output_at.Tie as tie
+use Rattle.start.proofs.ready.output_at.Reads as reads
+use Rattle.start.proofs.ready.output_at.Lts as lts
 use Rattle.start.proofs.ready.is_counted.Reads as is-counted-reads
+use Rattle.start.proofs.ready.shown.Reads as shown-reads
 
-mul-flag : tie.Need-mul-flag
-mul-flag c = search needs
+-- src/ready.rt:91:29
+mul-shown : tie.Need-mul-shown
+mul-shown c = search needs
 
-element-copy-out-flag : tie.Need-element-copy-out-flag
-element-copy-out-flag c = search needs
+-- src/ready.rt:91:29
+element-copy-out-shown : tie.Need-element-copy-out-shown
+element-copy-out-shown c = search needs
 
+-- src/ready.rt:91:9
+shown-requires : tie.Need-shown-requires
+shown-requires c κs = search needs
+
+-- src/ready.rt:92:48
 add-is-counted : tie.Need-add-is-counted
 add-is-counted c = search needs
 
+-- src/ready.rt:92:41
 mul-is-counted : tie.Need-mul-is-counted
 mul-is-counted c = search needs
 
+-- src/ready.rt:92:41
 element-copy-out-is-counted : tie.Need-element-copy-out-is-counted
 element-copy-out-is-counted c = search needs
 
+-- src/ready.rt:92:9
 is-counted-requires : tie.Need-is-counted-requires
 is-counted-requires c κs = search needs
 
-add-t8 : tie.Need-add-t8
-add-t8 c = search needs
+-- src/ready.rt:96:22
+add-t9 : tie.Need-add-t9
+add-t9 c = search needs
 
-mul-t12 : tie.Need-mul-t12
-mul-t12 c = search needs
+-- src/ready.rt:96:15
+mul-t13 : tie.Need-mul-t13
+mul-t13 c = search needs
 
-element-copy-out-t11 : tie.Need-element-copy-out-t11
-element-copy-out-t11 c = search needs
+-- src/ready.rt:96:15
+element-copy-out-t12 : tie.Need-element-copy-out-t12
+element-copy-out-t12 c = search needs
 
-add-t18 : tie.Need-add-t18
-add-t18 c = search needs
+-- src/ready.rt:98:24
+add-t19 : tie.Need-add-t19
+add-t19 c = search needs
 
-mul-t19 : tie.Need-mul-t19
-mul-t19 c = search needs
+-- src/ready.rt:98:17
+mul-t20 : tie.Need-mul-t20
+mul-t20 c = search needs
 
-element-copy-out-t22 : tie.Need-element-copy-out-t22
-element-copy-out-t22 c = search needs
+-- src/ready.rt:98:17
+element-copy-out-t23 : tie.Need-element-copy-out-t23
+element-copy-out-t23 c = search needs
 
+-- src/ready.rt:80:1
 returns : tie.Need-returns
-returns c = output-told _ _ _ _ _ _ _ (c .before .before .is-counted .ensures)
+returns c = 
+    let at-is-counted = c .before .before in
+    output-told _ _ _ _ _ _ _ _ (at-is-counted .before .before .shown .ensures) (at-is-counted .is-counted .ensures)
 
 pub output-at-spec : {M : Type 1} → statement M
 output-at-spec =
     tie.close
     (tie.spec
-    mul-flag
-    element-copy-out-flag
+    mul-shown
+    element-copy-out-shown
+    shown-requires
     add-is-counted
     mul-is-counted
     element-copy-out-is-counted
     is-counted-requires
-    add-t8
-    mul-t12
-    element-copy-out-t11
-    add-t18
-    mul-t19
-    element-copy-out-t22
+    add-t9
+    mul-t13
+    element-copy-out-t12
+    add-t19
+    mul-t20
+    element-copy-out-t23
     returns)

@@ -29,7 +29,7 @@ pub fn draw(drawing: &mut Drawing, day: &Day, (x, y): (u32, u32), is_first: bool
 }
 
 /// A day in words.
-fn told(day: &Day) -> String {
+pub fn told(day: &Day) -> String {
     let date = day.date.map_or(String::new(), |date| format!(", {date}"));
     let dark = if day.is_dark() { ", dark" } else { "" };
     format!(

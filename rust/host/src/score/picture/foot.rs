@@ -14,7 +14,7 @@ pub const UNSIGNED_HEIGHT: u32 = 60;
 const LINE: Style = Style::of(12, PALE_INK);
 
 /// The date, the version and the digest, where there is one, below this height.
-pub fn issue(drawing: &mut Drawing, issue: &Issue, digest: Option<String>, y: u32) {
+pub fn issue(drawing: &mut Drawing, issue: &Issue, digest: Option<&str>, y: u32) {
     let whole = SMALL.at_most(RIGHT - LEFT);
     drawing.text((LEFT, y + 30), &issue.told(), &whole);
     if let Some(digest) = digest {

@@ -4,18 +4,19 @@
 //! that all of it can be told without colour.
 
 mod cell;
-pub mod file;
 mod foot;
 mod notice;
-mod svg;
+pub mod svg;
 pub mod unscored;
 
 use crate::common::digits::grouped;
+use crate::common::replaced::SVG_BEGIN;
 use crate::common::text;
+use crate::score::asked::Card;
 use crate::score::civil::{Date, WEEKDAYS};
 use crate::score::month::{self, Score, Served};
 use crate::score::picture::cell::bar;
-use crate::score::picture::file::BEGIN;
+pub use crate::score::picture::cell::told;
 use crate::score::picture::notice::Notice;
 use crate::score::picture::svg::{Drawing, Style, FULL, INK, PALE_INK, PAPER, PART};
 use boundary::Verdict;
@@ -42,7 +43,24 @@ const TITLE: Style = Style::of(32, INK).bold();
 const PLAIN: Style = Style::of(15, INK);
 const SMALL: Style = Style::of(12, PALE_INK);
 
-pub fn svg(score: &Score) -> String {
+/// A card as a picture of its own.
+pub fn svg(card: &Card) -> String {
+    drawn(card).alone()
+}
+
+/// A card for a page that has the patterns.
+pub fn svg_within(card: &Card) -> String {
+    drawn(card).within()
+}
+
+fn drawn(card: &Card) -> Framed {
+    match card {
+        Card::Scored(score) => calendar(score),
+        Card::Unscored(unscored) => unscored::drawn(unscored),
+    }
+}
+
+fn calendar(score: &Score) -> Framed {
     let texts: Vec<String> = score
         .checks
         .iter()
@@ -72,37 +90,76 @@ pub fn svg(score: &Score) -> String {
         cell::draw(&mut drawing, day, (x, y), place == 0);
     }
     legend(&mut drawing, score, below + 22);
-    foot::issue(&mut drawing, &score.issue, score.log.digest(), below + 22);
+    foot::issue(
+        &mut drawing,
+        &score.issue,
+        score.digest.as_deref(),
+        below + 22,
+    );
     foot::sign(&mut drawing, below + 22);
-    framed(&title(score), &score.verdict(), height, &drawing.elements())
+    Framed {
+        title: title(score),
+        told: score.verdict(),
+        height,
+        elements: drawing.elements(),
+    }
 }
 
-/// The drawing in its frame, with words for those who can't see it.
-fn framed(title: &str, told: &str, height: u32, elements: &str) -> String {
-    let scaled = |most: u32, of: u32, by: u32| (most * of + by / 2) / by;
-    let (paper_width, paper_height) = match scaled(PAPER_WIDTH, height, WIDTH) {
-        high if high <= PAPER_HEIGHT => (PAPER_WIDTH, high),
-        _ => (scaled(PAPER_HEIGHT, WIDTH, height), PAPER_HEIGHT),
-    };
-    let title = Drawing::escaped(title);
-    let told = Drawing::escaped(told);
-    let size = format!(r#"width="{paper_width}mm" height="{paper_height}mm""#);
-    let view = format!(r#"viewBox="0 0 {WIDTH} {height}""#);
-    // Common fonts, of which each machine has one.
-    let fonts = r#"font-family="DejaVu Sans, Verdana, Arial, Helvetica, sans-serif""#;
-    format!(
-        r##"{BEGIN}xmlns="http://www.w3.org/2000/svg" {size} {view} {fonts} role="img">
-<title>{title}</title>
-<desc>{told}</desc>
-<defs>
+/// A drawing with words for those who can't see it, to be put in its frame.
+pub struct Framed {
+    title: String,
+    told: String,
+    height: u32,
+    elements: String,
+}
+
+/// What the ground of a dark day is filled with.
+pub const PATTERNS: &str = r##"<defs>
 <pattern id="dark" width="8" height="8" patternUnits="userSpaceOnUse" patternTransform="rotate(45)">
 <rect width="8" height="8" fill="#f7f7f7"/>
 <rect width="3" height="8" fill="#dcdcdc"/>
 </pattern>
 </defs>
-{elements}</svg>
+"##;
+
+impl Framed {
+    fn alone(&self) -> String {
+        let scaled = |most: u32, of: u32, by: u32| (most * of + by / 2) / by;
+        let (width, height) = match scaled(PAPER_WIDTH, self.height, WIDTH) {
+            high if high <= PAPER_HEIGHT => (PAPER_WIDTH, high),
+            _ => (scaled(PAPER_HEIGHT, WIDTH, self.height), PAPER_HEIGHT),
+        };
+        let size = format!(r#" width="{width}mm" height="{height}mm""#);
+        self.svg(&size, PATTERNS)
+    }
+
+    fn within(&self) -> String {
+        self.svg("", "")
+    }
+
+    fn svg(&self, size: &str, patterns: &str) -> String {
+        let title = Drawing::escaped(&self.title);
+        let told = Drawing::escaped(&self.told);
+        let view = format!(r#"viewBox="0 0 {WIDTH} {}""#, self.height);
+        // Common fonts, of which each machine has one.
+        let fonts = r#"font-family="DejaVu Sans, Verdana, Arial, Helvetica, sans-serif""#;
+        let elements = &self.elements;
+        format!(
+            r##"{SVG_BEGIN}xmlns="http://www.w3.org/2000/svg"{size} {view} {fonts} role="img">
+<title>{title}</title>
+<desc>{told}</desc>
+{patterns}{elements}</svg>
 "##
-    )
+        )
+    }
+}
+
+/// What a card is headed by.
+pub fn title_of(card: &Card) -> String {
+    match card {
+        Card::Scored(score) => title(score),
+        Card::Unscored(unscored) => unscored::title(unscored),
+    }
 }
 
 /// The month where the lease lies in one, else its first and last date, else its
@@ -137,8 +194,8 @@ fn head(drawing: &mut Drawing, score: &Score, down: u32) {
         Some(_) => format!("{}, {owed} elements owed a day", days_of(score)),
         None => format!("{owed} elements owed a day"),
     };
-    let lease = format!("{lease}, edition {}", score.log.edition().number());
-    let log = format!("Log {}", month::log_name(score.log, file_name));
+    let lease = format!("{lease}, edition {}", score.edition.number());
+    let log = format!("Log {}", month::log_name(&score.inputs, file_name));
     drawing.text((LEFT, down + 58), &title(score), &TITLE);
     let lines = [score.issue.whose(), Some(lease), Some(log)];
     for (y, line) in (88..).step_by(24).zip(lines.iter().flatten()) {

@@ -1,46 +1,67 @@
 //! The card of a month that has no score: it stands where an earlier card may have
 //! stood, so that none is left that is no longer true.
 
-use crate::score::issue::Issue;
+use crate::common::digits::grouped;
+use crate::common::text;
+use crate::score::asked::Unscored;
+use crate::score::month;
 use crate::score::picture::notice::Notice;
 use crate::score::picture::svg::{Drawing, Style, INK, PAPER};
-use crate::score::picture::{foot, framed, within, LEFT, PLAIN, RIGHT, TITLE, WIDTH};
+use crate::score::picture::{
+    file_name, foot, month_of, within, Framed, LEFT, PLAIN, RIGHT, TITLE, WIDTH,
+};
 
-pub struct Unscored<'a> {
-    /// "REFUSED", or "NOT SCORED" where the log couldn't be read.
-    pub name: &'static str,
-    pub why: &'a str,
-    /// The month, or the lease's days.
-    pub title: String,
-    pub lease: String,
-    pub log: String,
-    pub issue: &'a Issue,
-}
-
-pub fn svg(unscored: &Unscored) -> String {
-    let why: Vec<String> = unscored
-        .why
-        .lines()
-        .map(|line| line.trim().into())
-        .collect();
+pub fn drawn(unscored: &Unscored) -> Framed {
+    let told = without_folders(&unscored.why, &unscored.inputs);
+    let why: Vec<String> = told.lines().map(|line| line.trim().into()).collect();
     let notice = Notice::new("There is no score, because", &why);
     let below = 160 + notice.height();
     let height = below + foot::UNSIGNED_HEIGHT;
     let mut drawing = Drawing::default();
     drawing.rect((0, 0), (WIDTH, height), &format!(r#"fill="{PAPER}""#));
-    drawing.text((LEFT, 58), &unscored.title, &TITLE.at_most(600));
-    let whose = unscored.issue.whose();
-    let lines = [whose.as_deref(), Some(&unscored.lease), Some(&unscored.log)];
-    for (y, line) in (88..).step_by(24).zip(lines.into_iter().flatten()) {
+    let title = title(unscored);
+    drawing.text((LEFT, 58), &title, &TITLE.at_most(600));
+    let owed = grouped(u64::from(unscored.line.owed));
+    let (days, edition) = (days(unscored), unscored.edition);
+    let lease = format!("{days}, {owed} elements owed a day, edition {edition}");
+    let log = format!("Log {}", month::log_name(&unscored.inputs, file_name));
+    let lines = [unscored.issue.whose(), Some(lease), Some(log)];
+    for (y, line) in (88..).step_by(24).zip(lines.iter().flatten()) {
         drawing.text((LEFT, y), &within(line, 80), &PLAIN.at_most(620));
     }
     let width = 280;
     let look = format!(r#"fill="{INK}" stroke="{INK}" stroke-width="4""#);
     let style = Style::of(26, PAPER).bold().in_the_middle();
     drawing.rect((RIGHT - width, 30), (width, 46), &look);
-    drawing.text((RIGHT - width / 2, 62), unscored.name, &style);
+    drawing.text((RIGHT - width / 2, 62), unscored.name(), &style);
     notice.draw(&mut drawing, 150);
-    foot::issue(&mut drawing, unscored.issue, None, below + 16);
-    let told = format!("{}: {}", unscored.name, unscored.why);
-    framed(&unscored.title, &told, height, &drawing.elements())
+    foot::issue(&mut drawing, &unscored.issue, None, below + 16);
+    Framed {
+        title,
+        told: format!("{}: {told}", unscored.name()),
+        height,
+        elements: drawing.elements(),
+    }
+}
+
+/// The month, or the lease's days.
+pub fn title(unscored: &Unscored) -> String {
+    unscored.from.map_or_else(|| days(unscored), month_of)
+}
+
+/// The lease's days, also of a line that is refused.
+fn days(unscored: &Unscored) -> String {
+    let days = text::count(u64::from(unscored.line.days), "day");
+    format!("{days} from day {} on", unscored.line.first_day)
+}
+
+/// A text that tells of inputs by their paths, with their names in place of these.
+pub fn without_folders(text: &str, inputs: &[String]) -> String {
+    inputs.iter().fold(text.to_string(), |text, path| {
+        let name = path.rsplit('/').next().unwrap_or(path);
+        match name.is_empty() {
+            true => text,
+            false => text.replace(path.as_str(), name),
+        }
+    })
 }

@@ -16,7 +16,7 @@ pub struct Case {
 /// Stands in a line for a file of the case's own; the driver puts its folder before it.
 pub const OWN: &str = "own/";
 
-const SAMPLES: [&str; 12] = [
+const SAMPLES: [&str; 15] = [
     "whole.ctm",
     "whole.hex",
     "several.ctm",
@@ -29,6 +29,29 @@ const SAMPLES: [&str; 12] = [
     "branch.hex",
     "branch.masks",
     "loops.hex",
+    "camera.ctm",
+    "camera.mem",
+    "camera.ppm",
+];
+
+const STREAMS: [&str; 4] = ["camera.ctm", "camera.ctm", "masked.ctm", "several.ctm"];
+
+const MEMORY: [&str; 4] = ["camera.mem", "camera.mem", "camera.mem", "whole.ctm"];
+
+const PICTURES: [&str; 3] = ["camera.ppm", "camera.ppm", "camera.mem"];
+
+/// Domains and rectangles.
+const FOURS: [&str; 10] = [
+    "0,0,63,23",
+    "0,0,64,32",
+    "20,4,24,16",
+    "1,1,0,0",
+    "0,0,4294967295,4294967295",
+    "4294967295,4294967295,4294967295,4294967295",
+    "0,0,0,0",
+    "5,0,4,4294967295",
+    "1,2,3",
+    "a,b,c,d",
 ];
 
 const LOGS: [&str; 4] = [
@@ -111,6 +134,14 @@ const WORDS: [&str; 10] = [
     "zz",
 ];
 
+/// How a lease file begins.
+const HEADERS: [&str; 4] = [
+    "station,lessee,log,first day,days,owed,first date\n",
+    "station,lessee,log,first day,days,owed,first date\n",
+    "\u{feff}Station;Lessee;Log files;First_Day;Days;Owed;From\r\n",
+    "station,lesee,log,first day,days\n",
+];
+
 /// Names that a shell, a terminal or a table could stumble over.
 const NAMES: [&[u8]; 10] = [
     b"plain.log",
@@ -169,7 +200,9 @@ impl Made<'_> {
     }
 
     fn line(&mut self) {
-        match self.random.below(20) {
+        match self.random.below(27) {
+            23 | 24 => self.survey(),
+            25 | 26 => self.picture(),
             0..=5 => self.score(),
             6..=8 => self.replay(),
             9..=11 => self.decode(),
@@ -178,6 +211,7 @@ impl Made<'_> {
             15 | 16 => self.locate(),
             17 => self.tile(),
             18 => self.flow(),
+            19..=21 => self.fleet(),
             _ => self.other(),
         }
     }
@@ -205,7 +239,26 @@ impl Made<'_> {
             self.flag(times, flag);
         }
         self.valued(8, "--svg", &["-"]);
+        self.valued(10, "--html", &["-"]);
         self.logs();
+    }
+
+    fn two_parties(&mut self) {
+        if !self.random.once_in(4) {
+            return;
+        }
+        let parties = [
+            "samples/lessees.parties",
+            "samples/intruder.parties",
+            "samples/whole.hex",
+        ];
+        let owners = [
+            "0:2", "FF00:2", "0:0", "FFFF:F", "10000:0", "0:10", "2", ":", "0:-1",
+        ];
+        let (parties, owners) = (self.random.one_of(&parties), self.random.one_of(&owners));
+        for argument in ["--parties", parties, "--owners", owners] {
+            self.put(argument);
+        }
     }
 
     fn edition(&mut self) {
@@ -214,6 +267,88 @@ impl Made<'_> {
             "--edition",
             &["1", "2", "2", "2", "0", "3", "4294967295"],
         );
+    }
+
+    /// A lease file of the case's own, with logs that stand beside it.
+    fn fleet(&mut self) {
+        self.put("fleet");
+        let mut text = String::from(self.random.one_of(&HEADERS));
+        let parted = if text.contains(';') { ";" } else { "," };
+        for _ in 0..self.random.below(5) {
+            let row = self.row();
+            text += &(row.join(parted) + self.random.one_of(&["\n", "\r\n"]));
+        }
+        let mut bytes = text.into_bytes();
+        if self.random.once_in(4) {
+            self.damage(&mut bytes);
+        }
+        let name = OsString::from_vec(b"leases.csv".to_vec());
+        self.put("own/leases.csv");
+        self.case.files.push((name, bytes));
+        for (times, flag) in [
+            (4, "--json"),
+            (6, "--csv"),
+            (8, "--plain"),
+            (9, "--commands"),
+        ] {
+            self.flag(times, flag);
+        }
+        self.valued(
+            5,
+            "--sort",
+            &["worst", "lease", "station", "lessee", "silent", "best"],
+        );
+        self.valued(7, "--html", &["-"]);
+        self.valued(7, "--edition", &["1", "2", "2", "3"]);
+        self.valued(
+            9,
+            "--from-scores",
+            &["own/leases.csv", "/dev/null", "no-such"],
+        );
+    }
+
+    /// A station, its lessee, its log, first day, days, what it owes, first date.
+    fn row(&mut self) -> [String; 7] {
+        let quoted = |text: &str| format!("\"{}\"", text.replace('"', "\"\""));
+        let station = self.random.one_of(&[
+            "14",
+            "15",
+            "16",
+            "Nord 3/a",
+            "<&\">",
+            "\u{1b}[2J",
+            "a;b,c",
+            "",
+            "=1+1",
+        ]);
+        let lessee = self
+            .random
+            .one_of(&["Harbour", "", "Pier, north", "\u{202e}x"]);
+        let number = self.case.files.len();
+        let log = match self.random.below(8) {
+            0 => "no-such.log".to_string(),
+            1 => self
+                .random
+                .one_of(&[".", "*", "-", "..", "/dev/null", ""])
+                .to_string(),
+            _ => {
+                let name = format!("{number}.log");
+                let bytes = self.bytes(&LOGS);
+                self.case.files.push((name.clone().into(), bytes));
+                name
+            }
+        };
+        let mut number = |good: &str| match self.random.once_in(9) {
+            true => self.random.one_of(&NUMBERS).to_string(),
+            false => good.to_string(),
+        };
+        let numbers = [number("101"), number("30"), number("14,000,000")];
+        let date = self
+            .random
+            .one_of(&["2026-04-01", "2026-04-01", "", "April"]);
+        let [first_day, days, owed] = numbers;
+        let texts = [station, lessee, &log, &first_day, &days, &owed, date];
+        texts.map(quoted)
     }
 
     fn replay(&mut self) {
@@ -228,6 +363,7 @@ impl Made<'_> {
     fn decode(&mut self) {
         self.put("decode");
         self.edition();
+        self.two_parties();
         for (times, flag) in [
             (3, "--hex"),
             (4, "--summary"),
@@ -289,6 +425,87 @@ impl Made<'_> {
             self.put(word);
         }
         self.case.input = self.random.one_of(&WORDS).into();
+    }
+
+    fn survey(&mut self) {
+        self.put("survey");
+        self.put("--stream");
+        self.file(&STREAMS);
+        self.put("--memory");
+        match self.random.once_in(6) {
+            true => self.put("-"),
+            false => self.file(&MEMORY),
+        }
+        self.put("--at");
+        let at = self.at();
+        self.put(at);
+        self.put("--value");
+        let value = self
+            .random
+            .one_of(&["300", "300", "0", "65535", "65536", "-1", "x"]);
+        self.put(value);
+        self.valued(2, "--domain", &FOURS);
+        self.flag(8, "--hex");
+        self.numbered(8, "--words");
+        self.flag(3, "--json");
+        self.case.input = self.bytes(&MEMORY);
+    }
+
+    fn picture(&mut self) {
+        self.put("picture");
+        self.put("--memory");
+        self.file(&MEMORY);
+        self.put("--at");
+        let at = self.at();
+        self.put(at);
+        match self.random.below(4) {
+            0 => self.layout(),
+            1 => {
+                self.put("--stream");
+                self.file(&STREAMS);
+                let names = [
+                    "output-0",
+                    "conditional-output",
+                    "instructions",
+                    "\u{1b}[2J",
+                ];
+                self.valued(1, "--window", &names);
+            }
+            _ => {
+                for (option, value) in [
+                    ("--base", "800"),
+                    ("--pitch", "64"),
+                    ("--height", "32"),
+                    ("--size", "4"),
+                ] {
+                    self.put(option);
+                    self.put(value);
+                }
+                self.put("--tiled");
+            }
+        }
+        self.valued(2, "--rectangle", &FOURS);
+        self.valued(4, "--as", &["pgm", "ppm", "raw", "RAW", "gif"]);
+        if self.random.coin() {
+            self.valued(1, "--out", &["/dev/null", "/dev/null", "-", "samples"]);
+        } else {
+            self.put("--in");
+            match self.random.once_in(4) {
+                true => self.put("-"),
+                false => self.file(&PICTURES),
+            }
+            self.valued(1, "--to", &["/dev/null", "/dev/null", "-", "samples"]);
+        }
+        self.flag(4, "--json");
+        self.case.input = self.bytes(&PICTURES);
+    }
+
+    /// The address of a dump's first byte: the camera's mostly.
+    fn at(&mut self) -> &'static str {
+        match self.random.once_in(4) {
+            true => self.random.one_of(&WORDS),
+            false => "800",
+        }
     }
 
     fn tile(&mut self) {

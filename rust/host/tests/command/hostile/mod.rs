@@ -90,7 +90,7 @@ impl Run<'_> {
 fn hold(run: &Run, output: &Output) {
     let status = output.status.code().expect("it ends by itself");
     assert!(
-        status <= 2 || (status == 3 && run.is("score")),
+        status <= 2 || (status == 3 && (run.is("score") || run.is("fleet"))),
         "status {status}"
     );
     let errors = complained(output);
@@ -111,7 +111,8 @@ fn hold(run: &Run, output: &Output) {
         0 | 3 => assert!(only_checks, "{errors}"),
         _ => assert!(!errors.is_empty()),
     }
-    if run.is("encode") && !run.has("--hex") {
+    // Binary, which goes through as it is.
+    if run.is("encode") && !run.has("--hex") || run.is("picture") && run.has("-") {
         return;
     }
     let text = told(output);
@@ -125,10 +126,17 @@ fn hold(run: &Run, output: &Output) {
             assert!(value.is_object(), "{line}");
         }
     }
-    if run.has("--csv") {
+    if run.has("--csv") && run.is("fleet") {
+        // Rows with another number of values than the first are an error there.
+        let mut rows = csv::Reader::from_reader(text.as_bytes());
+        assert!(rows.records().all(|row| row.is_ok()), "{text}");
+    } else if run.has("--csv") {
         let mut rows = text.lines().map(|line| line.split(',').count());
         let head = rows.next().unwrap_or(0);
         assert!(rows.all(|values| values == head), "{text}");
+    }
+    if let Some(page) = text.strip_prefix("<!DOCTYPE html>\n") {
+        assert!(well_formed(page) > 20);
     }
     if text.starts_with("<svg ") {
         assert!(well_formed(&text) > 5);
@@ -137,11 +145,23 @@ fn hold(run: &Run, output: &Output) {
 
 /// The forms of one answer end alike and tell the same.
 fn compare_forms(run: &Run, text: &Output) {
-    let other = ["--json", "--csv", "--svg", "--terse", "--plain", "--work"];
-    let known = [
-        "score", "replay", "decode", "address", "locate", "flow", "tile",
+    let other = [
+        "--json",
+        "--csv",
+        "--svg",
+        "--html",
+        "--terse",
+        "--plain",
+        "--work",
+        "--commands",
     ];
-    if other.iter().any(|flag| run.has(flag)) || !known.iter().any(|name| run.is(name)) {
+    let known = [
+        "score", "fleet", "replay", "decode", "address", "locate", "flow", "tile", "survey",
+        "picture",
+    ];
+    // Bytes on standard output leave no room for another form.
+    let binary = run.is("picture") && run.has("-");
+    if binary || other.iter().any(|flag| run.has(flag)) || !known.iter().any(|name| run.is(name)) {
         return;
     }
     let json = run.output(&["--json"]);
@@ -189,11 +209,29 @@ fn compare_forms(run: &Run, text: &Output) {
                 assert_eq!(total, Some(served.to_string().as_str()));
             }
         }
+        name if name == "fleet" => {
+            if let Some(fleet) = lines.last().map(|line| &line["fleet"]) {
+                let (served, owed) = (&fleet["served"], &fleet["owed"]);
+                let due = format!("served {served} of {owed} elements owed");
+                assert!(text.contains(&due), "{due} in {text}");
+                let stations = &fleet["stations"];
+                assert_eq!(*stations, lines.len() - 1);
+                assert!(text.starts_with(&format!("fleet of {stations} station")));
+            }
+        }
         name if name == "decode" => {
             let summary = lines.last().map(|line| &line["summary"]);
             if let Some(claims) = summary.and_then(|summary| summary["claims"].as_u64()) {
                 let words = claims.to_string();
                 assert!(text.contains(&format!(" {words} element")), "{text}");
+            }
+        }
+        name if name == "survey" => {
+            let survey = lines.last().map(|line| &line["survey"]);
+            if let Some(passed) = survey.and_then(|survey| survey["passed"].as_u64()) {
+                let pairs = survey.and_then(|survey| survey["pairs"].as_u64());
+                let due = format!("  passed  {passed} of {}\n", pairs.unwrap_or(0));
+                assert!(text.contains(&due), "{text}");
             }
         }
         name if name == "address" || name == "locate" => {

@@ -1,0 +1,4 @@
+pub mod Opposites
+pub mod Spans
+pub mod Tests
+pub mod Written

@@ -1,0 +1,18 @@
+use Rattle.laws.specs.Masks.{on}
+use mathlib.Core.Path.{refl}
+use borrow.Author.Needs.{needs}
+use Rattle.owners.proofs.is_on.Statement.{statement}
+use Rattle.owners.proofs.is_on.Tie as tie
+use Rattle.owners.proofs.is_on.Reads as reads
+use Rattle.owners.proofs.is_on.Lts as lts
+
+-- src/lib.rt:36:6
+shr-result : tie.Need-shr-result
+shr-result c = search needs
+
+-- src/lib.rt:32:1
+returns : tie.Need-returns
+returns c = unfold on in refl
+
+pub is-on-spec : {M : Type 1} → statement M
+is-on-spec = tie.close (tie.spec shr-result returns)

@@ -1,0 +1,10 @@
+pub mod Blocks
+pub mod Inside
+pub mod Moves
+pub mod Pictures
+pub mod Plans
+pub mod Rectangles
+pub mod RowMoves
+pub mod RowParts
+pub mod Stretches
+pub mod TileRows

@@ -1,0 +1,4 @@
+pub mod Bulk
+pub mod Moves
+pub mod Rectangles
+pub mod Rows

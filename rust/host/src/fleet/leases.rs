@@ -1,0 +1,398 @@
+//! The lease file: a row a station, as a spreadsheet writes it. All that is wrong with it
+//! is told at once.
+
+use crate::common::failure::{Failure, Outcome};
+use crate::common::text;
+use crate::common::visible;
+use crate::fleet::{cells, files};
+use crate::input::source::Source;
+use crate::score::asked::{Asked, LeaseLine};
+use crate::score::civil::Date;
+use crate::score::issue::Issue;
+use boundary::{Edition, Lease};
+use csv::{ByteRecord, ReaderBuilder};
+use std::path::{Path, PathBuf};
+
+/// More than any fleet's: this is no lease file.
+const LONGEST: usize = 1 << 24;
+
+/// How text of two bytes a letter begins.
+const WIDE: [[u8; 2]; 2] = [[0xFF, 0xFE], [0xFE, 0xFF]];
+const MARK: [u8; 3] = [0xEF, 0xBB, 0xBF];
+
+/// A column: what it is called, and how else.
+struct Column {
+    names: &'static [&'static str],
+    wanted: bool,
+}
+
+const fn column(names: &'static [&'static str], wanted: bool) -> Column {
+    Column { names, wanted }
+}
+
+const STATION: usize = 0;
+const LESSEE: usize = 1;
+const LOG: usize = 2;
+const FIRST_DAY: usize = 3;
+const DAYS: usize = 4;
+const OWED: usize = 5;
+const FIRST_DATE: usize = 6;
+
+const COLUMNS: [Column; 7] = [
+    column(&["station"], true),
+    column(&["lessee"], false),
+    column(&["log", "logs", "log file", "log files"], true),
+    column(&["first day"], true),
+    column(&["days"], true),
+    column(&["owed", "owed a day"], true),
+    column(&["first date", "from"], false),
+];
+
+/// A station's row.
+pub struct Row {
+    /// Where it stands in the file, from 1 on.
+    pub line: u64,
+    pub asked: Asked,
+    pub lease: Lease,
+    pub dates: Vec<Option<Date>>,
+}
+
+impl Row {
+    pub fn station(&self) -> &str {
+        self.asked.issue.station.as_deref().unwrap_or_default()
+    }
+}
+
+/// What is wrong, and where.
+pub struct Fault {
+    line: u64,
+    column: String,
+    cause: String,
+}
+
+pub fn fault(line: u64, column: &str, cause: impl ToString) -> Fault {
+    Fault {
+        line,
+        column: column.to_string(),
+        cause: cause.to_string(),
+    }
+}
+
+pub struct Leases {
+    /// The file's name.
+    name: String,
+    pub rows: Vec<Row>,
+    faults: Vec<Fault>,
+}
+
+impl Leases {
+    pub fn read(file: &Path, edition: Edition, issued: Date) -> Outcome<Leases> {
+        let mut source = Source::open(Some(file))?;
+        let bytes = source.all(LONGEST)?;
+        if WIDE.iter().any(|begin| bytes.starts_with(begin)) {
+            let hint = "has two bytes a letter; save it as CSV in UTF-8";
+            return Err(source.wrong(hint.to_string()));
+        }
+        let mut leases = Leases {
+            name: source.name.clone(),
+            rows: Vec::new(),
+            faults: Vec::new(),
+        };
+        let folder = file.parent().unwrap_or_else(|| Path::new(""));
+        let text = bytes.strip_prefix(&MARK).unwrap_or(&bytes);
+        leases.read_rows(text, folder, (edition, issued));
+        leases.told_twice();
+        Ok(leases)
+    }
+
+    pub fn add_faults(&mut self, faults: Vec<Fault>) {
+        self.faults.extend(faults);
+    }
+
+    /// The rows, or all that is wrong.
+    pub fn rows(mut self) -> Outcome<Vec<Row>> {
+        if self.faults.is_empty() {
+            return Ok(self.rows);
+        }
+        self.faults.sort_by_key(|fault| fault.line);
+        let count = text::count(self.faults.len() as u64, "fault");
+        let mut text = format!("{}: {count}, so no log is read", self.name);
+        for fault in &self.faults {
+            let (line, column) = (fault.line, visible::line(&fault.column));
+            let cause = visible::line(&fault.cause);
+            let column = match column.is_empty() {
+                true => String::new(),
+                false => format!(", {column}"),
+            };
+            text += &format!("\n  line {line}{column}: {cause}");
+        }
+        Err(Failure::Wrong(text))
+    }
+
+    fn read_rows(&mut self, text: &[u8], folder: &Path, by: (Edition, Date)) {
+        let delimiter = delimiter(text);
+        let mut reader = ReaderBuilder::new()
+            .has_headers(false)
+            .flexible(true)
+            .delimiter(delimiter)
+            .from_reader(text);
+        let mut header: Option<Header> = None;
+        for record in reader.byte_records() {
+            let record = match record {
+                Ok(record) => record,
+                Err(error) => return self.faults.push(fault(0, "", error)),
+            };
+            let line = record.position().map_or(0, |position| position.line());
+            if record
+                .iter()
+                .all(|value| value.trim_ascii_blanks().is_empty())
+            {
+                continue;
+            }
+            match &header {
+                None => header = self.header(line, &record),
+                Some(header) => {
+                    let reading = Reading {
+                        line,
+                        record: &record,
+                        header,
+                        delimiter,
+                        faults: &mut self.faults,
+                    };
+                    self.rows.extend(reading.row(folder, by));
+                }
+            }
+            // Without a header no row can be read.
+            if header.is_none() {
+                return;
+            }
+        }
+        if header.is_none() {
+            let due =
+                "is empty; the first row names the columns station, log, first day, days and owed";
+            self.faults.push(fault(1, "", due));
+        } else if self.rows.is_empty() && self.faults.is_empty() {
+            self.faults
+                .push(fault(1, "", "there is no row below the header"));
+        }
+    }
+
+    /// Which column stands where.
+    fn header(&mut self, line: u64, record: &ByteRecord) -> Option<Header> {
+        let before = self.faults.len();
+        let mut places = [None; COLUMNS.len()];
+        for (place, value) in record.iter().enumerate() {
+            let name = spelled(&String::from_utf8_lossy(value));
+            let known = COLUMNS
+                .iter()
+                .position(|column| column.names.contains(&&*name));
+            match known {
+                Some(known) if places[known].is_some() => {
+                    self.faults.push(fault(line, &name, "stands there twice"));
+                }
+                Some(known) => places[known] = Some(place),
+                None => {}
+            }
+        }
+        for (column, place) in COLUMNS.iter().zip(places) {
+            let name = column.names[0];
+            let like = record
+                .iter()
+                .map(|value| spelled(&String::from_utf8_lossy(value)));
+            let like = like
+                .filter(|other| !is_known(other) && is_like(other, name))
+                .last();
+            match (place, like) {
+                (None, Some(like)) => {
+                    let cause = format!("there is none; {like:?} may be it");
+                    self.faults.push(fault(line, name, cause));
+                }
+                (None, None) if column.wanted => {
+                    self.faults
+                        .push(fault(line, name, "there is no such column"));
+                }
+                _ => {}
+            }
+        }
+        (self.faults.len() == before).then(|| Header {
+            places,
+            width: record.len(),
+        })
+    }
+
+    /// No station has two rows.
+    fn told_twice(&mut self) {
+        for (place, row) in self.rows.iter().enumerate() {
+            let same = |other: &&Row| other.station() == row.station();
+            if let Some(earlier) = self.rows[..place].iter().find(same) {
+                let cause = format!("{:?} stands in line {} too", row.station(), earlier.line);
+                self.faults.push(fault(row.line, "station", cause));
+            }
+        }
+    }
+}
+
+/// What parts the values: what the first line has most of.
+fn delimiter(text: &[u8]) -> u8 {
+    let is_end = |byte: &u8| matches!(byte, b'\n' | b'\r');
+    let line = text
+        .split(is_end)
+        .find(|line| !line.is_empty())
+        .unwrap_or(&[]);
+    let count = |delimiter: u8| line.iter().filter(|byte| **byte == delimiter).count();
+    let most = [b',', b';', b'\t'].into_iter().rev();
+    most.max_by_key(|delimiter| count(*delimiter))
+        .unwrap_or(b',')
+}
+
+/// A column's name as it is compared: small letters, and one blank between words.
+fn spelled(name: &str) -> String {
+    let words = name.split(|letter: char| !letter.is_alphanumeric());
+    let words: Vec<&str> = words.filter(|word| !word.is_empty()).collect();
+    words.join(" ").to_lowercase()
+}
+
+fn is_known(name: &str) -> bool {
+    COLUMNS.iter().any(|column| column.names.contains(&name))
+}
+
+/// Whether a name that no column has may be meant for this one.
+fn is_like(name: &str, column: &str) -> bool {
+    const LIKE: f64 = 0.8;
+    !name.is_empty() && strsim::jaro_winkler(name, column) > LIKE
+}
+
+struct Header {
+    places: [Option<usize>; COLUMNS.len()],
+    width: usize,
+}
+
+trait Blanks {
+    fn trim_ascii_blanks(&self) -> &[u8];
+}
+
+impl Blanks for [u8] {
+    fn trim_ascii_blanks(&self) -> &[u8] {
+        let is_blank = |byte: &u8| byte.is_ascii_whitespace();
+        let begin = self.iter().position(|byte| !is_blank(byte));
+        let end = self.iter().rposition(|byte| !is_blank(byte));
+        match (begin, end) {
+            (Some(begin), Some(end)) => &self[begin..=end],
+            _ => &[],
+        }
+    }
+}
+
+/// A row being read.
+struct Reading<'a> {
+    line: u64,
+    record: &'a ByteRecord,
+    header: &'a Header,
+    delimiter: u8,
+    faults: &'a mut Vec<Fault>,
+}
+
+impl Reading<'_> {
+    fn wrong<T>(&mut self, column: usize, cause: impl ToString) -> Option<T> {
+        let name = COLUMNS[column].names[0];
+        self.faults.push(fault(self.line, name, cause));
+        None
+    }
+
+    /// The value in a column, none where it is blank or there is no such column.
+    fn value(&mut self, column: usize) -> Option<String> {
+        let value = self.record.get(self.header.places[column]?)?;
+        match std::str::from_utf8(value) {
+            Ok(text) => Some(text.trim().to_string()).filter(|text| !text.is_empty()),
+            Err(_) => self.wrong(column, "isn't UTF-8; save the file as CSV in UTF-8"),
+        }
+    }
+
+    /// The value in a column, which must be there.
+    fn needed(&mut self, column: usize) -> Option<String> {
+        let before = self.faults.len();
+        match self.value(column) {
+            None if self.faults.len() == before => self.wrong(column, "is blank"),
+            value => value,
+        }
+    }
+
+    fn number(&mut self, column: usize) -> Option<u32> {
+        let text = self.needed(column)?;
+        match cells::count(&text, self.delimiter) {
+            Ok(number) => Some(number),
+            Err(cause) => self.wrong(column, cause),
+        }
+    }
+
+    fn row(mut self, folder: &Path, by: (Edition, Date)) -> Option<Row> {
+        let before = self.faults.len();
+        if self.record.len() != self.header.width {
+            let (has, due) = (self.record.len(), self.header.width);
+            let cause = format!("the row has {has} values and the header {due}");
+            self.faults.push(fault(self.line, "", cause));
+            return None;
+        }
+        let station = self.needed(STATION);
+        let lessee = self.value(LESSEE);
+        let files = self.files(folder);
+        let numbers = [FIRST_DAY, DAYS, OWED].map(|column| self.number(column));
+        let from = self.date();
+        // Each of them is told.
+        let line = match numbers {
+            [Some(first_day), Some(days), Some(owed)] => LeaseLine {
+                first_day,
+                days,
+                owed,
+            },
+            _ => return None,
+        };
+        let (edition, issued) = by;
+        let asked = Asked {
+            edition: edition.number(),
+            line,
+            from,
+            files: files.unwrap_or_default(),
+            issue: Issue::of(&station, &lessee, issued),
+        };
+        let (lease, dates) = self.lease(&asked)?;
+        let line = self.line;
+        (self.faults.len() == before).then(|| Row {
+            line,
+            asked,
+            lease,
+            dates,
+        })
+    }
+
+    fn files(&mut self, folder: &Path) -> Option<Vec<PathBuf>> {
+        let text = self.needed(LOG)?;
+        match text == "-" {
+            true => self.wrong(LOG, "standard input is no station's log"),
+            false => Some(files::named(&text, folder)),
+        }
+    }
+
+    fn date(&mut self) -> Option<Date> {
+        let text = self.value(FIRST_DATE)?;
+        match Date::parse(&text) {
+            Ok(date) => Some(date),
+            Err(cause) => self.wrong(FIRST_DATE, cause),
+        }
+    }
+
+    /// The lease line judged, and its dates.
+    fn lease(&mut self, asked: &Asked) -> Option<(Lease, Vec<Option<Date>>)> {
+        let lease = match asked.lease() {
+            Ok(lease) => lease,
+            Err(refused) => {
+                self.faults.push(fault(self.line, "lease line", refused));
+                return None;
+            }
+        };
+        match asked.dates(&lease) {
+            Ok(dates) => Some((lease, dates)),
+            Err(cause) => self.wrong(FIRST_DATE, cause),
+        }
+    }
+}

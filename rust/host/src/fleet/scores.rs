@@ -1,0 +1,219 @@
+//! The lines of `score --json`, read back: a fleet that was scored elsewhere, joined.
+
+use crate::common::failure::{Failure, Outcome};
+use crate::input::source::Source;
+use crate::score::asked::{accepted, dates, Card, LeaseLine, Unscored};
+use crate::score::checks::Check;
+use crate::score::civil::Date;
+use crate::score::issue::Issue;
+use crate::score::month::{verdict_name, Day, Score};
+use boundary::{Edition, Month, ScoredDay, Verdict};
+use serde_json::Value;
+use std::path::PathBuf;
+
+/// Lines of a hundred thousand stations.
+const LONGEST: usize = 1 << 29;
+
+/// A reading's own words for what is wrong.
+type Read<T> = Result<T, String>;
+
+/// The cards that these files tell, in their order.
+pub fn read(files: &[PathBuf]) -> Outcome<Vec<Card>> {
+    let mut cards = Vec::new();
+    for mut source in Source::open_all(files)? {
+        let bytes = source.all(LONGEST)?;
+        let wrong =
+            |line: usize, cause| Failure::Wrong(format!("{}: line {line}: {cause}", source.name));
+        let mut days = Vec::new();
+        let mut last = 0;
+        for (line, text) in (1..).zip(bytes.split(|byte| *byte == b'\n')) {
+            if text.iter().all(|byte| byte.is_ascii_whitespace()) {
+                continue;
+            }
+            last = line;
+            let value: Value = serde_json::from_slice(text)
+                .map_err(|error| wrong(line, format!("is no JSON: {error}")))?;
+            match value.get("summary") {
+                Some(summary) => {
+                    let card = card(summary, &days).map_err(|cause| wrong(line, cause))?;
+                    cards.push(card);
+                    days.clear();
+                }
+                None => days.push(value),
+            }
+        }
+        if !days.is_empty() {
+            let cause = "the days are not followed by their summary: the lines are cut";
+            return Err(wrong(last, cause.to_string()));
+        }
+    }
+    Ok(cards)
+}
+
+fn card(summary: &Value, days: &[Value]) -> Read<Card> {
+    let lease = &summary["lease"];
+    let line = LeaseLine {
+        first_day: short(lease, "first_day")?,
+        days: short(lease, "days")?,
+        owed: short(lease, "owed")?,
+    };
+    let from = optional(lease, "from")?;
+    let from = from.map(|text| Date::parse(&text)).transpose()?;
+    let issue = Issue {
+        station: optional(summary, "station")?,
+        lessee: optional(summary, "lessee")?,
+        date: Date::parse(&text(summary, "issued")?)?,
+        version: text(summary, "version")?,
+    };
+    match summary.get("unscored") {
+        Some(told) => unscored(summary, told, line, from, issue),
+        None => scored(summary, days, line, from, issue),
+    }
+}
+
+fn unscored(
+    summary: &Value,
+    told: &Value,
+    line: LeaseLine,
+    from: Option<Date>,
+    issue: Issue,
+) -> Read<Card> {
+    let unscored = Unscored {
+        edition: short(summary, "edition")?,
+        line,
+        from,
+        inputs: texts(summary, "inputs")?,
+        issue,
+        refused: text(told, "name")? == "REFUSED",
+        why: text(told, "why")?,
+        refusal: summary["refusal"].clone(),
+        log: summary["log"].clone(),
+    };
+    Ok(Card::Unscored(unscored))
+}
+
+fn scored(
+    summary: &Value,
+    days: &[Value],
+    line: LeaseLine,
+    from: Option<Date>,
+    issue: Issue,
+) -> Read<Card> {
+    let lease = accepted(line).map_err(|refused| refused.to_string())?;
+    let dates = dates(from, &lease)?;
+    if days.len() != dates.len() {
+        let (has, due) = (days.len(), dates.len());
+        return Err(format!(
+            "the lease has {due} days, and {has} lines stand before it"
+        ));
+    }
+    let mut read = Vec::new();
+    for ((place, value), date) in (0..).zip(days).zip(dates) {
+        read.push(day(value, &line, place, date)?);
+    }
+    let checks: Read<Vec<Check>> = list(summary, "checks")?.iter().map(check).collect();
+    let edition = short(summary, "edition")?;
+    let edition = Edition::of(edition).map_err(|_| format!("there is no edition {edition}"))?;
+    let score = Score {
+        edition,
+        lease,
+        inputs: texts(&summary["log"], "inputs")?,
+        digest: optional(summary, "sha256")?,
+        log: summary["log"].clone(),
+        month: month(summary, &read)?,
+        days: read,
+        checks: checks?,
+        issue,
+    };
+    Ok(Card::Scored(score))
+}
+
+/// A day whose numbers are a day's of this lease.
+fn day(value: &Value, line: &LeaseLine, place: u32, date: Option<Date>) -> Read<Day> {
+    let day = Day {
+        number: short(value, "day")?,
+        date,
+        claimed: long(value, "claimed")?,
+        served: long(value, "served")?,
+        owed: long(value, "owed")?,
+        in_log: value["in_log"].as_bool().ok_or_else(|| missing("in_log"))?,
+    };
+    let dated = optional(value, "date")? == date.map(|date| date.to_string());
+    let number = line.first_day + place;
+    let capped = day.served == day.claimed.min(day.owed);
+    match day.number == number && dated && day.owed == u64::from(line.owed) && capped {
+        true => Ok(day),
+        false => Err(format!("the line of day {number} isn't this lease's")),
+    }
+}
+
+/// A month whose numbers are its days'.
+fn month(summary: &Value, days: &[Day]) -> Read<Month> {
+    let served = days.iter().map(|day| day.served).sum();
+    let owed = days.iter().map(|day| day.owed).sum();
+    let verdict = match (served, owed) {
+        (_, 0) => Verdict::NothingOwed,
+        (served, owed) if served == owed => Verdict::Full,
+        _ => Verdict::Short,
+    };
+    let told = (long(summary, "served")?, long(summary, "owed")?);
+    if told != (served, owed) || text(summary, "verdict")? != verdict_name(verdict) {
+        return Err("the month isn't what its days come to".to_string());
+    }
+    let scored = |day: &Day| ScoredDay {
+        number: day.number,
+        claimed: day.claimed,
+        served: day.served,
+    };
+    Ok(Month {
+        days: days.iter().map(scored).collect(),
+        served,
+        owed,
+        verdict,
+    })
+}
+
+fn check(value: &Value) -> Read<Check> {
+    Ok(Check {
+        key: text(value, "check")?,
+        text: text(value, "text")?,
+        explains: optional(value, "explains")?,
+    })
+}
+
+fn missing(key: &str) -> String {
+    format!("is no line of score --json: {key} is missing, or of another kind")
+}
+
+fn long(value: &Value, key: &str) -> Read<u64> {
+    value[key].as_u64().ok_or_else(|| missing(key))
+}
+
+fn short(value: &Value, key: &str) -> Read<u32> {
+    let number = long(value, key)?;
+    u32::try_from(number).map_err(|_| missing(key))
+}
+
+fn text(value: &Value, key: &str) -> Read<String> {
+    let text = value[key].as_str().map(String::from);
+    text.ok_or_else(|| missing(key))
+}
+
+fn optional(value: &Value, key: &str) -> Read<Option<String>> {
+    match &value[key] {
+        Value::Null => Ok(None),
+        Value::String(text) => Ok(Some(text.clone())),
+        _ => Err(missing(key)),
+    }
+}
+
+fn list<'a>(value: &'a Value, key: &str) -> Read<&'a Vec<Value>> {
+    value[key].as_array().ok_or_else(|| missing(key))
+}
+
+fn texts(value: &Value, key: &str) -> Read<Vec<String>> {
+    let list = list(value, key)?.iter();
+    let text = |value: &Value| value.as_str().map(String::from);
+    list.map(|value| text(value).ok_or_else(|| missing(key)))
+        .collect()
+}

@@ -1,0 +1,193 @@
+//! The form of a fleet's month that people read on a terminal.
+
+use crate::common::digits::Digits;
+use crate::common::failure::Outcome;
+use crate::common::text;
+use crate::fleet::month::{station, Fleet};
+use crate::score::asked::Card;
+use crate::score::month::{Day, Score, Served};
+use std::io::Write;
+
+/// A row's columns but the last, which is as long as it is.
+const COLUMNS: usize = 7;
+
+struct Row {
+    columns: [String; COLUMNS],
+    behind: String,
+}
+
+/// A heading, a row a station and the totals, the four numbers in words, the silent days,
+/// and what to check before cards are sent.
+pub fn tell(fleet: &Fleet, digits: Digits, out: &mut dyn Write) -> Outcome {
+    writeln!(out, "fleet of {}", fleet.heading())?;
+    if let Some(rule) = fleet.rule() {
+        writeln!(out, "{rule}")?;
+    }
+    writeln!(out)?;
+    for line in table(fleet, digits) {
+        writeln!(out, "{}", line.trim_end())?;
+    }
+    writeln!(out)?;
+    writeln!(out, "{}", four(fleet, digits))?;
+    let silent = fleet.told().filter_map(|(_, card)| silent_days(card));
+    list(out, "silent days:", silent.collect())?;
+    let checks = fleet.told().flat_map(|(_, card)| checks(card));
+    list(out, "check before sending:", checks.collect())?;
+    let unscored = fleet.told().filter_map(|(_, card)| unscored(card));
+    list(out, "no score:", unscored.collect())
+}
+
+fn list(out: &mut dyn Write, heading: &str, lines: Vec<String>) -> Outcome {
+    if lines.is_empty() {
+        return Ok(());
+    }
+    writeln!(out)?;
+    writeln!(out, "{heading}")?;
+    for line in lines {
+        writeln!(out, "  {line}")?;
+    }
+    Ok(())
+}
+
+/// The four numbers of the stations that have a score.
+pub fn four(fleet: &Fleet, digits: Digits) -> String {
+    let four = &fleet.four;
+    let percent = match fleet.percent() {
+        Some(percent) => format!(" ({percent})"),
+        None => String::new(),
+    };
+    let (served, owed) = (digits.of(four.served), digits.of(four.owed));
+    let days = text::count(four.silent_days, "silent day");
+    let smallest = match fleet.smallest() {
+        Some(card) => format!("smallest part: station {}", station(card)),
+        None => "no station owes anything".to_string(),
+    };
+    format!("served {served} of {owed} elements owed{percent}, {days}, {smallest}")
+}
+
+/// "14: 109 to 112 (2026-04-09 to 2026-04-12)".
+fn silent_days(card: &Card) -> Option<String> {
+    let silent = silent(card.score()?);
+    (!silent.is_empty()).then(|| format!("{}: {}", station(card), silent))
+}
+
+/// The silent days of a month, those in a row as one.
+pub fn silent(score: &Score) -> String {
+    let mut rows: Vec<(&Day, &Day)> = Vec::new();
+    for day in score.days.iter().filter(|day| day.is_dark()) {
+        match rows.last_mut() {
+            Some((_, last)) if last.number + 1 == day.number => *last = day,
+            _ => rows.push((day, day)),
+        }
+    }
+    let told = |(first, last): &(&Day, &Day)| {
+        let date = |day: &Day| day.date.map(|date| date.to_string());
+        let dates = date(first).zip(date(last));
+        match (first.number == last.number, dates) {
+            (true, Some((date, _))) => format!("{} ({date})", first.number),
+            (true, None) => first.number.to_string(),
+            (false, Some((from, to))) => {
+                format!("{} to {} ({from} to {to})", first.number, last.number)
+            }
+            (false, None) => format!("{} to {}", first.number, last.number),
+        }
+    };
+    rows.iter().map(told).collect::<Vec<_>>().join(", ")
+}
+
+fn checks(card: &Card) -> Vec<String> {
+    let checks = card.score().map_or(&[][..], |score| &score.checks);
+    let told = checks
+        .iter()
+        .map(|check| format!("{}: {}", station(card), check.text));
+    told.collect()
+}
+
+fn unscored(card: &Card) -> Option<String> {
+    match card {
+        Card::Scored(_) => None,
+        Card::Unscored(unscored) => {
+            let why = unscored.why.replace('\n', ";");
+            Some(format!("{}: {}", station(card), why))
+        }
+    }
+}
+
+fn table(fleet: &Fleet, digits: Digits) -> Vec<String> {
+    let head = [
+        "station", "lessee", "served", "owed", "part", "silent", "full",
+    ];
+    let mut rows = vec![Row {
+        columns: head.map(String::from),
+        behind: "verdict".to_string(),
+    }];
+    rows.extend(fleet.told().map(|(_, card)| row(card, digits)));
+    rows.push(total(fleet, digits));
+    let letters = |place: usize| {
+        rows.iter()
+            .map(move |row| row.columns[place].chars().count())
+    };
+    let width = |place: usize| letters(place).max().unwrap_or(0);
+    let [a, b, c, d, e, f, g] = [0, 1, 2, 3, 4, 5, 6].map(width);
+    let line = |row: &Row| {
+        let [station, lessee, served, owed, part, silent, full] = &row.columns;
+        // Without a column where no station has a lessee.
+        let lessee = match b > "lessee".len() || fleet.cards.iter().any(has_lessee) {
+            true => format!("  {lessee:<b$}"),
+            false => String::new(),
+        };
+        let numbers = format!("{served:>c$}  {owed:>d$}  {part:>e$}  {silent:>f$}  {full:>g$}");
+        format!("{station:<a$}{lessee}  {numbers}  {}", row.behind)
+    };
+    rows.iter().map(line).collect()
+}
+
+fn has_lessee(card: &Card) -> bool {
+    card.issue().lessee.is_some()
+}
+
+fn row(card: &Card, digits: Digits) -> Row {
+    let lessee = card.issue().lessee.clone().unwrap_or_default();
+    let station = station(card).to_string();
+    let score = match card {
+        Card::Scored(score) => score,
+        Card::Unscored(unscored) => {
+            let [served, owed, part, silent, full] = [(); 5].map(|()| "-".to_string());
+            return Row {
+                columns: [station, lessee, served, owed, part, silent, full],
+                behind: unscored.name().to_string(),
+            };
+        }
+    };
+    let explained = match score.explanation() {
+        Some(text) => format!(": perhaps because {text}"),
+        None => String::new(),
+    };
+    Row {
+        columns: [
+            station,
+            lessee,
+            digits.of(score.month.served),
+            digits.of(score.month.owed),
+            score.percent().unwrap_or_else(|| "-".to_string()),
+            score.count(Served::Dark).to_string(),
+            score.count(Served::InFull).to_string(),
+        ],
+        behind: format!("{}{explained}", score.verdict_name()),
+    }
+}
+
+fn total(fleet: &Fleet, digits: Digits) -> Row {
+    Row {
+        columns: [
+            "total".to_string(),
+            String::new(),
+            digits.of(fleet.four.served),
+            digits.of(fleet.four.owed),
+            fleet.percent().unwrap_or_else(|| "-".to_string()),
+            fleet.four.silent_days.to_string(),
+            fleet.days(Served::InFull).to_string(),
+        ],
+        behind: String::new(),
+    }
+}

@@ -1,0 +1,241 @@
+//! What a score is asked of, and what comes of it: a month, or why there is none.
+
+use crate::common::failure::{Failure, Outcome};
+use crate::common::visible;
+use crate::explain::cause::{self, Refused};
+use crate::input::source::{self, Source};
+use crate::replay::days;
+use crate::replay::log::Log;
+use crate::score::civil::Date;
+use crate::score::issue::Issue;
+use crate::score::month::Score;
+use boundary::{Edition, Lease, Month, Verdict};
+use serde_json::{json, Value};
+use std::path::{Path, PathBuf};
+
+/// A lease line as it was given.
+#[derive(Clone, Copy, Debug, PartialEq, Eq)]
+pub struct LeaseLine {
+    pub first_day: u32,
+    pub days: u32,
+    pub owed: u32,
+}
+
+/// A lease line, its first day's date where that is known, and the log's files.
+pub struct Asked {
+    /// The number of the edition of the lease rule.
+    pub edition: u32,
+    pub line: LeaseLine,
+    pub from: Option<Date>,
+    pub files: Vec<PathBuf>,
+    pub issue: Issue,
+}
+
+/// What comes of it.
+pub enum Card {
+    Scored(Score),
+    Unscored(Unscored),
+}
+
+/// A month that has no score.
+pub struct Unscored {
+    /// The number of the edition that was asked for.
+    pub edition: u32,
+    pub line: LeaseLine,
+    pub from: Option<Date>,
+    /// The files that were asked for, by their names.
+    pub inputs: Vec<String>,
+    pub issue: Issue,
+    /// Whether the product refused it; else its log couldn't be read.
+    pub refused: bool,
+    pub why: String,
+    /// For programs: the refusal and the log, as far as there are any.
+    pub refusal: Value,
+    pub log: Value,
+}
+
+impl Unscored {
+    pub fn name(&self) -> &'static str {
+        match self.refused {
+            true => "REFUSED",
+            false => "NOT SCORED",
+        }
+    }
+
+    fn new(asked: &Asked, failure: Failure) -> Unscored {
+        let (refused, why) = match failure {
+            Failure::Refused(why) => (true, why),
+            Failure::Wrong(why) => (false, why),
+            // Of a month that has a score.
+            Failure::Short => (false, String::new()),
+        };
+        Unscored {
+            edition: asked.edition,
+            line: asked.line,
+            from: asked.from,
+            inputs: asked.names(),
+            issue: asked.issue.clone(),
+            refused,
+            why,
+            refusal: Value::Null,
+            log: Value::Null,
+        }
+    }
+
+    pub fn failure(&self) -> Failure {
+        match self.refused {
+            true => Failure::Refused(self.why.clone()),
+            false => Failure::Wrong(self.why.clone()),
+        }
+    }
+}
+
+impl Card {
+    pub fn issue(&self) -> &Issue {
+        match self {
+            Card::Scored(score) => &score.issue,
+            Card::Unscored(unscored) => &unscored.issue,
+        }
+    }
+
+    /// The number of its edition.
+    pub fn edition(&self) -> u32 {
+        match self {
+            Card::Scored(score) => score.edition.number(),
+            Card::Unscored(unscored) => unscored.edition,
+        }
+    }
+
+    pub fn line(&self) -> LeaseLine {
+        match self {
+            Card::Scored(score) => score.line(),
+            Card::Unscored(unscored) => unscored.line,
+        }
+    }
+
+    pub fn from(&self) -> Option<Date> {
+        match self {
+            Card::Scored(score) => score.dates().map(|(first, _)| first),
+            Card::Unscored(unscored) => unscored.from,
+        }
+    }
+
+    pub fn score(&self) -> Option<&Score> {
+        match self {
+            Card::Scored(score) => Some(score),
+            Card::Unscored(_) => None,
+        }
+    }
+
+    /// How `score` ends with it.
+    pub fn outcome(&self) -> Outcome {
+        match self {
+            Card::Scored(score) => outcome(score.month.verdict),
+            Card::Unscored(unscored) => Err(unscored.failure()),
+        }
+    }
+}
+
+impl Asked {
+    /// The files by their names, with nothing that a terminal would obey.
+    fn names(&self) -> Vec<String> {
+        let name = |file: &Path| match source::is_standard(Some(file)) {
+            true => source::STANDARD.to_string(),
+            false => visible::line(&file.display().to_string()),
+        };
+        match self.files.as_slice() {
+            [] => vec![source::STANDARD.to_string()],
+            files => files.iter().map(|file| name(file)).collect(),
+        }
+    }
+
+    /// The lease line, or the refusal of it.
+    pub fn lease(&self) -> Result<Lease, Refused> {
+        accepted(self.line)
+    }
+
+    /// A date for each day of the lease, or none for all of them.
+    pub fn dates(&self, lease: &Lease) -> Result<Vec<Option<Date>>, String> {
+        dates(self.from, lease)
+    }
+
+    /// The card of an edition or a lease line that was refused: no log is read.
+    pub fn refused(&self, refused: Refused, failure: Failure) -> Card {
+        Card::Unscored(Unscored {
+            refusal: json!({"refused": refused.number, "cause": refused.cause}),
+            ..Unscored::new(self, failure)
+        })
+    }
+
+    /// The card of a log that wasn't read, for this reason.
+    pub fn missing(&self, edition: Edition, why: &str) -> Card {
+        let failure = Failure::Wrong(why.to_string());
+        Card::Unscored(Unscored {
+            edition: edition.number(),
+            ..Unscored::new(self, failure)
+        })
+    }
+
+    /// Reads the log and scores it. Each piece of the log is handed on too.
+    pub fn score(
+        &self,
+        edition: Edition,
+        lease: Lease,
+        dates: Vec<Option<Date>>,
+        also: &mut dyn FnMut(&[u8]),
+    ) -> Card {
+        let mut log = Log::with_digest(edition);
+        // A score of a part of what was asked for would be no score.
+        let read = Source::open_all(&self.files).and_then(|sources| log.read(sources, also));
+        if let Err(failure) = read {
+            return Card::Unscored(Unscored::new(self, failure));
+        }
+        match month_of(&log, &lease) {
+            Ok(month) => {
+                let issue = self.issue.clone();
+                Card::Scored(Score::new(lease, dates, month, &log, issue))
+            }
+            Err(failure) => {
+                let told = days::summary(&log);
+                Card::Unscored(Unscored {
+                    refusal: told["refusal"].clone(),
+                    log: told,
+                    ..Unscored::new(self, failure)
+                })
+            }
+        }
+    }
+}
+
+pub fn accepted(line: LeaseLine) -> Result<Lease, Refused> {
+    let lease = Lease::new(line.first_day, line.days, line.owed);
+    lease.map_err(|number| cause::refused(number, cause::of_lease(&line)))
+}
+
+pub fn dates(from: Option<Date>, lease: &Lease) -> Result<Vec<Option<Date>>, String> {
+    let from = match from {
+        Some(from) => from,
+        None => return Ok(vec![None; lease.days() as usize]),
+    };
+    let dates = from.run(lease.days()).ok_or_else(|| {
+        let days = lease.days();
+        format!("{from}: {days} days from there go past 9999-12-31, the last date")
+    })?;
+    Ok(dates.into_iter().map(Some).collect())
+}
+
+pub fn month_of(log: &Log, lease: &Lease) -> Outcome<Month> {
+    match (log.replay.score(lease), &log.stop) {
+        (Ok(month), _) => Ok(month),
+        (Err(_), Some(stop)) => Err(Failure::Refused(log.complaint(stop)).hinted(log.hint())),
+        (Err(number), None) => Err(Failure::Refused(cause::refused(number, None).to_string())),
+    }
+}
+
+/// How a score ends.
+pub fn outcome(verdict: Verdict) -> Outcome {
+    match verdict {
+        Verdict::Full | Verdict::NothingOwed => Ok(()),
+        Verdict::Short => Err(Failure::Short),
+    }
+}
