@@ -6,7 +6,7 @@ use crate::editions;
 use crate::random::Random;
 use crate::records::{self, record, MIDNIGHT, WORD};
 use boundary::headers::{SET_DOMAIN, SET_INST_FMT, SET_OUT_FMT, SET_OUT_MASK, START_PROGRAM};
-use boundary::{fleet_report, lent, Edition, FleetReport};
+use boundary::{fleet_report, lent, Edition, FleetReport, Lease as ProductLease};
 use second::fleet::report;
 use second::score::{score_in, Lease};
 
@@ -169,7 +169,7 @@ fn slices(stations: &[Given]) -> (Vec<u8>, Vec<u64>) {
 }
 
 /// A report as the product's comfortable form tells it, from the second program.
-fn as_fleet(report: second::fleet::Report) -> FleetReport {
+fn as_product(report: second::fleet::Report) -> FleetReport {
     FleetReport {
         served: report.served,
         owed: report.owed,
@@ -178,32 +178,33 @@ fn as_fleet(report: second::fleet::Report) -> FleetReport {
     }
 }
 
-/// A station for the product's comfortable form, where its lease line is one.
-fn accepted(station: &Given) -> Option<(usize, boundary::Lease)> {
-    let [first_day, days, owed] = station.lease.map(|number| u32::try_from(number).ok());
-    let lease = boundary::Lease::new(first_day?, days?, owed?).ok()?;
-    Some((station.log.len(), lease))
-}
-
-/// The fleet as it is, by both forms of the product.
+/// The fleet as it is, by both forms of the product; the comfortable one is asked where all lease lines can be had.
 fn reported(case: &mut Case, edition: Edition, stations: &[Given]) -> Agreement {
     let (logs, numbers) = slices(stations);
     let asked = || format!("{edition:?}, {numbers:?}, {logs:X?}");
     let expected = report(edition.number(), &logs, &numbers, 4);
     case.tally.answer(expected.err().unwrap_or(0));
-    let expected = expected.map(as_fleet);
-    // The comfortable form takes lease lines that were accepted.
-    let lines: Option<Vec<(usize, boundary::Lease)>> = stations.iter().map(accepted).collect();
-    if let Some(lines) = lines {
-        let product = fleet_report(edition, &logs, &lines).map_err(u32::from);
-        case.agree(asked, &product, &expected)?;
-        case.tally.mark("fleets by the comfortable form");
-    }
     rooms(case, edition.number(), (&logs, &numbers), 4)?;
-    if let Ok(fleet) = expected {
-        count(case, edition, stations, &fleet);
+    if let Some(lines) = lines(stations) {
+        let product = fleet_report(edition, &logs, &lines).map_err(u32::from);
+        case.agree(asked, &product, &expected.map(as_product))?;
+        case.tally.mark("fleets by their lease lines");
+    }
+    if let Ok(report) = expected {
+        count(case, edition, stations, &as_product(report));
     }
     Ok(())
+}
+
+/// The length and the lease line of each station, where none is refused.
+fn lines(stations: &[Given]) -> Option<Vec<(usize, ProductLease)>> {
+    let narrow = |number: u64| u32::try_from(number).ok();
+    let line = |Given { log, lease }: &Given| {
+        let [first_day, days, owed] = *lease;
+        let lease = ProductLease::new(narrow(first_day)?, narrow(days)?, narrow(owed)?);
+        Some((log.len(), lease.ok()?))
+    };
+    stations.iter().map(line).collect()
 }
 
 /// The C function itself: what it returns, and what it leaves in a room of this length.
@@ -226,21 +227,23 @@ fn rooms(
 fn joined(case: &mut Case, edition: Edition, stations: &[Given]) -> Agreement {
     let at = case.random.between(0, stations.len() as u32) as usize;
     let fleet = |stations: &[Given]| {
-        let lines: Option<Vec<(usize, boundary::Lease)>> = stations.iter().map(accepted).collect();
-        fleet_report(edition, &slices(stations).0, &lines?).ok()
+        let (logs, numbers) = slices(stations);
+        let mut room = [0; 4];
+        let number = lent::fleet_report(edition.number(), &logs, &numbers, &mut room);
+        (number == 0).then_some(room)
     };
     let (one, two) = stations.split_at(at);
     if let (Some(all), Some(one), Some(two)) = (fleet(stations), fleet(one), fleet(two)) {
         let asked = || format!("a fleet of {} joined of {at} and the rest", stations.len());
-        let sums = (
-            one.served + two.served,
-            one.owed + two.owed,
-            one.silent_days + two.silent_days,
-        );
-        case.agree(asked, &(all.served, all.owed, all.silent_days), &sums)?;
-        let moved = two.station.map(|station| station + at);
-        let named = all.station == one.station || all.station == moved;
-        case.agree(asked, &named, &true)?;
+        for place in 0..3 {
+            case.agree(asked, &all[place], &(one[place] + two[place]))?;
+        }
+        let none = MOST as u64;
+        let moved = match two[3] {
+            station if station == none => none,
+            station => station + at as u64,
+        };
+        case.agree(asked, &(all[3] == one[3] || all[3] == moved), &true)?;
         case.tally.mark("fleets joined of two");
     }
     Ok(())

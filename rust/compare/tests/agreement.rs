@@ -320,6 +320,32 @@ fn kills_second_half() {
     kills(200_000..400_000);
 }
 
+#[test]
+fn fleets() {
+    let tally = agree(Kind::Fleets, 0..60_000);
+    editions(&tally, 0);
+    assert!(tally.accepted >= 30_000, "accepted: {}", tally.accepted);
+    marks(&tally, &[("empty fleets", 3_000)]);
+    marks(&tally, &[("fleets of 64 stations", 200)]);
+    marks(&tally, &[("fleets that owe nothing", 500)]);
+    marks(&tally, &[("fleets with silent days", 20_000)]);
+    marks(
+        &tally,
+        &[("fleets with a tie for the smallest part", 10_000)],
+    );
+    marks(&tally, &[("fleets with parts to compare", 1_000)]);
+    marks(
+        &tally,
+        &[("fleets that name a station but the first", 10_000)],
+    );
+    marks(&tally, &[("products of 2^63 or more", 300)]);
+    marks(&tally, &[("fleets joined of two", 30_000)]);
+    marks(&tally, &[("fleets by their lease lines", 30_000)]);
+    let slices = [(3, 10_000), (11, 30_000), (22, 1_000)];
+    let stations = [(18, 4_000), (19, 4_000), (21, 4_000)];
+    refusals(&tally, &[slices, stations].concat());
+}
+
 fn lessees(numbers: Range<u64>) {
     let tally = agree(Kind::Lessees, numbers);
     editions(&tally, 0);
@@ -438,32 +464,6 @@ fn pictures() {
         &tally,
         &[(3, 5_000), (6, 2_000), (10, 20_000), (11, 30_000)],
     );
-}
-
-#[test]
-fn fleets() {
-    let tally = agree(Kind::Fleets, 0..60_000);
-    editions(&tally, 0);
-    assert!(tally.accepted >= 30_000, "accepted: {}", tally.accepted);
-    marks(&tally, &[("empty fleets", 3_000)]);
-    marks(&tally, &[("fleets of 64 stations", 200)]);
-    marks(&tally, &[("fleets that owe nothing", 500)]);
-    marks(&tally, &[("fleets with silent days", 20_000)]);
-    marks(
-        &tally,
-        &[("fleets with a tie for the smallest part", 10_000)],
-    );
-    marks(&tally, &[("fleets with parts to compare", 1_000)]);
-    marks(
-        &tally,
-        &[("fleets that name a station but the first", 10_000)],
-    );
-    marks(&tally, &[("products of 2^63 or more", 300)]);
-    marks(&tally, &[("fleets joined of two", 30_000)]);
-    marks(&tally, &[("fleets by the comfortable form", 30_000)]);
-    let slices = [(3, 10_000), (11, 30_000), (22, 1_000)];
-    let stations = [(18, 4_000), (19, 4_000), (21, 4_000)];
-    refusals(&tally, &[slices, stations].concat());
 }
 
 fn logs(numbers: Range<u64>) {
