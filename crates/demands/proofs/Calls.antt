@@ -47,6 +47,7 @@ use Rattle.demands.proofs.Numbers.{
   month-number,
   test-number,
   survey-number,
+  report-number,
 }
 use Rattle.demands.specs.Calls.{
   Call,
@@ -70,6 +71,7 @@ use Rattle.demands.specs.Calls.{
   month,
   test,
   survey,
+  fleetReport,
   Untouched,
   layoutIn,
 }
@@ -241,3 +243,4 @@ refused-call (survey s v i0 j0 i1 j1 first m r a b p q c) n e =
           two (c .bytes ∙ ap (λ (t : Told). conditional.roomAfter t (conditional.bytesOf s v first m i0 j0 i1 j1) a) e)
           (room (c .answer) n e);
     }
+refused-call (fleetReport edition logs numbers r a b c) n e = one-room c n e (report-number edition logs numbers (length a))

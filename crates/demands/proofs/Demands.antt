@@ -1,4 +1,4 @@
--- The page of top theorems, in the order of the demands: 1, 2, 3, then elements, flow, and the requests 1 to 8 and 10 to 13. Each statement has
+-- The page of top theorems, in the order of the demands: 1, 2, 3, then elements, flow, and the requests 1 to 8 and 10 to 14. Each statement has
 -- its sentence above it and a proof that only cites the file that has it. What a statement asks for is what its sentence says or what an
 -- entry asks for: a session, a replay or a group's cells that came from the entries (`Reached`, `Handed`), and bytes that are bytes.
 -- Assumes nothing.
@@ -176,6 +176,13 @@ use Rattle.conditional.specs.Conditional.{bufferLayout, pairs, passesAt, bitAt,
 use Rattle.conditional_rooms.specs.Rooms.{SurveyCrosses}
 use Rattle.demands.specs.Surveys.{inTurn, testAsks, surveyAsks, ByTests, Opposite, Split, SameTests}
 use Rattle.demands.proofs.Surveys.{test-called, survey-called, test-left, survey-left, by-tests, opposites-split, same-tests}
+use Rattle.refusal.specs.Told.{thenTold}
+use Rattle.fleet.specs.Fleet.{Station, stationsIn, stationAt, fleetTold, fleetIn, reportTold}
+use Rattle.fleet.specs.Answers.{fleetNumbers}
+use Rattle.fleet.specs.Join.{sumsOf, behind, joined as joinedFleet}
+use Rattle.fleet.proofs.Join.{told-joined, sums-joined}
+use Rattle.demands.specs.Fleets.{fleetAsks, FleetSummed, FleetRefused}
+use Rattle.demands.proofs.Fleets.{report-called, report-left, report-first, report-summed}
 
 -- DEMAND 1. "Every entry answers, and bad input gets the refusal number in document 01. A refused call or word changes no byte of lent
 -- memory and no setting, except that a refused command word stops the session and drops the unfinished command. Words taken before it
@@ -902,6 +909,53 @@ pub rectangle-reads :
     (l : Layout) (x y w h first : ℕ) (m room room' : List ℕ) → (0 < w) × (0 < h) →
     Crosses (copyOf l x y w h first (length room) m) 0 room room' → RectangleRead l x y w h first m room'
 rectangle-reads = rectangle-read
+
+-- REQUEST 14, "Fleet report, and a table for byte cameras"
+
+-- "Order: 3 for the edition, 11 .., 22 .., then the refusal of the first station": the first question that fails refuses a call; where all
+-- hold, the call tells what the stations come to.
+pub fleet-report :
+    (edition : ℕ) (logs numbers : List ℕ) (r : ℕ) (room room' : List ℕ) →
+    Crosses (reportTold edition logs numbers (length room)) r room room' →
+    Crosses (inTurn (fleetAsks edition logs numbers (length room)) (fleetIn edition logs numbers)) r room room'
+fleet-report = report-called
+
+-- Where stations refuse, it is the first whose score is refused, with that score's number. (`score-refusals` above has it that this is 21, or
+-- else 18 or 19.)
+pub fleet-first-refused :
+    (edition : ℕ) (logs numbers : List ℕ) (r : ℕ) → fleetIn edition logs numbers ≡ refuses r →
+    FleetRefused (stationsIn numbers) (stationAt edition logs numbers) r
+fleet-first-refused = report-first
+
+-- With status 0 every station's log is scored, served and owed are the exact sums of the scores' own, and silent days too. The station named
+-- owes, none that owes has a smaller served part, and of the stations before it that owe each has a greater one: the lower number wins ties.
+-- It is 64 where none owes.
+pub fleet-summed :
+    (edition : ℕ) (logs numbers : List ℕ) (r : ℕ) (room room' : List ℕ) →
+    Crosses (reportTold edition logs numbers (length room)) r room room' → r ≡ 0 →
+    FleetSummed (stationsIn numbers) (stationAt edition logs numbers) room'
+fleet-summed = report-summed
+
+-- A call with another status than 0 has touched no room.
+pub fleet-refused :
+    (edition : ℕ) (logs numbers : List ℕ) (r : ℕ) (room room' : List ℕ) →
+    Crosses (reportTold edition logs numbers (length room)) r room room' → 1 ≤ r → room' ≡ room
+fleet-refused = report-left
+
+-- The report of a fleet joined of two is the join of their reports, refusals first: totals and silent days are summed up, and the first
+-- fleet's station stays named where its part isn't greater than that of the second's, whose stations are numbered on.
+pub fleet-joined :
+    (n m : ℕ) (stations : ℕ → Station) →
+    fleetTold (n + m) stations ≡
+    thenTold (fleetTold n stations)
+    (thenTold (fleetTold m (behind n stations))
+    (gives (fleetNumbers (joinedFleet n (sumsOf n stations) (sumsOf m (behind n stations))))))
+fleet-joined = told-joined
+
+-- So is what a join keeps of each, the four numbers with the named station's two, so that joins may be joined again.
+pub fleet-sums-joined :
+    (n m : ℕ) (stations : ℕ → Station) → sumsOf (n + m) stations ≡ joinedFleet n (sumsOf n stations) (sumsOf m (behind n stations))
+fleet-sums-joined = sums-joined
 
 -- THE WORKED CASES
 

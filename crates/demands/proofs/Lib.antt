@@ -3,6 +3,7 @@ pub mod Days
 pub mod Demands
 pub mod Editions
 pub mod Elements
+pub mod Fleets
 pub mod Flow
 pub mod Numbers
 pub mod Painting

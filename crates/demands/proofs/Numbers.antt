@@ -33,6 +33,7 @@ use Rattle.command_rooms.specs.Rooms.{parametersOf, namedWriteOf, commandWith}
 use Rattle.score_rooms.specs.Rooms.{lineTold, monthTold}
 use Rattle.setting_rooms.specs.Rooms.{formatAt, formatOf}
 use Rattle.conditional.specs.Conditional.{ifReady, pairOf, domainOf, testOf, surveyOf}
+use Rattle.fleet.specs.Fleet.{firstRefused, fleetTold, countedTold, judgedTold, reportTold}
 use Rattle.demands.specs.Calls.{Numbers, judgedIn}
 use Rattle.demands.specs.Flow.{
   Refused,
@@ -58,6 +59,7 @@ use Rattle.kill.specs.Kill as kill
 use Rattle.kill.specs.Kill.{killTold, killOf}
 use Rattle.kill.specs.Through as kills
 use Rattle.kill.proofs.Through.{refused as kill-refused}
+use Rattle.demands.proofs.Fleets.{first-number}
 use Rattle.demands.proofs.Flow.{step-refused, run-walks}
 
 abbrev pub Nonzero : Told → Type 0
@@ -242,3 +244,11 @@ pub survey-number : (s : Shared) (v first : ℕ) (m : List ℕ) (i0 j0 i1 j1 roo
 unfolding surveyOf domainOf
 survey-number s v first m i0 j0 i1 j1 room =
     if-ready s _ (either _ _ _ (if-accepted _ _ (in-order _ _ _ (given _))) (numbered 5 (omega arith)))
+
+pub report-number : (edition : ℕ) (logs numbers : List ℕ) (room : ℕ) → Nonzero (reportTold edition logs numbers room)
+unfolding reportTold judgedTold countedTold fleetTold firstRefused
+report-number edition logs numbers room =
+    then-told _ _ (edition-number edition)
+    (either _ _ _
+    (either _ _ _ (by-pick Nonzero _ _ _ (λ e. numbered _ (first-number edition logs numbers e)) (λ e. given _)) (numbered 22 (omega arith)))
+    (numbered 11 (omega arith)))

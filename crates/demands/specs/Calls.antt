@@ -32,6 +32,7 @@ use Rattle.setting_rooms.specs.Rooms.{formatOf}
 use lib.ListN.{length}
 use Rattle.conditional.specs.Conditional.{testOf, surveyOf}
 use Rattle.conditional_rooms.specs.Rooms.{SurveyCrosses}
+use Rattle.fleet.specs.Fleet.{reportTold}
 
 -- a layout's numbers, as every call on addresses and elements takes them
 pub record Numbers : Type 0 where
@@ -120,6 +121,10 @@ pub data Call : Told → ℕ → List (List ℕ) → List (List ℕ) → Type 0 
   survey : (s : Shared) (v i0 j0 i1 j1 first : ℕ) (memory : List ℕ) (r : ℕ) (room room' passed passed' : List ℕ) →
       SurveyCrosses s v first memory i0 j0 i1 j1 r room room' passed passed' →
       Call (surveyOf s v first memory i0 j0 i1 j1 (length room)) r (room ∷ passed ∷ []) (room' ∷ passed' ∷ [])
+  -- egretfold_fleet_report
+  fleetReport : (edition : ℕ) (logs numbers : List ℕ) (r : ℕ) (room room' : List ℕ) →
+      Crosses (reportTold edition logs numbers (length room)) r room room' →
+      Call (reportTold edition logs numbers (length room)) r (room ∷ []) (room' ∷ [])
 
 -- "A refusal hands back its number and no other result. Lent memory .. stay the same." No refusal has the number 0
 pub record Untouched (n r : ℕ) (lent left : List (List ℕ)) : Type 0 where

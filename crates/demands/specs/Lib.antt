@@ -2,6 +2,7 @@ pub mod Calls
 pub mod Cases
 pub mod Days
 pub mod Editions
+pub mod Fleets
 pub mod Flow
 pub mod Painting
 pub mod Pieces

@@ -1,4 +1,5 @@
 pub mod Adding
+pub mod Join
 pub mod Judging
 pub mod Least
 pub mod Months

@@ -12,6 +12,7 @@ use Rattle.laws.proofs.Below.{every-at, every-of, least-at, least-before}
 use Rattle.laws.proofs.Choice.{Tested, holds, fails, tested, pick-yes, pick-no, and-intro, and-left, and-right}
 use Rattle.fleet.specs.Fleet.{Station, servedBy, owedBy, owes, hasSmallest, smallestPart, noStation}
 use Rattle.fleet.specs.Answers.{partNext}
+use Rattle.fleet.specs.Join.{noPart, partAt, partOf}
 use Rattle.fleet.specs.declared.parts.Part.{Part}
 use Rattle.fleet.proofs.Least.{yes-no, least-is, least-none}
 
@@ -19,7 +20,7 @@ swap : (x y z : ℕ) → x * y * z ≡ x * z * y
 swap x y z = mul-assoc x y z ∙ ap (λ (w : ℕ). x * w) (mul-comm y z) ∙ sym (mul-assoc x z y)
 
 -- fractions a/A, b/B and c/C: where the first is smaller than the second, and the third isn't, the first is smaller than the third
-chain : (a A b B c C : ℕ) → 0 < C → a * B < b * A → b * C ≤ c * B → a * C < c * A
+pub chain : (a A b B c C : ℕ) → 0 < C → a * B < b * A → b * C ≤ c * B → a * C < c * A
 chain a A b B c C pos h k = go (tested (ltb (a * C) (c * A)))
   where
     go : Tested (ltb (a * C) (c * A)) → a * C < c * A
@@ -134,19 +135,33 @@ module _ (n : ℕ) (f : ℕ → Station) where
       go (holds e) = absurd (denied e)
       go (fails e) = e
 
-  pub best-named : (p : Part) → Best s o n p → p .station ≡ smallestPart n f
-  unfolding smallestPart
-  best-named p (none h) =
-      sym (pick-no _ noStation (least-none n (hasSmallest n f) (λ j l. fails-when j (λ e. no j l (smallest-owes j e)))))
+  -- the part that is named is the definition's, with its two numbers
+  pub best-is : (p : Part) → Best s o n p → p ≡ partOf n f
+  unfolding partOf
+  best-is p (none h) =
+      sym (pick-no _ noPart (least-none n (hasSmallest n f) (λ j l. fails-when j (λ e. no j l (smallest-owes j e)))))
     where
       no : (j : ℕ) → j < n → 0 < o j → ⊥
       no j l q = let z = h j l in omega arith
-  best-named p (best b l pos all low) =
+  best-is p (best b l pos all low) =
       let is : least n (hasSmallest n f) ≡ b =
       least-is n (hasSmallest n f) b l (smallest-holds b pos all)
       (λ j m. fails-when j (λ e. clash (low j m (smallest-owes j e)) (smallest-least j e b l pos)))
       in
-      sym (pick-yes _ noStation (ap (λ (k : ℕ). ltb k n) is ∙ lt-ltb b n l) ∙ is)
+      sym (pick-yes _ noPart (ap (λ (k : ℕ). ltb k n) is ∙ lt-ltb b n l) ∙ ap (partAt n f) is)
     where
       clash : {x y : ℕ} → x < y → y ≤ x → ⊥
       clash p q = omega arith
+
+  pub named-is : partOf n f .station ≡ smallestPart n f
+  unfolding partOf smallestPart
+  named-is = go (tested (ltb (least n (hasSmallest n f)) n))
+    where
+      go : Tested (ltb (least n (hasSmallest n f)) n) →
+          pick (ltb (least n (hasSmallest n f)) n) (partAt n f (least n (hasSmallest n f))) noPart .station ≡
+          pick (ltb (least n (hasSmallest n f)) n) (least n (hasSmallest n f)) noStation
+      go (holds e) = ap (λ (p : Part). p .station) (pick-yes _ noPart e) ∙ sym (pick-yes _ noStation e)
+      go (fails e) = ap (λ (p : Part). p .station) (pick-no _ noPart e) ∙ sym (pick-no _ noStation e)
+
+  pub best-named : (p : Part) → Best s o n p → p .station ≡ smallestPart n f
+  best-named p w = ap (λ (q : Part). q .station) (best-is p w) ∙ named-is

@@ -64,10 +64,12 @@ month-of-requires c κs = search needs
 
 returns : tie.Need-returns
 returns c =
-    let args = c .before .before .before .before .before .before .before .before .args in
+    let at-reads = c .before .before .before .before in
+    let at-entry = at-reads .before .before .before .before in
+    let args = at-entry .args in
     c .month-of .ensures ∙
     ap (λ (x : List ℕ). monthFrom (leaseAt (args .numbers .now) (args .k)) (scoreOfLog (args .edition) (leaseAt (args .numbers .now) (args .k)) x))
-    (log-part (args .numbers .now) (args .logs .now) (args .k) (args .start) _ (c .before .before .before .before .before .before .before .before .pre .begins) refl)
+    (log-part (args .numbers .now) (args .logs .now) (args .k) (args .start) _ (at-entry .pre .begins) refl)
 
 pub month-at-spec : {M : Type 1} → statement M
 month-at-spec =

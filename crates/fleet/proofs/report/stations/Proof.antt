@@ -26,10 +26,16 @@ month-at-requires : tie.Need-month-at-requires Inv-loop μ-loop
 month-at-requires c κs = month-asked _ _ _ _ _ _ (c .before .loop .inv) (c .loop-test .taken)
 
 returns : tie.Need-returns Inv-loop μ-loop
-returns c = summing-refused _ _ _ _ _ _ (c .before .before .before .before .loop .inv) (c .before .before .month-at .ensures) (c .before .before .before .loop-test .taken) (c .if1 .taken)
+returns c =
+    let at-month = c .before .before in
+    let at-test = at-month .before in
+    summing-refused _ _ _ _ _ _ (at-test .before .loop .inv) (at-month .month-at .ensures) (at-test .loop-test .taken) (c .if1 .taken)
 
 add-requires : tie.Need-add-requires Inv-loop μ-loop
-add-requires c κs = add-asked _ _ _ _ _ _ (c .before .before .before .before .loop .inv) (c .before .before .month-at .ensures) (c .before .before .before .loop-test .taken)
+add-requires c κs =
+    let at-month = c .before .before in
+    let at-test = at-month .before in
+    add-asked _ _ _ _ _ _ (at-test .before .loop .inv) (at-month .month-at .ensures) (at-test .loop-test .taken)
 
 mul-start : tie.Need-mul-start Inv-loop μ-loop
 mul-start c = search needs
@@ -41,7 +47,12 @@ shared-slice-read-start : tie.Need-shared-slice-read-start Inv-loop μ-loop
 shared-slice-read-start c = search needs
 
 add-start : tie.Need-add-start Inv-loop μ-loop
-add-start c = omega (arith, start-fits _ _ _ _ _ _ (c .before .before .before .before .before .before .loop .inv) (c .before .before .before .before .before .loop-test .taken), c .before .before .before .before .before .before .before .before .before .before .good)
+add-start c =
+    let at-month = c .before .before .before .before in
+    let at-test = at-month .before in
+    let at-loop = at-test .before in
+    let at-entry = at-loop .before .before .before .before in
+    omega (arith, start-fits _ _ _ _ _ _ (at-loop .loop .inv) (at-test .loop-test .taken), at-entry .good)
 
 add-k : tie.Need-add-k Inv-loop μ-loop
 add-k c = search needs
@@ -50,7 +61,12 @@ loop-less : tie.Need-loop-less Inv-loop μ-loop
 loop-less c = search needs
 
 loop-again : tie.Need-loop-again Inv-loop μ-loop
-loop-again c = summing-goes _ _ _ _ _ _ (c .before .before .before .before .before .before .loop .inv) (c .before .before .before .before .month-at .ensures) (c .before .before .before .before .before .loop-test .taken) (c .before .before .if1 .left) (c .before .add .ensures)
+loop-again c =
+    let at-if = c .before .before in
+    let at-month = at-if .before .before in
+    let at-test = at-month .before in
+    summing-goes _ _ _ _ _ _ (at-test .before .loop .inv) (at-month .month-at .ensures) (at-test .loop-test .taken) (at-if .if1 .left)
+    (c .before .add .ensures)
 
 returns-2 : tie.Need-returns-2 Inv-loop μ-loop
 returns-2 c = summing-ends _ _ _ _ _ _ (c .before .loop .inv) (c .loop-test .left)

@@ -12,7 +12,10 @@ begin-requires : tie.Need-begin-requires
 begin-requires c κs = search needs
 
 feed-requires : tie.Need-feed-requires
-feed-requires c κs = may-feed _ (c .before .before .before .before .before .before .before .before .before .before .before .before .pre) (c .before .before .before .before .before .begin .ensures)
+feed-requires c κs =
+    let at-begin = c .before .before .before .before .before in
+    let at-arrays = at-begin .before .before .before .before in
+    may-feed _ (at-arrays .before .before .before .pre) (at-begin .begin .ensures)
 
 summed-requires : tie.Need-summed-requires
 summed-requires c κs = search needs
@@ -20,7 +23,8 @@ summed-requires c κs = search needs
 returns : tie.Need-returns
 returns c =
     let at-feed = c .before .before .before .before in
-    let at-begin = at-feed .before .before .before .before .before .before in
+    let at-lent = at-feed .before .before .before in
+    let at-begin = at-lent .before .before .before in
     let at-arrays = at-begin .before .before .before .before in
     let at-start = at-arrays .before .before .before in
     let args = at-start .args in
