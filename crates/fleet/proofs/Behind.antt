@@ -1,16 +1,16 @@
 -- Two fleets one behind the other, logs and numbers: the stations are those of the first and then those of the second. So a report over
 -- both is the join of the reports. Assumes nothing.
-use mathlib.Core.Path.{_≡_, refl, sym, ap, ap₂, _∙_, subst}
-use mathlib.Core.Bool.{Bool, true, false}
+use mathlib.Core.Path.{_≡_, refl, sym, ap, ap₂, _∙_}
+use mathlib.Core.Bool.{true}
 use mathlib.Core.List.{List, [], _∷_, _++_}
 use Prim.Native.Nat.{ℕ, zero, suc, _+_, _*_, _%_, _<_, _≤_}
 use native.Mathlib.Nat.{suc-add}
 use native.Mathlib.Omega.{arith}
-use lib.Dec.{eqb, leb, ltb}
+use lib.Dec.{leb, ltb}
 use lib.ListN.{length, getD, take, drop, length-append, List·getD-append}
 use borrow.Author.Tests.{eqb-true, ltb-true}
 use Rattle.laws.specs.Choice.{_and_, pick}
-use Rattle.laws.specs.Below.{every, sum, least}
+use Rattle.laws.specs.Below.{least}
 use Rattle.laws.proofs.Below.{every-same, sum-same, least-same}
 use Rattle.laws.proofs.Choice.{Tested, holds, fails, tested, pick-yes, pick-no}
 use Rattle.refusal.specs.Told.{gives, refuses, thenTold}
@@ -36,7 +36,6 @@ use Rattle.fleet.specs.Fleet.{
 }
 use Rattle.fleet.specs.Answers.{fleetNumbers}
 use Rattle.fleet.specs.Join.{noPart, partAt, partOf, sumsOf, fleetSums, joined}
-use Rattle.fleet.specs.declared.parts.Part.{Part}
 use Rattle.fleet.specs.declared.parts.Fleet.{Fleet}
 use Rattle.fleet.proofs.Slices.{start-next, start-most}
 use Rattle.fleet.proofs.Join.{sum-joined, Judged, refusedAt, allScored, judged, told-refused, told-scored, told-joined}
