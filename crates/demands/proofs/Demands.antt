@@ -5,7 +5,7 @@
 use mathlib.Core.Path.{_≡_, refl, _∙_}
 use mathlib.Core.Bool.{Bool, true, false}
 use mathlib.Core.List.{List, [], _∷_, _++_, map, List·Permᴰ}
-use Prim.Native.Nat.{ℕ, suc, _+_, _-_, _*_, _^_, _<_, _≤_}
+use Prim.Native.Nat.{ℕ, suc, _+_, _-_, _*_, _%_, _^_, _<_, _≤_}
 use lib.Count.{ones, trailingZeros}
 use lib.Ieee.{Float, lt}
 use lib.ListN.{length, take, getD}
@@ -177,10 +177,11 @@ use Rattle.conditional_rooms.specs.Rooms.{SurveyCrosses}
 use Rattle.demands.specs.Surveys.{inTurn, testAsks, surveyAsks, ByTests, Opposite, Split, SameTests}
 use Rattle.demands.proofs.Surveys.{test-called, survey-called, test-left, survey-left, by-tests, opposites-split, same-tests}
 use Rattle.refusal.specs.Told.{thenTold}
-use Rattle.fleet.specs.Fleet.{Station, stationsIn, stationAt, fleetTold, fleetIn, reportTold}
+use Rattle.fleet.specs.Fleet.{Station, stationsIn, stationAt, addUp, fleetTold, fleetIn, reportTold}
 use Rattle.fleet.specs.Answers.{fleetNumbers}
-use Rattle.fleet.specs.Join.{sumsOf, behind, joined as joinedFleet}
+use Rattle.fleet.specs.Join.{sumsOf, fleetSums, behind, joined as joinedFleet}
 use Rattle.fleet.proofs.Join.{told-joined, sums-joined}
+use Rattle.fleet.proofs.Behind.{behind-told}
 use Rattle.demands.specs.Fleets.{fleetAsks, FleetSummed, FleetRefused}
 use Rattle.demands.proofs.Fleets.{report-called, report-left, report-first, report-summed}
 
@@ -951,6 +952,16 @@ pub fleet-joined :
     (thenTold (fleetTold m (behind n stations))
     (gives (fleetNumbers (joinedFleet n (sumsOf n stations) (sumsOf m (behind n stations))))))
 fleet-joined = told-joined
+
+-- So of calls: logs and numbers of a second fleet behind those of a first, whose numbers are in fours and add up to its slice, tell the join of
+-- what the two tell by themselves.
+pub fleet-joined-calls :
+    (edition : ℕ) (logs logs' numbers numbers' : List ℕ) → length numbers % 4 ≡ 0 → addUp numbers (length logs) ≡ true →
+    fleetIn edition (logs ++ logs') (numbers ++ numbers') ≡
+    thenTold (fleetIn edition logs numbers)
+    (thenTold (fleetIn edition logs' numbers')
+    (gives (fleetNumbers (joinedFleet (stationsIn numbers) (fleetSums edition logs numbers) (fleetSums edition logs' numbers')))))
+fleet-joined-calls = behind-told
 
 -- So is what a join keeps of each, the four numbers with the named station's two, so that joins may be joined again.
 pub fleet-sums-joined :

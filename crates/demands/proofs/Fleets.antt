@@ -37,7 +37,7 @@ use Rattle.fleet.proofs.Least.{yes-no}
 use Rattle.fleet.proofs.Months.{zero-fine}
 use Rattle.fleet.proofs.Smallest.{Best, none, best, named-is}
 use Rattle.fleet.proofs.Join.{Judged, refusedAt, allScored, judged, told-refused, told-scored, best-part}
-use Rattle.demands.specs.Surveys.{Question, asks, inTurn}
+use Rattle.demands.specs.Surveys.{inTurn}
 use Rattle.demands.specs.Fleets.{fleetAsks, Named, smallest, noneOwes, FleetSummed, FleetRefused, atStation}
 
 -- the definition asks in this order

@@ -1,20 +1,20 @@
 -- The report of a fleet joined of two is the join of their reports. Assumes nothing.
-use mathlib.Core.Path.{_≡_, refl, sym, ap, ap₂, _∙_, subst}
+use mathlib.Core.Path.{_≡_, sym, ap, _∙_, subst}
 use mathlib.Core.Bool.{Bool, true, false}
-use mathlib.Core.List.{List, [], _∷_}
+use mathlib.Core.List.{[], _∷_}
 use Prim.Native.Nat.{ℕ, zero, suc, _+_, _-_, _*_, _<_, _≤_}
-use native.Mathlib.Nat.{add-zero, add-suc, add-assoc, le-refl}
+use native.Mathlib.Nat.{add-zero, add-suc, add-assoc}
 use native.Mathlib.Omega.{arith}
 use lib.Dec.{eqb, leb, ltb}
-use borrow.Author.Tests.{eqb-true, ne-eqb, ltb-true, ltb-false, lt-ltb, leb-true, leb-false}
+use borrow.Author.Tests.{ne-eqb, ltb-true, ltb-false, lt-ltb, leb-true, leb-false}
 use Rattle.laws.specs.Choice.{pick}
 use Rattle.laws.specs.Below.{sum, least}
 use Rattle.laws.proofs.Below.{sum-last, least-at, least-before}
 use Rattle.laws.proofs.Choice.{Tested, holds, fails, tested, pick-yes, pick-no}
 use Rattle.refusal.specs.Told.{Told, gives, refuses, thenTold}
-use Rattle.fleet.specs.Fleet.{Station, refusalIn, isRefused, servedBy, owedBy, hasSmallest, smallestPart, noStation, firstRefused, fleetTold}
+use Rattle.fleet.specs.Fleet.{Station, refusalIn, isRefused, servedBy, owedBy, firstRefused, fleetTold}
 use Rattle.fleet.specs.Answers.{partNext, fleetNumbers}
-use Rattle.fleet.specs.Join.{noPart, partAt, partOf, silentBy, sumsOf, behind, onFrom, joinedPart, joined}
+use Rattle.fleet.specs.Join.{noPart, partOf, silentBy, sumsOf, behind, onFrom, joinedPart, joined}
 use Rattle.fleet.specs.declared.parts.Part.{Part}
 use Rattle.fleet.specs.declared.parts.Fleet.{Fleet}
 use Rattle.fleet.proofs.Least.{least-is, least-none}

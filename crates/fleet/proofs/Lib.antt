@@ -1,4 +1,5 @@
 pub mod Adding
+pub mod Behind
 pub mod Join
 pub mod Judging
 pub mod Least

@@ -1,20 +1,20 @@
 -- The smallest served part, station by station: fractions are compared by cross products, and the lower number wins. Assumes nothing.
 use mathlib.Core.Path.{_≡_, refl, sym, ap, _∙_, subst}
-use mathlib.Core.Bool.{Bool, true, false}
+use mathlib.Core.Bool.{true, false}
 use Prim.Native.Nat.{ℕ, suc, _*_, _<_, _≤_}
 use native.Mathlib.Nat.{mul-assoc, mul-comm, mul-le-mul, le-refl, mul-lt-mul-of-pos-right}
 use native.Mathlib.Omega.{arith}
 use lib.Dec.{eqb, leb, ltb}
-use borrow.Author.Tests.{eq-eqb, ne-eqb, eqb-true, eqb-false, ltb-true, ltb-false, lt-ltb, le-ltb, leb-true, le-leb}
-use Rattle.laws.specs.Choice.{_and_, pick}
-use Rattle.laws.specs.Below.{every, least}
-use Rattle.laws.proofs.Below.{every-at, every-of, least-at, least-before}
+use borrow.Author.Tests.{eqb-true, eqb-false, ltb-true, ltb-false, lt-ltb, leb-true, le-leb}
+use Rattle.laws.specs.Choice.{pick}
+use Rattle.laws.specs.Below.{least}
+use Rattle.laws.proofs.Below.{every-at, every-of}
 use Rattle.laws.proofs.Choice.{Tested, holds, fails, tested, pick-yes, pick-no, and-intro, and-left, and-right}
-use Rattle.fleet.specs.Fleet.{Station, servedBy, owedBy, owes, hasSmallest, smallestPart, noStation}
+use Rattle.fleet.specs.Fleet.{Station, servedBy, owedBy, hasSmallest, smallestPart, noStation}
 use Rattle.fleet.specs.Answers.{partNext}
 use Rattle.fleet.specs.Join.{noPart, partAt, partOf}
 use Rattle.fleet.specs.declared.parts.Part.{Part}
-use Rattle.fleet.proofs.Least.{yes-no, least-is, least-none}
+use Rattle.fleet.proofs.Least.{least-is, least-none}
 
 swap : (x y z : ℕ) → x * y * z ≡ x * z * y
 swap x y z = mul-assoc x y z ∙ ap (λ (w : ℕ). x * w) (mul-comm y z) ∙ sym (mul-assoc x z y)

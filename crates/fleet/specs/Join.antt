@@ -1,11 +1,12 @@
 -- The join of two fleets' reports, for fleets over 64 stations and over several machines: the stations of the second are numbered on from
 -- those of the first. What is joined are the four numbers with what the named station is served and owes beside them, since the number
 -- alone doesn't tell how small its part is. Assumes nothing.
+use mathlib.Core.List.{List}
 use Prim.Native.Nat.{ℕ, _+_, _*_}
 use lib.Dec.{eqb, leb, ltb}
 use Rattle.laws.specs.Choice.{pick}
 use Rattle.laws.specs.Below.{sum, least}
-use Rattle.fleet.specs.Fleet.{Station, servedBy, owedBy, hasSmallest, silentDays, noStation}
+use Rattle.fleet.specs.Fleet.{Station, servedBy, owedBy, hasSmallest, silentDays, noStation, stationsIn, stationAt}
 use Rattle.fleet.specs.declared.parts.Part.{Part}
 use Rattle.fleet.specs.declared.parts.Fleet.{Fleet}
 
@@ -56,3 +57,7 @@ joined n a b =
       silent = a .silent + b .silent;
       part = joinedPart n (a .part) (b .part);
     }
+
+-- of the logs and numbers that a call is given
+abbrev pub fleetSums : ℕ → List ℕ → List ℕ → Fleet
+fleetSums edition logs numbers = sumsOf (stationsIn numbers) (stationAt edition logs numbers)
