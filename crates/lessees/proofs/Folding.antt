@@ -1,0 +1,268 @@
+-- A piece of both parties' words as runs, one after the other: what stands after each run. Assumes nothing.
+use mathlib.Core.Path.{_≡_, refl, sym, ap, ap₂, _∙_, subst}
+use mathlib.Core.Bool.{Bool, true, false}
+use mathlib.Core.List.{List, [], _∷_, _++_, append-nil}
+use Prim.Native.Nat.{ℕ, zero, suc, _+_, _-_, _/_, _<_, _≤_, _^_}
+use native.Mathlib.Nat.{zero-add, add-zero, suc-add}
+use native.Mathlib.Omega.{arith}
+use lib.Dec.{eqb}
+use lib.ListN.{length, length-append, getD, take, drop}
+use borrow.Author.Tests.{eq-eqb, ne-eqb}
+use Rattle.laws.specs.Choice.{pick}
+use Rattle.laws.proofs.Choice.{pick-yes, pick-no}
+use Rattle.command.specs.declared.commands.Command.{Command}
+use Rattle.state.specs.State.{Session}
+use Rattle.state.specs.Cells.{Sized, partyOf, sharedOf, sessionOf, partyCells, tallyCells, sharedCells}
+use Rattle.state.specs.Asked.{Given, Held}
+use Rattle.state.proofs.Cells.{own-canon, tally-canon, shared-canon, held-view, held-given}
+use Rattle.session.specs.Step.{Reply, stillOpen, completed, refused, stepOf}
+use Rattle.session.specs.Feed.{First, nothing, first, earlier, firstStatus, Fed, proceed, feedOf}
+use Rattle.lessees.specs.Pair.{
+  Pair, Sent, side, putBack, Part, silence, PairFed, pieceOf, joinedPart, joinedPair, sentAll, PairValid,
+}
+use Rattle.lessees.specs.Rooms.{
+  partyAt, sentFrom, sentOf, groupsOf, pairOf, PairHeld, PairGiven, PairLeft, partCells, earlierNumber, RunAsked, RunLeft, RunEnds,
+}
+use Rattle.lessees.proofs.Isolation.{partOf}
+use Rattle.lessees.proofs.Cut.{cut}
+use Rattle.lessees.proofs.Runs.{ranFor, ran}
+use Rattle.lessees.proofs.Taking.{Told, BothTold, piece-told, piece-valid}
+
+-- a list up to a place, cut in two
+take-nil : {A : Type 0} (n : ℕ) → _≡_ {A = List A} (take n []) []
+take-nil zero = refl
+take-nil (suc n) = refl
+
+take-plus : {A : Type 0} (a n : ℕ) (l : List A) → take (a + n) l ≡ take a l ++ take n (drop a l)
+take-plus zero n l = ap (λ (m : ℕ). take m l) (zero-add n)
+take-plus (suc a) n [] = take-nil (suc a + n) ∙ sym (take-nil n)
+take-plus (suc a) n (x ∷ l) = ap (λ (m : ℕ). take m (x ∷ l)) (suc-add a n) ∙ ap (λ (r : List _). x ∷ r) (take-plus a n l)
+
+module _ (parties : List ℕ) where
+  sent-drop : (a k : ℕ) (ws : List ℕ) → drop a (sentFrom parties k ws) ≡ sentFrom parties (k + a) (drop a ws)
+  unfolding sentFrom
+  sent-drop zero k ws = ap (λ (j : ℕ). sentFrom parties j ws) (sym (add-zero k))
+  sent-drop (suc a) k [] = refl
+  sent-drop (suc a) k (w ∷ ws) =
+      sent-drop a (suc k) ws ∙ ap (λ (j : ℕ). sentFrom parties j (drop a ws)) (let e : suc k + a ≡ k + suc a = omega arith in e)
+
+  sent-take : (n k : ℕ) (ws : List ℕ) → take n (sentFrom parties k ws) ≡ sentFrom parties k (take n ws)
+  unfolding sentFrom
+  sent-take zero k ws = refl
+  sent-take (suc n) k [] = refl
+  sent-take (suc n) k (w ∷ ws) =
+      ap (λ (r : List Sent). record { party = partyAt parties k; word = w } ∷ r) (sent-take n (suc k) ws)
+
+  sent-length : (k : ℕ) (ws : List ℕ) → length (sentFrom parties k ws) ≡ length ws
+  unfolding sentFrom
+  sent-length k [] = refl
+  sent-length k (w ∷ ws) = ap suc (sent-length (suc k) ws)
+
+  -- words of one party
+  sent-same : (p : Bool) (k : ℕ) (ws : List ℕ) → ((j : ℕ) → k ≤ j → j < k + length ws → partyAt parties j ≡ p) →
+      sentFrom parties k ws ≡ sentAll p ws
+  unfolding sentFrom sentAll
+  sent-same p k [] h = refl
+  sent-same p k (w ∷ ws) h =
+      ap₂ (λ (b : Bool) (r : List Sent). record { party = b; word = w } ∷ r) (h k (omega arith) (omega arith))
+      (sent-same p (suc k) ws (λ j a b. h j (omega arith) (omega arith)))
+
+take-whole : {A : Type 0} (n : ℕ) (l : List A) → length l ≤ n → take n l ≡ l
+take-whole zero [] h = refl
+take-whole zero (x ∷ l) h = absurd (omega arith)
+take-whole (suc n) [] h = refl
+take-whole (suc n) (x ∷ l) h = ap (λ (r : List _). x ∷ r) (take-whole n l (omega arith))
+
+take-length : {A : Type 0} (n : ℕ) (l : List A) → length (take n l) ≤ n
+take-length zero l = omega arith
+take-length (suc n) [] = omega arith
+take-length (suc n) (x ∷ l) = omega (arith, take-length n l)
+
+-- a piece takes no more words than it has, and completes no more commands
+record Few (f : Fed) (n : ℕ) : Type 0 where
+  taken : f .taken ≤ n
+  commands : length (f .commands) ≤ n
+
+few-word : (r : Reply) (s : Session) (f : Fed) (n : ℕ) → Few f n → Few (proceed r s f) (suc n)
+unfolding proceed
+few-word stillOpen s f n h = record { taken = omega (arith, h .taken); commands = omega (arith, h .commands) }
+few-word (completed c) s f n h = record { taken = omega (arith, h .taken); commands = omega (arith, h .commands) }
+few-word (refused m) s f n h = record { taken = omega arith; commands = omega arith }
+
+few : (s : Session) (ws : List ℕ) → Few (feedOf s ws) (length ws)
+unfolding feedOf
+few s [] = record { taken = omega arith; commands = omega arith }
+few s (w ∷ ws) = few-word _ _ _ _ (few (stepOf s w .session) ws)
+
+pub taken-most : (s : Session) (ws : List ℕ) → feedOf s ws .taken ≤ length ws
+taken-most s ws = few s ws .taken
+
+pub commands-most : (s : Session) (ws : List ℕ) → length (feedOf s ws .commands) ≤ length ws
+commands-most s ws = few s ws .commands
+
+-- the earlier refusal by its number
+earlier-number : (a b : First) → Told a → earlierNumber (firstStatus a) (firstStatus b) ≡ firstStatus (earlier a b)
+unfolding earlierNumber
+earlier-number nothing b t = pick-yes _ _ refl
+earlier-number (first n) b t = pick-no _ _ (ne-eqb n 0 (λ (e : n ≡ 0). let k : 0 < n = t n refl in omega arith))
+
+joined-silence : (t : Part) → joinedPart t silence ≡ t
+unfolding joinedPart
+joined-silence t = λ i. record { taken = add-zero (t .taken) i; commands = append-nil (t .commands) i; refusal = later (t .refusal) i }
+  where
+    later : (r : First) → earlier r nothing ≡ r
+    later nothing = refl
+    later (first n) = refl
+
+-- what a run adds to what its party was told
+told-more : (t : Part) (f : Fed) {told told' : List ℕ} → Told (t .refusal) → told ≡ partCells t →
+    told' ≡
+    (getD told 0 0 + f .taken) ∷ (getD told 1 0 + length (f .commands)) ∷ earlierNumber (getD told 2 0) (firstStatus (f .refusal)) ∷ [] →
+    told' ≡ partCells (joinedPart t (partOf f))
+unfolding joinedPart
+told-more t f {told} {told'} k e h =
+    h ∙
+    ap (λ (l : List ℕ). (getD l 0 0 + f .taken) ∷ (getD l 1 0 + length (f .commands)) ∷ earlierNumber (getD l 2 0) (firstStatus (f .refusal)) ∷ []) e ∙
+    ap₂ (λ (x y : ℕ). (t .taken + f .taken) ∷ x ∷ y ∷ []) (sym (length-append (t .commands) (f .commands)))
+    (earlier-number (t .refusal) (f .refusal) k)
+
+-- the cells of a pair and its record
+module _ (q : Pair) (v : PairValid q) {l0 t0 l1 t1 s : List ℕ} (h : PairHeld q l0 t0 l1 t1 s) where
+  held0 : Held (side false q) l0 t0 s
+  held0 = record { own-cells = h .own0-cells; tally-cells = h .tally0-cells; shared-cells = h .shared-cells }
+
+  held1 : Held (side true q) l1 t1 s
+  held1 = record { own-cells = h .own1-cells; tally-cells = h .tally1-cells; shared-cells = h .shared-cells }
+
+  pub side0-view : sessionOf l0 t0 s ≡ side false q
+  side0-view = held-view (side false q) (v .valid0) l0 t0 s held0
+
+  pub side1-view : sessionOf l1 t1 s ≡ side true q
+  side1-view = held-view (side true q) (v .valid1) l1 t1 s held1
+
+  pub side0-given : Given l0 t0 s
+  side0-given = held-given (side false q) (v .valid0) l0 t0 s held0
+
+  pub side1-given : Given l1 t1 s
+  side1-given = held-given (side true q) (v .valid1) l1 t1 s held1
+
+  pub pair-view : pairOf l0 t0 l1 t1 s ≡ q
+  pair-view = λ i. record { party0 = side0-view i .party; party1 = side1-view i .party; shared = side0-view i .shared }
+
+  pub pair-given : PairGiven l0 t0 l1 t1 s
+  pair-given = record { sized0 = side0-given .sized; sized1 = side1-given .sized; valid = subst PairValid (sym pair-view) v }
+
+-- `at` words were taken: what the parties were told of them, and the pair that they left
+pub record Fold (q : Pair) (words parties l0 t0 l1 t1 s told0 told1 : List ℕ) (at : ℕ) : Type 0 where
+  pub within : at ≤ length words
+  pub held : PairHeld (pieceOf q (take at (sentOf words parties)) .pair) l0 t0 l1 t1 s
+  pub first-told : told0 ≡ partCells (pieceOf q (take at (sentOf words parties)) .told0)
+  pub second-told : told1 ≡ partCells (pieceOf q (take at (sentOf words parties)) .told1)
+
+pub fold-begins : (words parties l0 t0 l1 t1 s : List ℕ) → PairGiven l0 t0 l1 t1 s →
+    Fold (pairOf l0 t0 l1 t1 s) words parties l0 t0 l1 t1 s (0 ∷ 0 ∷ 0 ∷ []) (0 ∷ 0 ∷ 0 ∷ []) 0
+fold-begins words parties l0 t0 l1 t1 s g =
+    record {
+      within = omega arith;
+      held =
+          unfold pieceOf in
+          record {
+            own0-cells = sym (own-canon l0 t0 (g .sized0 .own-length));
+            tally0-cells = sym (tally-canon l0 t0 (g .sized0 .tallies-length));
+            own1-cells = sym (own-canon l1 t1 (g .sized1 .own-length));
+            tally1-cells = sym (tally-canon l1 t1 (g .sized1 .tallies-length));
+            shared-cells = sym (shared-canon s (g .sized0 .shared-length));
+          };
+      first-told = unfold pieceOf in refl;
+      second-told = unfold pieceOf in refl;
+    }
+
+-- the words of a run
+abbrev pub runOf : List ℕ → ℕ → ℕ → List ℕ
+runOf words at end = take (end - at) (drop at words)
+
+module _ (q : Pair) (words parties l0 t0 l1 t1 s told0 told1 : List ℕ) (at : ℕ) (v : PairValid q) (f : Fold q words parties l0 t0 l1 t1 s told0 told1 at) where
+  abbrev sent : List Sent
+  sent = sentOf words parties
+
+  abbrev done : PairFed
+  done = pieceOf q (take at sent)
+
+  now-valid : PairValid (done .pair)
+  now-valid = piece-valid q (take at sent) v
+
+  pub given0 : Given l0 t0 s
+  given0 = side0-given (done .pair) now-valid (f .held)
+
+  pub given1 : Given l1 t1 s
+  given1 = side1-given (done .pair) now-valid (f .held)
+
+  -- the words up to the end of a run
+  upto : (p : Bool) (end : ℕ) → RunEnds parties (length words) at p end → take end sent ≡ take at sent ++ sentAll p (runOf words at end)
+  upto p end e =
+      ap (λ (n : ℕ). take n sent) (let z : end ≡ at + (end - at) = omega (arith, e .from-end) in z) ∙ take-plus at (end - at) sent ∙
+      ap (λ (r : List Sent). take at sent ++ r)
+      (ap (take (end - at)) (sent-drop parties at 0 words) ∙ sent-take parties (end - at) (0 + at) (drop at words) ∙
+      sent-same parties p (0 + at) (runOf words at end)
+      (λ j a b. e .same-party j (omega arith) (omega (arith, e .from-end, take-length (end - at) (drop at words)))))
+
+  -- what the piece comes to with the run
+  after-run : (p : Bool) (end : ℕ) → RunEnds parties (length words) at p end → {u : Session} → u ≡ side p (done .pair) →
+      pieceOf q (take end sent) ≡ joinedPair done (ranFor p (feedOf u (runOf words at end)) (done .pair))
+  after-run p end e {u} k =
+      ap (pieceOf q) (upto p end e) ∙ cut q (take at sent) (sentAll p (runOf words at end)) ∙
+      ap (joinedPair done)
+      (ran p (done .pair) (runOf words at end) ∙ ap (λ (x : Session). ranFor p (feedOf x (runOf words at end)) (done .pair)) (sym k))
+
+  both-told : BothTold done
+  both-told = piece-told q (take at sent)
+
+  pub fold-run0 : (end : ℕ) → RunEnds parties (length words) at false end → {l0' t0' s' told0' : List ℕ} →
+      RunLeft (feedOf (sessionOf l0 t0 s) (runOf words at end)) l0' t0' s' told0 told0' →
+      Fold q words parties l0' t0' l1 t1 s' told0' told1 end
+  unfolding joinedPair ranFor
+  fold-run0 end e r =
+      let z = after-run false end e (side0-view (done .pair) now-valid (f .held)) in
+      record {
+        within = e .end-most;
+        held =
+            subst (λ (x : PairFed). PairHeld (x .pair) _ _ _ _ _) (sym z)
+            (record {
+              own0-cells = r .held .own-cells;
+              tally0-cells = r .held .tally-cells;
+              own1-cells = f .held .own1-cells;
+              tally1-cells = f .held .tally1-cells;
+              shared-cells = r .held .shared-cells;
+            });
+        first-told = told-more (done .told0) _ (both-told .told0) (f .first-told) (r .told-after) ∙ ap (λ (x : PairFed). partCells (x .told0)) (sym z);
+        second-told =
+            f .second-told ∙ ap partCells (sym (joined-silence (done .told1))) ∙ ap (λ (x : PairFed). partCells (x .told1)) (sym z);
+      }
+
+  pub fold-run1 : (end : ℕ) → RunEnds parties (length words) at true end → {l1' t1' s' told1' : List ℕ} →
+      RunLeft (feedOf (sessionOf l1 t1 s) (runOf words at end)) l1' t1' s' told1 told1' →
+      Fold q words parties l0 t0 l1' t1' s' told0 told1' end
+  unfolding joinedPair ranFor
+  fold-run1 end e r =
+      let z = after-run true end e (side1-view (done .pair) now-valid (f .held)) in
+      record {
+        within = e .end-most;
+        held =
+            subst (λ (x : PairFed). PairHeld (x .pair) _ _ _ _ _) (sym z)
+            (record {
+              own0-cells = f .held .own0-cells;
+              tally0-cells = f .held .tally0-cells;
+              own1-cells = r .held .own-cells;
+              tally1-cells = r .held .tally-cells;
+              shared-cells = r .held .shared-cells;
+            });
+        first-told =
+            f .first-told ∙ ap partCells (sym (joined-silence (done .told0))) ∙ ap (λ (x : PairFed). partCells (x .told0)) (sym z);
+        second-told = told-more (done .told1) _ (both-told .told1) (f .second-told) (r .told-after) ∙ ap (λ (x : PairFed). partCells (x .told1)) (sym z);
+      }
+
+  -- the piece's end
+  pub fold-ends : length words ≤ at → {fed : List ℕ} → fed ≡ told0 ++ told1 → PairLeft (pieceOf q sent) l0 t0 l1 t1 s fed
+  fold-ends h e =
+      subst (λ (x : List Sent). PairLeft (pieceOf q x) l0 t0 l1 t1 s _) (take-whole at sent (omega (arith, sent-length parties 0 words, h)))
+      (record { told = e ∙ ap₂ _++_ (f .first-told) (f .second-told); held = f .held })
