@@ -8,7 +8,7 @@ use lib.Dec.{eqb, ltb}
 use borrow.Author.Tests.{ltb-true, ltb-false, lt-ltb, le-ltb}
 use Rattle.laws.specs.Choice.{_and_, pick}
 use Rattle.laws.specs.Masks.{on, pack, Places}
-use Rattle.laws.proofs.Choice.{pick-yes, pick-no, and-left, and-right, and-intro, and-no-left, and-no-right, Tested, holds, fails, tested}
+use Rattle.laws.proofs.Choice.{pick-yes, pick-no, and-left, and-right, and-yes, and-no-left, and-no-right, Tested, holds, fails, tested}
 use Rattle.laws.proofs.Masks.{not-places, pack-on, on-pack, on-above}
 use Rattle.refusal.specs.Told.{Told, gives, refuses}
 use Rattle.refusal.specs.Crossing.{statusOf}
@@ -75,32 +75,33 @@ not-both : {t : Bool} → t ≡ true → t ≡ false → ⊥
 not-both p n = let z : _≡_ {A = ℕ} 0 1 = cc in omega arith
 
 module _ (inputs outputs edition : ℕ) {l0 t0 l1 t1 s l0' t0' l1' t1' s' : List ℕ} where
-  pub begins : {k : Bool} → k ≡ isEdition edition → k ≡ true → inputs < 65536 → outputs < 16 →
+  pub begins : mayBegin inputs outputs edition ≡ true →
       PairHeld (newPair inputs outputs edition) l0' t0' l1' t1' s' →
       PairBegins inputs outputs edition 0 l0 t0 l1 t1 s l0' t0' l1' t1' s'
-  begins {k} e y i o h =
+  begins may h =
       record {
         status = unfold beginTold in sym (ap statusOf (pick-yes (gives []) (refuses 3) may));
         held = λ m. h;
         untouched = λ n. absurd (not-both may n);
       }
-    where
-      may : mayBegin inputs outputs edition ≡ true
-      may = unfold mayBegin in and-intro (sym e ∙ y) (and-intro (lt-ltb _ _ i) (lt-ltb _ _ o))
 
 module _ (inputs outputs edition : ℕ) where
-  -- the edition, the inputs' bits or the outputs' are none that there are
-  pub not-edition : {k : Bool} → k ≡ isEdition edition → k ≡ false → mayBegin inputs outputs edition ≡ false
+  -- what `may_begin` answers
+  pub not-edition : {k : Bool} → k ≡ isEdition edition → k ≡ false → false ≡ mayBegin inputs outputs edition
   unfolding mayBegin
-  not-edition e n = and-no-left _ (sym e ∙ n)
+  not-edition e n = sym (and-no-left _ (sym e ∙ n))
 
-  pub not-inputs : 65536 ≤ inputs → mayBegin inputs outputs edition ≡ false
+  pub not-inputs : 65536 ≤ inputs → false ≡ mayBegin inputs outputs edition
   unfolding mayBegin
-  not-inputs h = and-no-right _ (and-no-left _ (le-ltb _ _ h))
+  not-inputs h = sym (and-no-right _ (and-no-left _ (le-ltb _ _ h)))
 
-  pub not-outputs : 16 ≤ outputs → mayBegin inputs outputs edition ≡ false
+  pub by-outputs : {k : Bool} → k ≡ isEdition edition → k ≡ true → inputs < 65536 → ltb outputs 16 ≡ mayBegin inputs outputs edition
   unfolding mayBegin
-  not-outputs h = and-no-right _ (and-no-right _ (le-ltb _ _ h))
+  by-outputs e y h = sym (and-yes _ (sym e ∙ y) ∙ and-yes _ (lt-ltb _ _ h))
+
+  pub may-bounds : mayBegin inputs outputs edition ≡ true → (inputs < 65536) × (outputs < 16)
+  unfolding mayBegin
+  may-bounds e = (ltb-true _ _ (and-left _ _ (and-right _ _ e)), ltb-true _ _ (and-right _ _ (and-right _ _ e)))
 
   pub begins-not : {r : ℕ} {l0 t0 l1 t1 s : List ℕ} → mayBegin inputs outputs edition ≡ false → r ≡ 3 → PairBegins inputs outputs edition r l0 t0 l1 t1 s l0 t0 l1 t1 s
   begins-not n e =

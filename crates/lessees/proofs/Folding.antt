@@ -18,7 +18,7 @@ use Rattle.state.proofs.Cells.{own-canon, tally-canon, shared-canon, held-view,
 use Rattle.session.specs.Step.{Reply, stillOpen, completed, refused, stepOf}
 use Rattle.session.specs.Feed.{First, nothing, first, earlier, firstStatus, Fed, proceed, feedOf}
 use Rattle.lessees.specs.Pair.{
-  Pair, Sent, side, putBack, Part, silence, PairFed, pieceOf, joinedPart, joinedPair, sentAll, PairValid,
+  Pair, Sent, side, putBack, Part, silence, noted, PairFed, notedFor, pairStep, pieceOf, joinedPart, joinedPair, sentAll, PairValid,
 }
 use Rattle.lessees.specs.Rooms.{
   partyAt, sentFrom, sentOf, groupsOf, pairOf, PairHeld, PairGiven, PairLeft, partCells, earlierNumber, RunAsked, RunLeft, RunEnds,
@@ -152,6 +152,33 @@ module _ (q : Pair) (v : PairValid q) {l0 t0 l1 t1 s : List ℕ} (h : PairHeld q
   pub pair-given : PairGiven l0 t0 l1 t1 s
   pair-given = record { sized0 = side0-given .sized; sized1 = side1-given .sized; valid = subst PairValid (sym pair-view) v }
 
+-- neither party is told of more words or commands than were sent
+record PartFew (t : Part) (n : ℕ) : Type 0 where
+  taken : t .taken ≤ n
+  commands : length (t .commands) ≤ n
+
+part-more : (t : Part) (n : ℕ) → PartFew t n → PartFew t (suc n)
+part-more t n h = record { taken = omega (arith, h .taken); commands = omega (arith, h .commands) }
+
+part-noted : (r : Reply) (t : Part) (n : ℕ) → PartFew t n → PartFew (noted r t) (suc n)
+unfolding noted
+part-noted stillOpen t n h = record { taken = omega (arith, h .taken); commands = omega (arith, h .commands) }
+part-noted (completed c) t n h = record { taken = omega (arith, h .taken); commands = omega (arith, h .commands) }
+part-noted (refused m) t n h = record { taken = omega (arith, h .taken); commands = omega (arith, h .commands) }
+
+piece-few : (q : Pair) (ws : List Sent) → PartFew (pieceOf q ws .told0) (length ws) × PartFew (pieceOf q ws .told1) (length ws)
+unfolding pieceOf notedFor
+piece-few q [] = (none, none)
+  where
+    none : PartFew silence 0
+    none = record { taken = omega arith; commands = omega arith }
+piece-few q (w ∷ ws) = go (w .party) _ _ (piece-few (putBack (w .party) (pairStep q w .session) q) ws)
+  where
+    go : (b : Bool) (r : Reply) (f : PairFed) → PartFew (f .told0) (length ws) × PartFew (f .told1) (length ws) →
+        PartFew (notedFor b r f .told0) (suc (length ws)) × PartFew (notedFor b r f .told1) (suc (length ws))
+    go false r f k = (part-noted r (f .told0) _ (k .0), part-more (f .told1) _ (k .1))
+    go true r f k = (part-more (f .told0) _ (k .0), part-noted r (f .told1) _ (k .1))
+
 -- `at` words were taken: what the parties were told of them, and the pair that they left
 pub record Fold (q : Pair) (words parties l0 t0 l1 t1 s told0 told1 : List ℕ) (at : ℕ) : Type 0 where
   pub within : at ≤ length words
@@ -213,6 +240,30 @@ module _ (q : Pair) (words parties l0 t0 l1 t1 s told0 told1 : List ℕ) (at : �
       ap (pieceOf q) (upto p end e) ∙ cut q (take at sent) (sentAll p (runOf words at end)) ∙
       ap (joinedPair done)
       (ran p (done .pair) (runOf words at end) ∙ ap (λ (x : Session). ranFor p (feedOf x (runOf words at end)) (done .pair)) (sym k))
+
+  -- what a run is asked
+  room : (t : Part) {told : List ℕ} → told ≡ partCells t → PartFew t (length (take at sent)) → length words < 2 ^ 64 → {p : Bool} (end : ℕ) →
+      RunEnds parties (length words) at p end → {l u c : List ℕ} → Given l u c → RunAsked l u c (runOf words at end) told
+  room t {told} e k big end r g =
+      record {
+        given = g;
+        told-length = ap length e;
+        taken-room = rw e (omega (arith, k .taken, take-length at sent, take-length (end - at) (drop at words), r .from-end, r .end-most, big));
+        commands-room = rw e (omega (arith, k .commands, take-length at sent, take-length (end - at) (drop at words), r .from-end, r .end-most, big));
+      }
+
+  pub asked0 : length words < 2 ^ 64 → {p : Bool} (end : ℕ) → RunEnds parties (length words) at p end → RunAsked l0 t0 s (runOf words at end) told0
+  asked0 big end r = room (done .told0) (f .first-told) (piece-few q (take at sent) .0) big end r given0
+
+  pub asked1 : length words < 2 ^ 64 → {p : Bool} (end : ℕ) → RunEnds parties (length words) at p end → RunAsked l1 t1 s (runOf words at end) told1
+  asked1 big end r = room (done .told1) (f .second-told) (piece-few q (take at sent) .1) big end r given1
+
+  pub told-lengths : (length told0 ≡ 3) × (length told1 ≡ 3)
+  told-lengths = (ap length (f .first-told), ap length (f .second-told))
+
+  -- the six numbers, read one by one
+  pub six : getD told0 0 0 ∷ getD told0 1 0 ∷ getD told0 2 0 ∷ getD told1 0 0 ∷ getD told1 1 0 ∷ getD told1 2 0 ∷ [] ≡ told0 ++ told1
+  six = rw (f .first-told, f .second-told) refl
 
   both-told : BothTold done
   both-told = piece-told q (take at sent)

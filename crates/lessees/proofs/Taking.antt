@@ -1,7 +1,7 @@
 -- What the routines of a piece leave, return by return: where a run ends, what a run adds to what a party was told, and the pair after
 -- runs of words. Assumes nothing.
 use mathlib.Core.Path.{_≡_, refl, sym, ap, ap₂, _∙_, subst}
-use mathlib.Core.Bool.{Bool, true, false}
+use mathlib.Core.Bool.{Bool, true, false, not, Bool·beq}
 use mathlib.Core.List.{List, [], _∷_, _++_}
 use Prim.Native.Nat.{ℕ, zero, suc, _+_, _-_, _*_, _/_, _%_, _<_, _≤_, _^_}
 use native.Mathlib.Nat.{zero-add}
@@ -36,6 +36,23 @@ pub record Run (parties : List ℕ) (length from : ℕ) (party : Bool) (at : ℕ
   pub at-most : at ≤ length
   pub same-party : (k : ℕ) → from ≤ k → k < at → partyAt parties k ≡ party
 
+-- what the test of two parties tells
+differ-no : (t p : Bool) → not (Bool·beq t p) ≡ false → t ≡ p
+differ-no true true e = refl
+differ-no true false e = e
+differ-no false true e = sym e
+differ-no false false e = refl
+
+differ-yes : (t p : Bool) → not (Bool·beq t p) ≡ true → t ≡ p → ⊥
+differ-yes t p e k = apart (sym (ap (λ (x : Bool). not (Bool·beq x p)) k ∙ same p) ∙ e)
+  where
+    same : (p : Bool) → not (Bool·beq p p) ≡ false
+    same true = refl
+    same false = refl
+
+    apart : false ≡ true → ⊥
+    apart z = let n : _≡_ {A = ℕ} 0 1 = cc in omega arith
+
 module _ (parties : List ℕ) (len from : ℕ) (party : Bool) where
   pub run-begins : from ≤ len → Run parties len from party from
   run-begins h = record { from-at = omega arith; at-most = h; same-party = λ k a b. absurd (none k a b) }
@@ -44,8 +61,8 @@ module _ (parties : List ℕ) (len from : ℕ) (party : Bool) where
       none k a b = omega arith
 
   module _ (at : ℕ) (r : Run parties len from party at) where
-    pub run-on : {t : Bool} → at < len → t ≡ partyAt parties at → t ≡ party → Run parties len from party (at + 1)
-    run-on h e y =
+    pub run-on : {t : Bool} → at < len → t ≡ partyAt parties at → not (Bool·beq t party) ≡ false → Run parties len from party (at + 1)
+    run-on {t} h e y =
         record {
           from-at = omega (arith, r .from-at);
           at-most = omega (arith, h);
@@ -53,18 +70,18 @@ module _ (parties : List ℕ) (len from : ℕ) (party : Bool) where
         }
       where
         go : (k : ℕ) → from ≤ k → k < at + 1 → Tested (eqb k at) → partyAt parties k ≡ party
-        go k a b (holds z) = ap (partyAt parties) (eqb-true k at z) ∙ sym e ∙ y
+        go k a b (holds z) = ap (partyAt parties) (eqb-true k at z) ∙ sym e ∙ differ-no t party y
         go k a b (fails z) = r .same-party k a (let n : k ≡ at → ⊥ = eqb-false k at z in omega arith)
 
     ends : (from < len → partyAt parties from ≡ party → from < at) → RunEnds parties len from party at
     ends g = record { from-end = r .from-at; end-most = r .at-most; same-party = r .same-party; goes-on = g }
 
-    pub run-ends : {t : Bool} → at < len → t ≡ partyAt parties at → (t ≡ party → ⊥) → RunEnds parties len from party at
-    run-ends h e n =
+    pub run-ends : {t : Bool} → at < len → t ≡ partyAt parties at → not (Bool·beq t party) ≡ true → RunEnds parties len from party at
+    run-ends {t} h e n =
         ends (λ l y. go (tested (eqb from at)) y)
       where
         go : Tested (eqb from at) → partyAt parties from ≡ party → from < at
-        go (holds z) y = absurd (n (e ∙ ap (partyAt parties) (sym (eqb-true from at z)) ∙ y))
+        go (holds z) y = absurd (differ-yes t party n (e ∙ ap (partyAt parties) (sym (eqb-true from at z)) ∙ y))
         go (fails z) y = let ne : from ≡ at → ⊥ = eqb-false from at z in omega (arith, r .from-at)
 
     pub run-out : len ≤ at → RunEnds parties len from party at

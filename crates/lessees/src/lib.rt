@@ -11,8 +11,9 @@ ghost use mathlib.Core.Bool.{Bool};
 ghost use Prim.Native.Nat.{ℕ, _*_, _/_, _<_, _≤_};
 ghost use lib.ListN.{length};
 ghost use Rattle.state.specs.Cells.{sessionOf};
-ghost use Rattle.session.specs.Feed.{feedOf};
-ghost use Rattle.lessees.specs.Begin.{newPair};
+ghost use Rattle.session.specs.Answers.{firstOf};
+ghost use Rattle.session.specs.Feed.{feedOf, firstStatus};
+ghost use Rattle.lessees.specs.Begin.{mayBegin, newPair};
 ghost use Rattle.lessees.specs.Pair.{pieceOf};
 ghost use Rattle.lessees.specs.Rooms.{PairBegins, PairFeeds, PairGiven, PairHeld, PairLeft, RunAsked, RunEnds, RunLeft, earlierNumber, groupsOf, pairOf, partyAt, sentOf};
 
@@ -26,7 +27,20 @@ const INPUTS: u32 = 65536;
 
 const OUTPUTS: u32 = 16;
 
-// A new session of two parties and an edition, `owners` of party 1.
+// Whether there is the edition, and no bit is set for an input or output that there isn't.
+fn may_begin(inputs: u32, outputs: u32, edition: u32) -> bool
+    ensures { λ r. ⌜ r ≡ mayBegin inputs outputs edition ⌝ }
+{
+    if edition::is_known(edition) {
+        if inputs < INPUTS {
+            return outputs < OUTPUTS;
+        }
+        return false;
+    }
+    false
+}
+
+// A new session of two parties and an edition.
 fn make(
     own0: &mut [u32; state::OWN_CELLS],
     tallies0: &mut [u64; state::TALLIES],
@@ -60,13 +74,9 @@ pub fn begin(
 ) -> u32
     ensures { λ r. ⌜ PairBegins inputs outputs edition r (now (own0 .entry)) (now (tallies0 .entry)) (now (own1 .entry)) (now (tallies1 .entry)) (now (shared .entry)) (now (own0 .exit)) (now (tallies0 .exit)) (now (own1 .exit)) (now (tallies1 .exit)) (now (shared .exit)) ⌝ }
 {
-    if edition::is_known(edition) {
-        if inputs < INPUTS {
-            if outputs < OUTPUTS {
-                make(own0, tallies0, own1, tallies1, shared, inputs, outputs, edition);
-                return 0;
-            }
-        }
+    if may_begin(inputs, outputs, edition) {
+        make(own0, tallies0, own1, tallies1, shared, inputs, outputs, edition);
+        return 0;
     }
     refusal::number(Refusal::Malformed)
 }
@@ -101,6 +111,16 @@ fn earlier(before: u64, now: u64) -> u64
     if before == 0 { now } else { before }
 }
 
+// A piece's first refusal as a number, 0 for none.
+fn number_of(refusal: First) -> u64
+    ensures { λ r. ⌜ r ≡ firstStatus (firstOf refusal) ⌝ }
+{
+    match refusal {
+        First::Nothing => 0,
+        First::Refused(why) => refusal::number(why) as u64,
+    }
+}
+
 // A run of one party's words. Those after a refused one change nothing: the party is stopped.
 fn take_run(
     own: &mut [u32; state::OWN_CELLS],
@@ -117,10 +137,7 @@ fn take_run(
     let commands = told[1] + piece.commands;
     let before = told[2];
     let refusal = piece.refusal;
-    let number = match refusal {
-        First::Nothing => 0,
-        First::Refused(why) => refusal::number(why) as u64,
-    };
+    let number = number_of(refusal);
     *told = [taken, commands, earlier(before, number)];
 }
 

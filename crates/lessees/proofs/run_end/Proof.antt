@@ -15,22 +15,22 @@ loop-holds : tie.Need-loop-holds Inv-loop μ-loop
 loop-holds c = run-begins _ _ _ _ ((c .before .pre) .0)
 
 party-of-requires : tie.Need-party-of-requires Inv-loop μ-loop
-party-of-requires c κs = omega (arith, (c .before .pre) .1, {loop-test} .taken)
+party-of-requires c κs = omega (arith, (c .before .before .before .pre) .1, c .loop-test .taken)
 
 returns : tie.Need-returns Inv-loop μ-loop
-returns c = run-ends _ _ _ _ _ ({loop} .inv) ({loop-test} .taken) ({party-of} .ensures) ({if1} .taken)
+returns c = run-ends _ _ _ _ _ (c .before .before .before .loop .inv) (c .before .before .loop-test .taken) (c .before .party-of .ensures) (c .if1 .taken)
 
 add-at : tie.Need-add-at Inv-loop μ-loop
-add-at c = omega (arith, {loop-test} .taken)
+add-at c = omega (arith, c .before .before .loop-test .taken)
 
 loop-less : tie.Need-loop-less Inv-loop μ-loop
-loop-less c = omega (arith, {loop-test} .taken)
+loop-less c = omega (arith, c .before .before .loop-test .taken)
 
 loop-again : tie.Need-loop-again Inv-loop μ-loop
-loop-again c = run-on _ _ _ _ _ ({loop} .inv) ({loop-test} .taken) ({party-of} .ensures) ({if1} .left)
+loop-again c = run-on _ _ _ _ _ (c .before .before .before .loop .inv) (c .before .before .loop-test .taken) (c .before .party-of .ensures) (c .if1 .left)
 
 returns-2 : tie.Need-returns-2 Inv-loop μ-loop
-returns-2 c = run-out _ _ _ _ _ ({loop} .inv) ({loop-test} .left)
+returns-2 c = run-out _ _ _ _ _ (c .before .loop .inv) (c .loop-test .left)
 
 pub run-end-spec : {M : Type 1} → statement M
 run-end-spec =
