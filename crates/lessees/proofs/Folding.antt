@@ -15,13 +15,16 @@ use Rattle.state.specs.State.{Session}
 use Rattle.state.specs.Cells.{Sized, partyOf, sharedOf, sessionOf, partyCells, tallyCells, sharedCells}
 use Rattle.state.specs.Asked.{Given, Held}
 use Rattle.state.proofs.Cells.{own-canon, tally-canon, shared-canon, held-view, held-given}
+use Rattle.session.specs.Answers.{firstOf, PieceLeft}
+use Rattle.session.specs.declared.stream.Fed as stream
 use Rattle.session.specs.Step.{Reply, stillOpen, completed, refused, stepOf}
 use Rattle.session.specs.Feed.{First, nothing, first, earlier, firstStatus, Fed, proceed, feedOf}
 use Rattle.lessees.specs.Pair.{
   Pair, Sent, side, putBack, Part, silence, noted, PairFed, notedFor, pairStep, pieceOf, joinedPart, joinedPair, sentAll, PairValid,
 }
 use Rattle.lessees.specs.Rooms.{
-  partyAt, sentFrom, sentOf, groupsOf, pairOf, PairHeld, PairGiven, PairLeft, partCells, earlierNumber, RunAsked, RunLeft, RunEnds,
+  partyAt, sentFrom, sentOf, groupsOf, pairOf, PairHeld, PairGiven, PairLeft, PairUntouched, PairFeeds, partCells, earlierNumber, RunAsked, RunLeft,
+  RunEnds,
 }
 use Rattle.lessees.proofs.Isolation.{partOf}
 use Rattle.lessees.proofs.Cut.{cut}
@@ -94,11 +97,11 @@ unfolding feedOf
 few s [] = record { taken = omega arith; commands = omega arith }
 few s (w ∷ ws) = few-word _ _ _ _ (few (stepOf s w .session) ws)
 
-pub taken-most : (s : Session) (ws : List ℕ) → feedOf s ws .taken ≤ length ws
-taken-most s ws = few s ws .taken
+pub taken-most : (s : Session) (ws : List ℕ) {r : stream.Fed} {l t c : List ℕ} → PieceLeft (feedOf s ws) r l t c → r .taken .0 ≤ length ws
+taken-most s ws h = omega (arith, few s ws .taken, h .taken)
 
-pub commands-most : (s : Session) (ws : List ℕ) → length (feedOf s ws .commands) ≤ length ws
-commands-most s ws = few s ws .commands
+pub commands-most : (s : Session) (ws : List ℕ) {r : stream.Fed} {l t c : List ℕ} → PieceLeft (feedOf s ws) r l t c → r .commands ≤ length ws
+commands-most s ws h = omega (arith, few s ws .commands, h .commands)
 
 -- the earlier refusal by its number
 earlier-number : (a b : First) → Told a → earlierNumber (firstStatus a) (firstStatus b) ≡ firstStatus (earlier a b)
@@ -125,6 +128,19 @@ told-more t f {told} {told'} k e h =
     ap (λ (l : List ℕ). (getD l 0 0 + f .taken) ∷ (getD l 1 0 + length (f .commands)) ∷ earlierNumber (getD l 2 0) (firstStatus (f .refusal)) ∷ []) e ∙
     ap₂ (λ (x y : ℕ). (t .taken + f .taken) ∷ x ∷ y ∷ []) (sym (length-append (t .commands) (f .commands)))
     (earlier-number (t .refusal) (f .refusal) k)
+
+-- what `take_run` leaves
+pub run-left : (f : Fed) {r : stream.Fed} {l t c told : List ℕ} {number first-number : ℕ} → PieceLeft f r l t c →
+    number ≡ firstStatus (firstOf (r .refusal)) → first-number ≡ earlierNumber (getD told 2 0) number →
+    RunLeft f l t c told ((getD told 0 0 + r .taken .0) ∷ (getD told 1 0 + r .commands) ∷ first-number ∷ [])
+run-left f {told = told} h e k =
+    record {
+      told-after =
+          λ i.
+          (getD told 0 0 + h .taken i) ∷ (getD told 1 0 + h .commands i) ∷
+          (k ∙ ap (earlierNumber (getD told 2 0)) (e ∙ ap firstStatus (h .refusal))) i ∷ [];
+      held = h .held;
+    }
 
 -- the cells of a pair and its record
 module _ (q : Pair) (v : PairValid q) {l0 t0 l1 t1 s : List ℕ} (h : PairHeld q l0 t0 l1 t1 s) where
@@ -204,6 +220,10 @@ fold-begins words parties l0 t0 l1 t1 s g =
       second-told = unfold pieceOf in refl;
     }
 
+-- a run's party by the test of it
+pub as-party : {parties : List ℕ} {n from end : ℕ} {p b : Bool} → p ≡ b → RunEnds parties n from p end → RunEnds parties n from b end
+as-party {parties} {n} {from} {end} e r = subst (λ (x : Bool). RunEnds parties n from x end) e r
+
 -- the words of a run
 abbrev pub runOf : List ℕ → ℕ → ℕ → List ℕ
 runOf words at end = take (end - at) (drop at words)
@@ -272,12 +292,12 @@ module _ (q : Pair) (words parties l0 t0 l1 t1 s told0 told1 : List ℕ) (at : �
       RunLeft (feedOf (sessionOf l0 t0 s) (runOf words at end)) l0' t0' s' told0 told0' →
       Fold q words parties l0' t0' l1 t1 s' told0' told1 end
   unfolding joinedPair ranFor
-  fold-run0 end e r =
+  fold-run0 end e {l0'} {t0'} {s'} r =
       let z = after-run false end e (side0-view (done .pair) now-valid (f .held)) in
       record {
         within = e .end-most;
         held =
-            subst (λ (x : PairFed). PairHeld (x .pair) _ _ _ _ _) (sym z)
+            subst (λ (x : PairFed). PairHeld (x .pair) l0' t0' l1 t1 s') (sym z)
             (record {
               own0-cells = r .held .own-cells;
               tally0-cells = r .held .tally-cells;
@@ -285,7 +305,7 @@ module _ (q : Pair) (words parties l0 t0 l1 t1 s told0 told1 : List ℕ) (at : �
               tally1-cells = f .held .tally1-cells;
               shared-cells = r .held .shared-cells;
             });
-        first-told = told-more (done .told0) _ (both-told .told0) (f .first-told) (r .told-after) ∙ ap (λ (x : PairFed). partCells (x .told0)) (sym z);
+        first-told = told-more (done .told0) (feedOf (sessionOf l0 t0 s) (runOf words at end)) (both-told .told0) (f .first-told) (r .told-after) ∙ ap (λ (x : PairFed). partCells (x .told0)) (sym z);
         second-told =
             f .second-told ∙ ap partCells (sym (joined-silence (done .told1))) ∙ ap (λ (x : PairFed). partCells (x .told1)) (sym z);
       }
@@ -294,12 +314,12 @@ module _ (q : Pair) (words parties l0 t0 l1 t1 s told0 told1 : List ℕ) (at : �
       RunLeft (feedOf (sessionOf l1 t1 s) (runOf words at end)) l1' t1' s' told1 told1' →
       Fold q words parties l0 t0 l1' t1' s' told0 told1' end
   unfolding joinedPair ranFor
-  fold-run1 end e r =
+  fold-run1 end e {l1'} {t1'} {s'} r =
       let z = after-run true end e (side1-view (done .pair) now-valid (f .held)) in
       record {
         within = e .end-most;
         held =
-            subst (λ (x : PairFed). PairHeld (x .pair) _ _ _ _ _) (sym z)
+            subst (λ (x : PairFed). PairHeld (x .pair) l0 t0 l1' t1' s') (sym z)
             (record {
               own0-cells = f .held .own0-cells;
               tally0-cells = f .held .tally0-cells;
@@ -309,11 +329,34 @@ module _ (q : Pair) (words parties l0 t0 l1 t1 s told0 told1 : List ℕ) (at : �
             });
         first-told =
             f .first-told ∙ ap partCells (sym (joined-silence (done .told0))) ∙ ap (λ (x : PairFed). partCells (x .told0)) (sym z);
-        second-told = told-more (done .told1) _ (both-told .told1) (f .second-told) (r .told-after) ∙ ap (λ (x : PairFed). partCells (x .told1)) (sym z);
+        second-told = told-more (done .told1) (feedOf (sessionOf l1 t1 s) (runOf words at end)) (both-told .told1) (f .second-told) (r .told-after) ∙ ap (λ (x : PairFed). partCells (x .told1)) (sym z);
       }
 
   -- the piece's end
   pub fold-ends : length words ≤ at → {fed : List ℕ} → fed ≡ told0 ++ told1 → PairLeft (pieceOf q sent) l0 t0 l1 t1 s fed
-  fold-ends h e =
-      subst (λ (x : List Sent). PairLeft (pieceOf q x) l0 t0 l1 t1 s _) (take-whole at sent (omega (arith, sent-length parties 0 words, h)))
+  fold-ends h {fed} e =
+      subst (λ (x : List Sent). PairLeft (pieceOf q x) l0 t0 l1 t1 s fed) (take-whole at sent (omega (arith, sent-length parties 0 words, h)))
       (record { told = e ∙ ap₂ _++_ (f .first-told) (f .second-told); held = f .held })
+
+-- what `feed` answers
+module _ {words parties l0 t0 l1 t1 s fed : List ℕ} where
+  pub feeds : length parties ≡ groupsOf (length words) → {l0' t0' l1' t1' s' fed' : List ℕ} →
+      PairLeft (pieceOf (pairOf l0 t0 l1 t1 s) (sentOf words parties)) l0' t0' l1' t1' s' fed' →
+      PairFeeds words parties 0 l0 t0 l1 t1 s fed l0' t0' l1' t1' s' fed'
+  feeds e h =
+      record {
+        status = sym (pick-yes 0 11 (eq-eqb (length parties) (groupsOf (length words)) e));
+        left = λ k. h;
+        untouched = λ n. absurd (n e);
+      }
+
+  pub feeds-not : (length parties ≡ groupsOf (length words) → ⊥) → {r : ℕ} → r ≡ 11 →
+      PairFeeds words parties r l0 t0 l1 t1 s fed l0 t0 l1 t1 s fed
+  feeds-not n e =
+      record {
+        status = e ∙ sym (pick-no 0 11 (ne-eqb (length parties) (groupsOf (length words)) n));
+        left = λ k. absurd (n k);
+        untouched =
+            λ k.
+            (record { own0-cells = refl; tally0-cells = refl; own1-cells = refl; tally1-cells = refl; shared-cells = refl }, refl);
+      }

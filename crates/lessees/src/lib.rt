@@ -186,8 +186,8 @@ pub fn feed(
     requires { ⌜ PairGiven (now own0) (now tallies0) (now own1) (now tallies1) (now shared) ⌝ }
     ensures { λ r. ⌜ PairFeeds (now (words .entry)) (now (parties .entry)) r (now (own0 .entry)) (now (tallies0 .entry)) (now (own1 .entry)) (now (tallies1 .entry)) (now (shared .entry)) (now (fed .entry)) (now (own0 .exit)) (now (tallies0 .exit)) (now (own1 .exit)) (now (tallies1 .exit)) (now (shared .exit)) (now (fed .exit)) ⌝ }
 {
-    let last = if words.len() % 32 == 0 { 0 } else { 1 };
-    if parties.len() == words.len() / 32 + last {
+    let groups = words.len() / 32 + (words.len() % 32 + 31) / 32;
+    if parties.len() == groups {
         take_runs(own0, tallies0, own1, tallies1, shared, words, parties, fed);
         return 0;
     }

@@ -1,3 +1,6 @@
+-- `lessees::take_run` meets its contract. Assumes nothing.
+use native.Mathlib.Omega.{arith}
+use Rattle.lessees.proofs.Folding.{taken-most, commands-most, run-left}
 use borrow.Author.Needs.{needs}
 use Rattle.lessees.proofs.take_run.Statement.{statement}
 use Rattle.lessees.proofs.take_run.Tie as tie
@@ -7,41 +10,32 @@ use Rattle.lessees.proofs.earlier.Reads as earlier-reads
 use Rattle.lessees.proofs.number_of.Reads as number-of-reads
 use Rattle.session.proofs.stream.feed.Reads as feed-reads
 
--- src/lib.rt:135:9
 feed-requires : tie.Need-feed-requires
 feed-requires c κs = search needs
 
--- src/lib.rt:136:17
 element-copy-out-taken : tie.Need-element-copy-out-taken
 element-copy-out-taken c = search needs
 
--- src/lib.rt:136:17
 add-taken : tie.Need-add-taken
-add-taken c = ?
+add-taken c = omega (arith, taken-most _ _ (c .before .before .feed .ensures), (c .before .before .before .before .before .before .before .pre) .taken-room)
 
--- src/lib.rt:137:20
 element-copy-out-commands : tie.Need-element-copy-out-commands
 element-copy-out-commands c = search needs
 
--- src/lib.rt:137:20
 add-commands : tie.Need-add-commands
-add-commands c = ?
+add-commands c = omega (arith, commands-most _ _ (c .before .before .before .before .feed .ensures), (c .before .before .before .before .before .before .before .before .before .pre) .commands-room)
 
--- src/lib.rt:138:18
 element-copy-out-before : tie.Need-element-copy-out-before
 element-copy-out-before c = search needs
 
--- src/lib.rt:140:9
 number-of-requires : tie.Need-number-of-requires
 number-of-requires c κs = search needs
 
--- src/lib.rt:141:31
 earlier-requires : tie.Need-earlier-requires
 earlier-requires c κs = search needs
 
--- src/lib.rt:125:1
 returns : tie.Need-returns
-returns c = ?
+returns c = run-left _ (c .before .before .before .before .before .before .before .before .feed .ensures) (c .before .before .number-of .ensures) (c .before .earlier .ensures)
 
 pub take-run-spec : {M : Type 1} → statement M
 take-run-spec =
