@@ -21,8 +21,24 @@ use Rattle.owners.specs.Owners.{blend, maskBy, ownsOutput}
 use Rattle.state.specs.State.{Buffer, Domain, Gauge, Party, Shared, unset, mostExtent}
 use Rattle.state.specs.Seen.{seenFrom, seenOutputs}
 use Rattle.state.specs.Start.{
-  output, isSet, unmasked, counts, covered, containsDomain, apart, disjoint, complete, readyOf, numberTold, readinessOf, channelsUnmasked,
-  creditAt, creditOf, claimOf, pairsOf, stepOfBuffer,
+  output,
+  isSet,
+  unmasked,
+  counts,
+  covered,
+  containsDomain,
+  apart,
+  disjoint,
+  complete,
+  readyOf,
+  numberTold,
+  readinessOf,
+  channelsUnmasked,
+  creditAt,
+  creditOf,
+  claimOf,
+  pairsOf,
+  stepOfBuffer,
 }
 use Rattle.state.specs.Readiness.{lesser, leastExtent, columnsLeft, rowsLeft, gaugeOf, workedOut, readinessFor, windowFor}
 use Rattle.state.specs.Effects.{claimFor}
@@ -140,13 +156,13 @@ low-bits x y e =
     (tt
     & (on-zero x ∙ ap (λ (n : ℕ). eqb n 1) (let k : x % 2 ≡ y % 2 = omega arith in k) ∙ sym (on-zero y))
     & (on-suc 0 x ∙ on-zero (x / 2) ∙ ap (λ (n : ℕ). eqb n 1) (let k : x / 2 % 2 ≡ y / 2 % 2 = omega arith in k) ∙
-      sym (on-suc 0 y ∙ on-zero (y / 2)))
+    sym (on-suc 0 y ∙ on-zero (y / 2)))
     & (on-suc 1 x ∙ on-suc 0 (x / 2) ∙ on-zero (x / 2 / 2) ∙
-      ap (λ (n : ℕ). eqb n 1) (let k : x / 2 / 2 % 2 ≡ y / 2 / 2 % 2 = omega arith in k) ∙
-      sym (on-suc 1 y ∙ on-suc 0 (y / 2) ∙ on-zero (y / 2 / 2)))
+    ap (λ (n : ℕ). eqb n 1) (let k : x / 2 / 2 % 2 ≡ y / 2 / 2 % 2 = omega arith in k) ∙
+    sym (on-suc 1 y ∙ on-suc 0 (y / 2) ∙ on-zero (y / 2 / 2)))
     & (on-suc 2 x ∙ on-suc 1 (x / 2) ∙ on-suc 0 (x / 2 / 2) ∙ on-zero (x / 2 / 2 / 2) ∙
-      ap (λ (n : ℕ). eqb n 1) (let k : x / 2 / 2 / 2 % 2 ≡ y / 2 / 2 / 2 % 2 = omega arith in k) ∙
-      sym (on-suc 2 y ∙ on-suc 1 (y / 2) ∙ on-suc 0 (y / 2 / 2) ∙ on-zero (y / 2 / 2 / 2))))
+    ap (λ (n : ℕ). eqb n 1) (let k : x / 2 / 2 / 2 % 2 ≡ y / 2 / 2 / 2 % 2 = omega arith in k) ∙
+    sym (on-suc 2 y ∙ on-suc 1 (y / 2) ∙ on-suc 0 (y / 2 / 2) ∙ on-zero (y / 2 / 2 / 2))))
 
 -- a blend has the first mask's bits for an output that the test names
 own-bits : (n k : ℕ) (f : ℕ → Bool) (a b c : ℕ) → k < n → c < 4 → f k ≡ true → on (4 * k + c) (blend n f a b) ≡ on (4 * k + c) a

@@ -9,7 +9,18 @@ use Rattle.command.specs.declared.commands.Command.{Command}
 use Rattle.session.specs.Step.{Reply, stillOpen, completed, refused}
 use Rattle.session.specs.Feed.{First, nothing, first, earlier}
 use Rattle.lessees.specs.Pair.{
-  Pair, Sent, putBack, Part, silence, noted, PairFed, notedFor, pairStep, pieceOf, joinedPart, joinedPair,
+  Pair,
+  Sent,
+  putBack,
+  Part,
+  silence,
+  noted,
+  PairFed,
+  notedFor,
+  pairStep,
+  pieceOf,
+  joinedPart,
+  joinedPair,
 }
 
 abbrev part : ℕ → List Command → First → Part

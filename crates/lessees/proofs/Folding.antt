@@ -20,10 +20,37 @@ use Rattle.session.specs.declared.stream.Fed as stream
 use Rattle.session.specs.Step.{Reply, stillOpen, completed, refused, stepOf}
 use Rattle.session.specs.Feed.{First, nothing, first, earlier, firstStatus, Fed, proceed, feedOf}
 use Rattle.lessees.specs.Pair.{
-  Pair, Sent, side, putBack, Part, silence, noted, PairFed, notedFor, pairStep, pieceOf, joinedPart, joinedPair, sentAll, PairValid,
+  Pair,
+  Sent,
+  side,
+  putBack,
+  Part,
+  silence,
+  noted,
+  PairFed,
+  notedFor,
+  pairStep,
+  pieceOf,
+  joinedPart,
+  joinedPair,
+  sentAll,
+  PairValid,
 }
 use Rattle.lessees.specs.Rooms.{
-  partyAt, sentFrom, sentOf, groupsOf, pairOf, PairHeld, PairGiven, PairLeft, PairUntouched, PairFeeds, partCells, earlierNumber, RunAsked, RunLeft,
+  partyAt,
+  sentFrom,
+  sentOf,
+  groupsOf,
+  pairOf,
+  PairHeld,
+  PairGiven,
+  PairLeft,
+  PairUntouched,
+  PairFeeds,
+  partCells,
+  earlierNumber,
+  RunAsked,
+  RunLeft,
   RunEnds,
 }
 use Rattle.lessees.proofs.Isolation.{partOf}

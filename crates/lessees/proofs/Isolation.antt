@@ -17,7 +17,22 @@ use Rattle.session.proofs.Kept.{kept}
 use Rattle.session.proofs.Ways.{Way, wasStopped, stops, opens, fills, ends, way}
 use Rattle.lessees.specs.Sight.{Apart, seen, seenShared}
 use Rattle.lessees.specs.Pair.{
-  Pair, Sent, side, putBack, Part, silence, noted, PairFed, notedFor, pairStep, pieceOf, mineOf, wordsFor, toldFor, alone, PairValid,
+  Pair,
+  Sent,
+  side,
+  putBack,
+  Part,
+  silence,
+  noted,
+  PairFed,
+  notedFor,
+  pairStep,
+  pieceOf,
+  mineOf,
+  wordsFor,
+  toldFor,
+  alone,
+  PairValid,
 }
 use Rattle.lessees.proofs.Steps.{seenStepped, seen-step, hidden-step, other-kept, same-birth}
 

@@ -19,7 +19,17 @@ use Rattle.state.specs.Valid.{Valid}
 use Rattle.state.specs.Readiness.{readinessFor}
 use Rattle.state.specs.Effects.{limit, opening, took, withParameter, withReadiness, withTally, renewed, ownAfter, sharedAfter, after}
 use Rattle.session.specs.Step.{
-  Reply, completed, Stepped, refusing, startRuleOf, judged, completing, placing, parameterStep, headerStep, stepOf,
+  Reply,
+  completed,
+  Stepped,
+  refusing,
+  startRuleOf,
+  judged,
+  completing,
+  placing,
+  parameterStep,
+  headerStep,
+  stepOf,
 }
 use Rattle.session.proofs.Ways.{whole, Placed, Running, Way, wasStopped, stops, opens, fills, ends, way}
 use Rattle.session.proofs.Kept.{kept, whole-owned}

@@ -21,10 +21,36 @@ use Rattle.session.specs.Refusals.{StopNumber, low, full, foreign, RefusedTo, u
 use Rattle.session.specs.Feed.{First, nothing, first, earlier, firstStatus, Fed, feedOf}
 use Rattle.session.proofs.Refusals.{refused-word}
 use Rattle.lessees.specs.Pair.{
-  Pair, Sent, side, putBack, Part, silence, noted, PairFed, notedFor, pairStep, pieceOf, joinedPart, joinedPair, sentAll, PairValid,
+  Pair,
+  Sent,
+  side,
+  putBack,
+  Part,
+  silence,
+  noted,
+  PairFed,
+  notedFor,
+  pairStep,
+  pieceOf,
+  joinedPart,
+  joinedPair,
+  sentAll,
+  PairValid,
 }
 use Rattle.lessees.specs.Rooms.{
-  partyAt, sentFrom, sentOf, groupsOf, pairOf, PairHeld, PairGiven, PairLeft, partCells, earlierNumber, RunAsked, RunLeft, RunEnds,
+  partyAt,
+  sentFrom,
+  sentOf,
+  groupsOf,
+  pairOf,
+  PairHeld,
+  PairGiven,
+  PairLeft,
+  partCells,
+  earlierNumber,
+  RunAsked,
+  RunLeft,
+  RunEnds,
 }
 use Rattle.lessees.proofs.Isolation.{pair-kept, partOf}
 use Rattle.lessees.proofs.Cut.{cut}

@@ -75,7 +75,16 @@ pub fn begin(
     ensures { λ r. ⌜ PairBegins inputs outputs edition r (now (own0 .entry)) (now (tallies0 .entry)) (now (own1 .entry)) (now (tallies1 .entry)) (now (shared .entry)) (now (own0 .exit)) (now (tallies0 .exit)) (now (own1 .exit)) (now (tallies1 .exit)) (now (shared .exit)) ⌝ }
 {
     if may_begin(inputs, outputs, edition) {
-        make(own0, tallies0, own1, tallies1, shared, inputs, outputs, edition);
+        make(
+            own0,
+            tallies0,
+            own1,
+            tallies1,
+            shared,
+            inputs,
+            outputs,
+            edition,
+        );
         return 0;
     }
     refusal::number(Refusal::Malformed)
