@@ -7,5 +7,6 @@ pub mod elements;
 pub mod floats;
 pub mod groups;
 pub mod logs;
+pub mod pairs;
 pub mod scores;
 pub mod sessions;

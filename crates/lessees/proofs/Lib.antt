@@ -3,6 +3,7 @@ pub mod Begun
 pub mod Blend
 pub mod Cut
 pub mod Folding
+pub mod Host
 pub mod Isolation
 pub mod Runs
 pub mod Sight

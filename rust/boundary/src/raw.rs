@@ -45,6 +45,30 @@ extern "C" {
 
     pub fn egretfold_session_masks(shared: &[u32; SHARED], masks: &mut [u32; 5]) -> u32;
 
+    pub fn egretfold_pair_begin(
+        own0: &mut [u32; OWN],
+        tallies0: &mut [u64; TALLIES],
+        own1: &mut [u32; OWN],
+        tallies1: &mut [u64; TALLIES],
+        shared: &mut [u32; SHARED],
+        inputs: u32,
+        outputs: u32,
+        edition: u32,
+    ) -> u32;
+
+    pub fn egretfold_pair_feed(
+        own0: &mut [u32; OWN],
+        tallies0: &mut [u64; TALLIES],
+        own1: &mut [u32; OWN],
+        tallies1: &mut [u64; TALLIES],
+        shared: &mut [u32; SHARED],
+        words: *const u32,
+        length: usize,
+        parties: *const u32,
+        groups: usize,
+        fed: &mut [u64; 6],
+    ) -> u32;
+
     pub fn egretfold_log_begin(
         log: &mut [u32; LOG],
         marks: &mut [u64; MARKS],
