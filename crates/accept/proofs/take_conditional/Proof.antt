@@ -1,3 +1,4 @@
+-- `accept::take_conditional` meets its contract. Assumes nothing.
 use Rattle.accept.proofs.WholeCommands.{conditional-tried, conditional-owner, unowned, denied, fine}
 use borrow.Author.Needs.{needs}
 use Rattle.accept.proofs.take_conditional.Statement.{statement}
@@ -9,27 +10,21 @@ use Rattle.rules.proofs.fits.window.Reads as window-reads
 use Rattle.state.proofs.own.count_words.Reads as count-words-reads
 use Rattle.state.proofs.settings.put.Reads as put-reads
 
--- src/lib.rt:201:8
 window-requires : tie.Need-window-requires
 window-requires c κs = search needs
 
--- src/lib.rt:202:26
 element-copy-out-is-on : tie.Need-element-copy-out-is-on
 element-copy-out-is-on c = search needs
 
--- src/lib.rt:202:12
 is-on-requires : tie.Need-is-on-requires
 is-on-requires c κs = search needs
 
--- src/lib.rt:203:13
 count-words-requires : tie.Need-count-words-requires
 count-words-requires c κs = search needs
 
--- src/lib.rt:204:13
 put-requires : tie.Need-put-requires
 put-requires c κs = search needs
 
--- src/lib.rt:190:1
 returns : tie.Need-returns
 returns c =
     let at-count-words = c .before .before in
@@ -39,11 +34,9 @@ returns c =
     conditional-tried _ _ _ (at-count-words .count-words .ensures) _ _ _ _ _ (fine _ (at-if1 .before .window .ensures) (at-if1 .if1 .taken))
     (conditional-owner (at-if1 .before .before .args .own .now) _ _ _ (at-is-on .is-on .ensures) (at-if2 .if2 .taken)) (c .put .ensures)
 
--- src/lib.rt:190:1
 returns-2 : tie.Need-returns-2
 returns-2 c = λ t rest z. unowned (conditional-owner (c .before .before .before .before .before .args .own .now) _ _ _ (c .before .is-on .ensures) (c .if2 .left))
 
--- src/lib.rt:190:1
 returns-3 : tie.Need-returns-3
 returns-3 c = λ t rest z. denied (c .before .window .ensures) (c .if1 .left)
 

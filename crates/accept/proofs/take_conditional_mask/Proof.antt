@@ -1,3 +1,4 @@
+-- `accept::take_conditional_mask` meets its contract. Assumes nothing.
 use mathlib.Core.Path.{refl}
 use Rattle.accept.proofs.WholeCommands.{conditional-mask-tried, conditional-mask-below, conditional-mask-past, conditional-mask-owner, unowned}
 use borrow.Author.Needs.{needs}
@@ -8,27 +9,21 @@ use Rattle.accept.proofs.take_conditional_mask.Lts as lts
 use Rattle.owners.proofs.is_on.Reads as is-on-reads
 use Rattle.state.proofs.own.count_words.Reads as count-words-reads
 
--- src/lib.rt:244:26
 element-copy-out-is-on : tie.Need-element-copy-out-is-on
 element-copy-out-is-on c = search needs
 
--- src/lib.rt:244:12
 is-on-requires : tie.Need-is-on-requires
 is-on-requires c κs = search needs
 
--- src/lib.rt:245:13
 count-words-requires : tie.Need-count-words-requires
 count-words-requires c κs = search needs
 
--- src/lib.rt:246:13
 element-write-shared : tie.Need-element-write-shared
 element-write-shared c = search needs
 
--- src/lib.rt:247:13
 element-write-shared-2 : tie.Need-element-write-shared-2
 element-write-shared-2 c = search needs
 
--- src/lib.rt:234:1
 returns : tie.Need-returns
 returns c =
     let at-if2 = c .before .before in
@@ -37,11 +32,9 @@ returns c =
     conditional-mask-tried _ _ _ (c .count-words .ensures) _ _ _ (conditional-mask-below (at-if1 .if1 .taken))
     (conditional-mask-owner (at-if1 .before .args .own .now) _ (at-is-on .is-on .ensures) (at-if2 .if2 .taken)) refl
 
--- src/lib.rt:234:1
 returns-2 : tie.Need-returns-2
 returns-2 c = λ t rest z. unowned (conditional-mask-owner (c .before .before .before .before .args .own .now) _ (c .before .is-on .ensures) (c .if2 .left))
 
--- src/lib.rt:234:1
 returns-3 : tie.Need-returns-3
 returns-3 c = λ t rest z. conditional-mask-past (c .if1 .left)
 

@@ -1,3 +1,4 @@
+-- `accept::take_constants` meets its contract. Assumes nothing.
 use mathlib.Core.Path.{sym, _∙_}
 use Rattle.accept.proofs.WholeCommands.{constants-tried, constants-unowned, unowned, denied, fine, stored-judged}
 use borrow.Author.Needs.{needs}
@@ -10,27 +11,21 @@ use Rattle.rules.proofs.fits.window.Reads as window-reads
 use Rattle.state.proofs.own.count_words.Reads as count-words-reads
 use Rattle.state.proofs.settings.put.Reads as put-reads
 
--- src/lib.rt:112:8
 window-requires : tie.Need-window-requires
 window-requires c κs = search needs
 
--- src/lib.rt:113:26
 element-copy-out-is-on : tie.Need-element-copy-out-is-on
 element-copy-out-is-on c = search needs
 
--- src/lib.rt:113:12
 is-on-requires : tie.Need-is-on-requires
 is-on-requires c κs = search needs
 
--- src/lib.rt:114:13
 count-words-requires : tie.Need-count-words-requires
 count-words-requires c κs = search needs
 
--- src/lib.rt:115:13
 put-requires : tie.Need-put-requires
 put-requires c κs = search needs
 
--- src/lib.rt:101:1
 returns : tie.Need-returns
 returns c =
     let at-count-words = c .before .before in
@@ -41,11 +36,9 @@ returns c =
     (λ what. fine _ (stored-judged _ _ (at-if1 .before .window .ensures) what) (at-if1 .if1 .taken)) (sym (at-is-on .is-on .ensures) ∙ at-if2 .if2 .taken)
     (c .put .ensures)
 
--- src/lib.rt:101:1
 returns-2 : tie.Need-returns-2
 returns-2 c = λ what a t rest z. unowned (constants-unowned (c .before .before .before .before .before .args .own .now) what _ _ _ a (c .before .is-on .ensures) (c .if2 .left))
 
--- src/lib.rt:101:1
 returns-3 : tie.Need-returns-3
 returns-3 c = λ what a t rest z. denied (stored-judged _ _ (c .before .window .ensures) what) (c .if1 .left)
 

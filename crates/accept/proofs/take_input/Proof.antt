@@ -1,3 +1,4 @@
+-- `accept::take_input` meets its contract. Assumes nothing.
 use native.Mathlib.Omega.{arith}
 use Rattle.accept.proofs.WholeCommands.{input-most, input-place, input-tried, input-owner, unowned, denied, fine}
 use borrow.Author.Needs.{needs}
@@ -10,33 +11,26 @@ use Rattle.rules.proofs.fits.input.Reads as input-reads
 use Rattle.state.proofs.own.count_words.Reads as count-words-reads
 use Rattle.state.proofs.settings.put.Reads as put-reads
 
--- src/lib.rt:137:8
 input-requires : tie.Need-input-requires
 input-requires c κs = search needs
 
--- src/lib.rt:138:26
 element-copy-out-is-on : tie.Need-element-copy-out-is-on
 element-copy-out-is-on c = search needs
 
--- src/lib.rt:138:12
 is-on-requires : tie.Need-is-on-requires
 is-on-requires c κs =
     let at-input = c .before .before in
     omega (arith, input-most _ _ _ _ (fine _ (at-input .input .ensures) (c .before .if1 .taken)))
 
--- src/lib.rt:139:13
 count-words-requires : tie.Need-count-words-requires
 count-words-requires c κs = search needs
 
--- src/lib.rt:142:36
 mul-put : tie.Need-mul-put
 mul-put c = search needs
 
--- src/lib.rt:142:17
 add-put : tie.Need-add-put
 add-put c = search needs
 
--- src/lib.rt:140:13
 put-requires : tie.Need-put-requires
 put-requires c κs =
     let at-is-on = c .before .before .before .before in
@@ -44,7 +38,6 @@ put-requires c κs =
     let at-input = at-if1 .before in
     (at-input .before .pre .1, input-place _ _ _ _ (fine _ (at-input .input .ensures) (at-if1 .if1 .taken)))
 
--- src/lib.rt:125:1
 returns : tie.Need-returns
 returns c =
     let at-count-words = c .before .before in
@@ -54,11 +47,9 @@ returns c =
     input-tried _ _ _ (at-count-words .count-words .ensures) _ _ _ _ _ _ (fine _ (at-if1 .before .input .ensures) (at-if1 .if1 .taken))
     (input-owner (at-if1 .before .before .args .own .now) _ _ _ _ (at-is-on .is-on .ensures) (at-if2 .if2 .taken)) (c .put .ensures)
 
--- src/lib.rt:125:1
 returns-2 : tie.Need-returns-2
 returns-2 c = λ t rest z. unowned (input-owner (c .before .before .before .before .before .args .own .now) _ _ _ _ (c .before .is-on .ensures) (c .if2 .left))
 
--- src/lib.rt:125:1
 returns-3 : tie.Need-returns-3
 returns-3 c = λ t rest z. denied (c .before .input .ensures) (c .if1 .left)
 

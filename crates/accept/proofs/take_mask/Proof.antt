@@ -1,3 +1,4 @@
+-- `accept::take_mask` meets its contract. Assumes nothing.
 use lib.ListN.{set}
 use Prim.Native.Nat.{ℕ}
 use mathlib.Core.Path.{refl, ap}
@@ -12,34 +13,27 @@ use Rattle.owners.proofs.blended.Reads as blended-reads
 use Rattle.start.proofs.ready.renew.Reads as renew-reads
 use Rattle.state.proofs.own.count_words.Reads as count-words-reads
 
--- src/lib.rt:224:40
 element-copy-out-blended : tie.Need-element-copy-out-blended
 element-copy-out-blended c = search needs
 
--- src/lib.rt:224:62
 element-copy-out-blended-2 : tie.Need-element-copy-out-blended-2
 element-copy-out-blended-2 c = search needs
 
--- src/lib.rt:224:13
 blended-requires : tie.Need-blended-requires
 blended-requires c κs = search needs
 
--- src/lib.rt:225:9
 count-words-requires : tie.Need-count-words-requires
 count-words-requires c κs = search needs
 
--- src/lib.rt:226:9
 element-write-shared : tie.Need-element-write-shared
 element-write-shared c = search needs
 
--- src/lib.rt:227:9
 renew-requires : tie.Need-renew-requires
 renew-requires c κs =
     let at-blended = c .before .before .before .before in
     let at-start = at-blended .before .before .before .before in
     mask-asked _ _ _ _ _ (c .before .before .count-words .ensures) (at-start .pre .1) _ refl
 
--- src/lib.rt:214:1
 returns : tie.Need-returns
 returns c =
     let at-count-words = c .before .before .before in
@@ -48,7 +42,6 @@ returns c =
     mask-tried _ _ _ (at-count-words .count-words .ensures) _ _ _ (mask-below (at-if1 .if1 .taken))
     (ap (λ (n : ℕ). set (at-if1 .before .args .shared .now) 0 n) (at-blended .blended .ensures)) _ (c .renew .ensures)
 
--- src/lib.rt:214:1
 returns-2 : tie.Need-returns-2
 returns-2 c = λ t rest z. mask-past (c .if1 .left)
 

@@ -1,3 +1,4 @@
+-- `accept::take_output` meets its contract. Assumes nothing.
 use native.Mathlib.Omega.{arith}
 use Rattle.accept.proofs.Outputs.{output-asked}
 use Rattle.accept.proofs.WholeCommands.{counted-length, output-most, output-place, output-tried, output-owner, owner-at, unowned, denied, fine}
@@ -14,39 +15,31 @@ use Rattle.state.proofs.own.count_words.Reads as count-words-reads
 use Rattle.state.proofs.own.set_window.Reads as set-window-reads
 use Rattle.state.proofs.settings.put.Reads as put-reads
 
--- src/lib.rt:168:8
 output-requires : tie.Need-output-requires
 output-requires c κs = search needs
 
--- src/lib.rt:169:26
 element-copy-out-is-on : tie.Need-element-copy-out-is-on
 element-copy-out-is-on c = search needs
 
--- src/lib.rt:169:42
 add-is-on : tie.Need-add-is-on
 add-is-on c =
     let at-output = c .before .before in
     omega (arith, output-most _ _ _ _ (fine _ (at-output .output .ensures) (c .before .if1 .taken)))
 
--- src/lib.rt:169:12
 is-on-requires : tie.Need-is-on-requires
 is-on-requires c κs =
     let at-output = c .before .before in
     omega (arith, output-most _ _ _ _ (fine _ (at-output .output .ensures) (c .before .if1 .taken)))
 
--- src/lib.rt:170:13
 count-words-requires : tie.Need-count-words-requires
 count-words-requires c κs = search needs
 
--- src/lib.rt:173:37
 mul-put : tie.Need-mul-put
 mul-put c = search needs
 
--- src/lib.rt:173:17
 add-put : tie.Need-add-put
 add-put c = search needs
 
--- src/lib.rt:171:13
 put-requires : tie.Need-put-requires
 put-requires c κs =
     let at-is-on = c .before .before .before .before in
@@ -54,11 +47,9 @@ put-requires c κs =
     let at-output = at-if1 .before in
     (at-output .before .pre .1 .shared-length, output-place _ _ _ _ (fine _ (at-output .output .ensures) (at-if1 .if1 .taken)))
 
--- src/lib.rt:178:17
 window-of-requires : tie.Need-window-of-requires
 window-of-requires c κs = search needs
 
--- src/lib.rt:179:13
 set-window-requires : tie.Need-set-window-requires
 set-window-requires c κs =
     let at-count-words = c .before .before .before .before in
@@ -66,7 +57,6 @@ set-window-requires c κs =
     let at-if1 = at-is-on .before .before in
     (counted-length _ _ _ (at-count-words .count-words .ensures), output-most _ _ _ _ (fine _ (at-if1 .before .output .ensures) (at-if1 .if1 .taken)))
 
--- src/lib.rt:180:13
 renew-requires : tie.Need-renew-requires
 renew-requires c κs =
     let at-window-of = c .before .before .before .before in
@@ -80,7 +70,6 @@ renew-requires c κs =
     (output-most _ _ _ _ (fine _ (at-output .output .ensures) (at-if1 .if1 .taken))) (owner-at (at-output .before .args .own .now) _ (at-is-on .is-on .ensures) (at-if2 .if2 .taken)) _
     (at-window-of .window-of .ensures) _ (c .before .before .set-window .ensures) (at-put .put .ensures)
 
--- src/lib.rt:156:1
 returns : tie.Need-returns
 returns c =
     let at-set-window = c .before .before .before in
@@ -93,11 +82,9 @@ returns c =
     (output-owner (at-if1 .before .before .args .own .now) _ _ _ _ (at-is-on .is-on .ensures) (at-if2 .if2 .taken)) (at-put .put .ensures) _ _ (at-set-window .set-window .ensures) _
     (c .renew .ensures)
 
--- src/lib.rt:156:1
 returns-2 : tie.Need-returns-2
 returns-2 c = λ t rest z. unowned (output-owner (c .before .before .before .before .before .args .own .now) _ _ _ _ (c .before .is-on .ensures) (c .if2 .left))
 
--- src/lib.rt:156:1
 returns-3 : tie.Need-returns-3
 returns-3 c = λ t rest z. denied (c .before .output .ensures) (c .if1 .left)
 

@@ -1,3 +1,4 @@
+-- `owners::blended` meets its contract. Assumes nothing.
 use Rattle.owners.proofs.Places.{blended-told}
 use borrow.Author.Needs.{needs}
 use Rattle.owners.proofs.blended.Statement.{statement}
@@ -7,63 +8,48 @@ use Rattle.owners.proofs.blended.Lts as lts
 use Rattle.owners.proofs.chosen.Reads as chosen-reads
 use Rattle.owners.proofs.is_on.Reads as is-on-reads
 
--- src/lib.rt:93:24
 is-on-requires : tie.Need-is-on-requires
 is-on-requires c κs = search needs
 
--- src/lib.rt:93:9
 chosen-requires : tie.Need-chosen-requires
 chosen-requires c κs = search needs
 
--- src/lib.rt:94:25
 is-on-requires-2 : tie.Need-is-on-requires-2
 is-on-requires-2 c κs = search needs
 
--- src/lib.rt:94:9
 chosen-requires-2 : tie.Need-chosen-requires-2
 chosen-requires-2 c κs = search needs
 
--- src/lib.rt:95:24
 is-on-requires-3 : tie.Need-is-on-requires-3
 is-on-requires-3 c κs = search needs
 
--- src/lib.rt:95:9
 chosen-requires-3 : tie.Need-chosen-requires-3
 chosen-requires-3 c κs = search needs
 
--- src/lib.rt:96:25
 is-on-requires-4 : tie.Need-is-on-requires-4
 is-on-requires-4 c κs = search needs
 
--- src/lib.rt:96:9
 chosen-requires-4 : tie.Need-chosen-requires-4
 chosen-requires-4 c κs = search needs
 
--- src/lib.rt:97:13
 mul-result : tie.Need-mul-result
 mul-result c = search needs
 
--- src/lib.rt:97:5
 add-result : tie.Need-add-result
 add-result c = search needs
 
--- src/lib.rt:97:27
 mul-result-2 : tie.Need-mul-result-2
 mul-result-2 c = search needs
 
--- src/lib.rt:97:5
 add-result-2 : tie.Need-add-result-2
 add-result-2 c = search needs
 
--- src/lib.rt:97:41
 mul-result-3 : tie.Need-mul-result-3
 mul-result-3 c = search needs
 
--- src/lib.rt:97:5
 add-result-3 : tie.Need-add-result-3
 add-result-3 c = search needs
 
--- src/lib.rt:90:1
 returns : tie.Need-returns
 returns c =
     let at-third = c .before .before in

@@ -1,3 +1,4 @@
+-- `owners::chosen` meets its contract. Assumes nothing.
 use Rattle.laws.proofs.Choice.{pick-yes, pick-no}
 use native.Mathlib.Omega.{arith}
 use mathlib.Core.Path.{sym}
@@ -6,11 +7,9 @@ use Rattle.owners.proofs.chosen.Tie as tie
 use Rattle.owners.proofs.chosen.Reads as reads
 use Rattle.owners.proofs.chosen.Lts as lts
 
--- src/lib.rt:82:1
 returns : tie.Need-returns
 returns c = (sym (pick-yes _ _ (c .if1 .taken)), omega arith)
 
--- src/lib.rt:82:1
 returns-2 : tie.Need-returns-2
 returns-2 c = (sym (pick-no _ _ (c .if1 .left)), omega arith)
 

@@ -1,3 +1,4 @@
+-- `owners::fault_at` meets its contract. Assumes nothing.
 use mathlib.Core.Path.{_∙_}
 use Rattle.owners.proofs.Places.{input-fault, output-fault, other-fault}
 use borrow.Author.Needs.{needs}
@@ -7,31 +8,24 @@ use Rattle.owners.proofs.fault_at.Reads as reads
 use Rattle.owners.proofs.fault_at.Lts as lts
 use Rattle.owners.proofs.number_fault.Reads as number-fault-reads
 
--- src/lib.rt:74:11
 mul-match : tie.Need-mul-match
 mul-match c = search needs
 
--- src/lib.rt:74:11
 add-match : tie.Need-add-match
 add-match c = search needs
 
--- src/lib.rt:75:15
 number-fault-requires : tie.Need-number-fault-requires
 number-fault-requires c κs = search needs
 
--- src/lib.rt:76:15
 number-fault-requires-2 : tie.Need-number-fault-requires-2
 number-fault-requires-2 c κs = search needs
 
--- src/lib.rt:70:1
 returns : tie.Need-returns
 returns c = λ mine e. c .number-fault .ensures ∙ input-fault _ _ _ (c .before .before .pre .0) (c .before .before .pre .1) (c .before .match .keys1)
 
--- src/lib.rt:70:1
 returns-2 : tie.Need-returns-2
 returns-2 c = λ mine e. c .number-fault2 .ensures ∙ output-fault _ _ _ (c .before .before .pre .0) (c .before .before .pre .1) (c .before .match .keys2)
 
--- src/lib.rt:70:1
 returns-3 : tie.Need-returns-3
 returns-3 c = λ mine e. other-fault _ _ _ (c .before .pre .0) (c .before .pre .1) (c .match .rest) mine e
 

@@ -1,3 +1,4 @@
+-- `owners::is_on` meets its contract. Assumes nothing.
 use Rattle.laws.specs.Masks.{on}
 use mathlib.Core.Path.{refl}
 use borrow.Author.Needs.{needs}
@@ -6,11 +7,9 @@ use Rattle.owners.proofs.is_on.Tie as tie
 use Rattle.owners.proofs.is_on.Reads as reads
 use Rattle.owners.proofs.is_on.Lts as lts
 
--- src/lib.rt:36:6
 shr-result : tie.Need-shr-result
 shr-result c = search needs
 
--- src/lib.rt:32:1
 returns : tie.Need-returns
 returns c = unfold on in refl
 

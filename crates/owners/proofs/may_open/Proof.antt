@@ -1,3 +1,4 @@
+-- `owners::may_open` meets its contract. Assumes nothing.
 use Rattle.owners.proofs.Places.{common-owned, common-asked}
 use borrow.Author.Needs.{needs}
 use Rattle.owners.proofs.may_open.Statement.{statement}
@@ -6,19 +7,15 @@ use Rattle.owners.proofs.may_open.Reads as reads
 use Rattle.owners.proofs.may_open.Lts as lts
 use Rattle.owners.proofs.is_on.Reads as is-on-reads
 
--- src/lib.rt:44:8
 is-on-requires : tie.Need-is-on-requires
 is-on-requires c κs = search needs
 
--- src/lib.rt:45:9
 returns : tie.Need-returns
 returns c = common-owned _ _ (c .before .is-on .ensures) (c .if1 .taken)
 
--- src/lib.rt:47:6
 is-on-requires-2 : tie.Need-is-on-requires-2
 is-on-requires-2 c κs = search needs
 
--- src/lib.rt:40:1
 returns-2 : tie.Need-returns-2
 returns-2 c = common-asked _ _ (c .before .before .before .pre) (c .before .before .is-on .ensures) (c .before .if1 .left) (c .is-on2 .ensures)
 

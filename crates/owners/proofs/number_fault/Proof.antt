@@ -1,3 +1,4 @@
+-- `owners::number_fault` meets its contract. Assumes nothing.
 use Rattle.laws.proofs.Choice.{pick-yes, pick-no}
 use borrow.Author.Tests.{le-leb, lt-leb}
 use mathlib.Core.Path.{sym}
@@ -6,11 +7,9 @@ use Rattle.owners.proofs.number_fault.Tie as tie
 use Rattle.owners.proofs.number_fault.Reads as reads
 use Rattle.owners.proofs.number_fault.Lts as lts
 
--- src/lib.rt:63:1
 returns : tie.Need-returns
 returns c = sym (pick-yes _ _ (le-leb _ _ (c .if1 .taken)))
 
--- src/lib.rt:63:1
 returns-2 : tie.Need-returns-2
 returns-2 c = sym (pick-no _ _ (lt-leb _ _ (c .if1 .left)))
 

@@ -1,3 +1,4 @@
+-- `session::stream::begin_settings` meets its contract. Assumes nothing.
 use Rattle.session.proofs.Taking.{settings-begun}
 use borrow.Author.Needs.{needs}
 use Rattle.session.proofs.stream.begin_settings.Statement.{statement}
@@ -5,11 +6,9 @@ use Rattle.session.proofs.stream.begin_settings.Tie as tie
 use Rattle.session.proofs.stream.begin_settings.Reads as reads
 use Rattle.session.proofs.stream.begin_settings.Lts as lts
 
--- src/stream.rt:247:5
 element-write-shared : tie.Need-element-write-shared
 element-write-shared c = search needs
 
--- src/stream.rt:243:1
 returns : tie.Need-returns
 returns c = settings-begun
 

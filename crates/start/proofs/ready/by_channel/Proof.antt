@@ -1,3 +1,4 @@
+-- `start::ready::by_channel` meets its contract. Assumes nothing.
 use Rattle.start.proofs.Readiness.{channels-told}
 use borrow.Author.Needs.{needs}
 use Rattle.start.proofs.ready.by_channel.Statement.{statement}
@@ -7,119 +8,90 @@ use Rattle.start.proofs.ready.by_channel.Lts as lts
 use Rattle.owners.proofs.is_on.Reads as is-on-reads
 use Rattle.start.proofs.ready.own_channels.Reads as own-channels-reads
 
--- src/ready.rt:243:16
 element-copy-out-mask : tie.Need-element-copy-out-mask
 element-copy-out-mask c = search needs
 
--- src/ready.rt:245:9
 is-on-requires : tie.Need-is-on-requires
 is-on-requires c κs = search needs
 
--- src/ready.rt:247:9
 element-copy-out-own-channels : tie.Need-element-copy-out-own-channels
 element-copy-out-own-channels c = search needs
 
--- src/ready.rt:248:16
 add-own-channels : tie.Need-add-own-channels
 add-own-channels c = search needs
 
--- src/ready.rt:248:9
 mul-own-channels : tie.Need-mul-own-channels
 mul-own-channels c = search needs
 
--- src/ready.rt:248:9
 element-copy-out-own-channels-2 : tie.Need-element-copy-out-own-channels-2
 element-copy-out-own-channels-2 c = search needs
 
--- src/ready.rt:244:9
 own-channels-requires : tie.Need-own-channels-requires
 own-channels-requires c κs = search needs
 
--- src/ready.rt:251:9
 is-on-requires-2 : tie.Need-is-on-requires-2
 is-on-requires-2 c κs = search needs
 
--- src/ready.rt:253:9
 element-copy-out-own-channels-3 : tie.Need-element-copy-out-own-channels-3
 element-copy-out-own-channels-3 c = search needs
 
--- src/ready.rt:254:16
 add-own-channels-2 : tie.Need-add-own-channels-2
 add-own-channels-2 c = search needs
 
--- src/ready.rt:254:9
 mul-own-channels-2 : tie.Need-mul-own-channels-2
 mul-own-channels-2 c = search needs
 
--- src/ready.rt:254:9
 element-copy-out-own-channels-4 : tie.Need-element-copy-out-own-channels-4
 element-copy-out-own-channels-4 c = search needs
 
--- src/ready.rt:250:9
 own-channels-requires-2 : tie.Need-own-channels-requires-2
 own-channels-requires-2 c κs = search needs
 
--- src/ready.rt:257:9
 is-on-requires-3 : tie.Need-is-on-requires-3
 is-on-requires-3 c κs = search needs
 
--- src/ready.rt:259:9
 element-copy-out-own-channels-5 : tie.Need-element-copy-out-own-channels-5
 element-copy-out-own-channels-5 c = search needs
 
--- src/ready.rt:260:16
 add-own-channels-3 : tie.Need-add-own-channels-3
 add-own-channels-3 c = search needs
 
--- src/ready.rt:260:9
 mul-own-channels-3 : tie.Need-mul-own-channels-3
 mul-own-channels-3 c = search needs
 
--- src/ready.rt:260:9
 element-copy-out-own-channels-6 : tie.Need-element-copy-out-own-channels-6
 element-copy-out-own-channels-6 c = search needs
 
--- src/ready.rt:256:9
 own-channels-requires-3 : tie.Need-own-channels-requires-3
 own-channels-requires-3 c κs = search needs
 
--- src/ready.rt:263:9
 is-on-requires-4 : tie.Need-is-on-requires-4
 is-on-requires-4 c κs = search needs
 
--- src/ready.rt:265:9
 element-copy-out-own-channels-7 : tie.Need-element-copy-out-own-channels-7
 element-copy-out-own-channels-7 c = search needs
 
--- src/ready.rt:266:16
 add-own-channels-4 : tie.Need-add-own-channels-4
 add-own-channels-4 c = search needs
 
--- src/ready.rt:266:9
 mul-own-channels-4 : tie.Need-mul-own-channels-4
 mul-own-channels-4 c = search needs
 
--- src/ready.rt:266:9
 element-copy-out-own-channels-8 : tie.Need-element-copy-out-own-channels-8
 element-copy-out-own-channels-8 c = search needs
 
--- src/ready.rt:262:9
 own-channels-requires-4 : tie.Need-own-channels-requires-4
 own-channels-requires-4 c κs = search needs
 
--- src/ready.rt:268:5
 add-result : tie.Need-add-result
 add-result c = search needs
 
--- src/ready.rt:268:5
 add-result-2 : tie.Need-add-result-2
 add-result-2 c = search needs
 
--- src/ready.rt:268:5
 add-result-3 : tie.Need-add-result-3
 add-result-3 c = search needs
 
--- src/ready.rt:239:1
 returns : tie.Need-returns
 returns c =
     let at-fourth = c .before .before .before in

@@ -1,3 +1,4 @@
+-- `start::ready::credit` meets its contract. Assumes nothing.
 use Rattle.start.proofs.Readiness.{credit-channels, credit-outputs}
 use borrow.Author.Needs.{needs}
 use Rattle.start.proofs.ready.credit.Statement.{statement}
@@ -7,21 +8,17 @@ use Rattle.start.proofs.ready.credit.Lts as lts
 use Rattle.start.proofs.ready.by_channel.Reads as by-channel-reads
 use Rattle.start.proofs.ready.by_output.Reads as by-output-reads
 
--- src/ready.rt:285:9
 by-channel-requires : tie.Need-by-channel-requires
 by-channel-requires c κs = search needs
 
--- src/ready.rt:287:9
 by-output-requires : tie.Need-by-output-requires
 by-output-requires c κs = search needs
 
--- src/ready.rt:272:1
 returns : tie.Need-returns
 returns c =
     let args = c .before .before .args in
     credit-channels (args .a) (args .b) (args .c) (args .d) (args .edition) _ (c .before .if1 .taken) (c .by-channel .ensures)
 
--- src/ready.rt:272:1
 returns-2 : tie.Need-returns-2
 returns-2 c =
     let args = c .before .before .args in

@@ -1,3 +1,4 @@
+-- `start::ready::output_at` meets its contract. Assumes nothing.
 use Rattle.start.proofs.Readiness.{output-told}
 use borrow.Author.Needs.{needs}
 use Rattle.start.proofs.ready.output_at.Statement.{statement}
@@ -7,59 +8,45 @@ use Rattle.start.proofs.ready.output_at.Lts as lts
 use Rattle.start.proofs.ready.is_counted.Reads as is-counted-reads
 use Rattle.start.proofs.ready.shown.Reads as shown-reads
 
--- src/ready.rt:91:29
 mul-shown : tie.Need-mul-shown
 mul-shown c = search needs
 
--- src/ready.rt:91:29
 element-copy-out-shown : tie.Need-element-copy-out-shown
 element-copy-out-shown c = search needs
 
--- src/ready.rt:91:9
 shown-requires : tie.Need-shown-requires
 shown-requires c κs = search needs
 
--- src/ready.rt:92:48
 add-is-counted : tie.Need-add-is-counted
 add-is-counted c = search needs
 
--- src/ready.rt:92:41
 mul-is-counted : tie.Need-mul-is-counted
 mul-is-counted c = search needs
 
--- src/ready.rt:92:41
 element-copy-out-is-counted : tie.Need-element-copy-out-is-counted
 element-copy-out-is-counted c = search needs
 
--- src/ready.rt:92:9
 is-counted-requires : tie.Need-is-counted-requires
 is-counted-requires c κs = search needs
 
--- src/ready.rt:96:22
 add-t9 : tie.Need-add-t9
 add-t9 c = search needs
 
--- src/ready.rt:96:15
 mul-t13 : tie.Need-mul-t13
 mul-t13 c = search needs
 
--- src/ready.rt:96:15
 element-copy-out-t12 : tie.Need-element-copy-out-t12
 element-copy-out-t12 c = search needs
 
--- src/ready.rt:98:24
 add-t19 : tie.Need-add-t19
 add-t19 c = search needs
 
--- src/ready.rt:98:17
 mul-t20 : tie.Need-mul-t20
 mul-t20 c = search needs
 
--- src/ready.rt:98:17
 element-copy-out-t23 : tie.Need-element-copy-out-t23
 element-copy-out-t23 c = search needs
 
--- src/ready.rt:80:1
 returns : tie.Need-returns
 returns c =
     let at-is-counted = c .before .before in

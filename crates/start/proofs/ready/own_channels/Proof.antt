@@ -1,3 +1,4 @@
+-- `start::ready::own_channels` meets its contract. Assumes nothing.
 use Rattle.start.specs.Windows.{channelsBy}
 use Prim.Native.Nat.{ℕ}
 use mathlib.Core.Path.{ap, _∙_}
@@ -9,15 +10,12 @@ use Rattle.start.proofs.ready.own_channels.Lts as lts
 use Rattle.start.proofs.ready.channels.Reads as channels-reads
 use Rattle.start.proofs.ready.shown.Reads as shown-reads
 
--- src/ready.rt:110:20
 shown-requires : tie.Need-shown-requires
 shown-requires c κs = search needs
 
--- src/ready.rt:110:5
 channels-requires : tie.Need-channels-requires
 channels-requires c κs = search needs
 
--- src/ready.rt:106:1
 returns : tie.Need-returns
 returns c =
     let args = c .before .before .args in

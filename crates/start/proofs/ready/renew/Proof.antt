@@ -1,3 +1,4 @@
+-- `start::ready::renew` meets its contract. Assumes nothing.
 use native.Mathlib.Omega.{arith}
 use Rattle.start.proofs.Readiness.{gauge-told, kept-length, renew-told}
 use borrow.Author.Needs.{needs}
@@ -16,79 +17,60 @@ use Rattle.start.proofs.ready.settle.Reads as settle-reads
 use Rattle.start.proofs.ready.some_set.Reads as some-set-reads
 use Rattle.state.proofs.own.set_gauge.Reads as set-gauge-reads
 
--- src/ready.rt:327:16
 element-copy-out-mine : tie.Need-element-copy-out-mine
 element-copy-out-mine c = search needs
 
--- src/ready.rt:328:19
 element-copy-out-edition : tie.Need-element-copy-out-edition
 element-copy-out-edition c = search needs
 
--- src/ready.rt:329:16
 element-copy-out-mask : tie.Need-element-copy-out-mask
 element-copy-out-mask c = search needs
 
--- src/ready.rt:331:9
 is-on-requires : tie.Need-is-on-requires
 is-on-requires c κs = search needs
 
--- src/ready.rt:335:9
 element-copy-out-output-at : tie.Need-element-copy-out-output-at
 element-copy-out-output-at c = search needs
 
--- src/ready.rt:336:9
 element-copy-out-output-at-2 : tie.Need-element-copy-out-output-at-2
 element-copy-out-output-at-2 c = search needs
 
--- src/ready.rt:330:9
 output-at-requires : tie.Need-output-at-requires
 output-at-requires c κs = search needs
 
--- src/ready.rt:339:9
 is-on-requires-2 : tie.Need-is-on-requires-2
 is-on-requires-2 c κs = search needs
 
--- src/ready.rt:343:9
 element-copy-out-output-at-3 : tie.Need-element-copy-out-output-at-3
 element-copy-out-output-at-3 c = search needs
 
--- src/ready.rt:344:9
 element-copy-out-output-at-4 : tie.Need-element-copy-out-output-at-4
 element-copy-out-output-at-4 c = search needs
 
--- src/ready.rt:338:9
 output-at-requires-2 : tie.Need-output-at-requires-2
 output-at-requires-2 c κs = search needs
 
--- src/ready.rt:347:9
 is-on-requires-3 : tie.Need-is-on-requires-3
 is-on-requires-3 c κs = search needs
 
--- src/ready.rt:351:9
 element-copy-out-output-at-5 : tie.Need-element-copy-out-output-at-5
 element-copy-out-output-at-5 c = search needs
 
--- src/ready.rt:352:9
 element-copy-out-output-at-6 : tie.Need-element-copy-out-output-at-6
 element-copy-out-output-at-6 c = search needs
 
--- src/ready.rt:346:9
 output-at-requires-3 : tie.Need-output-at-requires-3
 output-at-requires-3 c κs = search needs
 
--- src/ready.rt:355:9
 is-on-requires-4 : tie.Need-is-on-requires-4
 is-on-requires-4 c κs = search needs
 
--- src/ready.rt:359:9
 element-copy-out-output-at-7 : tie.Need-element-copy-out-output-at-7
 element-copy-out-output-at-7 c = search needs
 
--- src/ready.rt:360:9
 element-copy-out-output-at-8 : tie.Need-element-copy-out-output-at-8
 element-copy-out-output-at-8 c = search needs
 
--- src/ready.rt:354:9
 output-at-requires-4 : tie.Need-output-at-requires-4
 output-at-requires-4 c κs =
     let at-is-on3 = c .before .before .before .before .before .before in
@@ -96,31 +78,24 @@ output-at-requires-4 c κs =
     let at-is-on = at-is-on2 .before .before .before .before in
     (at-is-on .before .before .before .before .pre .shared-length, omega arith)
 
--- src/ready.rt:362:22
 some-set-requires : tie.Need-some-set-requires
 some-set-requires c κs = search needs
 
--- src/ready.rt:362:9
 digit-requires : tie.Need-digit-requires
 digit-requires c κs = search needs
 
--- src/ready.rt:363:23
 each-apart-requires : tie.Need-each-apart-requires
 each-apart-requires c κs = search needs
 
--- src/ready.rt:363:9
 digit-requires-2 : tie.Need-digit-requires-2
 digit-requires-2 c κs = search needs
 
--- src/ready.rt:367:9
 columns-requires : tie.Need-columns-requires
 columns-requires c κs = search needs
 
--- src/ready.rt:368:9
 rows-requires : tie.Need-rows-requires
 rows-requires c κs = search needs
 
--- src/ready.rt:370:9
 credit-requires : tie.Need-credit-requires
 credit-requires c κs =
     let at-digit2 = c .before .before .before in
@@ -132,7 +107,6 @@ credit-requires c κs =
     let at-start = at-is-on .before .before .before .before in
     at-start .pre .shared-length
 
--- src/ready.rt:364:5
 set-gauge-requires : tie.Need-set-gauge-requires
 set-gauge-requires c κs =
     let at-digit2 = c .before .before .before .before in
@@ -144,11 +118,9 @@ set-gauge-requires c κs =
     let at-start = at-is-on .before .before .before .before in
     at-start .pre .own-length
 
--- src/ready.rt:372:5
 settle-requires : tie.Need-settle-requires
 settle-requires c κs = kept-length _ (c .before .set-gauge .ensures)
 
--- src/ready.rt:323:1
 returns : tie.Need-returns
 returns c =
     let at-credit = c .before .before .before in

@@ -1,3 +1,4 @@
+-- `start::ready::shown` meets its contract. Assumes nothing.
 use Rattle.laws.proofs.Choice.{pick-yes, pick-no}
 use mathlib.Core.Path.{sym}
 use Rattle.start.proofs.ready.shown.Statement.{statement}
@@ -5,11 +6,9 @@ use Rattle.start.proofs.ready.shown.Tie as tie
 use Rattle.start.proofs.ready.shown.Reads as reads
 use Rattle.start.proofs.ready.shown.Lts as lts
 
--- src/ready.rt:73:1
 returns : tie.Need-returns
 returns c = sym (pick-yes _ _ (c .if1 .taken))
 
--- src/ready.rt:73:1
 returns-2 : tie.Need-returns-2
 returns-2 c = sym (pick-no _ _ (c .if1 .left))
 
