@@ -27,13 +27,13 @@
  *     17  the session has taken 1,000,000,000 words
  *     18  the kind byte of a log's record is neither 1 nor 2
  *     19  a midnight's day isn't one more than the last, or it is the 401st midnight
- *     20  a number, or a setting of party 0's, that the party doesn't own; a session's one party owns all, so no function returns it yet
+ *     20  a party's word names an input or output, or sets something of party 0's, that the party doesn't own
  *     21  a lease line out of its bounds
  *     22  a report over more than 64 logs
  *
  * What the caller owes: pointers to arrays of the lengths shown, no two of them overlapping where one is written (a session's
- * three arrays, a replay's five, rooms and memory are apart), and states as these functions left them: a session's arrays
- * from egretfold_session_begin on, a replay's from egretfold_log_begin on, a group's cells from an egretfold_group_begin
+ * three arrays, a pair's five, a replay's five, rooms and memory are apart), and states as these functions left them: a
+ * session's arrays from egretfold_session_begin on, a pair's from an egretfold_pair_begin that returned 0 on, a replay's from egretfold_log_begin on, a group's cells from an egretfold_group_begin
  * that returned 0 on. A state may be copied and kept (on disk, say) as it is. A pointer that comes with a length of 0 is not
  * read, but is not null. */
 #ifndef EGRETFOLD_H
@@ -167,6 +167,29 @@ uint32_t egretfold_session_format(const uint32_t own[EGRETFOLD_OWN], const uint3
 /* masks: the output mask; 1 if the conditional mask is set, else 0, and the mask; 1 if the test is set, else 0, and the
  * test. Returns 0. */
 uint32_t egretfold_session_masks(const uint32_t shared[EGRETFOLD_SHARED], uint32_t masks[5]);
+
+/* ---- Two parties on one card ----
+ *
+ * Each party has its own numbers and tallies (own0 and tallies0, own1 and tallies1); the settings are shared. egretfold_session_word
+ * and egretfold_session_feed take a party's words by that party's own and tallies with the shared settings, and the functions above
+ * that change nothing tell of a party by its own and tallies. Constants' formats and the conditional output's format, mask and test
+ * are party 0's. A party is refused with 20 at a header that sets what isn't its own, and at the number of an input or output that
+ * isn't; like 2 to 9 it drops the open command and stops that party alone. A mask changes the bits of one's own outputs only; 7 to
+ * 9, the elements that a start claims and what is kept of readiness look at one's own outputs only. The word limit is each party's
+ * own. A session from egretfold_session_begin, and a replay's, is one party that owns every number. */
+
+/* A new session of two parties: nothing set, mask 65535. Bit n of inputs (16 bits) and of outputs (4 bits) is set where input or
+ * output n is party 1's, and not where it is party 0's. 3 where the edition is neither 1 nor 2, then where a bit above these is set. */
+uint32_t egretfold_pair_begin(uint32_t own0[EGRETFOLD_OWN], uint64_t tallies0[EGRETFOLD_TALLIES], uint32_t own1[EGRETFOLD_OWN],
+                              uint64_t tallies1[EGRETFOLD_TALLIES], uint32_t shared[EGRETFOLD_SHARED], uint32_t inputs,
+                              uint32_t outputs, uint32_t edition);
+
+/* A piece of both parties' words, one after another to its end: it runs on past a refused word. Bit k of parties[i] is the party of
+ * word 32 i + k; bits past the last word are not looked at. fed: of party 0 the words taken, the commands that they completed, and
+ * its first refusal in this piece, 0 for none; then the same of party 1. Returns 0, or 11 where groups is not (length + 31) / 32. */
+uint32_t egretfold_pair_feed(uint32_t own0[EGRETFOLD_OWN], uint64_t tallies0[EGRETFOLD_TALLIES], uint32_t own1[EGRETFOLD_OWN],
+                             uint64_t tallies1[EGRETFOLD_TALLIES], uint32_t shared[EGRETFOLD_SHARED], const uint32_t *words,
+                             size_t length, const uint32_t *parties, size_t groups, uint64_t fed[6]);
 
 /* ---- A station's log over midnight: records of five bytes, one of kind and four of a number, low byte first ----
  *

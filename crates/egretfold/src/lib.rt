@@ -9,6 +9,7 @@ pub mod fleets;
 pub mod floats;
 pub mod groups;
 pub mod logs;
+pub mod pairs;
 pub mod pictures;
 pub mod scores;
 pub mod sessions;

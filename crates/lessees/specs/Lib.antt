@@ -1,0 +1,4 @@
+pub mod Begin
+pub mod Pair
+pub mod Rooms
+pub mod Sight

@@ -1,0 +1,204 @@
+// Document 02, request 9: two parties over one session's inputs and outputs. Each has its own cells and tallies, the settings are
+// shared, and who owns which number is fixed when the session begins. Answers are numbers: a status, and for each party what a piece
+// told it, in a room that the caller lends.
+use refusal;
+use refusal::Refusal;
+use session::stream;
+use session::stream::First;
+use state::edition;
+ghost use mathlib.Core.Path.{_≡_};
+ghost use mathlib.Core.Bool.{Bool};
+ghost use Prim.Native.Nat.{ℕ, _*_, _/_, _<_, _≤_};
+ghost use lib.ListN.{length};
+ghost use Rattle.state.specs.Cells.{sessionOf};
+ghost use Rattle.session.specs.Answers.{firstOf};
+ghost use Rattle.session.specs.Feed.{feedOf, firstStatus};
+ghost use Rattle.lessees.specs.Begin.{mayBegin, newPair};
+ghost use Rattle.lessees.specs.Pair.{pieceOf};
+ghost use Rattle.lessees.specs.Rooms.{PairBegins, PairFeeds, PairGiven, PairHeld, PairLeft, RunAsked, RunEnds, RunLeft, earlierNumber, groupsOf, pairOf, partyAt, sentOf};
+
+// What a piece tells a party: words taken, commands completed, first refusal; and both parties.
+const PART: usize = 3;
+
+pub const PARTS: usize = 6;
+
+// The numbers of inputs and of outputs that there are, as bits.
+const INPUTS: u32 = 65536;
+
+const OUTPUTS: u32 = 16;
+
+// Whether there is the edition, and no bit is set for an input or output that there isn't.
+fn may_begin(inputs: u32, outputs: u32, edition: u32) -> bool
+    ensures { λ r. ⌜ r ≡ mayBegin inputs outputs edition ⌝ }
+{
+    if edition::is_known(edition) {
+        if inputs < INPUTS {
+            return outputs < OUTPUTS;
+        }
+        return false;
+    }
+    false
+}
+
+// A new session of two parties and an edition.
+fn make(
+    own0: &mut [u32; state::OWN_CELLS],
+    tallies0: &mut [u64; state::TALLIES],
+    own1: &mut [u32; state::OWN_CELLS],
+    tallies1: &mut [u64; state::TALLIES],
+    shared: &mut [u32; state::SHARED_CELLS],
+    inputs: u32,
+    outputs: u32,
+    edition: u32,
+)
+    requires { ⌜ (inputs < 65536) × (outputs < 16) ⌝ }
+    ensures { λ _. ⌜ PairHeld (newPair inputs outputs edition) (now (own0 .exit)) (now (tallies0 .exit)) (now (own1 .exit)) (now (tallies1 .exit)) (now (shared .exit)) ⌝ }
+{
+    let owners = inputs + INPUTS * outputs;
+    stream::begin_party(own0, tallies0, owners::EVERYTHING - owners, edition);
+    stream::begin_party(own1, tallies1, owners, edition);
+    stream::begin_settings(shared);
+}
+
+// A new session of two parties and an edition: bit n of `inputs` or `outputs` is set where input or output n is party 1's. 3, for the
+// edition before the bits, and nothing is touched then.
+pub fn begin(
+    own0: &mut [u32; state::OWN_CELLS],
+    tallies0: &mut [u64; state::TALLIES],
+    own1: &mut [u32; state::OWN_CELLS],
+    tallies1: &mut [u64; state::TALLIES],
+    shared: &mut [u32; state::SHARED_CELLS],
+    inputs: u32,
+    outputs: u32,
+    edition: u32,
+) -> u32
+    ensures { λ r. ⌜ PairBegins inputs outputs edition r (now (own0 .entry)) (now (tallies0 .entry)) (now (own1 .entry)) (now (tallies1 .entry)) (now (shared .entry)) (now (own0 .exit)) (now (tallies0 .exit)) (now (own1 .exit)) (now (tallies1 .exit)) (now (shared .exit)) ⌝ }
+{
+    if may_begin(inputs, outputs, edition) {
+        make(
+            own0,
+            tallies0,
+            own1,
+            tallies1,
+            shared,
+            inputs,
+            outputs,
+            edition,
+        );
+        return 0;
+    }
+    refusal::number(Refusal::Malformed)
+}
+
+// The party of a word: bit k of number i is word 32 i + k's.
+fn party_of(parties: &[u32], at: usize) -> bool
+    requires { ⌜ at / 32 < length (now parties) ⌝ }
+    ensures { λ r. ⌜ r ≡ partyAt (now (parties .entry)) at ⌝ }
+{
+    owners::is_on(parties[at / 32], (at % 32) as u32)
+}
+
+// Where the run of one party's words ends that goes on at a place.
+fn run_end(parties: &[u32], length: usize, from: usize, party: bool) -> usize
+    requires { ⌜ (from ≤ length) × (length ≤ 32 * lib.ListN.length (now parties)) ⌝ }
+    ensures { λ r. ⌜ RunEnds (now (parties .entry)) length from party r ⌝ }
+{
+    let mut at = from;
+    while at < length {
+        if party_of(parties, at) != party {
+            return at;
+        }
+        at = at + 1;
+    }
+    at
+}
+
+// The earlier of two refusals, 0 for none.
+fn earlier(before: u64, now: u64) -> u64
+    ensures { λ r. ⌜ r ≡ earlierNumber before now ⌝ }
+{
+    if before == 0 { now } else { before }
+}
+
+// A piece's first refusal as a number, 0 for none.
+fn number_of(refusal: First) -> u64
+    ensures { λ r. ⌜ r ≡ firstStatus (firstOf refusal) ⌝ }
+{
+    match refusal {
+        First::Nothing => 0,
+        First::Refused(why) => refusal::number(why) as u64,
+    }
+}
+
+// A run of one party's words. Those after a refused one change nothing: the party is stopped.
+fn take_run(
+    own: &mut [u32; state::OWN_CELLS],
+    tallies: &mut [u64; state::TALLIES],
+    shared: &mut [u32; state::SHARED_CELLS],
+    words: &[u32],
+    told: &mut [u64; PART],
+)
+    requires { ⌜ RunAsked (now own) (now tallies) (now shared) (now words) (now told) ⌝ }
+    ensures { λ _. ⌜ RunLeft (feedOf (sessionOf (now (own .entry)) (now (tallies .entry)) (now (shared .entry))) (now (words .entry))) (now (own .exit)) (now (tallies .exit)) (now (shared .exit)) (now (told .entry)) (now (told .exit)) ⌝ }
+{
+    let piece = stream::feed(own, tallies, shared, words);
+    let taken = told[0] + piece.taken.0;
+    let commands = told[1] + piece.commands;
+    let before = told[2];
+    let refusal = piece.refusal;
+    let number = number_of(refusal);
+    *told = [taken, commands, earlier(before, number)];
+}
+
+// A piece of both parties' words with their parties' numbers, one for each 32 words: runs of one party's words, one after the other.
+fn take_runs(
+    own0: &mut [u32; state::OWN_CELLS],
+    tallies0: &mut [u64; state::TALLIES],
+    own1: &mut [u32; state::OWN_CELLS],
+    tallies1: &mut [u64; state::TALLIES],
+    shared: &mut [u32; state::SHARED_CELLS],
+    words: &[u32],
+    parties: &[u32],
+    fed: &mut [u64; PARTS],
+)
+    requires { ⌜ PairGiven (now own0) (now tallies0) (now own1) (now tallies1) (now shared) × (length (now parties) ≡ groupsOf (length (now words))) ⌝ }
+    ensures { λ _. ⌜ PairLeft (pieceOf (pairOf (now (own0 .entry)) (now (tallies0 .entry)) (now (own1 .entry)) (now (tallies1 .entry)) (now (shared .entry))) (sentOf (now (words .entry)) (now (parties .entry)))) (now (own0 .exit)) (now (tallies0 .exit)) (now (own1 .exit)) (now (tallies1 .exit)) (now (shared .exit)) (now (fed .exit)) ⌝ }
+{
+    let mut told0: [u64; PART] = [0; PART];
+    let mut told1: [u64; PART] = [0; PART];
+    let mut at: usize = 0;
+    while at < words.len() {
+        let party = party_of(parties, at);
+        let end = run_end(parties, words.len(), at, party);
+        if party {
+            take_run(own1, tallies1, shared, &words[at..end], &mut told1);
+        } else {
+            take_run(own0, tallies0, shared, &words[at..end], &mut told0);
+        }
+        at = end;
+    }
+    *fed = [told0[0], told0[1], told0[2], told1[0], told1[1], told1[2]];
+}
+
+// A piece of both parties' words: it runs on past a refused one. 11, where the parties' numbers aren't one for each 32 words, and
+// nothing is touched then.
+pub fn feed(
+    own0: &mut [u32; state::OWN_CELLS],
+    tallies0: &mut [u64; state::TALLIES],
+    own1: &mut [u32; state::OWN_CELLS],
+    tallies1: &mut [u64; state::TALLIES],
+    shared: &mut [u32; state::SHARED_CELLS],
+    words: &[u32],
+    parties: &[u32],
+    fed: &mut [u64; PARTS],
+) -> u32
+    requires { ⌜ PairGiven (now own0) (now tallies0) (now own1) (now tallies1) (now shared) ⌝ }
+    ensures { λ r. ⌜ PairFeeds (now (words .entry)) (now (parties .entry)) r (now (own0 .entry)) (now (tallies0 .entry)) (now (own1 .entry)) (now (tallies1 .entry)) (now (shared .entry)) (now (fed .entry)) (now (own0 .exit)) (now (tallies0 .exit)) (now (own1 .exit)) (now (tallies1 .exit)) (now (shared .exit)) (now (fed .exit)) ⌝ }
+{
+    let groups = words.len() / 32 + (words.len() % 32 + 31) / 32;
+    if parties.len() == groups {
+        take_runs(own0, tallies0, own1, tallies1, shared, words, parties, fed);
+        return 0;
+    }
+    refusal::number(Refusal::WrongLength)
+}
