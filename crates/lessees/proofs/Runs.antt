@@ -4,10 +4,11 @@ use mathlib.Core.Bool.{Bool, true, false}
 use mathlib.Core.List.{List, [], _∷_}
 use Prim.Native.Nat.{ℕ}
 use lib.Dec.{eqb}
-use Rattle.state.specs.State.{Session}
+use Rattle.state.specs.State.{Session, newSession}
 use Rattle.session.specs.Step.{Reply, stillOpen, completed, refused, stepOf}
 use Rattle.session.specs.Feed.{first, Fed, proceed, feedOf}
 use Rattle.session.proofs.Ways.{way}
+use Rattle.lessees.specs.Begin.{newPair}
 use Rattle.lessees.specs.Pair.{Pair, Sent, side, putBack, Part, silence, noted, PairFed, notedFor, pairStep, pieceOf, sentAll}
 use Rattle.lessees.proofs.Isolation.{stopped-piece, stop-way, partOf}
 
@@ -40,3 +41,17 @@ ran false q (w ∷ ws) =
 ran true q (w ∷ ws) =
     ap (notedFor true (stepOf (side true q) w .reply)) (ran true (putBack true (stepOf (side true q) w .session) q) ws) ∙
     ran-word true (stepOf (side true q) w .reply) (stepOf (side true q) w .session) ws q (stop-way (side true q) w (way (side true q) w))
+
+-- where party 0 owns all and no word is party 1's, every answer is the one that a session gives
+pub one-party : (edition : ℕ) (ws : List ℕ) →
+    pieceOf (newPair 0 0 edition) (sentAll false ws) ≡ ranFor false (feedOf (newSession edition) ws) (newPair 0 0 edition)
+one-party edition ws = ran false (newPair 0 0 edition) ws
+
+-- words of one party, a refused one too, leave the other's own part as it is: a stop and 17 are that party's alone
+pub other-untouched0 : (q : Pair) (ws : List ℕ) → pieceOf q (sentAll true ws) .pair .party0 ≡ q .party0
+unfolding ranFor
+other-untouched0 q ws = ap (λ (f : PairFed). f .pair .party0) (ran true q ws)
+
+pub other-untouched1 : (q : Pair) (ws : List ℕ) → pieceOf q (sentAll false ws) .pair .party1 ≡ q .party1
+unfolding ranFor
+other-untouched1 q ws = ap (λ (f : PairFed). f .pair .party1) (ran false q ws)
