@@ -1,4 +1,4 @@
--- The page of top theorems, in the order of the demands: 1, 2, 3, then elements, flow, and the requests 1 to 8 and 10 to 14. Each statement has
+-- The page of top theorems, in the order of the demands: 1, 2, 3, then elements, flow, and the requests 1 to 14. Each statement has
 -- its sentence above it and a proof that only cites the file that has it. What a statement asks for is what its sentence says or what an
 -- entry asks for: a session, a replay or a group's cells that came from the entries (`Reached`, `Handed`), and bytes that are bytes.
 -- Assumes nothing.
@@ -8,7 +8,7 @@ use mathlib.Core.List.{List, [], _∷_, _++_, map, List·Permᴰ}
 use Prim.Native.Nat.{ℕ, suc, _+_, _-_, _*_, _%_, _^_, _<_, _≤_}
 use lib.Count.{ones, trailingZeros}
 use lib.Ieee.{Float, lt}
-use lib.ListN.{length, take, getD}
+use lib.ListN.{length, take, drop, getD}
 use Rattle.laws.specs.Bits.{xor}
 use Rattle.laws.specs.Choice.{_and_, pick, placeOf}
 use Rattle.laws.specs.Below.{some, every, sum, count, least}
@@ -48,7 +48,7 @@ use Rattle.start.proofs.Editions.{first-claim, one-channel, claim-least, claim-
 use Rattle.state.specs.Readiness.{readinessFor}
 use Rattle.state.specs.Effects.{limit}
 use Rattle.state.specs.Asked.{Given}
-use Rattle.state.specs.Cells.{sessionOf}
+use Rattle.state.specs.Cells.{partyOf, sessionOf}
 use Rattle.state.specs.Valid.{Valid, heldOf}
 use Rattle.session.specs.Step.{refused, startRuleOf, stepOf}
 use Rattle.session.specs.Feed.{nothing, first, ended as feedEnded, feedOf, written, fedPieces, uncut}
@@ -177,6 +177,15 @@ use Rattle.conditional_rooms.specs.Rooms.{SurveyCrosses}
 use Rattle.demands.specs.Surveys.{inTurn, testAsks, surveyAsks, ByTests, Opposite, Split, SameTests}
 use Rattle.demands.proofs.Surveys.{test-called, survey-called, test-left, survey-left, by-tests, opposites-split, same-tests}
 use Rattle.refusal.specs.Told.{thenTold}
+use Rattle.lessees.specs.Pair.{Pair, Sent, side, pieceOf, joinedPair, wordsFor, alone, sentAll, PairValid}
+use Rattle.lessees.specs.Sight.{seen}
+use Rattle.lessees.specs.Begin.{mayBegin, newPair}
+use Rattle.lessees.specs.Rooms.{sentOf, groupsOf, PairGiven, PairFeeds, SameSight}
+use Rattle.lessees.proofs.Begun.{begun-valid}
+use Rattle.lessees.proofs.Isolation.{isolated}
+use Rattle.lessees.proofs.Host.{party0-isolated, party1-isolated}
+use Rattle.lessees.proofs.Cut.{cut as pieces-cut}
+use Rattle.lessees.proofs.Runs.{ranFor, one-party, other-untouched0, other-untouched1}
 use Rattle.fleet.specs.Fleet.{Station, stationsIn, stationAt, addUp, fleetTold, fleetIn, reportTold}
 use Rattle.fleet.specs.Answers.{fleetNumbers}
 use Rattle.fleet.specs.Join.{sumsOf, fleetSums, behind, joined as joinedFleet}
@@ -707,6 +716,54 @@ pub run-back :
     (l : Layout) → Accepted l → (x y : ℕ) → Inside l x y → (k place : ℕ) → k < runOf l x y → place < l .size →
     locateOf l (addressOf l x y + k * l .size + place) ≡ gives ((x + k) ∷ y ∷ place ∷ [])
 run-back = leads-back
+
+-- REQUEST 9, "Two lessees on one card"
+
+-- A session of two parties that may begin is one that its entries take.
+pub lessees-begun : (inputs outputs edition : ℕ) → mayBegin inputs outputs edition ≡ true → PairValid (newPair inputs outputs edition)
+lessees-begun = begun-valid
+
+-- "Change party 1's words and their places at will: party 0's answers, settings and tallies stay the same": two calls of
+-- egretfold_pair_feed from the same arrays, with the same words of party 0 among any of party 1's, leave party 0 the same own cells, tallies
+-- and answers, and the same settings of those that it sees.
+pub lessees-party-0 :
+    {l0 t0 l1 t1 s fed fed' : List ℕ} {r r' : ℕ} → PairGiven l0 t0 l1 t1 s → (a pa b pb : List ℕ) →
+    length pa ≡ groupsOf (length a) → length pb ≡ groupsOf (length b) → {x0 u0 x1 u1 z feda y0 w0 y1 w1 k fedb : List ℕ} →
+    PairFeeds a pa r l0 t0 l1 t1 s fed x0 u0 x1 u1 z feda → PairFeeds b pb r' l0 t0 l1 t1 s fed' y0 w0 y1 w1 k fedb →
+    wordsFor false (sentOf a pa) ≡ wordsFor false (sentOf b pb) →
+    SameSight (partyOf l0 t0 .birth .mine) x0 u0 z (take 3 feda) y0 w0 k (take 3 fedb)
+lessees-party-0 g a pa b pb ga gb ha hb = party0-isolated g a pa b pb ga gb ha hb
+
+-- And the reverse.
+pub lessees-party-1 :
+    {l0 t0 l1 t1 s fed fed' : List ℕ} {r r' : ℕ} → PairGiven l0 t0 l1 t1 s → (a pa b pb : List ℕ) →
+    length pa ≡ groupsOf (length a) → length pb ≡ groupsOf (length b) → {x0 u0 x1 u1 z feda y0 w0 y1 w1 k fedb : List ℕ} →
+    PairFeeds a pa r l0 t0 l1 t1 s fed x0 u0 x1 u1 z feda → PairFeeds b pb r' l0 t0 l1 t1 s fed' y0 w0 y1 w1 k fedb →
+    wordsFor true (sentOf a pa) ≡ wordsFor true (sentOf b pb) →
+    SameSight (partyOf l1 t1 .birth .mine) x1 u1 z (drop 3 feda) y1 w1 k (drop 3 fedb)
+lessees-party-1 g a pa b pb ga gb ha hb = party1-isolated g a pa b pb ga gb ha hb
+
+-- Each party has and is told what its own words, fed by themselves to what it sees, leave and are told: so demand 2's rules are each
+-- party's.
+pub lessees-alone : (p : Bool) (q : Pair) → PairValid q → (ws : List Sent) → alone p (pieceOf q ws) ≡ feedOf (seen (side p q)) (wordsFor p ws)
+lessees-alone = isolated
+
+-- "Demand 2's cut rule is read over the stream of (party, word)."
+pub lessees-cut : (q : Pair) (a b : List Sent) → pieceOf q (a ++ b) ≡ joinedPair (pieceOf q a) (pieceOf (pieceOf q a .pair) b)
+lessees-cut = pieces-cut
+
+-- With party 0 owning all and no word of party 1, every answer is the old one.
+pub lessees-one-party :
+    (edition : ℕ) (ws : List ℕ) →
+    pieceOf (newPair 0 0 edition) (sentAll false ws) ≡ ranFor false (feedOf (newSession edition) ws) (newPair 0 0 edition)
+lessees-one-party = one-party
+
+-- "a stop stops only its party, and the word limit is per party": words of one party leave the other's own part as it is.
+pub lessees-stop-0 : (q : Pair) (ws : List ℕ) → pieceOf q (sentAll true ws) .pair .party0 ≡ q .party0
+lessees-stop-0 = other-untouched0
+
+pub lessees-stop-1 : (q : Pair) (ws : List ℕ) → pieceOf q (sentAll false ws) .pair .party1 ≡ q .party1
+lessees-stop-1 = other-untouched1
 
 -- REQUEST 10, "Lease rule, second edition"
 
