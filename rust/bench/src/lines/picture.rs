@@ -65,6 +65,12 @@ impl Scene {
         self.ours.room.len()
     }
 
+    /// Rust's side as the product's.
+    fn level(&mut self) {
+        self.theirs.memory.copy_from_slice(&self.ours.memory);
+        self.theirs.room.copy_from_slice(&self.ours.room);
+    }
+
     /// Both ways, held against each other, with a refusal.
     fn check(&mut self) {
         for way in [Way::In, Way::Out] {
@@ -202,6 +208,8 @@ fn whole_window(table: &mut Table, size: u32, length: usize) {
     assert_eq!(scene.bytes(), length);
     scene.check();
     for (way, how, name) in lines {
+        // A plain copy leaves another room, so both sides begin alike again.
+        scene.level();
         match how {
             "" => beside_rust(table, &name, length / KB, &mut scene, way),
             ", beside memcpy" => beside_memcpy(table, &name, &mut scene, way),
