@@ -75,7 +75,10 @@ fn the_pages_ratios_are_those_of_its_numbers() {
 
 #[test]
 fn the_pages_last_line_counts_its_rows() {
-    let (page, rows) = (page(), rows(&page()));
+    let page = page();
+    // Lines beside a plain copy or single calls aren't beside Rust.
+    let beside_rust = |row: &Row| !row.name.contains(", beside ");
+    let rows: Vec<Row> = rows(&page).into_iter().filter(beside_rust).collect();
     let low = rows.iter().filter(|row| row.ratio <= 1.0).count();
     let worst = rows
         .iter()
