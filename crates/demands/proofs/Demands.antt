@@ -53,7 +53,7 @@ use Rattle.state.specs.Valid.{Valid, heldOf}
 use Rattle.session.specs.Step.{refused, startRuleOf, stepOf}
 use Rattle.session.specs.Feed.{nothing, first, ended as feedEnded, feedOf, written, fedPieces, uncut}
 use Rattle.session.specs.Refusals.{RefusedTo}
-use Rattle.session.specs.Again.{Idle, SameSettings}
+use Rattle.session.specs.Again.{Idle, SameSettings, ReadAgain}
 use Rattle.session.specs.Reached.{Reached, mostWords, allByWriter, ReadInFull}
 use Rattle.session.specs.Silent.{seenBy, SilentSettings, startWords, EmptyRun, AsBefore}
 use Rattle.session.specs.Stored.{toldBy, forgotten, SameAnswers}
@@ -185,6 +185,7 @@ use Rattle.lessees.proofs.Begun.{begun-valid}
 use Rattle.lessees.proofs.Isolation.{isolated}
 use Rattle.lessees.proofs.Host.{party0-isolated, party1-isolated}
 use Rattle.lessees.proofs.Cut.{cut as pieces-cut}
+use Rattle.lessees.proofs.WriteBack.{party-back, party-again}
 use Rattle.lessees.proofs.Runs.{ranFor, one-party, other-untouched0, other-untouched1}
 use Rattle.fleet.specs.Fleet.{Station, stationsIn, stationAt, addUp, fleetTold, fleetIn, reportTold}
 use Rattle.fleet.specs.Answers.{fleetNumbers}
@@ -747,6 +748,24 @@ lessees-party-1 g a pa b pb ga gb ha hb = party1-isolated g a pa b pb ga gb ha h
 -- party's.
 pub lessees-alone : (p : Bool) (q : Pair) → PairValid q → (ws : List Sent) → alone p (pieceOf q ws) ≡ feedOf (seen (side p q)) (wordsFor p ws)
 lessees-alone = isolated
+
+-- So a party's accepted commands write back: the words that its open command held before a piece, with those that were taken of it, are its
+-- commands' words and those of the command that it leaves open; also where a later word is refused.
+pub lessees-write-back :
+    (p : Bool) (q : Pair) → PairValid q → (ws : List Sent) →
+    heldOf (seen (side p q) .party .opened) ++ take (alone p (pieceOf q ws) .taken) (wordsFor p ws) ≡
+    written (alone p (pieceOf q ws) .commands) ++
+    heldOf (feedOf (seen (side p q)) (take (alone p (pieceOf q ws) .taken) (wordsFor p ws)) .session .party .opened)
+lessees-write-back = party-back
+
+-- These words, read again by a session between two commands that has the settings which the party saw and room for them, give its commands
+-- and its settings.
+pub lessees-read-again :
+    (p : Bool) (q : Pair) → PairValid q → (ws : List Sent) → (u : Session) → SameSettings (seen (side p q)) u → Idle u →
+    u .party .taken + length (written (alone p (pieceOf q ws) .commands)) ≤ limit →
+    ReadAgain (alone p (pieceOf q ws) .commands) (alone p (pieceOf q ws) .session)
+    (feedOf u (written (alone p (pieceOf q ws) .commands)))
+lessees-read-again = party-again
 
 -- "Demand 2's cut rule is read over the stream of (party, word)."
 pub lessees-cut : (q : Pair) (a b : List Sent) → pieceOf q (a ++ b) ≡ joinedPair (pieceOf q a) (pieceOf (pieceOf q a .pair) b)

@@ -9,3 +9,4 @@ pub mod Runs
 pub mod Sight
 pub mod Steps
 pub mod Taking
+pub mod WriteBack
