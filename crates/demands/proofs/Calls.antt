@@ -4,7 +4,9 @@ use mathlib.Core.Bool.{Bool, false}
 use mathlib.Core.List.{List, [], _∷_}
 use Prim.Native.Nat.{ℕ}
 use native.Mathlib.Omega.{arith}
+use lib.Dec.{eqb}
 use lib.ListN.{length}
+use borrow.Author.Tests.{eqb-false}
 use Rattle.laws.specs.Choice.{pick}
 use Rattle.laws.proofs.Choice.{Tested, tested, holds, fails, pick-yes, pick-no}
 use Rattle.refusal.specs.Told.{Told, gives, refuses}
@@ -26,6 +28,9 @@ use Rattle.command_rooms.specs.Rooms.{commandWith, namedWriteOf, namedRoom}
 use Rattle.element_rooms.specs.Rooms.{inSixteen}
 use Rattle.conditional.specs.Conditional as conditional
 use Rattle.score_rooms.specs.Rooms.{claimedTold, servedTold, monthTold}
+use Rattle.picture_rooms.specs.Rooms.{paintedAfter}
+use Rattle.lessees.specs.Begin as pairs
+use Rattle.lessees.specs.Rooms.{groupsOf}
 use Rattle.demands.proofs.Numbers.{
   Nonzero,
   judged-number,
@@ -48,6 +53,11 @@ use Rattle.demands.proofs.Numbers.{
   test-number,
   survey-number,
   report-number,
+  painted-number,
+  copied-number,
+  row-number,
+  pair-number,
+  groups-number,
 }
 use Rattle.demands.specs.Calls.{
   Call,
@@ -72,6 +82,12 @@ use Rattle.demands.specs.Calls.{
   test,
   survey,
   fleetReport,
+  pairBegin,
+  pairFeed,
+  paint,
+  copyOut,
+  row,
+  groupsTold,
   Untouched,
   layoutIn,
 }
@@ -144,7 +160,7 @@ served-refused (scored m) n e = given-refuses e
 served-refused (refused m) n e = e
 
 pub refused-call : {t : Told} {r : ℕ} {lent left : Lists} → Call t r lent left → (n : ℕ) → t ≡ refuses n → Untouched n r lent left
-unfolding memoryAfter editionTold loadTold firstsLeft secondsLeft beginTold beginLeaves conditional.roomAfter
+unfolding memoryAfter editionTold loadTold firstsLeft secondsLeft beginTold beginLeaves conditional.roomAfter pairs.beginTold groupsTold paintedAfter
 refused-call (layout l r a b c) n e = one-room c n e (judged-number l)
 refused-call (translate l x y r a b c) n e = one-room c n e (translated-number (layoutIn l) x y)
 refused-call (locate l address r a b c) n e = one-room c n e (located-number (layoutIn l) address)
@@ -244,3 +260,33 @@ refused-call (survey s v i0 j0 i1 j1 first m r a b p q c) n e =
           (room (c .answer) n e);
     }
 refused-call (fleetReport edition logs numbers r a b c) n e = one-room c n e (report-number edition logs numbers (length a))
+refused-call (pairBegin inputs outputs edition r a b c d f a' b' c' d' f' k) n e =
+    let same = k .untouched (denied (pairs.mayBegin inputs outputs edition) [] 3 n e) in
+    record {
+      number = k .status ∙ ap statusOf e;
+      not-zero = pair-number inputs outputs edition n e;
+      arrays =
+          λ i. same .own0-cells i ∷ same .tally0-cells i ∷ same .own1-cells i ∷ same .tally1-cells i ∷ same .shared-cells i ∷ [];
+    }
+refused-call (pairFeed words parties r a b c d f g a' b' c' d' f' g' k) n e =
+    let no = denied (eqb (length parties) (groupsOf (length words))) [] 11 n e in
+    let same = k .untouched (eqb-false _ _ no) in
+    record {
+      number = k .status ∙ pick-no 0 11 no ∙ same-refusal (sym (pick-no (gives []) (refuses 11) no) ∙ e);
+      not-zero = groups-number words parties n e;
+      arrays =
+          λ i.
+          same .0 .own0-cells i ∷ same .0 .tally0-cells i ∷ same .0 .own1-cells i ∷ same .0 .tally1-cells i ∷ same .0 .shared-cells i ∷
+          same .1 i ∷ [];
+    }
+refused-call (paint l x y w h first given r a b c) n e =
+    record {
+      number = c .status ∙ ap statusOf e;
+      not-zero = painted-number (layoutIn l) x y w h first (length given) (length a) n e;
+      arrays =
+          ap {B = Lists} (λ (m : List ℕ). m ∷ [])
+          (c .memory ∙ ap (λ (t : Told). paintedAfter t (layoutIn l) x y w h first given a) e);
+    }
+refused-call (copyOut l x y w h first m r a b c) n e =
+    one-room c n e (copied-number (layoutIn l) x y w h first (length a) m)
+refused-call (row l x y r a b c) n e = one-room c n e (row-number (layoutIn l) x y (length a))

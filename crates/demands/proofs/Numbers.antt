@@ -13,6 +13,8 @@ use Rattle.refusal.specs.Told.{Told, gives, refuses, thenTold}
 use Rattle.layout.specs.Layout.{judgeOf}
 use Rattle.layout.specs.declared.Layout.{Layout}
 use Rattle.address.specs.Address.{ifAccepted, translateOf, backOf, locateOf}
+use Rattle.picture_rooms.specs.Rooms.{ifLent, rectangleOf, copyOf, rowOf}
+use Rattle.lessees.specs.Begin as pairs
 use Rattle.memory.specs.Elements.{inOrder, readOf, writeOf}
 use Rattle.superfine.specs.Superfine.{fourOf, fourAtOf, superfineReadOf}
 use Rattle.command.specs.Table.{lineWith}
@@ -34,7 +36,7 @@ use Rattle.score_rooms.specs.Rooms.{lineTold, monthTold}
 use Rattle.setting_rooms.specs.Rooms.{formatAt, formatOf}
 use Rattle.conditional.specs.Conditional.{ifReady, pairOf, domainOf, testOf, surveyOf}
 use Rattle.fleet.specs.Fleet.{firstRefused, fleetTold, countedTold, judgedTold, reportTold}
-use Rattle.demands.specs.Calls.{Numbers, judgedIn}
+use Rattle.demands.specs.Calls.{Numbers, judgedIn, groupsTold}
 use Rattle.demands.specs.Flow.{
   Refused,
   hasEnded,
@@ -252,3 +254,24 @@ report-number edition logs numbers room =
     (either _ _ _
     (either _ _ _ (by-pick Nonzero _ _ _ (λ e. numbered _ (first-number edition logs numbers e)) (λ e. given _)) (numbered 22 (omega arith)))
     (numbered 11 (omega arith)))
+
+pub lent-number : (l : Layout) (x y w h first room n : ℕ) (t : Told) → Nonzero t → Nonzero (ifLent l x y w h first room n t)
+unfolding ifLent
+lent-number l x y w h first room n t z = if-accepted l _ (in-order _ _ _ z)
+
+pub painted-number : (l : Layout) (x y w h first room n : ℕ) → Nonzero (rectangleOf l x y w h first room n)
+painted-number l x y w h first room n = lent-number l x y w h first room n _ (given _)
+
+pub copied-number : (l : Layout) (x y w h first room : ℕ) (m : List ℕ) → Nonzero (copyOf l x y w h first room m)
+copied-number l x y w h first room m = lent-number l x y w h first room (length m) _ (given _)
+
+pub row-number : (l : Layout) (x y n : ℕ) → Nonzero (rowOf l x y n)
+row-number l x y n = if-accepted l _ (either _ _ _ (given _) (numbered 10 (omega arith)))
+
+pub pair-number : (inputs outputs edition : ℕ) → Nonzero (pairs.beginTold inputs outputs edition)
+unfolding pairs.beginTold
+pair-number inputs outputs edition = either _ _ _ (given _) (numbered 3 (omega arith))
+
+pub groups-number : (words parties : List ℕ) → Nonzero (groupsTold words parties)
+unfolding groupsTold
+groups-number words parties = either _ _ _ (given _) (numbered 11 (omega arith))

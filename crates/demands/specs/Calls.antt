@@ -6,7 +6,7 @@ use mathlib.Core.Bool.{Bool}
 use mathlib.Core.List.{List, [], _∷_}
 use Prim.Native.Nat.{ℕ, _≤_}
 use lib.Ieee.{Float}
-use Rattle.refusal.specs.Told.{Told}
+use Rattle.refusal.specs.Told.{Told, gives, refuses}
 use Rattle.layout.specs.Layout.{judgeOf}
 use Rattle.address.specs.Address.{layoutOf, translateOf, locateOf}
 use Rattle.memory.specs.Elements.{readOf, writeOf}
@@ -33,6 +33,15 @@ use lib.ListN.{length}
 use Rattle.conditional.specs.Conditional.{testOf, surveyOf}
 use Rattle.conditional_rooms.specs.Rooms.{SurveyCrosses}
 use Rattle.fleet.specs.Fleet.{reportTold}
+use lib.Dec.{eqb}
+use Rattle.laws.specs.Choice.{pick}
+use Rattle.lessees.specs.Begin as pairs
+use Rattle.lessees.specs.Rooms.{groupsOf, PairBegins, PairFeeds}
+use Rattle.picture_rooms.specs.Rooms.{PaintCrosses, copyOf, rectangleOf, rowOf}
+
+-- whether a piece of two parties' words has a party's number for each 32 of them, else 11
+unfoldable pub groupsTold : List ℕ → List ℕ → Told
+groupsTold words parties = pick (eqb (length parties) (groupsOf (length words))) (gives []) (refuses 11)
 
 -- a layout's numbers, as every call on addresses and elements takes them
 pub record Numbers : Type 0 where
@@ -125,6 +134,29 @@ pub data Call : Told → ℕ → List (List ℕ) → List (List ℕ) → Type 0 
   fleetReport : (edition : ℕ) (logs numbers : List ℕ) (r : ℕ) (room room' : List ℕ) →
       Crosses (reportTold edition logs numbers (length room)) r room room' →
       Call (reportTold edition logs numbers (length room)) r (room ∷ []) (room' ∷ [])
+  -- egretfold_pair_begin
+  pairBegin : (inputs outputs edition r : ℕ) (own0 tallies0 own1 tallies1 shared own0' tallies0' own1' tallies1' shared' : List ℕ) →
+      PairBegins inputs outputs edition r own0 tallies0 own1 tallies1 shared own0' tallies0' own1' tallies1' shared' →
+      Call (pairs.beginTold inputs outputs edition) r (own0 ∷ tallies0 ∷ own1 ∷ tallies1 ∷ shared ∷ [])
+      (own0' ∷ tallies0' ∷ own1' ∷ tallies1' ∷ shared' ∷ [])
+  -- egretfold_pair_feed
+  pairFeed : (words parties : List ℕ) (r : ℕ)
+      (own0 tallies0 own1 tallies1 shared fed own0' tallies0' own1' tallies1' shared' fed' : List ℕ) →
+      PairFeeds words parties r own0 tallies0 own1 tallies1 shared fed own0' tallies0' own1' tallies1' shared' fed' →
+      Call (groupsTold words parties) r (own0 ∷ tallies0 ∷ own1 ∷ tallies1 ∷ shared ∷ fed ∷ [])
+      (own0' ∷ tallies0' ∷ own1' ∷ tallies1' ∷ shared' ∷ fed' ∷ [])
+  -- egretfold_picture_paint
+  paint : (n : Numbers) (x y columns rows first : ℕ) (room : List ℕ) (r : ℕ) (memory memory' : List ℕ) →
+      PaintCrosses (layoutIn n) x y columns rows first room r memory memory' →
+      Call (rectangleOf (layoutIn n) x y columns rows first (length room) (length memory)) r (memory ∷ []) (memory' ∷ [])
+  -- egretfold_picture_copy_out
+  copyOut : (n : Numbers) (x y columns rows first : ℕ) (memory : List ℕ) (r : ℕ) (room room' : List ℕ) →
+      Crosses (copyOf (layoutIn n) x y columns rows first (length room) memory) r room room' →
+      Call (copyOf (layoutIn n) x y columns rows first (length room) memory) r (room ∷ []) (room' ∷ [])
+  -- egretfold_picture_row
+  row : (n : Numbers) (x y r : ℕ) (addresses addresses' : List ℕ) →
+      Crosses (rowOf (layoutIn n) x y (length addresses)) r addresses addresses' →
+      Call (rowOf (layoutIn n) x y (length addresses)) r (addresses ∷ []) (addresses' ∷ [])
 
 -- "A refusal hands back its number and no other result. Lent memory .. stay the same." No refusal has the number 0
 pub record Untouched (n r : ℕ) (lent left : List (List ℕ)) : Type 0 where
