@@ -364,6 +364,9 @@ uint32_t egretfold_group_run(const uint32_t firsts[EGRETFOLD_SLOTS], const uint3
  * them, and its aL (0 for a REP). Returns nothing. */
 void egretfold_group_loops(const uint32_t cells[EGRETFOLD_CELLS], uint32_t loops[13]);
 
+/* Whether the cells, kept on disk say, are a group's: true just where the functions above and egretfold_group_kill may have them. */
+bool egretfold_group_check(const uint32_t cells[EGRETFOLD_CELLS]);
+
 /* ---- Registers of four float channels ---- */
 
 /* Kills every active processor that has a channel under the write mask (bit c for channel c) less than zero: minus zero and a NaN

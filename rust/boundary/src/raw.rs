@@ -324,6 +324,8 @@ extern "C" {
 
     pub fn egretfold_group_loops(cells: &[u32; CELLS], loops: &mut [u32; 13]);
 
+    pub fn egretfold_group_check(cells: &[u32; CELLS]) -> bool;
+
     pub fn egretfold_group_kill(
         slots: u32,
         cells: &mut [u32; CELLS],
