@@ -345,4 +345,26 @@ extern "C" {
         third: &[f32; CHANNELS],
         choice: &mut [f32; CHANNELS],
     );
+
+    pub fn egretfold_session_check(
+        own: &[u32; OWN],
+        tallies: &[u64; TALLIES],
+        shared: &[u32; SHARED],
+    ) -> bool;
+
+    pub fn egretfold_pair_check(
+        own0: &[u32; OWN],
+        tallies0: &[u64; TALLIES],
+        own1: &[u32; OWN],
+        tallies1: &[u64; TALLIES],
+        shared: &[u32; SHARED],
+    ) -> bool;
+
+    pub fn egretfold_log_check(
+        log: &[u32; LOG],
+        marks: &[u64; MARKS],
+        own: &[u32; OWN],
+        tallies: &[u64; TALLIES],
+        shared: &[u32; SHARED],
+    ) -> bool;
 }
