@@ -1,5 +1,40 @@
-// States that were kept elsewhere, judged when they come back: true just where the entries over them may have them.
+// States that were kept elsewhere, on disk say: whether the arrays are such as the entries take and leave. A yes is just what the
+// functions on a session, on two parties and on a replay require of these arrays; nothing is written.
 ghost use Rattle.judges_group.specs.Judged.{JudgesGroup};
+
+// Whether the arrays hold a session.
+#[no_mangle]
+pub extern "C" fn egretfold_session_check(
+    own: &[u32; state::OWN_CELLS],
+    tallies: &[u64; state::TALLIES],
+    shared: &[u32; state::SHARED_CELLS],
+) -> bool {
+    judges::is_session(own, tallies, shared)
+}
+
+// Whether the arrays hold a session of two parties.
+#[no_mangle]
+pub extern "C" fn egretfold_pair_check(
+    own0: &[u32; state::OWN_CELLS],
+    tallies0: &[u64; state::TALLIES],
+    own1: &[u32; state::OWN_CELLS],
+    tallies1: &[u64; state::TALLIES],
+    shared: &[u32; state::SHARED_CELLS],
+) -> bool {
+    judges_pair::is_pair(own0, tallies0, own1, tallies1, shared)
+}
+
+// Whether the arrays hold a replay.
+#[no_mangle]
+pub extern "C" fn egretfold_log_check(
+    log: &[u32; replay::LOG_CELLS],
+    marks: &[u64; replay::MARKS],
+    own: &[u32; state::OWN_CELLS],
+    tallies: &[u64; state::TALLIES],
+    shared: &[u32; state::SHARED_CELLS],
+) -> bool {
+    judges_log::is_replay(log, marks, own, tallies, shared)
+}
 
 // Whether the cells are a group's.
 #[no_mangle]

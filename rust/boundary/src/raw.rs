@@ -45,12 +45,6 @@ extern "C" {
 
     pub fn egretfold_session_masks(shared: &[u32; SHARED], masks: &mut [u32; 5]) -> u32;
 
-    pub fn egretfold_session_check(
-        own: &[u32; OWN],
-        tallies: &[u64; TALLIES],
-        shared: &[u32; SHARED],
-    ) -> bool;
-
     pub fn egretfold_pair_begin(
         own0: &mut [u32; OWN],
         tallies0: &mut [u64; TALLIES],
@@ -74,14 +68,6 @@ extern "C" {
         groups: usize,
         fed: &mut [u64; 6],
     ) -> u32;
-
-    pub fn egretfold_pair_check(
-        own0: &[u32; OWN],
-        tallies0: &[u64; TALLIES],
-        own1: &[u32; OWN],
-        tallies1: &[u64; TALLIES],
-        shared: &[u32; SHARED],
-    ) -> bool;
 
     pub fn egretfold_log_begin(
         log: &mut [u32; LOG],
@@ -121,14 +107,6 @@ extern "C" {
         part: u32,
         counts: &mut [u64; 2],
     ) -> u32;
-
-    pub fn egretfold_log_check(
-        log: &[u32; LOG],
-        marks: &[u64; MARKS],
-        own: &[u32; OWN],
-        tallies: &[u64; TALLIES],
-        shared: &[u32; SHARED],
-    ) -> bool;
 
     pub fn egretfold_score_lease(edition: u32, first_day: u32, days: u32, owed: u32) -> u32;
 
@@ -369,4 +347,26 @@ extern "C" {
         third: &[f32; CHANNELS],
         choice: &mut [f32; CHANNELS],
     );
+
+    pub fn egretfold_session_check(
+        own: &[u32; OWN],
+        tallies: &[u64; TALLIES],
+        shared: &[u32; SHARED],
+    ) -> bool;
+
+    pub fn egretfold_pair_check(
+        own0: &[u32; OWN],
+        tallies0: &[u64; TALLIES],
+        own1: &[u32; OWN],
+        tallies1: &[u64; TALLIES],
+        shared: &[u32; SHARED],
+    ) -> bool;
+
+    pub fn egretfold_log_check(
+        log: &[u32; LOG],
+        marks: &[u64; MARKS],
+        own: &[u32; OWN],
+        tallies: &[u64; TALLIES],
+        shared: &[u32; SHARED],
+    ) -> bool;
 }

@@ -1,0 +1,15 @@
+// Tests that the judges are made of.
+
+// Two tests, by a call: a chain of them is one equation.
+pub fn both(a: bool, b: bool) -> bool {
+    if a { b } else { false }
+}
+
+// A flag and what it tells of: 0 and all of it is 0, or 1 and it passed its rules.
+pub fn is_lawful(flag: u32, zeros: bool, passed: bool) -> bool {
+    if flag == 0 {
+        zeros
+    } else {
+        both(flag == 1, passed)
+    }
+}

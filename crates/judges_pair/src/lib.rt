@@ -1,0 +1,26 @@
+// Whether arrays that were kept elsewhere hold a session of two parties that the entries take: a yes is just what the entries
+// require. Nothing is written.
+use judges;
+use judges::tests::both;
+use state::own;
+
+// Whether nothing is owned by both.
+fn are_apart(mine: u32, other: u32) -> bool {
+    mine & other == 0
+}
+
+// Whether the arrays hold two parties over the same settings, each a session with them, and nothing is owned by both.
+pub fn is_pair(
+    own0: &[u32; state::OWN_CELLS],
+    tallies0: &[u64; state::TALLIES],
+    own1: &[u32; state::OWN_CELLS],
+    tallies1: &[u64; state::TALLIES],
+    shared: &[u32; state::SHARED_CELLS],
+) -> bool {
+    let first = judges::is_session(own0, tallies0, shared);
+    let second = judges::is_session(own1, tallies1, shared);
+    both(
+        first,
+        both(second, are_apart(own0[own::MINE], own1[own::MINE])),
+    )
+}
