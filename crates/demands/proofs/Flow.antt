@@ -243,8 +243,9 @@ pub handed-made : {l : List ℕ} → Handed l → cells.GroupGiven l
 unfolding beginLeaves mayBegin isGroupSize groupRun
 handed-made (begun size mode c c' k) =
     let t = begin-may size mode (k .status) in
+    let sized = and-left _ (isMode mode) t in
     subst cells.GroupGiven (sym (k .left ∙ pick-yes _ _ t))
-    (begin-given size (modeOf mode) (leb-true size 32 (and-right (leb 1 size) _ (and-left _ (isMode mode) t))))
+    (begin-given size (modeOf mode) (leb-true 1 size (and-left (leb 1 size) _ sized)) (leb-true size 32 (and-right (leb 1 size) _ sized)))
 handed-made (stepped {cells = l} h p alu predicate booleans r c' a a' k) =
     subst cells.GroupGiven (sym (k .left))
     (left-given l (groupStep (cells.modeIn l) p alu predicate booleans (groupOf l)) (handed-made h)
