@@ -19,7 +19,7 @@ use Rattle.group.specs.Modes.{Mode, Full, Partial, limitOf, modeNumber, modeOf}
 use Rattle.group.specs.Cells.{liveIn, activeIn, planeIn, positionIn, returnIn, modeIn, loopIn, killedIn, counterOf, procOf, procAt, returnsIn, groupOf, cellsOf}
 use Rattle.group.specs.Cells.{liveMask, activeMask, plane, atStart, StartingGroup, Sound, GroupGiven}
 use Rattle.group.proofs.State.{mode-partial, mode-full, given-masks, given-loops}
-use Rattle.judges_group.specs.Judged.{strays, inARow, tooHigh, countersFit, returnsFit, loopsFit, isGroup, Words}
+use Rattle.judges_group.specs.Judged.{strays, inARow, tooHigh, countersFit, returnsFit, loopsFit, isGroup, zeroCells, Words, JudgesGroup}
 use Rattle.judges_group.proofs.Bits.{OwnBits, own-bits, live-bit, own-not-stray, full-counter, partial-counter, shown-within, low-not-high}
 use Rattle.judges_group.proofs.Stacks.{FourReturns, returns-judged, returns-fit, loops-judged, loops-fit}
 
@@ -345,3 +345,12 @@ module _ (l : List ℕ) (v : GroupGiven l) where
 
 pub given-judged : (l : List ℕ) → GroupGiven l → isGroup l ≡ true
 given-judged l v = all-tests l (own-tests l v)
+
+-- zeros have no starting group
+zeros-none : GroupGiven zeroCells → false ≡ true
+unfolding procAt on _or_
+zeros-none v = v .sound .start .first
+
+pub zeros-refused : (r : Bool) → JudgesGroup zeroCells r → r ≡ false
+zeros-refused true j = sym (zeros-none (j .given refl))
+zeros-refused false j = refl

@@ -1,7 +1,7 @@
 -- What 20 cells that were kept elsewhere are judged by, test by test, and what the judgement means. Assumes nothing.
 use mathlib.Core.Path.{_≡_}
 use mathlib.Core.Bool.{Bool, true, not}
-use mathlib.Core.List.{List}
+use mathlib.Core.List.{List, [], _∷_}
 use Prim.Native.Nat.{ℕ, suc, _/_, _%_, _^_, _<_}
 use lib.Dec.{eqb, leb}
 use lib.ListN.{getD}
@@ -76,3 +76,8 @@ pub record Words (live active p0 p1 p2 p3 p4 killed : ℕ) : Type 0 where
 pub record JudgesGroup (l : List ℕ) (r : Bool) : Type 0 where
   pub given : r ≡ true → GroupGiven l
   pub yes : GroupGiven l → r ≡ true
+
+-- cells of which nothing was ever made
+abbrev pub zeroCells : List ℕ
+zeroCells =
+    0 ∷ 0 ∷ 0 ∷ 0 ∷ 0 ∷ 0 ∷ 0 ∷ 0 ∷ 0 ∷ 0 ∷ 0 ∷ 0 ∷ 0 ∷ 0 ∷ 0 ∷ 0 ∷ 0 ∷ 0 ∷ 0 ∷ 0 ∷ []

@@ -641,6 +641,13 @@ pub fn group_loops(group: &Group, loops: &mut [u32; 13]) {
     unsafe { raw::egretfold_group_loops(&group.cells, loops) }
 }
 
+/// Whether the library takes these cells as a group's.
+#[inline]
+pub fn group_check(cells: &[u32; CELLS]) -> bool {
+    // SAFETY: an array of the right length, of which nothing else is asked; nothing is written.
+    unsafe { raw::egretfold_group_check(cells) }
+}
+
 /// Kills the active processors that have a channel under the write mask less than
 /// zero; the registers are four floats for each processor of the starting group.
 /// killed: those who were killed now. 16, 13 or 11.
