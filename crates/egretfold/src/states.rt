@@ -1,5 +1,8 @@
 // States that were kept elsewhere, on disk say: whether the arrays are such as the entries take and leave. A yes is just what the
 // functions on a session, on two parties and on a replay require of these arrays; nothing is written.
+ghost use mathlib.Core.Path.{_≡_};
+ghost use lib.ListN.{length};
+ghost use Rattle.group.specs.Cells.{cellCount};
 ghost use Rattle.judges_group.specs.Judged.{JudgesGroup};
 
 // Whether the arrays hold a session.
@@ -39,6 +42,7 @@ pub extern "C" fn egretfold_log_check(
 // Whether the cells are a group's.
 #[no_mangle]
 pub extern "C" fn egretfold_group_check(cells: &[u32; group::CELLS]) -> bool
+    requires { ⌜ length (now cells) ≡ cellCount ⌝ }
     ensures { λ r. ⌜ JudgesGroup (now (cells .entry)) r ⌝ }
 {
     judges_group::is_group(cells)

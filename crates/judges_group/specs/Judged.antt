@@ -1,13 +1,13 @@
 -- What 20 cells that were kept elsewhere are judged by, test by test, and what the judgement means. Assumes nothing.
 use mathlib.Core.Path.{_≡_}
 use mathlib.Core.Bool.{Bool, true, not}
-use mathlib.Core.List.{List}
-use Prim.Native.Nat.{ℕ, _/_, _%_, _^_, _<_}
+use mathlib.Core.List.{List, [], _∷_}
+use Prim.Native.Nat.{ℕ, suc, _/_, _%_, _^_, _<_}
 use lib.Dec.{eqb, leb}
 use lib.ListN.{getD}
 use Rattle.laws.specs.Choice.{_and_, pick}
 use Rattle.laws.specs.Below.{some}
-use Rattle.laws.specs.Masks.{_or_, on}
+use Rattle.laws.specs.Masks.{_or_, on, pack}
 use Rattle.loops.specs.Loops.{loopMark, highest}
 use Rattle.group.specs.Proc.{mostProcessors}
 use Rattle.group.specs.Group.{storeSlots}
@@ -18,6 +18,10 @@ unfoldable pub strays : ℕ → ℕ → ℕ → ℕ → ℕ → ℕ → ℕ → 
 strays live active p0 p1 p2 p3 p4 killed i =
     ((on i active and not (on i live)) or (on i killed and on i live)) or
     (((((on i p0 or on i p1) or on i p2) or on i p3) or on i p4) and not (on i live and not (on i active)))
+
+-- a mask has bit 0, and with each bit the one before it
+unfoldable pub inARow : ℕ → Bool
+inARow all = on 0 all and not (some mostProcessors (λ i. on (suc i) all and not (on i all)))
 
 -- the counter of processor `i` is above 5, whatever its lowest bit
 unfoldable pub tooHigh : ℕ → ℕ → ℕ → ℕ → ℕ → Bool
@@ -51,7 +55,7 @@ isGroup l =
     not
     (some mostProcessors
     (strays (liveIn l) (activeIn l) (planeIn 0 l) (planeIn 1 l) (planeIn 2 l) (planeIn 3 l) (planeIn 4 l) (killedIn l))) and
-    some mostProcessors (λ i. on i (liveIn l) or on i (killedIn l)) and
+    inARow (pack mostProcessors (λ i. on i (liveIn l) or on i (killedIn l))) and
     countersFit (getD l 12 0) (planeIn 1 l) (planeIn 2 l) (planeIn 3 l) (planeIn 4 l) and
     returnsFit (returnIn 0 l) (returnIn 1 l) (returnIn 2 l) (returnIn 3 l) and
     loopsFit (loopIn 0 l) (loopIn 1 l) (loopIn 2 l) (loopIn 3 l) and
@@ -72,3 +76,8 @@ pub record Words (live active p0 p1 p2 p3 p4 killed : ℕ) : Type 0 where
 pub record JudgesGroup (l : List ℕ) (r : Bool) : Type 0 where
   pub given : r ≡ true → GroupGiven l
   pub yes : GroupGiven l → r ≡ true
+
+-- cells of which nothing was ever made
+abbrev pub zeroCells : List ℕ
+zeroCells =
+    0 ∷ 0 ∷ 0 ∷ 0 ∷ 0 ∷ 0 ∷ 0 ∷ 0 ∷ 0 ∷ 0 ∷ 0 ∷ 0 ∷ 0 ∷ 0 ∷ 0 ∷ 0 ∷ 0 ∷ 0 ∷ 0 ∷ 0 ∷ []

@@ -4,11 +4,11 @@ ghost use mathlib.Core.Bool.{not};
 ghost use lib.ListN.{length};
 ghost use Rattle.laws.specs.Choice.{_and_, pick};
 ghost use Rattle.laws.specs.Below.{some};
-ghost use Rattle.laws.specs.Masks.{_or_, on};
+ghost use Rattle.laws.specs.Masks.{_or_, on, pack};
 ghost use lib.Dec.{eqb};
 ghost use Rattle.group.specs.Proc.{mostProcessors};
 ghost use Rattle.group.specs.Cells.{cellCount};
-ghost use Rattle.judges_group.specs.Judged.{strays, tooHigh, countersFit, stackOf, loopFits, returnsFit, loopsFit, Words, JudgesGroup};
+ghost use Rattle.judges_group.specs.Judged.{strays, inARow, tooHigh, countersFit, stackOf, loopFits, returnsFit, loopsFit, Words, JudgesGroup};
 
 // What a LOOP's cell has in its bits 31:24, which in a REP's are 0; and the highest count of either, which also is the byte that has it.
 const LOOP_MARK: u32 = 0x1000000;
@@ -50,11 +50,18 @@ fn masks_fit(
     active & !live | killed & live | (p0 | p1 | p2 | p3 | p4) & !idle == 0
 }
 
-// Whether somebody is in the group or was killed: no group began with nobody.
-fn somebody(live: u32, killed: u32) -> bool
-    ensures { λ r. ⌜ r ≡ some mostProcessors (λ i. on i live or on i killed) ⌝ }
+// The starting group: those in the group and the killed.
+fn starting(live: u32, killed: u32) -> u32
+    ensures { λ r. ⌜ r ≡ pack mostProcessors (λ i. on i live or on i killed) ⌝ }
 {
-    live | killed != 0
+    live | killed
+}
+
+// Whether a starting group has processor 0, and with each processor the one before it: no group starts with nobody.
+fn in_a_row(all: u32) -> bool
+    ensures { λ r. ⌜ r ≡ inARow all ⌝ }
+{
+    both(all % 2 == 1, all / 2 & !all == 0)
 }
 
 // Whether no counter is above partial mode's limit of 5: above it are those with bit 3 or 4, or with bits 1 and 2.
@@ -147,7 +154,8 @@ pub fn is_group(cells: &[u32; group::CELLS]) -> bool
         cells[group::PLANE_4],
         cells[group::KILLED],
     );
-    let begun = somebody(cells[group::LIVE], cells[group::KILLED]);
+    let all = starting(cells[group::LIVE], cells[group::KILLED]);
+    let row = in_a_row(all);
     let counters = counters_fit(
         cells[group::MODE],
         cells[group::PLANE_1],
@@ -171,6 +179,6 @@ pub fn is_group(cells: &[u32; group::CELLS]) -> bool
     let place = both(cells[group::POSITION] <= LAST_SLOT, spare);
     both(
         masks,
-        both(begun, both(counters, both(returns, both(loops, place)))),
+        both(row, both(counters, both(returns, both(loops, place)))),
     )
 }
