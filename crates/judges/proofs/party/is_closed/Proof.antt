@@ -25,7 +25,9 @@ returns : tie.Need-returns
 unfolding closedBy
 returns c =
     let at-both = c .before .before .before in
-    joined (c .both4 .ensures) refl (joined (c .before .both3 .ensures) refl (joined (c .before .before .both2 .ensures) refl (at-both .both .ensures)))
+    joined (c .both4 .ensures) refl
+    (joined (c .before .both3 .ensures) refl
+    (joined (c .before .before .both2 .ensures) refl (at-both .both .ensures)))
 
 pub is-closed-spec : {M : Type 1} → statement M
 is-closed-spec =

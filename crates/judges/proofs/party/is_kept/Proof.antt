@@ -102,7 +102,11 @@ returns c =
     let at-is-row = at-is-birth .before .before .before in
     let at-is-domain = at-is-row .before .before .before .before .before in
     let at-is-command = at-is-domain .before .before .before .before .before .before in
-    joined (c .both6 .ensures) (at-is-command .before .both .ensures) (joined (c .before .both5 .ensures) (at-is-command .is-command .ensures) (joined (c .before .before .both4 .ensures) (at-is-domain .is-domain .ensures) (joined (at-both3 .both3 .ensures) (at-is-row .is-row .ensures) (joined (at-both2 .both2 .ensures) (at-is-birth .is-birth .ensures) (at-is-tally .is-tally .ensures)))))
+    joined (c .both6 .ensures) (at-is-command .before .both .ensures)
+    (joined (c .before .both5 .ensures) (at-is-command .is-command .ensures)
+    (joined (c .before .before .both4 .ensures) (at-is-domain .is-domain .ensures)
+    (joined (at-both3 .both3 .ensures) (at-is-row .is-row .ensures)
+    (joined (at-both2 .both2 .ensures) (at-is-birth .is-birth .ensures) (at-is-tally .is-tally .ensures)))))
 
 pub is-kept-spec : {M : Type 1} → statement M
 is-kept-spec =

@@ -44,7 +44,10 @@ returns c =
     let at-passed2 = at-passed3 .before in
     let at-passed = at-passed2 .before in
     let at-parameters = at-passed .before in
-    joined (c .both4 .ensures) (ap (ltb (at-parameters .before .args .count)) (at-parameters .parameters .ensures)) (joined (c .before .both3 .ensures) (at-passed .passed .ensures) (joined (c .before .before .both2 .ensures) (at-passed2 .passed2 .ensures) (joined (at-both .both .ensures) (at-passed3 .passed3 .ensures) refl)))
+    joined (c .both4 .ensures) (ap (ltb (at-parameters .before .args .count)) (at-parameters .parameters .ensures))
+    (joined (c .before .both3 .ensures) (at-passed .passed .ensures)
+    (joined (c .before .before .both2 .ensures) (at-passed2 .passed2 .ensures)
+    (joined (at-both .both .ensures) (at-passed3 .passed3 .ensures) refl)))
 
 pub is-open-spec : {M : Type 1} → statement M
 is-open-spec =

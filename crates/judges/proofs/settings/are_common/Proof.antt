@@ -38,7 +38,9 @@ returns c =
     let at-is-buffer-at = c .before .before .before in
     let at-is-row-at3 = at-is-buffer-at .before in
     let at-is-row-at2 = at-is-row-at3 .before in
-    joined (c .both3 .ensures) (at-is-row-at2 .before .is-row-at .ensures) (joined (c .before .both2 .ensures) (at-is-row-at2 .is-row-at2 .ensures) (joined (c .before .before .both .ensures) (at-is-row-at3 .is-row-at3 .ensures) (at-is-buffer-at .is-buffer-at .ensures)))
+    joined (c .both3 .ensures) (at-is-row-at2 .before .is-row-at .ensures)
+    (joined (c .before .both2 .ensures) (at-is-row-at2 .is-row-at2 .ensures)
+    (joined (c .before .before .both .ensures) (at-is-row-at3 .is-row-at3 .ensures) (at-is-buffer-at .is-buffer-at .ensures)))
 
 pub are-common-spec : {M : Type 1} → statement M
 are-common-spec =

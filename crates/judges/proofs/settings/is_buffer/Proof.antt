@@ -27,7 +27,8 @@ returns : tie.Need-returns
 unfolding lawfulBuffer window
 returns c =
     let at-both = c .before .before .before in
-    c .is-lawful .ensures ∙ ap₂ (lawful (at-both .before .args .flag)) (joined (c .before .before .both2 .ensures) refl (at-both .both .ensures)) (c .before .is-window .ensures)
+    c .is-lawful .ensures ∙ ap₂ (lawful (at-both .before .args .flag))
+    (joined (c .before .before .both2 .ensures) refl (at-both .both .ensures)) (c .before .is-window .ensures)
 
 pub is-buffer-spec : {M : Type 1} → statement M
 is-buffer-spec =

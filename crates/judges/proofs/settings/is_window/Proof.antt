@@ -37,7 +37,9 @@ returns c =
     let at-is-window = c .before .before .before in
     let at-is-allowed3 = at-is-window .before in
     let at-is-allowed2 = at-is-allowed3 .before in
-    joined (c .both3 .ensures) (at-is-allowed2 .before .is-allowed .ensures) (joined (c .before .both2 .ensures) (at-is-allowed2 .is-allowed2 .ensures) (joined (c .before .before .both .ensures) (at-is-allowed3 .is-allowed3 .ensures) (at-is-window .is-window .ensures)))
+    joined (c .both3 .ensures) (at-is-allowed2 .before .is-allowed .ensures)
+    (joined (c .before .both2 .ensures) (at-is-allowed2 .is-allowed2 .ensures)
+    (joined (c .before .before .both .ensures) (at-is-allowed3 .is-allowed3 .ensures) (at-is-window .is-window .ensures)))
 
 pub is-window-spec : {M : Type 1} → statement M
 is-window-spec =
