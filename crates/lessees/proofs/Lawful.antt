@@ -14,7 +14,8 @@ use Rattle.state.proofs.Lawful.{unset-buffer, unset-row, unset-word, each-seen,
 use Rattle.lessees.specs.Sight.{seenShared}
 
 -- party 0's word, or none
-word-seen : (kind : Kind) (mine flag w : ℕ) → lawfulWord kind flag w ≡ true → lawfulWord kind (pick (ownsCommon mine) flag 0) (pick (ownsCommon mine) w 0) ≡ true
+word-seen : (kind : Kind) (mine flag w : ℕ) → lawfulWord kind flag w ≡ true →
+    lawfulWord kind (pick (ownsCommon mine) flag 0) (pick (ownsCommon mine) w 0) ≡ true
 unfolding pick
 word-seen kind mine flag w a = go (ownsCommon mine)
   where

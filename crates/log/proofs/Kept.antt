@@ -56,7 +56,8 @@ record Noted (midnights : ℕ) (f : WordRefused) : Type 0 where
   within : f .midnights ≤ midnights
   unrefused : f .number ≡ 0 → f .midnights ≡ 0
 
-noted-first : (midnights : ℕ) (f : WordRefused) (x : First) → ((n : ℕ) → x ≡ first n → 1 ≤ n) → Noted midnights f → Noted midnights (notedFirst x midnights f)
+noted-first : (midnights : ℕ) (f : WordRefused) (x : First) → ((n : ℕ) → x ≡ first n → 1 ≤ n) → Noted midnights f →
+    Noted midnights (notedFirst x midnights f)
 noted-first midnights f nothing h v = v
 noted-first midnights f (first n) h v =
     by-pick (Noted midnights) (eqb (f .number) 0) (record { number = n; midnights = midnights }) f
@@ -183,7 +184,8 @@ module _ (r : Replay) (v : ReplayValid r) where
         marks-length = simp length-set (v .marks-length);
         marks-rest =
             λ k h.
-            mark-other (r .marks) (r .midnights) (r .session .party .tally) k (λ z. omega arith) (λ z. omega arith) ∙ v .marks-rest k (omega arith);
+            mark-other (r .marks) (r .midnights) (r .session .party .tally) k (λ z. omega arith) (λ z. omega arith) ∙
+            v .marks-rest k (omega arith);
         growing =
             λ k h.
             grows-marked (r .marks) (r .midnights) (r .session .party .tally) (omega (arith, v .marks-length)) k h (v .growing);

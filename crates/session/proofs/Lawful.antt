@@ -1,14 +1,13 @@
 -- What an accepted command sets is lawful: its fields passed their kinds, and as a whole it passed the rules 5 and 6. Assumes nothing.
-use mathlib.Core.Path.{_≡_, refl, sym, _∙_}
-use mathlib.Core.Bool.{Bool, true}
-use mathlib.Core.List.{List, [], _∷_}
+use mathlib.Core.Path.{_≡_, sym, _∙_}
+use mathlib.Core.Bool.{true}
+use mathlib.Core.List.{List}
 use Prim.Native.Nat.{ℕ}
 use native.Mathlib.Omega.{arith}
-use lib.ListN.{getD}
 use Rattle.laws.proofs.Choice.{Tested, tested, holds, fails}
 use Rattle.refusal.specs.Told.{gives, refuses}
 use Rattle.command.specs.Table.{countOf}
-use Rattle.command.specs.Kinds.{allowed, kindOf}
+use Rattle.command.specs.Kinds.{kindOf}
 use Rattle.command.specs.Commands.{storedLine, lineOf, fieldsOf, EachAllowed}
 use Rattle.command.specs.declared.commands.Stored.the-variants as stored
 use Rattle.command.specs.declared.commands.Command.{Command}
@@ -17,7 +16,7 @@ use Rattle.command.specs.declared.kinds.Kind.the-variants.{Format, InputFormat,
 use Rattle.rules.specs.Rules.{domainKept, windowKept, lastRuleOf}
 use Rattle.rules.proofs.Rule.{rule-five, rule-six}
 use Rattle.owners.proofs.Blend.{mask-lt}
-use Rattle.state.specs.State.{Buffer, Party, Shared, unset}
+use Rattle.state.specs.State.{Party, Shared}
 use Rattle.state.specs.Effects.{buffer, ownAfter, sharedAfter}
 use Rattle.state.specs.Lawful.{lawfulBuffer, lawfulRow, lawfulDomain, SharedLawful}
 use Rattle.state.proofs.Lawful.{set-buffer, set-row, set-word, set-domain, each-set, lawful-with}
