@@ -1,43 +1,47 @@
 // The tallies at the midnights: they only grow from part to part, and are 0 for the midnights that haven't come.
+use days::report;
 use judges::tests::both;
-
-// A tally when part `k` began, `which` of the two.
-fn began(marks: &[u64; replay::MARKS], which: usize, k: usize) -> u64 {
-    if k == 0 {
-        return 0;
-    }
-    marks[2 * (k - 1) + which]
-}
-
-// The same when it ended: the last part goes on, and has the tally of now.
-fn ended(marks: &[u64; replay::MARKS], midnights: usize, now: u64, which: usize, k: usize) -> u64 {
-    if k < midnights {
-        return marks[2 * k + which];
-    }
-    now
-}
+ghost use mathlib.Core.Path.{_≡_};
+ghost use Prim.Native.Nat.{_+_, _<_, _≤_};
+ghost use Rattle.laws.specs.Below.{every};
+ghost use Rattle.replay.specs.State.{marksLength, mostMidnights};
+ghost use Rattle.days.specs.Reported.{nowIn};
+ghost use Rattle.judges_log.specs.Judged.{growsAt, marksBy, restAt};
 
 // Whether the tallies grew in part `k`.
-fn grows(marks: &[u64; replay::MARKS], midnights: usize, runs: u64, claims: u64, k: usize) -> bool {
-    let first = began(marks, 0, k) <= ended(marks, midnights, runs, 0, k);
-    let second = began(marks, 1, k) <= ended(marks, midnights, claims, 1, k);
-    both(first, second)
+fn grows(
+    marks: &[u64; replay::MARKS],
+    midnights: u32,
+    tallies: &[u64; state::TALLIES],
+    k: u32,
+) -> bool
+    ensures { λ r. ⌜ r ≡ growsAt (now (marks .entry)) midnights (nowIn (now (tallies .entry))) k ⌝ }
+{
+    let from = report::began(marks, k);
+    let to = report::ended(marks, midnights, tallies, k);
+    both(from.runs <= to.runs, from.claims <= to.claims)
 }
 
 // Whether they grew in each part.
-fn all_grow(marks: &[u64; replay::MARKS], midnights: usize, runs: u64, claims: u64) -> bool {
+fn all_grow(marks: &[u64; replay::MARKS], midnights: u32, tallies: &[u64; state::TALLIES]) -> bool
+    requires { ⌜ midnights ≤ mostMidnights ⌝ }
+    ensures { λ r. ⌜ r ≡ every (midnights + 1) (growsAt (now (marks .entry)) midnights (nowIn (now (tallies .entry)))) ⌝ }
+{
     let mut good = true;
-    let mut k: usize = 0;
+    let mut k: u32 = 0;
     while k <= midnights {
-        good = both(good, grows(marks, midnights, runs, claims, k));
+        good = both(good, grows(marks, midnights, tallies, k));
         k = k + 1;
     }
     good
 }
 
 // Whether mark `k` is one of a midnight that has come, or 0.
-fn is_rest(marks: &[u64; replay::MARKS], midnights: usize, k: usize) -> bool {
-    if k < 2 * midnights {
+fn is_rest(marks: &[u64; replay::MARKS], midnights: u32, k: usize) -> bool
+    requires { ⌜ (midnights ≤ mostMidnights) × (k < marksLength) ⌝ }
+    ensures { λ r. ⌜ r ≡ restAt (now (marks .entry)) midnights k ⌝ }
+{
+    if k < 2 * midnights as usize {
         true
     } else {
         marks[k] == 0
@@ -45,7 +49,10 @@ fn is_rest(marks: &[u64; replay::MARKS], midnights: usize, k: usize) -> bool {
 }
 
 // Whether the marks of the midnights that haven't come are 0.
-fn are_rest(marks: &[u64; replay::MARKS], midnights: usize) -> bool {
+fn are_rest(marks: &[u64; replay::MARKS], midnights: u32) -> bool
+    requires { ⌜ midnights ≤ mostMidnights ⌝ }
+    ensures { λ r. ⌜ r ≡ every marksLength (restAt (now (marks .entry)) midnights) ⌝ }
+{
     let mut good = true;
     let mut k: usize = 0;
     while k < replay::MARKS {
@@ -60,10 +67,12 @@ pub fn are_kept(
     marks: &[u64; replay::MARKS],
     midnights: u32,
     tallies: &[u64; state::TALLIES],
-) -> bool {
-    let number = midnights as usize;
+) -> bool
+    requires { ⌜ midnights ≤ mostMidnights ⌝ }
+    ensures { λ r. ⌜ r ≡ marksBy (now (marks .entry)) midnights (nowIn (now (tallies .entry))) ⌝ }
+{
     both(
-        all_grow(marks, number, tallies[0], tallies[1]),
-        are_rest(marks, number),
+        all_grow(marks, midnights, tallies),
+        are_rest(marks, midnights),
     )
 }
