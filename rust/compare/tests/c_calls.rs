@@ -58,7 +58,7 @@ fn every_flipped_bit_of_a_state_is_refused_or_does_no_harm() {
             panic!("{line}")
         };
         assert!(
-            states == least && refused > 4 * taken && taken > 100 * states,
+            states == least && refused > 4 * taken && taken > 50 * states,
             "{line}"
         );
     }
