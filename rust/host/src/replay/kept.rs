@@ -61,6 +61,8 @@ pub struct Kept {
 #[derive(Clone, Debug, PartialEq, Eq)]
 pub enum Wrong {
     NoState,
+    /// The line end behind its name isn't there.
+    LineEnd,
     Version(u32),
     /// The length that is due isn't known where the file ends before it.
     Cut {
@@ -88,6 +90,10 @@ impl fmt::Display for Wrong {
             Wrong::NoState => write!(
                 f,
                 "is no state file\n  --resume takes what --save wrote; a log is given without it"
+            ),
+            Wrong::LineEnd => write!(
+                f,
+                "is damaged: its line ends were changed on its way, as a copy in text mode does\n  {anew}"
             ),
             Wrong::Version(version) => write!(
                 f,
@@ -230,8 +236,12 @@ impl Kept {
 /// and undamaged.
 fn whole(bytes: &[u8]) -> Result<u32, Wrong> {
     let begun = bytes.len().min(MAGIC.len());
-    if begun == 0 || bytes[..begun] != MAGIC.as_bytes()[..begun] {
+    let name = MAGIC.trim_end().as_bytes();
+    if begun == 0 || !bytes.iter().zip(name).all(|(byte, due)| byte == due) {
         return Err(Wrong::NoState);
+    }
+    if bytes[..begun] != MAGIC.as_bytes()[..begun] {
+        return Err(Wrong::LineEnd);
     }
     let length = bytes.len() as u64;
     if bytes.len() < CONSUMED {

@@ -6,6 +6,7 @@ use crate::common::failure::{Failure, Outcome};
 use crate::common::replaced::{Kind, Replaced};
 use crate::common::text;
 use crate::common::visible;
+use crate::input::packed;
 use crate::input::source;
 use crate::replay::kept::{self, Kept, RECORD};
 use crate::replay::log::Log;
@@ -112,11 +113,13 @@ fn load(path: &Path) -> Outcome<(Kept, String)> {
     Ok((kept, name))
 }
 
-/// The file's bytes, and one more than any state file has where it is longer.
+/// The file's bytes, unpacked where gzip packed them, and one more than any state file has where
+/// it is longer.
 fn read(path: &Path) -> io::Result<Vec<u8>> {
     let mut bytes = Vec::new();
     let most = kept::MOST as u64 + 1;
-    File::open(path)?.take(most).read_to_end(&mut bytes)?;
+    let (_, reader) = packed::unpacked(Box::new(File::open(path)?));
+    reader.take(most).read_to_end(&mut bytes)?;
     Ok(bytes)
 }
 
@@ -180,7 +183,7 @@ impl Resumed {
                 "{name} ends inside a record, with {open} of its {RECORD} bytes: what is given must go on there"
             )),
             (19, Some(day)) => Some(format!(
-                "{name} ends in day {day}: this is another log, or what follows that day is missing, or came before"
+                "{name} ends in day {day}: this is another log, or days between them are missing, or these came before"
             )),
             _ => None,
         }

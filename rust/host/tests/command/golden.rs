@@ -171,6 +171,16 @@ const CASES: &[(&str, &str, &str)] = &[
         "",
     ),
     (
+        "replay-state-as-a-log",
+        "replay samples/station-14-march.state",
+        "",
+    ),
+    (
+        "score-state-as-a-log",
+        "score samples/station-14-march.state samples/station-14-april.log --first-day 101 --days 30 --owed 14000000 --from 2026-04-01",
+        "",
+    ),
+    (
         "replay-resume-no-state",
         "replay samples/station-14-april.log --resume samples/station-14-march.log",
         "",

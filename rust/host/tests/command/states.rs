@@ -125,7 +125,9 @@ fn any_log_goes_on_from_its_states() {
                 };
                 if stopped {
                     // What comes behind the stop isn't read by it.
-                    ["taken", "refused_word", "runs", "claims", "last_day"].map(same);
+                    for key in ["taken", "refused_word", "runs", "claims", "last_day"] {
+                        same(key);
+                    }
                     refused += 1;
                 } else {
                     assert_eq!(
@@ -323,6 +325,8 @@ fn each_wrong_file_is_told_what_is_wrong_and_what_to_do() {
     // More than any state file has, which isn't read to its end.
     let long = [&march()[..], &vec![0; 1 << 20]].concat();
     assert!(told_of("long", &long).contains("more stands there than its 9177 bytes"));
+    let dos = [b"egretfold state\r\n", &march()[VERSION..]].concat();
+    assert!(told_of("dos", &dos).contains("its line ends were changed on its way"));
     let consumed = with(CONSUMED, &[0x16]);
     assert!(told_of("consumed", &sealed(consumed)).contains("isn't that of the bytes"));
 }
@@ -396,6 +400,27 @@ fn an_unfinished_record_stays_open() {
     assert_eq!(output.status.code(), Some(1));
     let due = "ends inside a record, with 3 of its 5 bytes: what is given must go on there";
     assert!(complained(&output).contains(due), "{}", complained(&output));
+}
+
+/// A state that gzip packed is read as it is, as logs are; one that isn't a state file isn't read to its end.
+#[test]
+fn a_packed_state_is_unpacked() {
+    let folder = Folder::new("packed");
+    let state = folder.write("march.state", &march());
+    let zeros = folder.write("zeros", &vec![0; 1 << 20]);
+    for file in [&state, &zeros] {
+        let packed = Command::new("gzip").arg(file).status();
+        assert!(packed.expect("gzip runs").success());
+    }
+    let line =
+        |state: &str| format!("score samples/station-14-april.log --resume {state} {APRIL} --csv");
+    let output = egretfold(&line(&format!("{state}.gz")), b"");
+    assert_eq!(
+        told(&output),
+        told(&egretfold(&line("samples/station-14-march.state"), b""))
+    );
+    let output = egretfold(&line(&format!("{zeros}.gz")), b"");
+    assert!(complained(&output).contains("is no state file"));
 }
 
 /// A log that is stopped has no state: an earlier one stays as it is.
