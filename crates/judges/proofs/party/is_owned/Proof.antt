@@ -30,7 +30,8 @@ returns : tie.Need-returns
 unfolding ownedBy
 returns c =
     let at-if1 = c .before .before .before in
-    joined (c .both .ensures) (c .before .before .may-open .ensures) (c .before .may-name .ensures) ∙ sym (pick-yes _ _ (lt-ltb _ _ (at-if1 .if1 .taken)))
+    joined (c .both .ensures) (c .before .before .may-open .ensures) (c .before .may-name .ensures)
+    ∙ sym (pick-yes _ _ (lt-ltb _ _ (at-if1 .if1 .taken)))
 
 returns-2 : tie.Need-returns-2
 unfolding ownedBy

@@ -66,7 +66,8 @@ unfolding runningBy partyOf
 returns c =
     let at-if1 = c .before .before .before .before .before .before in
     joined (c .both2 .ensures) refl
-    (joined (c .before .both .ensures) refl (c .before .before .is-owned .ensures)) ∙ sym (and-yes _ (sym (at-if1 .before .is-open .ensures) ∙ at-if1 .if1 .taken))
+    (joined (c .before .both .ensures) refl (c .before .before .is-owned .ensures))
+    ∙ sym (and-yes _ (sym (at-if1 .before .is-open .ensures) ∙ at-if1 .if1 .taken))
 
 returns-2 : tie.Need-returns-2
 unfolding runningBy partyOf

@@ -1,3 +1,12 @@
+-- `judges_log::marks::are_rest` meets its contract: mark by mark. Assumes nothing.
+use mathlib.Core.Path.{_≡_, _∙_}
+use Prim.Native.Nat.{_+_, _-_, _≤_}
+use native.Mathlib.Omega.{arith}
+use Rattle.laws.specs.Below.{every}
+use Rattle.judges.proofs.Joined.{joined, one-more, none-yet, all-tested}
+use borrow.Author.Needs.{needs}
+use Rattle.replay.specs.State.{marksLength}
+use Rattle.judges_log.specs.Judged.{restAt}
 use Rattle.judges_log.proofs.marks.are_rest.Statement.{statement}
 use Rattle.judges_log.proofs.marks.are_rest.Tie as tie
 use Rattle.judges_log.proofs.marks.are_rest.Reads as reads
@@ -6,38 +15,33 @@ use Rattle.judges.proofs.tests.both.Reads as both-reads
 use Rattle.judges_log.proofs.marks.is_rest.Reads as is-rest-reads
 
 abbrev Inv-loop : tie.InvT-loop
-Inv-loop marks midnights good₀ k₀ good k = ?
+Inv-loop marks midnights good₀ k₀ good k = (k ≤ marksLength) × (good ≡ every k (restAt marks midnights))
 
 abbrev μ-loop : tie.MeasureT-loop
-μ-loop marks midnights good₀ k₀ good k = ?
+μ-loop marks midnights good₀ k₀ good k = marksLength - k
 
--- src/marks.rt:58:5
 loop-holds : tie.Need-loop-holds Inv-loop μ-loop
-loop-holds c = ?
+loop-holds c = (omega arith, none-yet _)
 
--- src/marks.rt:59:27
 is-rest-requires : tie.Need-is-rest-requires Inv-loop μ-loop
-is-rest-requires c κs = ?
+is-rest-requires c κs = (c .before .before .pre, c .loop-test .taken)
 
--- src/marks.rt:59:9
 both-requires : tie.Need-both-requires Inv-loop μ-loop
-both-requires c κs = ?
+both-requires c κs = search needs
 
--- src/marks.rt:60:13
 add-k : tie.Need-add-k Inv-loop μ-loop
-add-k c = ?
+add-k c = omega arith
 
--- src/marks.rt:58:5
 loop-less : tie.Need-loop-less Inv-loop μ-loop
-loop-less c = ?
+loop-less c = omega arith
 
--- src/marks.rt:58:5
 loop-again : tie.Need-loop-again Inv-loop μ-loop
-loop-again c = ?
+loop-again c =
+    let at-loop = c .before .before .before in
+    (omega arith, joined (c .both .ensures) (at-loop .loop .inv .1) (c .before .is-rest .ensures) ∙ one-more _ _)
 
--- src/marks.rt:52:1
 returns : tie.Need-returns Inv-loop μ-loop
-returns c = ?
+returns c = all-tested _ (c .before .loop .inv .1) (omega arith)
 
 pub are-rest-spec : {M : Type 1} → statement M
 are-rest-spec =

@@ -1,3 +1,9 @@
+-- `judges_log::marks::grows` meets its contract: runs and claims of a part. Assumes nothing.
+use mathlib.Core.Path.{ap, ap₂}
+use lib.Dec.{leb}
+use Rattle.state.specs.State.{Tally}
+use Rattle.judges_log.specs.Judged.{growsAt}
+use Rattle.judges.proofs.Joined.{joined}
 use borrow.Author.Needs.{needs}
 use Rattle.judges_log.proofs.marks.grows.Statement.{statement}
 use Rattle.judges_log.proofs.marks.grows.Tie as tie
@@ -7,21 +13,20 @@ use Rattle.days.proofs.report.began.Reads as began-reads
 use Rattle.days.proofs.report.ended.Reads as ended-reads
 use Rattle.judges.proofs.tests.both.Reads as both-reads
 
--- src/marks.rt:20:9
 began-requires : tie.Need-began-requires
 began-requires c κs = search needs
 
--- src/marks.rt:21:9
 ended-requires : tie.Need-ended-requires
 ended-requires c κs = search needs
 
--- src/marks.rt:22:5
 both-requires : tie.Need-both-requires
 both-requires c κs = search needs
 
--- src/marks.rt:12:1
 returns : tie.Need-returns
-returns c = ?
+unfolding growsAt
+returns c =
+    let at-ended = c .before .before .before .before .before in
+    joined (c .both .ensures) (ap₂ leb (ap (λ (t : Tally). t .runs) (at-ended .before .began .ensures)) (ap (λ (t : Tally). t .runs) (at-ended .ended .ensures))) (ap₂ leb (ap (λ (t : Tally). t .claims) (at-ended .before .began .ensures)) (ap (λ (t : Tally). t .claims) (at-ended .ended .ensures)))
 
 pub grows-spec : {M : Type 1} → statement M
 grows-spec = tie.close (tie.spec began-requires ended-requires both-requires returns)
