@@ -391,13 +391,13 @@ flow-given = handed-made
 -- Cells that were kept elsewhere: the check says yes just where step, run, kill and the loops told may have them; so it does of all that
 -- begin, step, run and kill left, and never of 20 zeros.
 pub flow-checked : {l : List ℕ} {answer : Bool} → JudgesGroup l answer → answer ≡ true → cells.GroupGiven l
-flow-checked j = j .given
+flow-checked j = j .sound
 
 pub flow-checks : {l : List ℕ} {answer : Bool} → JudgesGroup l answer → cells.GroupGiven l → answer ≡ true
-flow-checks j = j .yes
+flow-checks j = j .complete
 
 pub flow-checks-own : {l : List ℕ} {answer : Bool} → JudgesGroup l answer → flow.Handed l → answer ≡ true
-flow-checks-own j h = j .yes (handed-made h)
+flow-checks-own j h = j .complete (handed-made h)
 
 pub flow-checks-zeros : (answer : Bool) → JudgesGroup zeroCells answer → answer ≡ false
 flow-checks-zeros = zeros-refused

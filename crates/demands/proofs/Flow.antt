@@ -257,7 +257,7 @@ handed-made (ran {cells = l} h p booleans masks r c' a a' k) =
     (by-pick (SoundRun (limitOf (cells.modeIn l))) (ended p (groupOf l)) _ _ (λ e. tt) (λ e. steps-sound (cells.modeIn l) p booleans masks (groupOf l) (handed-made h .sound))))
 handed-made (killed {cells = l} h slots registers mask r c' a a' k) =
     subst cells.GroupGiven (sym (k .left)) (kill-leaves-given l slots registers mask (handed-made h))
-handed-made (checked l j) = j .given refl
+handed-made (checked l j) = j .sound refl
 
 -- the mode that a begin was given, and that a step or a run leaves
 pub begun-mode : (size mode r : ℕ) (l l' : List ℕ) → BeginCrosses size mode r l l' → r ≡ 0 → cells.modeIn l' ≡ modeOf mode

@@ -352,5 +352,5 @@ unfolding procAt on _or_
 zeros-none v = v .sound .start .first
 
 pub zeros-refused : (r : Bool) → JudgesGroup zeroCells r → r ≡ false
-zeros-refused true j = sym (zeros-none (j .given refl))
+zeros-refused true j = sym (zeros-none (j .sound refl))
 zeros-refused false j = refl

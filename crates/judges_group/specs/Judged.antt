@@ -74,8 +74,8 @@ pub record Words (live active p0 p1 p2 p3 p4 killed : ℕ) : Type 0 where
 
 -- the answer is yes just where the cells are such as the entries over a group give out and take
 pub record JudgesGroup (l : List ℕ) (r : Bool) : Type 0 where
-  pub given : r ≡ true → GroupGiven l
-  pub yes : GroupGiven l → r ≡ true
+  pub sound : r ≡ true → GroupGiven l
+  pub complete : GroupGiven l → r ≡ true
 
 -- cells of which nothing was ever made
 abbrev pub zeroCells : List ℕ

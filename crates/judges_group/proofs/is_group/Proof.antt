@@ -146,8 +146,8 @@ returns c =
     (joined (c .before .before .before .before .both3 .ensures) (at-loops .loops-fit .ensures)
     (joined (at-place .both2 .ensures) refl (at-spare .both .ensures)))))) in
     record {
-      given = λ e. judged-given l (entry .pre) (at-masks .masks-fit .ensures .1) (sym judged ∙ e);
-      yes = λ v. judged ∙ given-judged l v;
+      sound = λ e. judged-given l (entry .pre) (at-masks .masks-fit .ensures .1) (sym judged ∙ e);
+      complete = λ v. judged ∙ given-judged l v;
     }
 
 pub is-group-spec : {M : Type 1} → statement M
