@@ -27,7 +27,7 @@ fn march() -> Vec<u8> {
 }
 
 /// A file with the digest that its bytes have.
-fn sealed(mut bytes: Vec<u8>) -> Vec<u8> {
+pub fn sealed(mut bytes: Vec<u8>) -> Vec<u8> {
     bytes.truncate(bytes.len() - DIGEST);
     let digest = Sha256::digest(&bytes);
     bytes.extend(digest);
