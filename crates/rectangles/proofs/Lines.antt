@@ -96,7 +96,8 @@ rows-are-stretches out place s x w y start stride source m (suc h) begins follow
     (rows-are-stretches out place s x w y start stride source m h (λ j hj. begins j (omega (arith, hj)))
     (λ j i hj hi. follow j i (omega (arith, hj)) hi) (λ j hj. fits j (omega (arith, hj))) (omega (arith, room, all))) ∙
     one-stretch out (place (y + h)) s x (0 + h * (w * s)) source before w (λ i hi. follow h i (omega arith) hi)
-    (subst (λ (q : ℕ). place (y + h) x + w * s ≤ memoryOf out (length source) q) (sym long) (omega (arith, begins h (omega arith), fits h (omega arith))))
+    (subst (λ (q : ℕ). place (y + h) x + w * s ≤ memoryOf out (length source) q) (sym long)
+    (omega (arith, begins h (omega arith), fits h (omega arith))))
     (subst (λ (q : ℕ). 0 + h * (w * s) + w * s ≤ roomOf out (length source) q) (sym long) (omega (arith, room, all))) ∙
     ap₂ (λ (a b : ℕ). moved (turned out a b (w * s) ∷ []) source before)
     {x = place (y + h) x} {y = linePlace start stride (0 + h + 0)} {u = 0 + h * (w * s)} {v = 0 + h * (w * s) + 0 * (w * s)}

@@ -47,7 +47,8 @@ rows-requires c κs =
     let at-if = at-split .before in
     let at-step = at-if .before in
     let entry = at-step .before .before .before in
-    rect-asked _ _ _ _ _ _ _ _ _ _ (entry .pre) (at-step .row-step .ensures) _ _ (at-split .split .ensures) (at-block .block-bytes .ensures) (at-if .if1 .taken)
+    rect-asked _ _ _ _ _ _ _ _ _ _ (entry .pre) (at-step .row-step .ensures) _ _ (at-split .split .ensures) (at-block .block-bytes .ensures)
+    (at-if .if1 .taken)
 
 -- linear
 mul-place : tie.Need-mul-place

@@ -15,7 +15,9 @@ loop-holds : tie.Need-loop-holds Inv-loop μ-loop
 loop-holds c = lines-start _ _ _ _ _ _ _ (c .before .before .pre)
 
 stretch-requires : tie.Need-stretch-requires Inv-loop μ-loop
-stretch-requires c κs = line-asked _ _ _ _ _ _ _ (c .before .before .before .before .before .pre) _ _ _ _ (c .before .before .loop .inv) (c .before .loop-test .taken)
+stretch-requires c κs =
+    line-asked _ _ _ _ _ _ _ (c .before .before .before .before .before .pre)
+    _ _ _ _ (c .before .before .loop .inv) (c .before .loop-test .taken)
 
 add-here : tie.Need-add-here Inv-loop μ-loop
 add-here c =
@@ -45,7 +47,8 @@ loop-again c =
     let at-test = c .before .before .before .before in
     let at-loop = at-test .before in
     let entry = c .before .before .before .before .before .before .before .before in
-    lines-next _ _ _ _ _ _ _ (entry .pre) _ _ _ _ (at-loop .loop .inv) (at-test .loop-test .taken) _ (c .before .to .given) (c .before .before .stretch .ensures)
+    lines-next _ _ _ _ _ _ _ (entry .pre)
+    _ _ _ _ (at-loop .loop .inv) (at-test .loop-test .taken) _ (c .before .to .given) (c .before .before .stretch .ensures)
 
 same-length : tie.Need-same-length Inv-loop μ-loop
 same-length c = c .before .loop .inv .row .long

@@ -24,25 +24,40 @@ div-end : tie.Need-div-end
 div-end c = search needs
 
 mul-lead : tie.Need-mul-lead
-mul-lead c = let at-width = c .before in split-fits _ _ _ _ (at-width .tile-width .ensures .1) (at-width .tile-width .ensures .2) (at-width .tile-width .ensures .3) (c .before .before .pre .1) (c .if1 .taken) .0
+mul-lead c =
+    let at-width = c .before in
+    split-fits _ _ _ _ (at-width .tile-width .ensures .1) (at-width .tile-width .ensures .2) (at-width .tile-width .ensures .3)
+    (c .before .before .pre .1) (c .if1 .taken) .0
 
 sub-lead : tie.Need-sub-lead
-sub-lead c = let at-width = c .before in split-fits _ _ _ _ (at-width .tile-width .ensures .1) (at-width .tile-width .ensures .2) (at-width .tile-width .ensures .3) (c .before .before .pre .1) (c .if1 .taken) .1
+sub-lead c =
+    let at-width = c .before in
+    split-fits _ _ _ _ (at-width .tile-width .ensures .1) (at-width .tile-width .ensures .2) (at-width .tile-width .ensures .3)
+    (c .before .before .pre .1) (c .if1 .taken) .1
 
 sub-count : tie.Need-sub-count
 sub-count c = search needs
 
 mul-inner : tie.Need-mul-inner
-mul-inner c = let at-width = c .before in split-fits _ _ _ _ (at-width .tile-width .ensures .1) (at-width .tile-width .ensures .2) (at-width .tile-width .ensures .3) (c .before .before .pre .1) (c .if1 .taken) .2
+mul-inner c =
+    let at-width = c .before in
+    split-fits _ _ _ _ (at-width .tile-width .ensures .1) (at-width .tile-width .ensures .2) (at-width .tile-width .ensures .3)
+    (c .before .before .pre .1) (c .if1 .taken) .2
 
 add-tail : tie.Need-add-tail
 add-tail c = search needs
 
 mul-tail : tie.Need-mul-tail
-mul-tail c = let at-width = c .before in split-fits _ _ _ _ (at-width .tile-width .ensures .1) (at-width .tile-width .ensures .2) (at-width .tile-width .ensures .3) (c .before .before .pre .1) (c .if1 .taken) .3
+mul-tail c =
+    let at-width = c .before in
+    split-fits _ _ _ _ (at-width .tile-width .ensures .1) (at-width .tile-width .ensures .2) (at-width .tile-width .ensures .3)
+    (c .before .before .pre .1) (c .if1 .taken) .3
 
 sub-tail : tie.Need-sub-tail
-sub-tail c = let at-width = c .before in split-fits _ _ _ _ (at-width .tile-width .ensures .1) (at-width .tile-width .ensures .2) (at-width .tile-width .ensures .3) (c .before .before .pre .1) (c .if1 .taken) .4
+sub-tail c =
+    let at-width = c .before in
+    split-fits _ _ _ _ (at-width .tile-width .ensures .1) (at-width .tile-width .ensures .2) (at-width .tile-width .ensures .3)
+    (c .before .before .pre .1) (c .if1 .taken) .4
 
 plain-requires : tie.Need-plain-requires
 plain-requires c κs = search needs
@@ -50,7 +65,8 @@ plain-requires c κs = search needs
 returns : tie.Need-returns
 returns c =
     let at-width = c .before in
-    split-plan _ _ _ _ (at-width .tile-width .ensures .1) (at-width .tile-width .ensures .2) (at-width .tile-width .ensures .3) (c .before .before .pre .1) (c .if1 .taken)
+    split-plan _ _ _ _ (at-width .tile-width .ensures .1) (at-width .tile-width .ensures .2) (at-width .tile-width .ensures .3)
+    (c .before .before .pre .1) (c .if1 .taken)
 
 returns-2 : tie.Need-returns-2
 returns-2 c = plain-plan _ _ _ _ (c .plain .ensures)

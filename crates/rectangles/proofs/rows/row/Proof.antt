@@ -37,10 +37,14 @@ first-edge-requires : tie.Need-first-edge-requires
 first-edge-requires c κs = lead-asked _ _ _ _ _ _ _ _ _ _ _ _ _ _ _ _ (c .before .before .before .pre)
 
 tiles-requires : tie.Need-tiles-requires
-tiles-requires c κs = let entry = c .before .before .before .before .before .before .before in tiles-asked _ _ _ _ _ _ _ _ _ _ _ _ _ _ _ _ (entry .pre) _ (c .before .before .to .given)
+tiles-requires c κs =
+    let entry = c .before .before .before .before .before .before .before in
+    tiles-asked _ _ _ _ _ _ _ _ _ _ _ _ _ _ _ _ (entry .pre) _ (c .before .before .to .given)
 
 add-last-edge : tie.Need-add-last-edge
-add-last-edge c = let entry = c .before .before .before .before .before .before .before .before .before .before in omega (arith, before-fit _ _ _ _ _ _ _ _ _ _ _ _ _ _ _ _ (entry .pre))
+add-last-edge c =
+    let entry = c .before .before .before .before .before .before .before .before .before .before in
+    omega (arith, before-fit _ _ _ _ _ _ _ _ _ _ _ _ _ _ _ _ (entry .pre))
 
 last-edge-requires : tie.Need-last-edge-requires
 last-edge-requires c κs =

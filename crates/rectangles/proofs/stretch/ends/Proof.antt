@@ -22,7 +22,8 @@ turn-requires-2 c κs =
     let entry = c .before .before .before .before .before .before .before in
     let source = entry .args .from .now in
     let target = entry .args .to .now in
-    let first = begun _ _ _ _ source target (entry .pre .stretch) _ _ (entry .pre .fit) (c .before .before .to .given) (c .before .before .before .turn .ensures) in
+    let first = begun _ _ _ _ source target (entry .pre .stretch) _ _ (entry .pre .fit)
+    (c .before .before .to .given) (c .before .before .before .turn .ensures) in
     stretch-end _ _ _ _ source target (entry .pre .stretch) _ _ first _ (entry .pre .few) (entry .pre .fit)
 
 same-length : tie.Need-same-length
@@ -33,8 +34,10 @@ returns c =
     let entry = c .before .before .before .before .before .before .before .before .before .before in
     let source = entry .args .from .now in
     let target = entry .args .to .now in
-    let first = begun _ _ _ _ source target (entry .pre .stretch) _ _ (entry .pre .fit) (c .before .before .before .before .before .to .given) (c .before .before .before .before .before .before .turn .ensures) in
-    stretch-done _ _ _ _ source target (entry .pre .stretch) _ _ first _ _ (entry .pre .fit) (omega (arith, entry .pre .meet)) (c .before .before .turn2 .ensures)
+    let first = begun _ _ _ _ source target (entry .pre .stretch) _ _ (entry .pre .fit)
+    (c .before .before .before .before .before .to .given) (c .before .before .before .before .before .before .turn .ensures) in
+    stretch-done _ _ _ _ source target (entry .pre .stretch) _ _ first _ _ (entry .pre .fit)
+    (omega (arith, entry .pre .meet)) (c .before .before .turn2 .ensures)
 
 pub ends-spec : {M : Type 1} → statement M
 ends-spec = tie.close (tie.spec sub-last turn-requires add-turn add-turn-2 turn-requires-2 same-length returns)

@@ -25,10 +25,14 @@ add-turn-2 : tie.Need-add-turn-2 Inv-loop μ-loop
 add-turn-2 c = sums-fit _ _ _ _ _ _ (c .before .before .before .before .pre .0) _ _ (c .before .loop .inv) _ (c .before .loop .inv .up) .1
 
 turn-requires : tie.Need-turn-requires Inv-loop μ-loop
-turn-requires c κs = part-asked _ _ _ _ _ _ (c .before .before .before .before .before .pre .0) _ _ (c .before .before .loop .inv) 32 (omega arith) (omega (arith, c .before .loop-test .taken))
+turn-requires c κs =
+    part-asked _ _ _ _ _ _ (c .before .before .before .before .before .pre .0)
+    _ _ (c .before .before .loop .inv) 32 (omega arith) (omega (arith, c .before .loop-test .taken))
 
 add-i : tie.Need-add-i Inv-loop μ-loop
-add-i c = let entry = c .before .before .before .before .before .before .before .before in omega (arith, c .before .before .before .before .loop-test .taken, entry .pre .0 .place-fits, entry .pre .0 .memory-most)
+add-i c =
+    let entry = c .before .before .before .before .before .before .before .before in
+    omega (arith, c .before .before .before .before .loop-test .taken, entry .pre .0 .place-fits, entry .pre .0 .memory-most)
 
 loop-less : tie.Need-loop-less Inv-loop μ-loop
 loop-less c = omega (arith, c .before .before .before .before .loop-test .taken)
@@ -38,17 +42,23 @@ loop-again c =
     let at-test = c .before .before .before .before in
     let at-loop = at-test .before in
     let entry = c .before .before .before .before .before .before .before .before in
-    stretch-next _ _ _ _ _ _ (entry .pre .0) _ _ (at-loop .loop .inv) _ (at-test .loop-test .taken) (c .before .to .given) (c .before .before .turn .ensures)
+    stretch-next _ _ _ _ _ _ (entry .pre .0) _ _ (at-loop .loop .inv)
+    _ (at-test .loop-test .taken) (c .before .to .given) (c .before .before .turn .ensures)
 
 add-turn-3 : tie.Need-add-turn-3 Inv-loop μ-loop
-add-turn-3 c = sums-fit _ _ _ _ _ _ (c .before .before .before .before .pre .0) _ _ (c .before .loop .inv) (c .before .before .before .before .args .n - 32) (omega arith) .0
+add-turn-3 c =
+    sums-fit _ _ _ _ _ _ (c .before .before .before .before .pre .0)
+    _ _ (c .before .loop .inv) (c .before .before .before .before .args .n - 32) (omega arith) .0
 
 add-turn-4 : tie.Need-add-turn-4 Inv-loop μ-loop
-add-turn-4 c = sums-fit _ _ _ _ _ _ (c .before .before .before .before .pre .0) _ _ (c .before .loop .inv) (c .before .before .before .before .args .n - 32) (omega arith) .1
+add-turn-4 c =
+    sums-fit _ _ _ _ _ _ (c .before .before .before .before .pre .0)
+    _ _ (c .before .loop .inv) (c .before .before .before .before .args .n - 32) (omega arith) .1
 
 turn-requires-2 : tie.Need-turn-requires-2 Inv-loop μ-loop
 turn-requires-2 c κs =
-    let entry = c .before .before .before .before .before in stretch-end _ _ _ _ _ _ (entry .pre .0) _ _ (c .before .before .loop .inv) 32 (omega arith) (entry .pre .1)
+    let entry = c .before .before .before .before .before in
+    stretch-end _ _ _ _ _ _ (entry .pre .0) _ _ (c .before .before .loop .inv) 32 (omega arith) (entry .pre .1)
 
 same-length : tie.Need-same-length Inv-loop μ-loop
 same-length c = c .before .to2 .given ∙ c .before .before .before .before .before .loop .inv .long
@@ -58,7 +68,8 @@ returns c =
     let at-test = c .before .before .before .before in
     let at-loop = at-test .before in
     let entry = c .before .before .before .before .before .before .before .before in
-    stretch-done _ _ _ _ _ _ (entry .pre .0) _ _ (at-loop .loop .inv) 32 _ (entry .pre .1) (at-test .loop-test .left) (c .before .before .turn2 .ensures)
+    stretch-done _ _ _ _ _ _ (entry .pre .0) _ _ (at-loop .loop .inv)
+    32 _ (entry .pre .1) (at-test .loop-test .left) (c .before .before .turn2 .ensures)
 
 pub long-spec : {M : Type 1} → statement M
 long-spec =
