@@ -36,7 +36,8 @@ fn first_edge(
     }
 }
 
-// The elements after the last whole tile; mostly none. `before` of the row's elements stand before them.
+// The elements after the last whole tile; mostly none. `before` of the row's elements stand before them. A routine apart from the first
+// edge's, so that `by_runs` has two callers: with one, the compiler makes of both a call that every row pays for, twice.
 fn last_edge(
     out: bool,
     size: u32,
