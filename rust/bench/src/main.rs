@@ -9,7 +9,7 @@ mod table;
 mod way;
 
 use std::process::exit;
-use table::Table;
+use table::{Mode, Table};
 
 const USAGE: &str = "\
 usage: ./bench [--quick] [--only SUBSTRING] [--list]
@@ -17,12 +17,13 @@ usage: ./bench [--quick] [--only SUBSTRING] [--list]
   --only SUBSTRING   only the lines whose name has it
   --list             the lines' names alone, none of them timed
   --help             this text
+./bench --count counts the instructions of the lines instead: see ./bench --count --help
+./bench --command [MB] times the command on a log of so many MB (1000), and the library alone
 ./bench --proofs [NAME...] times the proofs of all crates, or of these";
 
 struct Options {
-    repeats: usize,
+    mode: Mode,
     only: String,
-    list: bool,
 }
 
 fn main() {
@@ -30,10 +31,7 @@ fn main() {
         eprintln!("{USAGE}");
         exit(2)
     });
-    let mut table = match options.list {
-        true => Table::names(options.only),
-        false => Table::begin(options.repeats, options.only),
-    };
+    let mut table = Table::begin(options.mode, options.only);
     lines::feed::add(&mut table);
     lines::lessees::add(&mut table);
     lines::log::add(&mut table);
@@ -51,15 +49,15 @@ fn main() {
 /// The options, or nothing where one is unknown or lacks its word.
 fn options(mut words: impl Iterator<Item = String>) -> Option<Options> {
     let mut options = Options {
-        repeats: 21,
+        mode: Mode::Times(21),
         only: String::new(),
-        list: false,
     };
     while let Some(word) = words.next() {
         match word.as_str() {
-            "--quick" => options.repeats = 5,
+            "--quick" => options.mode = Mode::Times(5),
             "--only" => options.only = words.next()?,
-            "--list" => options.list = true,
+            "--once" => options.mode = Mode::Once,
+            "--list" => options.mode = Mode::Names,
             "--help" => {
                 println!("{USAGE}");
                 exit(0)

@@ -28,8 +28,12 @@ pub fn add(table: &mut Table) {
                 length => format!("pieces of {length}"),
             };
             let name = format!("replay, {log}, {cut}, a byte");
-            if table.wants(&name) {
-                check_damaged(&mixed_log(100, 25));
+            let wanted = match words {
+                LONG => table.wants_long(&name),
+                _ => table.wants(&name),
+            };
+            if wanted {
+                check_damaged(&mixed_log(40, 10));
                 let log = mixed_log(words, day);
                 let refusal = check_pieces(&log, length);
                 assert_eq!(refusal, None, "the benchmark's logs are good");

@@ -199,7 +199,10 @@ fn whole_window(table: &mut Table, size: u32, length: usize) {
     let lines: Vec<(Way, &str, String)> = [Way::Out, Way::In]
         .into_iter()
         .flat_map(|way| hows.iter().map(move |how| (way, *how, name(way, how))))
-        .filter(|(_, _, name)| table.wants(name))
+        .filter(|(_, _, name)| match length {
+            65_536 => table.wants(name),
+            _ => table.wants_long(name),
+        })
         .collect();
     if lines.is_empty() {
         return;
