@@ -3,6 +3,7 @@
 
 #![forbid(unsafe_code)]
 
+mod command;
 mod inputs;
 mod lines;
 mod table;
@@ -27,7 +28,25 @@ struct Options {
 }
 
 fn main() {
-    let options = options(std::env::args().skip(1)).unwrap_or_else(|| {
+    let words: Vec<String> = std::env::args().skip(1).collect();
+    let words: Vec<&str> = words.iter().map(String::as_str).collect();
+    let done = match words[..] {
+        // what tools/command-times asks for
+        ["--make-log", bytes] => command::write_log(bytes),
+        ["--replay", name] => command::replay(name),
+        _ => {
+            table(&words);
+            Ok(())
+        }
+    };
+    if let Err(error) = done {
+        eprintln!("bench: {error}");
+        exit(1)
+    }
+}
+
+fn table(words: &[&str]) {
+    let options = options(words).unwrap_or_else(|| {
         eprintln!("{USAGE}");
         exit(2)
     });
@@ -47,15 +66,16 @@ fn main() {
 }
 
 /// The options, or nothing where one is unknown or lacks its word.
-fn options(mut words: impl Iterator<Item = String>) -> Option<Options> {
+fn options(words: &[&str]) -> Option<Options> {
+    let mut words = words.iter().copied();
     let mut options = Options {
         mode: Mode::Times(21),
         only: String::new(),
     };
     while let Some(word) = words.next() {
-        match word.as_str() {
+        match word {
             "--quick" => options.mode = Mode::Times(5),
-            "--only" => options.only = words.next()?,
+            "--only" => options.only = words.next()?.to_string(),
             "--once" => options.mode = Mode::Once,
             "--list" => options.mode = Mode::Names,
             "--help" => {
