@@ -18,6 +18,7 @@ usage: ./bench [--quick] [--only SUBSTRING] [--list]
   --only SUBSTRING   only the lines whose name has it
   --list             the lines' names alone, none of them timed
   --help             this text
+./bench --places tells what whole pictures cost as memory and room are moved about
 ./bench --count counts the instructions of the lines instead: see ./bench --count --help
 ./bench --command [MB] times the command on a log of so many MB (1000), and the library alone
 ./bench --proofs [NAME...] times the proofs of all crates, or of these";
@@ -34,6 +35,10 @@ fn main() {
         // what tools/command-times asks for
         ["--make-log", bytes] => command::write_log(bytes),
         ["--replay", name] => command::replay(name),
+        ["--places"] => {
+            lines::places::print();
+            Ok(())
+        }
         _ => {
             table(&words);
             Ok(())

@@ -210,7 +210,7 @@ fn slices(pass: &mut impl FnMut() -> u64, rounds: usize) -> [f64; SLICES] {
 
 /// Uses a pass's sum, so that the compiler can't leave the pass out. (`std::hint::black_box` is younger than the oldest
 /// compiler that this builds with.)
-fn keep(sum: u64) {
+pub fn keep(sum: u64) {
     static KEPT: AtomicU64 = AtomicU64::new(0);
     KEPT.fetch_xor(sum, Ordering::Relaxed);
 }
