@@ -7,6 +7,7 @@ mod command;
 mod inputs;
 mod lines;
 mod table;
+mod targets;
 mod way;
 
 use std::process::exit;

@@ -1,6 +1,7 @@
 //! Timing and the printed table. A line has two passes, the product's and Rust's, that do the same work on the same inputs.
 //! The same lines can be only named, or run once each for a program that counts their instructions (tools/counts).
 
+use crate::targets;
 use std::fs;
 use std::sync::atomic::{AtomicU64, Ordering};
 use std::time::{Duration, Instant};
@@ -31,6 +32,8 @@ pub struct Table {
 struct Row {
     name: String,
     ratio: f64,
+    /// Whether the other side is fast Rust that does the same.
+    by_rust: bool,
 }
 
 impl Table {
@@ -115,9 +118,10 @@ impl Table {
         product: impl FnMut() -> u64,
         other: impl FnMut() -> u64,
     ) {
-        let counted = self.rows.len();
         self.line(name, units, product, other);
-        self.rows.truncate(counted);
+        if let Some(row) = self.rows.last_mut() {
+            row.by_rust = false;
+        }
     }
 
     fn row(&mut self, name: &str, product: f64, rust: f64) {
@@ -125,26 +129,33 @@ impl Table {
         let ratio = (product / rust * 100.0).round() / 100.0;
         println!("{name:<58} {product:>11.2} {rust:>11.2} {ratio:>8.2}");
         let name = name.to_string();
-        self.rows.push(Row { name, ratio });
+        self.rows.push(Row {
+            name,
+            ratio,
+            by_rust: true,
+        });
     }
 
-    /// Prints the table's last line.
+    /// Prints the table's last line, and what was asked for.
     pub fn end(self) {
         if self.mode == Mode::Names || self.mode == Mode::Once {
             return;
         }
-        let low = self.rows.iter().filter(|row| row.ratio <= 1.0).count();
-        let worst = self.rows.iter().max_by(|a, b| a.ratio.total_cmp(&b.ratio));
+        let rows: Vec<&Row> = self.rows.iter().filter(|row| row.by_rust).collect();
+        let low = rows.iter().filter(|row| row.ratio <= 1.0).count();
+        let worst = rows.iter().max_by(|a, b| a.ratio.total_cmp(&b.ratio));
         println!();
         match worst {
             Some(row) => println!(
                 "{low} of {} lines at or below 1.00; worst ratio {:.2}: {}",
-                self.rows.len(),
+                rows.len(),
                 row.ratio,
                 row.name
             ),
             None => println!("no line has that in its name"),
         }
+        let ratios = self.rows.into_iter().map(|row| (row.name, row.ratio));
+        targets::print(&ratios.collect::<Vec<_>>());
     }
 }
 
