@@ -2,9 +2,10 @@
  * conditional output tests, and flow words for one group.
  *
  * Every function returns 0, or the number of a refusal of document 01 (egretfold_group_loops and the two functions on
- * registers return nothing, since they refuse nothing, and those that check a state return a bool); a refusal touches no room and no state except where its function says
- * so. Nothing is allocated and nothing is kept between calls: all state lies in arrays that the caller lends. Arguments may be any numbers. Arrays have just the lengths shown, except where a
- * length is an argument of its own.
+ * registers return nothing, since they refuse nothing, and those that check a state return a bool); a refusal touches no room
+ * and no state except where its function says so. Nothing is allocated and nothing is kept between calls: all state lies in
+ * arrays that the caller lends. Arguments may be any numbers. Arrays have just the lengths shown, except where a length is an
+ * argument of its own.
  *
  *      1  the session is stopped
  *      2  a header word stands in no line of the command table
@@ -33,10 +34,10 @@
  *
  * What the caller owes: pointers to arrays of the lengths shown, no two of them overlapping where one is written (a session's
  * three arrays, a pair's five, a replay's five, rooms and memory are apart), and states as these functions left them: a
- * session's arrays from egretfold_session_begin on, a pair's from an egretfold_pair_begin that returned 0 on, a replay's from egretfold_log_begin on, a group's cells from an egretfold_group_begin
- * that returned 0 on. A state may be copied and kept (on disk, say) as it is; where it comes back from elsewhere,
- * egretfold_session_check, egretfold_pair_check, egretfold_log_check and egretfold_group_check tell whether it is one. A pointer that comes with
- * a length of 0 is not read, but is not null. */
+ * session's arrays from egretfold_session_begin on, a pair's from an egretfold_pair_begin that returned 0 on, a replay's from
+ * egretfold_log_begin on, a group's cells from an egretfold_group_begin that returned 0 on. A state may be copied and kept (on
+ * disk, say) as it is; where it comes back from elsewhere, egretfold_session_check, egretfold_pair_check, egretfold_log_check and
+ * egretfold_group_check tell whether it is one. A pointer that comes with a length of 0 is not read, but is not null. */
 #ifndef EGRETFOLD_H
 #define EGRETFOLD_H
 
