@@ -25,13 +25,15 @@ const EXTENT: u32 = 4096;
 // The most elements that one start claims.
 const MOST_CLAIM: u64 = 268435456;
 
-// Parameter `k` was taken and its kind allows it, or it hasn't come and is 0.
+// Parameter `k` was taken and its kind allows it, or it hasn't come and is 0. It asks the kind and then the word, not
+// `kinds::place_allowed`, which does both at every word: with a second caller that would be a call there.
 fn passed(line: u32, count: u32, k: u32, word: u32) -> bool
     requires { ⌜ (line < 21) × (k < 4) ⌝ }
     ensures { λ r. ⌜ r ≡ passedAt line count k word ⌝ }
 {
     if k < count {
-        kinds::place_allowed(line, k, word)
+        let kind = kinds::kind_at(line, k);
+        kinds::is_allowed(kind, word)
     } else {
         word == 0
     }
