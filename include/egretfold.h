@@ -2,7 +2,7 @@
  * conditional output tests, and flow words for one group.
  *
  * Every function returns 0, or the number of a refusal of document 01 (egretfold_group_loops and the two functions on
- * registers return nothing, since they refuse nothing); a refusal touches no room and no state except where its function says
+ * registers return nothing, since they refuse nothing, and those that check a state return a bool); a refusal touches no room and no state except where its function says
  * so. Nothing is allocated and nothing is kept between calls: all state lies in arrays that the caller lends. Arguments may be any numbers. Arrays have just the lengths shown, except where a
  * length is an argument of its own.
  *
@@ -34,8 +34,9 @@
  * What the caller owes: pointers to arrays of the lengths shown, no two of them overlapping where one is written (a session's
  * three arrays, a pair's five, a replay's five, rooms and memory are apart), and states as these functions left them: a
  * session's arrays from egretfold_session_begin on, a pair's from an egretfold_pair_begin that returned 0 on, a replay's from egretfold_log_begin on, a group's cells from an egretfold_group_begin
- * that returned 0 on. A state may be copied and kept (on disk, say) as it is. A pointer that comes with a length of 0 is not
- * read, but is not null. */
+ * that returned 0 on. A state may be copied and kept (on disk, say) as it is; where it comes back from elsewhere,
+ * egretfold_session_check, egretfold_pair_check, egretfold_log_check and egretfold_group_check tell whether it is one. A pointer that comes with
+ * a length of 0 is not read, but is not null. */
 #ifndef EGRETFOLD_H
 #define EGRETFOLD_H
 
@@ -364,6 +365,9 @@ uint32_t egretfold_group_run(const uint32_t firsts[EGRETFOLD_SLOTS], const uint3
  * them, and its aL (0 for a REP). Returns nothing. */
 void egretfold_group_loops(const uint32_t cells[EGRETFOLD_CELLS], uint32_t loops[13]);
 
+/* Whether the cells, kept on disk say, are a group's: true just where the functions above and egretfold_group_kill may have them. */
+bool egretfold_group_check(const uint32_t cells[EGRETFOLD_CELLS]);
+
 /* ---- Registers of four float channels ---- */
 
 /* Kills every active processor that has a channel under the write mask (bit c for channel c) less than zero: minus zero and a NaN
@@ -383,6 +387,24 @@ void egretfold_register_maximum(const float a[EGRETFOLD_CHANNELS], const float b
  * NaN isn't, otherwise b's, with the bits as they are. Returns nothing. */
 void egretfold_register_choice(const float a[EGRETFOLD_CHANNELS], const float b[EGRETFOLD_CHANNELS],
                                const float third[EGRETFOLD_CHANNELS], float choice[EGRETFOLD_CHANNELS]);
+
+/* ---- States that were kept elsewhere ----
+ * Each returns true where the arrays hold a state that the functions above take and leave, whatever numbers they have and wherever
+ * they come from, and false else; so arrays that it takes may be handed to them. Nothing is written. Damage that makes one such state
+ * of another isn't seen. */
+
+/* A session. */
+bool egretfold_session_check(const uint32_t own[EGRETFOLD_OWN], const uint64_t tallies[EGRETFOLD_TALLIES],
+                             const uint32_t shared[EGRETFOLD_SHARED]);
+
+/* A session of two parties. */
+bool egretfold_pair_check(const uint32_t own0[EGRETFOLD_OWN], const uint64_t tallies0[EGRETFOLD_TALLIES],
+                          const uint32_t own1[EGRETFOLD_OWN], const uint64_t tallies1[EGRETFOLD_TALLIES],
+                          const uint32_t shared[EGRETFOLD_SHARED]);
+
+/* The replay of a station's log. */
+bool egretfold_log_check(const uint32_t log[EGRETFOLD_LOG], const uint64_t marks[EGRETFOLD_MARKS], const uint32_t own[EGRETFOLD_OWN],
+                         const uint64_t tallies[EGRETFOLD_TALLIES], const uint32_t shared[EGRETFOLD_SHARED]);
 
 #ifdef __cplusplus
 }

@@ -45,7 +45,7 @@ fn mark(marks: &[u64; replay::MARKS], k: u32) -> Counts
 }
 
 // The tallies when part `k` began.
-fn began(marks: &[u64; replay::MARKS], k: u32) -> Counts
+pub fn began(marks: &[u64; replay::MARKS], k: u32) -> Counts
     ensures { λ r. ⌜ tallyOf r ≡ beganWith (now (marks .entry)) k ⌝ }
 {
     if k == 0 {
@@ -56,7 +56,7 @@ fn began(marks: &[u64; replay::MARKS], k: u32) -> Counts
 }
 
 // The tallies when part `k` ended; of the last part those of now.
-fn ended(
+pub fn ended(
     marks: &[u64; replay::MARKS],
     midnights: u32,
     tallies: &[u64; state::TALLIES],

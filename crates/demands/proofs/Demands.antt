@@ -135,6 +135,8 @@ use Rattle.kill.specs.Kill.{Kills, startSize, killOf}
 use Rattle.kill.specs.Through as kills
 use Rattle.kill.specs.Through.{Leads, withKilled, withKilledAfter}
 use Rattle.kill.proofs.Through as through
+use Rattle.judges_group.specs.Judged.{JudgesGroup, zeroCells}
+use Rattle.judges_group.proofs.Judging.{zeros-refused}
 use Rattle.flow.specs.Looping.{opAt, integerAt, LedBy, Turning, Inside as InLoop}
 use Rattle.flow.proofs.Looping.{step-led, rep-times, loop-times, al-shown-up, al-shown-down}
 use Rattle.flow.proofs.Counting.{mask-count, mask-first, mask-none}
@@ -382,9 +384,23 @@ pub flow-run-masks :
     groupRun mode p booleans ms g ≡ groupRun mode p booleans ms' g
 flow-run-masks = same-run
 
--- The cells given out are those taken: what begin, step, run and kill left is what step, run and kill ask for.
+-- The cells given out are those taken: what begin, step, run and kill left, or the check said yes to, is what step, run and kill ask for.
 pub flow-given : {l : List ℕ} → flow.Handed l → cells.GroupGiven l
 flow-given = handed-made
+
+-- Cells that were kept elsewhere: the check says yes just where step, run, kill and the loops told may have them; so it does of all that
+-- begin, step, run and kill left, and never of 20 zeros.
+pub flow-checked : {l : List ℕ} {answer : Bool} → JudgesGroup l answer → answer ≡ true → cells.GroupGiven l
+flow-checked j = j .sound
+
+pub flow-checks : {l : List ℕ} {answer : Bool} → JudgesGroup l answer → cells.GroupGiven l → answer ≡ true
+flow-checks j = j .complete
+
+pub flow-checks-own : {l : List ℕ} {answer : Bool} → JudgesGroup l answer → flow.Handed l → answer ≡ true
+flow-checks-own j h = j .complete (handed-made h)
+
+pub flow-checks-zeros : (answer : Bool) → JudgesGroup zeroCells answer → answer ≡ false
+flow-checks-zeros = zeros-refused
 
 -- REQUEST 1, "One log over midnight"
 

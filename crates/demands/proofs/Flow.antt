@@ -104,6 +104,7 @@ use Rattle.demands.specs.Flow.{
   stepped,
   ran,
   killed,
+  checked,
 }
 use Rattle.demands.specs.Flow as flow
 
@@ -243,8 +244,9 @@ pub handed-made : {l : List ℕ} → Handed l → cells.GroupGiven l
 unfolding beginLeaves mayBegin isGroupSize groupRun
 handed-made (begun size mode c c' k) =
     let t = begin-may size mode (k .status) in
+    let sized = and-left _ (isMode mode) t in
     subst cells.GroupGiven (sym (k .left ∙ pick-yes _ _ t))
-    (begin-given size (modeOf mode) (leb-true size 32 (and-right (leb 1 size) _ (and-left _ (isMode mode) t))))
+    (begin-given size (modeOf mode) (leb-true 1 size (and-left (leb 1 size) _ sized)) (leb-true size 32 (and-right (leb 1 size) _ sized)))
 handed-made (stepped {cells = l} h p alu predicate booleans r c' a a' k) =
     subst cells.GroupGiven (sym (k .left))
     (left-given l (groupStep (cells.modeIn l) p alu predicate booleans (groupOf l)) (handed-made h)
@@ -255,6 +257,7 @@ handed-made (ran {cells = l} h p booleans masks r c' a a' k) =
     (by-pick (SoundRun (limitOf (cells.modeIn l))) (ended p (groupOf l)) _ _ (λ e. tt) (λ e. steps-sound (cells.modeIn l) p booleans masks (groupOf l) (handed-made h .sound))))
 handed-made (killed {cells = l} h slots registers mask r c' a a' k) =
     subst cells.GroupGiven (sym (k .left)) (kill-leaves-given l slots registers mask (handed-made h))
+handed-made (checked l j) = j .sound refl
 
 -- the mode that a begin was given, and that a step or a run leaves
 pub begun-mode : (size mode r : ℕ) (l l' : List ℕ) → BeginCrosses size mode r l l' → r ≡ 0 → cells.modeIn l' ≡ modeOf mode

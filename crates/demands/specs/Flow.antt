@@ -48,6 +48,7 @@ use Rattle.flow.specs.Looping.{opAt, integerAt}
 use Rattle.kill.specs.Kill.{killOf}
 use Rattle.group_rooms.specs.Rooms.{BeginCrosses, StepCrosses, RunCrosses}
 use Rattle.register_rooms.specs.Rooms.{KillCrosses}
+use Rattle.judges_group.specs.Judged.{JudgesGroup}
 
 -- the words of the slot that a group stands at
 abbrev pub firstAt : Program → Group → ℕ
@@ -148,7 +149,8 @@ AllAgree g [] (m' ∷ ms') = ⊥
 AllAgree g (m ∷ ms) [] = ⊥
 AllAgree g (m ∷ ms) (m' ∷ ms') = Agree g m m' × AllAgree g ms ms'
 
--- a group's cells that came from the calls: a begin that was accepted, and steps, runs and kills, refused or not
+-- a group's cells that came from the calls: a begin that was accepted, and steps, runs and kills, refused or not; or cells that were kept
+-- elsewhere, of which egretfold_group_check said yes
 pub data Handed : List ℕ → Type 0 where
   begun : (size mode : ℕ) (cells cells' : List ℕ) → BeginCrosses size mode 0 cells cells' → Handed cells'
   stepped : {cells : List ℕ} → Handed cells → (p : Program) (alu predicate booleans r : ℕ) (cells' taken taken' : List ℕ) →
@@ -157,3 +159,4 @@ pub data Handed : List ℕ → Type 0 where
       RunCrosses (groupRun (modeIn cells) p booleans masks (groupOf cells)) r cells cells' report report' → Handed cells'
   killed : {cells : List ℕ} → Handed cells → (slots : ℕ) (registers : List Float) (mask r : ℕ) (cells' room room' : List ℕ) →
       KillCrosses (killOf slots registers mask (groupOf cells)) r cells cells' room room' → Handed cells'
+  checked : (cells : List ℕ) → JudgesGroup cells true → Handed cells

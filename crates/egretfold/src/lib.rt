@@ -13,3 +13,4 @@ pub mod pairs;
 pub mod pictures;
 pub mod scores;
 pub mod sessions;
+pub mod states;

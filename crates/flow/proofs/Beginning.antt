@@ -98,5 +98,5 @@ module _ (size : ℕ) where
         }
 
 -- the cells of a fresh group are such as these entries give out
-pub begin-given : (size : ℕ) (mode : Mode) → size ≤ 32 → GroupGiven (cellsOf mode (fresh size))
-begin-given size mode h = given-of mode (fresh size) (fresh-sound (limitOf mode) size h)
+pub begin-given : (size : ℕ) (mode : Mode) → 1 ≤ size → size ≤ 32 → GroupGiven (cellsOf mode (fresh size))
+begin-given size mode o h = given-of mode (fresh size) (fresh-sound (limitOf mode) size o h)

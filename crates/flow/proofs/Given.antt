@@ -26,7 +26,7 @@ pub begin-gives :
 unfolding beginLeaves mayBegin isGroupSize isMode
 begin-gives size mode d h k e =
     subst GroupGiven (sym (d .left ∙ pick-yes _ _ (and-intro (and-intro (le-leb 1 size h) (le-leb size 32 k)) (le-leb mode 1 e))))
-    (begin-given size (modeOf mode) k)
+    (begin-given size (modeOf mode) h k)
 
 pub step-gives :
     {l leaves : List ℕ} {r : Stepped} (program : Program) (alu predicate booleans : ℕ) → GroupGiven l →

@@ -1,6 +1,6 @@
 -- A group and its cells: a sound group is read back from its cells, cells handed in show their processors and their returns,
 -- a step leads from a sound group to a sound one, and with op 0 it is document 01's, in full mode. Assumes nothing.
-use mathlib.Core.Path.{_≡_, refl, sym, ap, _∙_, subst, fun-ext}
+use mathlib.Core.Path.{_≡_, refl, sym, ap, ap₂, _∙_, subst, fun-ext}
 use mathlib.Core.Bool.{Bool, true, false, true≢false}
 use mathlib.Core.List.{List, [], _∷_}
 use Prim.Native.Nat.{ℕ, zero, suc, _+_, _-_, _%_, _^_, _<_, _≤_, zero-le}
@@ -8,10 +8,10 @@ use native.Mathlib.Nat.{zero-div}
 use native.Mathlib.Omega.{arith}
 use lib.Dec.{eqb, leb, ltb}
 use lib.ListN.{length, getD}
-use borrow.Author.Tests.{leb-true, leb-false, ltb-true, ltb-false, le-leb, le-ltb, eq-eqb, ne-eqb, eqb-true}
+use borrow.Author.Tests.{leb-true, leb-false, ltb-true, ltb-false, le-leb, lt-ltb, le-ltb, eq-eqb, ne-eqb, eqb-true}
 use Rattle.laws.specs.Choice.{_and_, pick}
 use Rattle.laws.specs.Below.{some, every}
-use Rattle.laws.specs.Masks.{differ, digit, on, pack}
+use Rattle.laws.specs.Masks.{_or_, differ, digit, on, pack}
 use Rattle.laws.proofs.Choice.{Tested, holds, fails, tested, pick-yes, pick-no, and-left, and-right, and-intro, and-yes, by-pick, pick-same}
 use Rattle.laws.proofs.Below.{none-at, every-at}
 use Rattle.laws.proofs.Masks.{on-pack, on-above}
@@ -21,7 +21,7 @@ use Rattle.group.specs.Proc.{Proc, Active, Idle, Absent, isLive, isActiv
 use Rattle.group.specs.Modes.{Mode, Full, Partial, limitOf, modeNumber, modeOf}
 use Rattle.group.specs.Group.{Group, Outcome, Steps, Fails, Program, Way, Goes, Stuck, opOf, bElse, jumpFunc, booleanNumber, integerNumber, turnedIf, wishOf, overLimit, popped, wayOf, arrived, settled}
 use Rattle.group.specs.Group.{permits, allowed, allowedLoop, jumpStep, onTurn, withLoops, loopStep, slotStep, ended, groupStep, fresh}
-use Rattle.group.specs.Cells.{liveIn, activeIn, planeIn, modeIn, loopIn, liveMask, activeMask, plane, counterOf, procOf, procAt, returnsIn, groupOf, cellsOf, aReturn, areReturns, Sound, GroupGiven, stepLeaves}
+use Rattle.group.specs.Cells.{liveIn, activeIn, planeIn, modeIn, loopIn, liveMask, activeMask, plane, counterOf, procOf, procAt, returnsIn, groupOf, cellsOf, aReturn, areReturns, atStart, StartingGroup, Sound, GroupGiven, stepLeaves}
 use Rattle.group.specs.Masks.{MasksOf}
 
 -- two equal numbers, as a computed test at each counter
@@ -162,6 +162,7 @@ sound-mode mode {g} s =
       opened = s .opened;
       killed-word = s .killed-word;
       gone = s .gone;
+      start = s .start;
     }
 
 -- a sound group is read back from its cells
@@ -247,6 +248,20 @@ branched-live op k jump wish Absent = gone (eqb op 1) (eqb op 2)
     gone : (a b : Bool) → isLive (pick a Absent (pick b Absent Absent)) ≡ false
     gone a b = by-pick (λ (q : Proc). isLive q ≡ false) a _ _ (λ e. refl) (λ e. by-pick (λ (q : Proc). isLive q ≡ false) b _ _ (λ f. refl) (λ f. refl))
 
+-- the starting group stays the same as long as nobody enters the group, and who leaves it was killed
+pub still-start :
+    {procs procs' : ℕ → Proc} {killed killed' : ℕ} → ((i : ℕ) → i < 32 → atStart procs' killed' i ≡ atStart procs killed i) →
+    StartingGroup procs killed → StartingGroup procs' killed'
+still-start same b =
+    record {
+      first = same 0 (omega arith) ∙ b .first;
+      in-a-row = λ i h e. same i (omega arith) ∙ b .in-a-row i h (sym (same (suc i) h) ∙ e);
+    }
+
+still-live :
+    {procs procs' : ℕ → Proc} (killed : ℕ) → ((i : ℕ) → isLive (procs' i) ≡ isLive (procs i)) → StartingGroup procs killed → StartingGroup procs' killed
+still-live killed same = still-start (λ i h. ap (λ (b : Bool). b or on i killed) (same i))
+
 pub turned-within : (limit : ℕ) (p : Proc) → within limit p ≡ true → within limit (turned p) ≡ true
 turned-within limit Active w = le-leb 0 limit zero-le
 turned-within limit (Idle zero) w = refl
@@ -326,6 +341,7 @@ record SoundBeside (g : Group) (procs : ℕ → Proc) : Type 0 where
   opened : areOpened (g .loops) ≡ true
   killed-word : g .killed < 2 ^ 32
   gone : (i : ℕ) → on i (g .killed) ≡ true → procs i ≡ Absent
+  start : StartingGroup procs (g .killed)
 
 arrived-sound :
     (limit slots : ℕ) (jump : Bool) (procs : ℕ → Proc) (g : Group) (way : Way) → slots ≤ 512 → SoundBeside g procs →
@@ -346,6 +362,7 @@ arrived-sound limit slots jump procs g (Goes next rs) h b out low w =
       opened = b .opened;
       killed-word = b .killed-word;
       gone = b .gone;
+      start = b .start;
     })
     (λ e. (omega arith, omega arith))
 
@@ -380,6 +397,7 @@ settled-sound limit slots first second jump wish procs g hs hp hr he beside out 
       opened = beside .opened;
       killed-word = beside .killed-word;
       gone = λ i h. branched-absent op (field 20 16 first) jump (wish i) (beside .gone i h);
+      start = still-live (g .killed) (λ i. branched-live op (field 20 16 first) jump (wish i) (procs i)) (beside .start);
     })
     (λ i h. branched-absent op (field 20 16 first) jump (wish i) (out i h))
     (λ i. branched-within limit op (field 20 16 first) jump (wish i) (procs i) (low i) (none-over limit op procs out e i))
@@ -405,6 +423,7 @@ module _ (limit : ℕ) (g : Group) (s : Sound limit g) (else : Bool) where
         opened = s .opened;
         killed-word = s .killed-word;
         gone = λ i h. turned-absent else (s .gone i h);
+        start = still-live (g .killed) (λ i. turned-live else (g .procs i)) (s .start);
       }
 
 -- a step on a slot's words
@@ -425,7 +444,7 @@ module _ (limit slots first second alu predicate booleans : ℕ) (g : Group) (s 
   turn-sound (Turns jump loops) q wish =
       let beside = turned-beside limit g s (bElse first) in
       settled-sound limit slots first second jump wish _ (withLoops g loops) most (omega arith) (s .depth) (s .slots)
-      (record { nested = q .0; opened = q .1; killed-word = beside .killed-word; gone = beside .gone })
+      (record { nested = q .0; opened = q .1; killed-word = beside .killed-word; gone = beside .gone; start = beside .start })
       (turned-out limit g s (bElse first)) (turned-low limit g s (bElse first))
   turn-sound NoRoom q wish = (omega arith, omega arith)
   turn-sound NoWord q wish = (omega arith, omega arith)
@@ -487,10 +506,33 @@ pub left-given :
 left-given l (Steps jump g) m s = given-of (modeIn l) g s
 left-given l (Fails why) m s = m
 
+-- a fresh group starts with the processors below its size
+nobody-killed : (i : ℕ) → on i 0 ≡ false
+unfolding on
+nobody-killed i = ap (λ (n : ℕ). eqb (n % 2) 1) (zero-div (2 ^ i))
+
+pub start-of-fresh : (size i : ℕ) → atStart (fresh size .procs) 0 i ≡ ltb i size
+unfolding fresh _or_
+start-of-fresh size i = by (tested (ltb i size))
+  where
+    by : Tested (ltb i size) → (isLive (pick (ltb i size) Active Absent) or on i 0) ≡ ltb i size
+    by (holds t) = ap (λ (p : Proc). isLive p or on i 0) (pick-yes Active Absent t) ∙ sym t
+    by (fails t) = ap₂ (λ (p : Proc) (b : Bool). isLive p or b) (pick-no Active Absent t) (nobody-killed i) ∙ sym t
+
+fresh-start : (size : ℕ) → 1 ≤ size → StartingGroup (fresh size .procs) 0
+fresh-start size o =
+    record {
+      first = start-of-fresh size 0 ∙ lt-ltb 0 size o;
+      in-a-row =
+          λ i h e.
+          let below : suc i < size = ltb-true (suc i) size (sym (start-of-fresh size (suc i)) ∙ e) in
+          start-of-fresh size i ∙ lt-ltb i size (omega arith);
+    }
+
 -- and a fresh group is sound
-pub fresh-sound : (limit size : ℕ) → size ≤ 32 → Sound limit (fresh size)
-unfolding fresh areReturns areOpened on
-fresh-sound limit size h =
+pub fresh-sound : (limit size : ℕ) → 1 ≤ size → size ≤ 32 → Sound limit (fresh size)
+unfolding fresh areReturns areOpened
+fresh-sound limit size o h =
     record {
       outside = λ i k. pick-no _ _ (le-ltb i size (omega arith));
       counters = λ i. by-pick (λ (p : Proc). within limit p ≡ true) (ltb i size) _ _ (λ e. refl) (λ e. refl);
@@ -500,5 +542,6 @@ fresh-sound limit size h =
       nested = zero-le;
       opened = refl;
       killed-word = omega arith;
-      gone = λ i e. absurd (true≢false (sym e ∙ ap (λ (n : ℕ). eqb (n % 2) 1) (zero-div (2 ^ i))));
+      gone = λ i e. absurd (true≢false (sym e ∙ nobody-killed i));
+      start = fresh-start size o;
     }

@@ -15,11 +15,11 @@
 use mathlib.Core.Path.{_≡_}
 use mathlib.Core.Bool.{Bool, true, false}
 use mathlib.Core.List.{List, [], _∷_}
-use Prim.Native.Nat.{ℕ, _+_, _*_, _^_, _<_, _≤_}
+use Prim.Native.Nat.{ℕ, suc, _+_, _*_, _^_, _<_, _≤_}
 use lib.Dec.{eqb, leb}
 use lib.ListN.{length, getD, drop}
 use Rattle.laws.specs.Choice.{_and_, pick}
-use Rattle.laws.specs.Masks.{digit, on, pack}
+use Rattle.laws.specs.Masks.{_or_, digit, on, pack}
 use Rattle.loops.specs.Loops.{Opened, mostLoops, loopsOf, cellAt, areOpened}
 use Rattle.group.specs.Proc.{Proc, Active, Idle, Absent, isLive, isActive, counterBit, within, mostProcessors}
 use Rattle.group.specs.Modes.{Mode, limitOf, modeNumber, modeOf}
@@ -127,9 +127,18 @@ unfoldable pub areReturns : List ℕ → Bool
 areReturns [] = true
 areReturns (r ∷ rs) = aReturn r and areReturns rs
 
+-- processor `i` is of the starting group: it is in the group or was killed
+abbrev pub atStart : (ℕ → Proc) → ℕ → ℕ → Bool
+atStart procs killed i = isLive (procs i) or on i killed
+
+-- "A group has 1 to 32 processors": processor 0 is of the starting group, and with each processor the one before it
+pub record StartingGroup (procs : ℕ → Proc) (killed : ℕ) : Type 0 where
+  pub first : atStart procs killed 0 ≡ true
+  pub in-a-row : (i : ℕ) → suc i < mostProcessors → atStart procs killed (suc i) ≡ true → atStart procs killed i ≡ true
+
 -- what holds of every state given out: nobody is beyond the 32 places, counters are within the limit, the position is at
 -- most 512, there are at most 4 returns, each from 1 to 512, and at most 4 open loops, each with a turn left and bytes for numbers;
--- the killed are places of a mask, and nobody of them is in the group
+-- the killed are places of a mask, and nobody of them is in the group; and there was a starting group, so that all-zero cells are none
 pub record Sound (limit : ℕ) (g : Group) : Type 0 where
   pub outside : (i : ℕ) → mostProcessors ≤ i → g .procs i ≡ Absent
   pub counters : (i : ℕ) → within limit (g .procs i) ≡ true
@@ -140,6 +149,7 @@ pub record Sound (limit : ℕ) (g : Group) : Type 0 where
   pub opened : areOpened (g .loops) ≡ true
   pub killed-word : g .killed < 2 ^ mostProcessors
   pub gone : (i : ℕ) → on i (g .killed) ≡ true → g .procs i ≡ Absent
+  pub start : StartingGroup (g .procs) (g .killed)
 
 -- cells that came from these entries: they are just those of a sound group in its mode
 pub record GroupGiven (l : List ℕ) : Type 0 where

@@ -24,8 +24,8 @@ use Rattle.group.specs.Group as group
 use Rattle.group.specs.Group.{Group, Program, Steps, Run, Makes, Breaks, Way, Goes, Stuck, turnedIf, overLimit, wayOf, arrived, settled, fresh}
 use Rattle.group.specs.Group.{aOp, popCount, branchOp, booleanNumber, integerNumber, jumpAddress, jumpAny, jumpFunc, bElse, opOf, permits, allowed, allowedLoop}
 use Rattle.group.specs.Group.{wishOf, onTurn, withLoops, jumpStep, loopStep, slotStep, ended, groupStep, goOn, onceMore, groupSteps, groupRun}
-use Rattle.group.specs.Cells.{modeIn, groupOf, Sound, GroupGiven}
-use Rattle.group.proofs.State.{turned-live, branched-live, given-of, mode-kept}
+use Rattle.group.specs.Cells.{modeIn, groupOf, atStart, Sound, GroupGiven}
+use Rattle.group.proofs.State.{turned-live, branched-live, still-start, start-of-fresh, given-of, mode-kept}
 use Rattle.kill.specs.declared.Killed.{Killed}
 use Rattle.kill.specs.Kill.{Outcome, Kills, Fails, isKilled, killedNow, afterKill, startSize, killOf, killLeaves}
 use Rattle.kill.specs.Answers.{KillDone}
@@ -242,11 +242,15 @@ moved b c (Idle n) = refl
 moved b true Absent = refl
 moved b false Absent = refl
 
+start-kept :
+    {registers : List Float} {mask now : ℕ} {g h : Group} → Made registers mask g now h → (i : ℕ) → i < 32 →
+    atStart (h .procs) (h .killed) i ≡ atStart (g .procs) (g .killed) i
+start-kept {g = g} m i l =
+    ap₂ (λ (p : Proc) (b : Bool). isLive p or b) (m .each-processor i) (m .so-far i l) ∙ moved _ (on i (g .killed)) (g .procs i)
+
 start-of-kill : {registers : List Float} {mask now : ℕ} {g h : Group} → Made registers mask g now h → startSize h ≡ startSize g
 unfolding startSize
-start-of-kill {g = g} m =
-    count-same 32 _ _
-    (λ i l. ap₂ (λ (p : Proc) (b : Bool). isLive p or b) (m .each-processor i) (m .so-far i l) ∙ moved _ (on i (g .killed)) (g .procs i))
+start-of-kill m = count-same 32 _ _ (start-kept m)
 
 pub start-stays : {mode : Mode} {g h : Group} → Leads mode g h → startSize h ≡ startSize g
 start-stays stays = refl
@@ -273,17 +277,9 @@ count-below (suc k) (suc n) h =
     next i (holds t) = lt-ltb (suc i) (suc n) (suc-le-suc (ltb-true i n t)) ∙ sym t
     next i (fails t) = le-ltb (suc i) (suc n) (suc-le-suc (ltb-false i n t)) ∙ sym t
 
-nobody-killed : (i : ℕ) → on i 0 ≡ false
-unfolding on
-nobody-killed i = ap (λ (n : ℕ). eqb (n % 2) 1) (zero-div (2 ^ i))
-
 pub start-fresh : (size : ℕ) → size ≤ 32 → startSize (fresh size) ≡ size
-unfolding startSize fresh _or_
-start-fresh size h = count-same 32 _ (λ i. ltb i size) (λ i l. by i (tested (ltb i size))) ∙ count-below 32 size h
-  where
-    by : (i : ℕ) → Tested (ltb i size) → (isLive (pick (ltb i size) Active Absent) or on i 0) ≡ ltb i size
-    by i (holds t) = ap (λ (p : Proc). isLive p or on i 0) (pick-yes Active Absent t) ∙ sym t
-    by i (fails t) = ap₂ (λ (p : Proc) (b : Bool). isLive p or b) (pick-no Active Absent t) (nobody-killed i) ∙ sym t
+unfolding startSize fresh
+start-fresh size h = count-same 32 _ (λ i. ltb i size) (λ i l. start-of-fresh size i) ∙ count-below 32 size h
 
 -- a kill leads from a sound group to a sound one
 or-cases : (a b : Bool) → (a or b) ≡ true → (a ≡ true) ⊎ (b ≡ true)
@@ -307,6 +303,12 @@ killed-sound limit registers mask g s =
       opened = s .opened;
       killed-word = pack-lt 32 so-far;
       gone = λ i e. gone-at i e (tested (ltb i 32));
+      start =
+          still-start
+          (λ i h.
+          ap (λ (b : Bool). isLive (pick (isKilled registers mask g i) Absent (g .procs i)) or b) (on-pack 32 i so-far h) ∙
+          moved _ (on i (g .killed)) (g .procs i))
+          (s .start);
     }
   where
     so-far : ℕ → Bool

@@ -10,9 +10,9 @@ use Rattle.laws.specs.Below.{count}
 use Rattle.laws.specs.Masks.{_or_, on, pack}
 use Rattle.refusal.specs.Told.{Told, gives, refuses}
 use Rattle.registers.specs.Registers.{channelCount, killedBy, registerAt}
-use Rattle.group.specs.Proc.{Absent, isLive, isActive, mostProcessors}
+use Rattle.group.specs.Proc.{Absent, isActive, mostProcessors}
 use Rattle.group.specs.Group.{Group}
-use Rattle.group.specs.Cells.{modeIn, cellsOf}
+use Rattle.group.specs.Cells.{modeIn, atStart, cellsOf}
 
 -- "An active processor with a channel under the mask less than zero is killed, and no other."
 abbrev pub isKilled : List Float → ℕ → Group → ℕ → Bool
@@ -35,7 +35,7 @@ afterKill registers mask g =
 
 -- how many processors the starting group had: those in the group and the killed
 unfoldable pub startSize : Group → ℕ
-startSize g = count mostProcessors (λ i. isLive (g .procs i) or on i (g .killed))
+startSize g = count mostProcessors (atStart (g .procs) (g .killed))
 
 -- the answer of a kill: those who are killed now and the state then, or the refusal
 pub data Outcome : Type 0 where

@@ -44,7 +44,7 @@ use Rattle.state.specs.Readiness.{lesser, leastExtent, columnsLeft, rowsLeft, g
 use Rattle.state.specs.Effects.{claimFor}
 use Rattle.state.proofs.Seen.{seen-twice}
 use Rattle.lessees.specs.Sight.{seenShared}
-use Rattle.lessees.proofs.Blend.{blend-low, blend-high}
+use Rattle.owners.proofs.Blend.{blend-low, blend-high}
 
 few-channels : (code : ℕ) → code < 5 → leb (channelsOf code) 4 ≡ true
 unfolding channelsOf every _and_

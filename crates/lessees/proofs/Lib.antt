@@ -1,10 +1,10 @@
 pub mod Alike
 pub mod Begun
-pub mod Blend
 pub mod Cut
 pub mod Folding
 pub mod Host
 pub mod Isolation
+pub mod Lawful
 pub mod Runs
 pub mod Sight
 pub mod Steps

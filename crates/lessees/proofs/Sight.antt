@@ -16,7 +16,7 @@ use Rattle.state.specs.Seen.{seenInputs, seenOutputs}
 use Rattle.state.specs.Effects.{buffer, withShared, sharedAfter}
 use Rattle.state.proofs.Seen.{seen-own, seen-other}
 use Rattle.lessees.specs.Sight.{seenShared, Apart}
-use Rattle.lessees.proofs.Blend.{blend-own, blend-rest, blend-other}
+use Rattle.owners.proofs.Blend.{blend-own, blend-rest, blend-other}
 
 -- settings with one of the lists or the mask replaced
 abbrev withInputs : List Buffer → Shared → Shared

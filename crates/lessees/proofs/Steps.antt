@@ -193,12 +193,16 @@ module _ (s : Session) (w : ℕ) (v : Valid s) where
         closed = u .closed;
         dropped = u .dropped;
         opened = u .opened;
+        counted = u .counted;
         domain = u .domain;
+        domain-set = u .domain-set;
+        instructions = u .instructions;
         tally = u .tally;
         mine-most = u .mine-most;
         owned = u .owned;
         edition = u .edition;
         readiness = u .readiness ∙ sym (worked (stepOf s w .session .shared) ∙ ap (λ (h : Shared). readinessFor p h) (hidden-step (p .birth .mine) a) ∙ sym (worked (s .shared)));
+        settings = kept s w v .settings;
         outputs = kept s w v .outputs;
         inputs = kept s w v .inputs;
       }

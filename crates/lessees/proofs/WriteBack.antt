@@ -17,6 +17,7 @@ use Rattle.lessees.specs.Sight.{seenShared, seen}
 use Rattle.lessees.specs.Pair.{Pair, Sent, side, pieceOf, wordsFor, alone, PairValid}
 use Rattle.lessees.proofs.Alike.{seen-worked}
 use Rattle.lessees.proofs.Isolation.{isolated}
+use Rattle.lessees.proofs.Lawful.{seen-lawful}
 
 -- a valid session is valid as its party sees it
 seen-valid : (s : Session) → Valid s → Valid (seen s)
@@ -30,7 +31,10 @@ seen-valid s u =
       closed = u .closed;
       dropped = u .dropped;
       opened = u .opened;
+      counted = u .counted;
       domain = u .domain;
+      domain-set = u .domain-set;
+      instructions = u .instructions;
       tally = u .tally;
       mine-most = u .mine-most;
       owned = u .owned;
@@ -38,6 +42,7 @@ seen-valid s u =
       readiness =
           u .readiness ∙
           sym (seen-worked mine (s .shared) (s .party .birth .edition) (s .party .domain) (s .party .instructions));
+      settings = seen-lawful mine (s .shared) (u .settings);
       outputs = seen-length mine 16 (s .shared .outputs) ∙ u .outputs;
       inputs = seen-length mine 0 (s .shared .inputs) ∙ u .inputs;
     }

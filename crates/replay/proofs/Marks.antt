@@ -25,13 +25,14 @@ module _ (marks : List ℕ) (m : ℕ) (t : Tally) where
       getD-set-same marks (2 * m) (t .runs) 0 (omega arith))
       (getD-set-same (set marks (2 * m) (t .runs)) (2 * m + 1) (t .claims) 0 (rw length-set h))
 
+  pub mark-other : (j : ℕ) → (j ≡ 2 * m → ⊥) → (j ≡ 2 * m + 1 → ⊥) → getD (marked marks m t) j 0 ≡ getD marks j 0
+  mark-other j a b =
+      getD-set-other (set marks (2 * m) (t .runs)) (2 * m + 1) j (t .claims) 0 b ∙ getD-set-other marks (2 * m) j (t .runs) 0 a
+
   pub mark-old : (k : ℕ) → (k ≡ m → ⊥) → markAt (marked marks m t) k ≡ markAt marks k
   mark-old k ne =
-      ap₂ tally (other (2 * k) (λ e. ne (omega arith)) (λ e. omega arith)) (other (2 * k + 1) (λ e. omega arith) (λ e. ne (omega arith)))
-    where
-      other : (j : ℕ) → (j ≡ 2 * m → ⊥) → (j ≡ 2 * m + 1 → ⊥) → getD (marked marks m t) j 0 ≡ getD marks j 0
-      other j a b =
-          getD-set-other (set marks (2 * m) (t .runs)) (2 * m + 1) j (t .claims) 0 b ∙ getD-set-other marks (2 * m) j (t .runs) 0 a
+      ap₂ tally (mark-other (2 * k) (λ e. ne (omega arith)) (λ e. omega arith))
+      (mark-other (2 * k + 1) (λ e. omega arith) (λ e. ne (omega arith)))
 
 pub ended-past : (marks : List ℕ) (m : ℕ) (now : Tally) (k : ℕ) → k < m → endedWith marks m now k ≡ markAt marks k
 unfolding endedWith

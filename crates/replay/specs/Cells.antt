@@ -1,8 +1,9 @@
 -- Where a replay lies in the arrays that a caller lends: ten numbers of its own, the marks of 400 midnights, and its session's
 -- three arrays. Assumes nothing.
 use mathlib.Core.Path.{_≡_}
+use mathlib.Core.Bool.{true}
 use mathlib.Core.List.{List, [], _∷_}
-use Prim.Native.Nat.{ℕ, _+_, _≤_, _<_}
+use Prim.Native.Nat.{ℕ, _+_, _*_, _≤_, _<_}
 use lib.ListN.{length, getD}
 use Rattle.state.specs.State.{Session}
 use Rattle.state.specs.Cells.{sessionOf, Sized}
@@ -11,7 +12,7 @@ use Rattle.state.specs.Valid as sessions
 use Rattle.replay.specs.State.{OpenRecord, Replay, noRecord, mostMidnights, marksLength}
 use Rattle.replay.specs.Places.{logLength, stoppedByPlace, refusedPlace, refusedAfterPlace, midnightsPlace, lastDayPlace, countPlace}
 use Rattle.replay.specs.Places.{kindPlace, lowPlace, secondPlace, thirdPlace}
-use Rattle.replay.specs.Step.{StopNumber}
+use Rattle.replay.specs.Step.{StopNumber, isKind}
 use Rattle.replay.specs.Report.{beganWith, endedWith}
 
 abbrev pub openOf : List ℕ → OpenRecord
@@ -64,12 +65,24 @@ pub record ReplayValid (r : Replay) : Type 0 where
   pub dropped : (r .stoppedBy ≡ 0 → ⊥) → r .opened ≡ noRecord
   pub count-most : r .opened .count ≤ 4
   pub closed : r .opened .count ≡ 0 → r .opened ≡ noRecord
+  -- "another kind byte is 18", so an open record has one of the two
+  pub kind-known : 0 < r .opened .count → isKind (r .opened .kind) ≡ true
   pub low-byte : r .opened .low < 256
   pub second-byte : r .opened .second < 256
   pub third-byte : r .opened .third < 256
+  -- 0 for the bytes that haven't come
+  pub low-rest : r .opened .count ≤ 1 → r .opened .low ≡ 0
+  pub second-rest : r .opened .count ≤ 2 → r .opened .second ≡ 0
+  pub third-rest : r .opened .count ≤ 3 → r .opened .third ≡ 0
+  -- the first refused word came after no more midnights than have come; 0 and 0 where there is none
+  pub refused-midnights : r .refused .midnights ≤ r .midnights
+  pub unrefused : r .refused .number ≡ 0 → r .refused .midnights ≡ 0
   pub midnights-most : r .midnights ≤ mostMidnights
   pub days-number : r .midnights ≤ r .lastDay + 1
+  pub no-day : r .midnights ≡ 0 → r .lastDay ≡ 0
   pub marks-length : length (r .marks) ≡ marksLength
+  -- 0 for the midnights that haven't come
+  pub marks-rest : (k : ℕ) → 2 * r .midnights ≤ k → getD (r .marks) k 0 ≡ 0
   pub growing : (k : ℕ) → k ≤ r .midnights → Grows (r .marks) (r .midnights) (r .session .party .tally .runs) (r .session .party .tally .claims) k
 
 -- "A replay state handed in is trusted as a session is": arrays of the right lengths that hold a valid replay

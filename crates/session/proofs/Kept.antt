@@ -6,7 +6,7 @@ use Prim.Native.Nat.{ℕ, zero, suc, _+_, _-_, _*_, _<_, _≤_}
 use native.Mathlib.Nat.{mul-le-mul, not-suc-le-zero}
 use native.Mathlib.Omega.{arith}
 use lib.Dec.{eqb, ltb, leb}
-use lib.ListN.{length, getD, take, set, length-set}
+use lib.ListN.{length, getD, take, set, length-set, List·getD-eq-default}
 use lib.Seq.{getD-take}
 use borrow.Author.Tests.{eqb-true, eqb-false, ltb-true, ltb-false, leb-true, leb-false, ne-eqb, eq-eqb}
 use Rattle.laws.specs.Choice.{_and_, pick, placeOf}
@@ -22,7 +22,6 @@ use Rattle.command.specs.declared.commands.Command.{Command}
 use Rattle.command.specs.declared.commands.Command.the-variants as command
 use Rattle.command.specs.declared.kinds.Kind.the-variants.{Coordinate}
 use Rattle.command.proofs.Headers.{count-least, count-most}
-use Rattle.rules.proofs.Rule.{rule-five}
 use Rattle.command.proofs.WriteBack.{made}
 use Rattle.owners.specs.Owners.{everything, mayName, owned}
 use Rattle.owners.proofs.Commands.{named-owned}
@@ -34,6 +33,8 @@ use Rattle.state.specs.Start.{isEdition, pairsOf, claimOf, mostClaim, mostCredi
 use Rattle.state.specs.Effects.{limit, opening, took, stop, withParameter, buffer, ownAfter, sharedAfter, after}
 use Rattle.session.specs.Step.{Reply, stillOpen, completed, refused, Stepped, refusing, startRuleOf, stepOf}
 use Rattle.state.specs.Valid.{parametersOf, OpenValid, OpenOwned, DomainValid, TallyValid, Valid}
+use Rattle.state.proofs.Lawful.{unset-domain, unset-row, all-same, new-lawful}
+use Rattle.session.proofs.Lawful.{ordered, fitting, Lawful, lawful-after}
 use Rattle.session.proofs.Ways.{whole, begun, goingOn, Running, Placed, Way, wasStopped, stops, opens, fills, ends, way}
 
 pub new-party-valid : (mine edition : ℕ) → mine ≤ everything → isEdition edition ≡ true →
@@ -46,12 +47,16 @@ new-party-valid mine edition most known =
       closed = λ e. refl;
       dropped = λ e. refl;
       opened = λ (k : 21 < 21). absurd (no-line k);
+      counted = λ (k : 21 < 21). absurd (no-line k);
       domain = omega arith;
+      domain-set = unset-domain;
+      instructions = unset-row;
       tally = omega arith;
       mine-most = most;
       owned = λ (k : 21 < 21). absurd (no-line k);
       edition = known;
       readiness = new-kept mine edition;
+      settings = new-lawful;
       outputs = refl;
       inputs = refl;
     }
@@ -77,6 +82,15 @@ allowed-more o w h v a k hk =
     (λ e. subst (λ (m : ℕ). allowed (kindOf (o .line) m) w ≡ true) (eqb-true _ _ e) a)
     (λ e. v .passed k (let ne : o .count ≡ k → ⊥ = eqb-false _ _ e in omega arith)))
 
+-- and those that haven't come are 0
+rest-more : (o : Open) (w : ℕ) → o .count < 4 → OpenValid o → (k : ℕ) → o .count + 1 ≤ k → getD (parametersOf (withParameter o w)) k 0 ≡ 0
+rest-more o w h v k le = go (tested (ltb k 4))
+  where
+    go : Tested (ltb k 4) → getD (parametersOf (withParameter o w)) k 0 ≡ 0
+    go (holds e) =
+        parameter-at o w k h (ltb-true _ _ e) ∙ pick-no w _ (ne-eqb (o .count) k (λ q. omega arith)) ∙ v .rest k (omega arith)
+    go (fails e) = List·getD-eq-default (parametersOf (withParameter o w)) 0 {n = k} (omega (arith, ltb-false k 4 e))
+
 -- the number of an open command that takes a parameter which names one's own
 pub named-first : (mine : ℕ) (o : Open) (w : ℕ) → (0 < o .count → mayName mine (kindOf (o .line) 0) (o .p0) ≡ true) →
     mayName mine (kindOf (o .line) (o .count)) w ≡ true → mayName mine (kindOf (o .line) 0) (withParameter o w .p0) ≡ true
@@ -94,17 +108,6 @@ fields-allowed : (o : Open) → o .line < 21 → o .count ≡ countOf (o .line) 
     ((k : ℕ) → k < o .count → allowed (kindOf (o .line) k) (getD (parametersOf o) k 0) ≡ true) →
     EachAllowed (o .line) (parametersOf o)
 fields-allowed o h e a k hk = a k (rw e hk)
-
--- a command that keeps the rules has a domain with its ends in order, if it has one
-ordered : (c : Command) (u : List ℕ) → lastRuleOf c ≡ gives u → domainKept c ≡ true
-ordered c u r = go (tested (domainKept c))
-  where
-    go : Tested (domainKept c) → domainKept c ≡ true
-    go (holds e) = e
-    go (fails e) = absurd (told-apart (sym r ∙ rule-five c e))
-      where
-        told-apart : {v : List ℕ} {n : ℕ} → gives v ≡ refuses n → ⊥
-        told-apart h = let z : _≡_ {A = ℕ} 0 1 = cc in omega arith
 
 coordinate : (w : ℕ) → allowed Coordinate w ≡ true → w < 4096
 unfolding allowed
@@ -227,8 +230,9 @@ module _ (o : Open) (line : o .line < 21) (a : EachAllowed (o .line) (parameters
       rw (whole-fields, whole-line, getD-take (countOf (o .line)) (parametersOf o) k 0 less) (a k less)
 
 -- a session that goes on with an open command is valid where the open command is
-goes-on : (s : Session) (o : Open) → Valid s → Running s → o .line < 21 → OpenValid o → OpenOwned (s .party .birth .mine) o → Valid (goingOn o s)
-goes-on s o v r h b w =
+goes-on : (s : Session) (o : Open) → Valid s → Running s → o .line < 21 → OpenValid o → o .count ≤ s .party .taken →
+    OpenOwned (s .party .birth .mine) o → Valid (goingOn o s)
+goes-on s o v r h b n w =
     record {
       flag = v .flag;
       full = omega (arith, leb-false limit (s .party .taken) (r .unfilled));
@@ -236,12 +240,16 @@ goes-on s o v r h b w =
       closed = λ e. absurd (not-none e);
       dropped = λ e. absurd (eqb-false _ _ (r .unstopped) e);
       opened = λ k. b;
+      counted = λ k. omega arith;
       domain = v .domain;
+      domain-set = v .domain-set;
+      instructions = v .instructions;
       tally = omega (arith, v .tally);
       mine-most = v .mine-most;
       owned = λ k. w;
       edition = v .edition;
       readiness = v .readiness;
+      settings = v .settings;
       outputs = v .outputs;
       inputs = v .inputs;
     }
@@ -296,6 +304,13 @@ module _ (s : Session) (w : ℕ) (v : Valid s) where
     effects-of l c e u r =
         effects (s .party .birth .mine) (s .shared) (opening none (took (s .party))) (s .party .taken) (v .domain) (v .tally) c (each-allowed l c e) u r
 
+    lawful-of : ltb (before .count + 1) (countOf (before .line)) ≡ false → (c : Command) →
+        c ≡ whole (withParameter before w) → (u : List ℕ) → lastRuleOf c ≡ gives u →
+        Lawful (ownAfter c (s .shared) (opening none (took (s .party)))) (sharedAfter (s .party .birth .mine) c (s .shared))
+    lawful-of l c e u r =
+        lawful-after (s .party .birth .mine) (opening none (took (s .party))) (s .shared)
+        (record { domain = v .domain-set; instructions = v .instructions; settings = v .settings }) c (each-allowed l c e) (fitting c u r)
+
   pub kept-way : (t : Stepped) → Way s w t → Valid (t .session)
   unfolding after
   kept-way t (wasStopped e) = v
@@ -307,27 +322,35 @@ module _ (s : Session) (w : ℕ) (v : Valid s) where
         closed = λ k. refl;
         dropped = λ k. refl;
         opened = λ k. absurd (no-line k);
+        counted = λ k. absurd (no-line k);
         domain = v .domain;
+        domain-set = v .domain-set;
+        instructions = v .instructions;
         tally = v .tally;
         mine-most = v .mine-most;
         owned = λ k. absurd (no-line k);
         edition = v .edition;
         readiness = v .readiness;
+        settings = v .settings;
         outputs = v .outputs;
         inputs = v .inputs;
       }
   kept-way t (opens r i k m) =
       goes-on s (begun w) v r (ltb-true _ _ k)
-      (record { fewer = count-least _ (ltb-true _ _ k); passed = λ j h. absurd (not-suc-le-zero h) })
-      (record { line = m; number = λ h. absurd (not-suc-le-zero h) })
+      (record { fewer = count-least _ (ltb-true _ _ k); passed = λ j h. absurd (not-suc-le-zero h); rest = λ j h. all-same 0 4 j })
+      (omega arith) (record { line = m; number = λ h. absurd (not-suc-le-zero h) })
   kept-way t (fills p m) =
       goes-on s (withParameter (s .party .opened) w) v (p .running) (line-lt p)
-      (record { fewer = ltb-true _ _ m; passed = more-allowed p }) (more-owned p)
+      (record { fewer = ltb-true _ _ m; passed = more-allowed p; rest = rest-more (s .party .opened) w (count-lt p) (v .opened (line-lt p)) })
+      (v .counted (line-lt p)) (more-owned p)
   kept-way t (ends p l c e u u' r q) =
-      done (effects-of p l c e u r)
+      done (effects-of p l c e u r) (lawful-of p l c e u r)
     where
-      done : Effects (s .party .birth .mine) c (s .shared) (opening none (took (s .party))) (s .party .taken) → Valid (after c s)
-      done f =
+      done :
+          Effects (s .party .birth .mine) c (s .shared) (opening none (took (s .party))) (s .party .taken) →
+          Lawful (ownAfter c (s .shared) (opening none (took (s .party)))) (sharedAfter (s .party .birth .mine) c (s .shared)) →
+          Valid (after c s)
+      done f g =
           record {
             flag = rw (f .same-flag) (v .flag);
             full = rw (f .same-count) (omega (arith, leb-false limit (s .party .taken) (p .running .unfilled)));
@@ -335,12 +358,16 @@ module _ (s : Session) (w : ℕ) (v : Valid s) where
             closed = λ k. f .same-open;
             dropped = λ k. f .same-open;
             opened = rw (f .same-open) (λ k. absurd (no-line k));
+            counted = rw (f .same-open) (λ k. absurd (no-line k));
             domain = f .domain;
+            domain-set = g .domain;
+            instructions = g .instructions;
             tally = rw (f .same-count) (f .tally);
             mine-most = rw (f .same-birth) (v .mine-most);
             owned = rw (f .same-open) (λ k. absurd (no-line k));
             edition = ap (λ (b : Birth). isEdition (b .edition)) (f .same-birth) ∙ v .edition;
             readiness = refl;
+            settings = g .settings;
             outputs = f .outputs ∙ v .outputs;
             inputs = f .inputs ∙ v .inputs;
           }

@@ -4,6 +4,7 @@ pub mod Feeding
 pub mod Handed
 pub mod Kept
 pub mod LastWords
+pub mod Lawful
 pub mod Numbers
 pub mod Parameters
 pub mod Reached

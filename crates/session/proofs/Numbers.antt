@@ -68,6 +68,10 @@ stops : {s u : Session} {n : ℕ} → RefusedTo s n u → Stops n
 stops (unchanged e) = record { least = omega arith; less = omega arith; isNumber = of Stopped }
 stops (stopping k) = by-stop k
 
+-- so no refusal is 0
+pub refused-least : {s u : Session} {n : ℕ} → RefusedTo s n u → 1 ≤ n
+refused-least k = stops k .least
+
 -- a number and the reply that it is of
 data Replied (r : ℕ) : Reply → Type 0 where
   isOpen : r ≡ 0 → Replied r stillOpen

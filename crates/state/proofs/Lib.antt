@@ -1,4 +1,5 @@
 pub mod Cells
+pub mod Lawful
 pub mod OwnPuts
 pub mod Puts
 pub mod Seen

@@ -1,6 +1,7 @@
 pub mod Asked
 pub mod Cells
 pub mod Effects
+pub mod Lawful
 pub mod Readiness
 pub mod Seen
 pub mod Start

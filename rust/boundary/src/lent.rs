@@ -12,8 +12,9 @@
 //! * nothing written overlaps anything else: every array that is written comes
 //!   as a `&mut`, which nothing else can share;
 //! * states as the library left them: [`Session`], [`Pair`], [`Replay`] and [`Group`]
-//!   keep their arrays private and are made only by a begin that was accepted. A
-//!   replay's session is shown but never handed out to be changed.
+//!   keep their arrays private and are made only by a begin that was accepted, or of
+//!   bytes whose arrays the library's own check says yes to. A replay's session is
+//!   shown but never handed out to be changed.
 
 use crate::flow::{Group, Program};
 use crate::layout::Layout;
@@ -119,6 +120,13 @@ pub fn session_masks(party: View, masks: &mut [u32; 5]) -> u32 {
     unsafe { raw::egretfold_session_masks(party.shared, masks) }
 }
 
+/// Whether the library takes these arrays as a session's, or a party's with the settings that it shares.
+#[inline]
+pub fn session_check(own: &[u32; OWN], tallies: &[u64; TALLIES], shared: &[u32; SHARED]) -> bool {
+    // SAFETY: arrays of the right lengths, of which nothing else is asked; nothing is written.
+    unsafe { raw::egretfold_session_check(own, tallies, shared) }
+}
+
 /// A new session of two parties under the edition with this number. 3.
 #[inline]
 pub fn pair_begin(edition: u32, owners: Owners) -> Answer<Pair> {
@@ -202,6 +210,17 @@ pub fn pair_feed(pair: &mut Pair, words: &[u32], parties: &[u32], fed: &mut [u64
     }
 }
 
+/// Whether the library takes these arrays as a pair's: own numbers and tallies of both parties, and the settings.
+#[inline]
+pub fn pair_check(
+    own: [&[u32; OWN]; 2],
+    tallies: [&[u64; TALLIES]; 2],
+    shared: &[u32; SHARED],
+) -> bool {
+    // SAFETY: arrays of the right lengths, of which nothing else is asked; nothing is written.
+    unsafe { raw::egretfold_pair_check(own[0], tallies[0], own[1], tallies[1], shared) }
+}
+
 /// A replay's five arrays, its session's last.
 type Arrays<'a> = (
     &'a mut [u32; LOG],
@@ -276,6 +295,19 @@ pub fn log_part(replay: &Replay, part: u32, counts: &mut [u64; 2]) -> u32 {
     let tallies = &replay.session.tallies;
     // SAFETY: the arrays are a replay's that the library gave out.
     unsafe { raw::egretfold_log_part(&replay.log, &replay.marks, tallies, part, counts) }
+}
+
+/// Whether the library takes these arrays as a replay's.
+#[inline]
+pub fn log_check(
+    log: &[u32; LOG],
+    marks: &[u64; MARKS],
+    own: &[u32; OWN],
+    tallies: &[u64; TALLIES],
+    shared: &[u32; SHARED],
+) -> bool {
+    // SAFETY: arrays of the right lengths, of which nothing else is asked; nothing is written.
+    unsafe { raw::egretfold_log_check(log, marks, own, tallies, shared) }
 }
 
 /// Judges the number of an edition and a lease line: first day, days, elements owed
@@ -639,6 +671,13 @@ pub fn group_loops(group: &Group, loops: &mut [u32; 13]) {
     // SAFETY: the cells are a group's that the library gave out, and apart from
     // the room.
     unsafe { raw::egretfold_group_loops(&group.cells, loops) }
+}
+
+/// Whether the library takes these cells as a group's.
+#[inline]
+pub fn group_check(cells: &[u32; CELLS]) -> bool {
+    // SAFETY: an array of the right length, of which nothing else is asked; nothing is written.
+    unsafe { raw::egretfold_group_check(cells) }
 }
 
 /// Kills the active processors that have a channel under the write mask less than

@@ -13,6 +13,10 @@
 //!
 //! [`headers`] has the commands' header words by name, [`lengths`] the arrays' lengths.
 //!
+//! A state may be kept elsewhere, on disk say: [`Session`], [`Pair`], [`Replay`] and [`Group`]
+//! have `to_bytes`, and `from_bytes`, which asks the library's own check and gives a state only
+//! where that says yes: what then comes can't be harmed by bytes that were.
+//!
 //! A refused call answers with a [`Refusal`], as the `Err` of an [`Answer`]: it has
 //! document 01's number and its cause. No call panics, whatever it is given, except
 //! the two that say so: [`Program::slot`] and [`Group::counter`] of a number that
@@ -48,6 +52,7 @@ mod element;
 mod fleet;
 mod flow;
 pub mod headers;
+mod kept;
 mod layout;
 pub mod lengths;
 pub mod lent;

@@ -324,6 +324,8 @@ extern "C" {
 
     pub fn egretfold_group_loops(cells: &[u32; CELLS], loops: &mut [u32; 13]);
 
+    pub fn egretfold_group_check(cells: &[u32; CELLS]) -> bool;
+
     pub fn egretfold_group_kill(
         slots: u32,
         cells: &mut [u32; CELLS],
@@ -345,4 +347,26 @@ extern "C" {
         third: &[f32; CHANNELS],
         choice: &mut [f32; CHANNELS],
     );
+
+    pub fn egretfold_session_check(
+        own: &[u32; OWN],
+        tallies: &[u64; TALLIES],
+        shared: &[u32; SHARED],
+    ) -> bool;
+
+    pub fn egretfold_pair_check(
+        own0: &[u32; OWN],
+        tallies0: &[u64; TALLIES],
+        own1: &[u32; OWN],
+        tallies1: &[u64; TALLIES],
+        shared: &[u32; SHARED],
+    ) -> bool;
+
+    pub fn egretfold_log_check(
+        log: &[u32; LOG],
+        marks: &[u64; MARKS],
+        own: &[u32; OWN],
+        tallies: &[u64; TALLIES],
+        shared: &[u32; SHARED],
+    ) -> bool;
 }

@@ -826,6 +826,40 @@ static void check_registers(void)
     agree_words("register_choice", seen, chosen, EGRETFOLD_CHANNELS);
 }
 
+static bool is_pair(const struct pair *p)
+{
+    return egretfold_pair_check(p->zero.own, p->zero.tallies, p->own1, p->tallies1, p->zero.shared);
+}
+
+static bool is_replay(const struct replay *r)
+{
+    return egretfold_log_check(r->log, r->marks, r->s.own, r->s.tallies, r->s.shared);
+}
+
+/* States as they begin, and each with something that no state has. */
+static void check_states(void)
+{
+    struct pair p;
+    struct replay r;
+    uint32_t cells[EGRETFOLD_CELLS];
+    begin(&p.zero);
+    agree("session_check", egretfold_session_check(p.zero.own, p.zero.tallies, p.zero.shared), true);
+    p.zero.own[0] = 2;
+    agree("session_check, a stop of 2", egretfold_session_check(p.zero.own, p.zero.tallies, p.zero.shared), false);
+    agree("pair_begin", begin_pair(&p, 0, 2, 1), 0);
+    agree("pair_check", is_pair(&p), true);
+    memcpy(p.own1, p.zero.own, sizeof p.own1);
+    agree("pair_check, both own the same", is_pair(&p), false);
+    agree("log_begin", egretfold_log_begin(r.log, r.marks, r.s.own, r.s.tallies, r.s.shared, 1), 0);
+    agree("log_check", is_replay(&r), true);
+    r.marks[0] = 1;
+    agree("log_check, a mark of no midnight", is_replay(&r), false);
+    agree("group_begin", egretfold_group_begin(8, 0, cells), 0);
+    agree("group_check", egretfold_group_check(cells), true);
+    memset(cells, 0, sizeof cells);
+    agree("group_check, all zeros", egretfold_group_check(cells), false);
+}
+
 int main(void)
 {
     struct session s;
@@ -854,6 +888,7 @@ int main(void)
     check_loops();
     check_kill();
     check_registers();
+    check_states();
     if (differed != 0) {
         printf("calls: %u agreed, %u differed\n", agreed, differed);
         return 1;

@@ -36,6 +36,8 @@ pub struct Seen {
     loops: [u32; 13],
     /// The product's cells past its returns: the mode, the killed, the open loops, and zeros.
     rest: [u32; CELLS - REST],
+    /// Whether the product's own check takes its cells, as it does all that it gave out.
+    checked: bool,
 }
 
 impl Both {
@@ -64,6 +66,7 @@ pub fn seen(group: &boundary::Group) -> Seen {
         returns: group.returns(),
         loops,
         rest,
+        checked: lent::group_check(group.cells()),
     }
 }
 
@@ -76,6 +79,7 @@ pub fn seen_in_second(group: &Group) -> Seen {
         returns: group.returns.clone(),
         loops: [0; 13],
         rest: [0; CELLS - REST],
+        checked: true,
     };
     seen.rest[MODE] = match group.mode {
         Mode::Full => 0,

@@ -36,7 +36,7 @@ impl Both {
     }
 
     /// All that both parties can ask.
-    fn agree(&self, case: &Case, asked: impl Fn() -> String) -> Agreement {
+    pub fn agree(&self, case: &Case, asked: impl Fn() -> String) -> Agreement {
         for party in Party::BOTH {
             let asked = || format!("{party:?}'s settings after {}", asked());
             let product = of_view(self.product.view(party));

@@ -2,7 +2,7 @@
 //! made apart from it, on millions of made-up inputs: good ones, ones at the
 //! edges of the rules, damaged ones and noise.
 //!
-//! There are thirteen kinds of cases, one module each:
+//! There are fourteen kinds of cases, one module each:
 //!
 //! * [`addresses`]: layouts judged, pairs translated, addresses located back;
 //! * [`memory`]: elements read and written in lent memory, superfine reads;
@@ -16,7 +16,8 @@
 //! * [`lessees`]: words of two parties on one card, mixed, and one party's replaced;
 //! * [`surveys`]: conditional tests and surveys of domains;
 //! * [`pictures`]: rectangles painted into memory and copied out of it;
-//! * [`fleets`]: the logs and lease lines of up to 64 stations in one report.
+//! * [`fleets`]: the logs and lease lines of up to 64 stations in one report;
+//! * [`states`]: states kept as bytes at random places, and gone on with.
 //!
 //! Every case is made from its kind, a seed and its number alone, so that any
 //! case can be run again by itself. The tests run fixed cases; the program
@@ -49,6 +50,7 @@ pub mod records;
 pub mod scores;
 pub mod settings;
 pub mod starts;
+pub mod states;
 pub mod streams;
 pub mod surveys;
 pub mod tally;
@@ -79,10 +81,11 @@ pub enum Kind {
     Surveys,
     Pictures,
     Fleets,
+    States,
 }
 
 impl Kind {
-    pub const ALL: [Kind; 13] = [
+    pub const ALL: [Kind; 14] = [
         Kind::Addresses,
         Kind::Memory,
         Kind::Streams,
@@ -96,6 +99,7 @@ impl Kind {
         Kind::Surveys,
         Kind::Pictures,
         Kind::Fleets,
+        Kind::States,
     ];
 
     pub fn name(self) -> &'static str {
@@ -113,6 +117,7 @@ impl Kind {
             Kind::Surveys => "surveys",
             Kind::Pictures => "pictures",
             Kind::Fleets => "fleets",
+            Kind::States => "states",
         }
     }
 
@@ -135,6 +140,7 @@ impl Kind {
             Kind::Surveys => surveys::run(case),
             Kind::Pictures => pictures::run(case),
             Kind::Fleets => fleets::run(case),
+            Kind::States => states::run(case),
         }
     }
 }

@@ -53,7 +53,8 @@ fn fed(product: &mut Product, bytes: &[u8]) -> Fed {
     }
 }
 
-fn agree(
+/// All that can be asked of a replay.
+pub fn agree(
     case: &mut Case,
     product: &Product,
     second: &Second,

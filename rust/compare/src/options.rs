@@ -10,8 +10,8 @@ usage: ./compare [--seconds S] [--seed N] [--kind KIND] [--case M]
   --seconds S   go on for S seconds (default 10)
   --seed N      the seed of the cases (default 1)
   --kind KIND   only this kind: addresses, memory, streams, writer, flow, logs,
-                scores, modes, kills, lessees, surveys, pictures or
-                fleets
+                scores, modes, kills, lessees, surveys, pictures,
+                fleets or states
   --case M      only case M of the kind, and print both answers of every
                 comparison; needs --kind
   --help        this text

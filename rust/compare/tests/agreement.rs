@@ -550,3 +550,16 @@ fn scores() {
     );
     refusals(&tally, &[(18, 10_000), (19, 20_000), (21, 40_000)]);
 }
+
+#[test]
+fn states() {
+    let tally = agree(Kind::States, 0..10_000);
+    marks(&tally, &[("sessions", 1_000), ("pairs", 1_000)]);
+    marks(&tally, &[("groups", 2_000), ("replays", 4_500)]);
+    marks(&tally, &[("states that came back", 500_000)]);
+    marks(&tally, &[("damaged states refused", 50_000)]);
+    marks(&tally, &[("damaged states that are others", 4_000)]);
+    marks(&tally, &[("replays kept inside a record", 300)]);
+    marks(&tally, &[("replays kept stopped", 1_000)]);
+    marks(&tally, &[("replays kept with a refused word", 1_000)]);
+}

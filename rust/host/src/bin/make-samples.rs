@@ -94,6 +94,22 @@ fn station_14() -> Log {
     log
 }
 
+/// The month before, full: 31 days, with the set-up before its first midnight.
+fn march() -> Log {
+    let first = station::FIRST_DAY - 31;
+    let mut log = Log::new().words(&CAMERAS);
+    for day in first..station::FIRST_DAY {
+        log = log.midnight(day).frames(FRAMES);
+    }
+    log
+}
+
+/// Station 14's month from its first midnight on: what is set was set in March.
+fn april() -> Vec<u8> {
+    let set_up = Log::new().words(&CAMERAS).frames(1).bytes.len();
+    station_14().bytes.split_off(set_up)
+}
+
 /// The month after, full: 31 days.
 fn full_month() -> Log {
     let first = station::FIRST_DAY + station::DAYS;
@@ -304,7 +320,7 @@ fn stream(words: &[u32]) -> Vec<u8> {
 }
 
 /// The bytes of every file, by its name.
-fn files() -> [(&'static str, Vec<u8>); 15] {
+fn files() -> [(&'static str, Vec<u8>); 17] {
     let whole = [&SETTINGS[..], &FIRST_STARTS].concat();
     let second = [&SECOND_LESSEE[..], &[0]].concat();
     let (lessees, of_lessees) = two_parties(
@@ -314,6 +330,8 @@ fn files() -> [(&'static str, Vec<u8>); 15] {
     let (intruder, of_intruder) = two_parties(&whole, &INTRUDER);
     [
         ("station-14.log", station_14().bytes),
+        ("station-14-march.log", march().bytes),
+        ("station-14-april.log", april()),
         ("full-month.log", full_month().bytes),
         ("station-14-june.log", june().bytes),
         ("nothing-owed.log", nothing_owed().bytes),

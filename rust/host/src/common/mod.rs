@@ -2,6 +2,7 @@
 //! session's settings, shapes of text, where an answer goes, and how a subcommand
 //! ends.
 
+pub mod digest;
 pub mod digits;
 pub mod edition;
 pub mod failure;

@@ -1,7 +1,8 @@
-//! A picture's or a page's file: new, or in place of an earlier one.
+//! A picture's, a page's or a state's file: new, or in place of an earlier one.
 
 use crate::common::failure::{Failure, Outcome};
 use crate::common::file::{Place, Stands};
+use crate::replay::kept;
 use std::fs::File;
 use std::io::{self, Read, Write};
 use std::path::{Path, PathBuf};
@@ -12,6 +13,7 @@ pub enum Kind {
     Svg,
     Html,
     Pgm,
+    State,
 }
 
 /// How a picture of ours begins.
@@ -27,6 +29,7 @@ impl Kind {
             Kind::Svg => &[SVG_BEGIN, "<?xml"],
             Kind::Html => &[HTML_BEGIN, "<!doctype html>"],
             Kind::Pgm => &["P5"],
+            Kind::State => &[kept::MAGIC],
         }
     }
 
@@ -35,6 +38,7 @@ impl Kind {
             Kind::Svg => "SVG picture",
             Kind::Html => "HTML page",
             Kind::Pgm => "PGM picture",
+            Kind::State => "state file",
         }
     }
 
@@ -43,6 +47,7 @@ impl Kind {
             Kind::Svg => "--svg",
             Kind::Html => "--html",
             Kind::Pgm => "--pgm",
+            Kind::State => "--save",
         }
     }
 

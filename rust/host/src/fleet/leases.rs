@@ -352,6 +352,7 @@ impl Reading<'_> {
             edition: edition.number(),
             line,
             from,
+            resume: None,
             files: files.unwrap_or_default(),
             issue: Issue::of(&station, &lessee, issued),
         };

@@ -3,6 +3,7 @@
 
 use crate::common::names;
 use crate::input::numbers;
+use crate::replay::kept;
 
 #[derive(Clone, Copy, Debug, PartialEq, Eq)]
 pub enum Looks {
@@ -13,6 +14,8 @@ pub enum Looks {
     Hex,
     /// A listing, or its terse form.
     Listing,
+    /// A state that --save wrote.
+    State,
 }
 
 /// A record of a log: a byte of kind, 1 or 2, and a number.
@@ -20,6 +23,9 @@ const RECORD: usize = 5;
 
 /// What these first bytes look like, if anything.
 pub fn of(begin: &[u8]) -> Option<Looks> {
+    if begin.starts_with(kept::MAGIC.as_bytes()) {
+        return Some(Looks::State);
+    }
     if let Some(text) = text(begin) {
         return of_text(&text);
     }
@@ -63,6 +69,10 @@ pub fn hint(begin: &[u8], wanted: Looks) -> Option<String> {
         (Looks::Hex, Looks::Listing) => return None,
         (Looks::Hex, _) => ("words in hex text", "egretfold decode --hex"),
         (Looks::Listing, _) => ("a listing", "egretfold encode, and decode what it writes"),
+        (Looks::State, _) => (
+            "a state that was saved",
+            "egretfold replay --resume with it, or score --resume",
+        ),
     };
     Some(format!("this looks like {what}: try {instead}"))
 }
@@ -83,6 +93,7 @@ mod tests {
             (b"# a remark\nC0010A00 1000", Some(Looks::Hex)),
             (b"       0:  C0010A00  set_inst_fmt\n", Some(Looks::Listing)),
             (b"set_domain 0 0 5F 11\n", Some(Looks::Listing)),
+            (b"egretfold state\n\x01\x00\x00\x00", Some(Looks::State)),
             (b"no such thing", None),
             (b"\x00\x00\x00\x00\x00", None),
             (b"", None),

@@ -4,7 +4,7 @@
 pub mod lines;
 pub mod looks;
 pub mod numbers;
-mod packed;
+pub mod packed;
 pub mod progress;
 pub mod source;
 pub mod words;

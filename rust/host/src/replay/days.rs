@@ -7,7 +7,8 @@ use crate::common::failure::Outcome;
 use crate::common::names;
 use crate::common::text;
 use crate::explain::cause::Refused;
-use crate::replay::log::{Log, RefusedAt, RECORD};
+use crate::replay::kept::RECORD;
+use crate::replay::log::{Log, RefusedAt};
 use boundary::Part;
 use serde_json::{json, Value};
 use std::io::{self, Write};
@@ -34,6 +35,9 @@ pub fn table(log: &Log, digits: Digits, out: &mut dyn Write) -> Outcome {
         text::count(u64::from(log.replay.status().midnights), "midnight"),
     )?;
     writeln!(out, "{}", edition::rule(log.edition()))?;
+    if let Some(resumed) = &log.resumed {
+        writeln!(out, "{resumed}")?;
+    }
     for note in notes(log) {
         writeln!(out, "{note}")?;
     }
@@ -156,7 +160,7 @@ pub fn summary(log: &Log) -> Value {
     });
     let open = open(log)
         .map(|(name, taken, due)| json!({"command": name, "taken": taken, "parameters": due}));
-    json!({
+    let mut summary = json!({
         "inputs": inputs,
         "bytes": log.bytes,
         "taken": log.taken,
@@ -172,7 +176,11 @@ pub fn summary(log: &Log) -> Value {
         "unfinished_bytes": status.unfinished,
         "refused_word": word,
         "refusal": stop,
-    })
+    });
+    if let Some(resumed) = &log.resumed {
+        summary["resumed_at"] = json!(resumed.bytes);
+    }
+    summary
 }
 
 fn as_json((place, Refused { number, cause }): &RefusedAt) -> Value {

@@ -1,25 +1,17 @@
 //! A station's log given to a replay piece by piece, with the place and the cause
 //! of what was refused.
 
-use crate::common::failure::Outcome;
+use crate::common::digest::{self, Digest};
+use crate::common::failure::{Failure, Outcome};
 use crate::explain::cause::{self, Refused};
 use crate::input::looks::{self, Looks};
 use crate::input::source::{Source, PIECE};
+use crate::replay::kept::{Kept, BACK, MOST_MIDNIGHTS, RECORD};
+use crate::replay::resumed::Resumed;
 use boundary::{Edition, LogStatus, Replay};
-use sha2::{Digest, Sha256};
 use std::fmt;
 
-/// The bytes of a record.
-pub const RECORD: u64 = 5;
-
 const WORD: u8 = 1;
-
-/// "at most 400 come in all"
-const MOST_MIDNIGHTS: u32 = 400;
-
-/// How far before a piece a command's header can lie: a command has five words,
-/// and every midnight may come between them.
-const BACK: usize = (RECORD as usize) * (5 + MOST_MIDNIGHTS as usize);
 
 /// Where a byte of the log stands.
 #[derive(Clone, Debug, PartialEq, Eq)]
@@ -30,7 +22,8 @@ pub struct Place {
     pub record: u64,
     /// None before the first midnight.
     pub day: Option<u32>,
-    /// The input and the byte's place there, where there are several inputs.
+    /// The input and the byte's place there, where there are several inputs; none for a byte
+    /// that came before the state that the log goes on from.
     pub input: Option<(String, u64)>,
 }
 
@@ -40,7 +33,8 @@ pub type RefusedAt = (Place, Refused);
 pub struct Log {
     pub replay: Replay,
     /// The inputs by their names, with the byte of the log that each begins at; one
-    /// that isn't reached yet begins at no byte, `u64::MAX`.
+    /// that isn't reached yet begins at no byte, `u64::MAX`. The first is the state's file, where
+    /// the log goes on from one.
     pub inputs: Vec<(String, u64)>,
     /// Bytes read, and of these the ones that were taken.
     pub bytes: u64,
@@ -50,7 +44,9 @@ pub struct Log {
     /// The byte that stopped the replay.
     pub stop: Option<RefusedAt>,
     /// Takes in the bytes read, where their digest is wanted.
-    digest: Option<Sha256>,
+    digest: Option<Digest>,
+    /// What it goes on from.
+    pub resumed: Option<Resumed>,
     /// The first bytes of the first input.
     begin: Vec<u8>,
     /// The end of what was read before the piece at hand.
@@ -68,6 +64,7 @@ impl Log {
             word: None,
             stop: None,
             digest: None,
+            resumed: None,
             begin: Vec::new(),
             tail: Vec::new(),
         }
@@ -76,19 +73,53 @@ impl Log {
     /// A log whose SHA-256 is wanted.
     pub fn with_digest(edition: Edition) -> Log {
         Log {
-            digest: Some(Sha256::new()),
+            digest: Some(Digest::new()),
             ..Log::new(edition)
         }
+    }
+
+    /// A log that goes on from a state, kept in the file of this name.
+    pub fn resumed(kept: Kept, name: String) -> Log {
+        let bytes = kept.digest.length();
+        let mut log = Log {
+            inputs: vec![(name.clone(), 0)],
+            bytes,
+            taken: bytes,
+            resumed: Some(Resumed::new(name, &kept)),
+            digest: Some(kept.digest),
+            tail: kept.last,
+            ..Log::new(kept.replay.session().status().edition)
+        };
+        log.replay = kept.replay;
+        let status = log.replay.status();
+        log.word = status.refused.map(|word| {
+            let day = day_after(&status, word.midnights);
+            let place = log.place(word.record * RECORD, day);
+            (place, cause::refused(word.refusal, kept.cause))
+        });
+        log
+    }
+
+    /// What is kept of it; none where the replay is stopped, after which no byte can follow, or
+    /// where the digest wasn't wanted.
+    pub fn kept(&self) -> Option<Kept> {
+        let digest = self.digest.clone().filter(|_| self.stop.is_none())?;
+        Some(Kept {
+            replay: self.replay.clone(),
+            digest,
+            last: self.tail.clone(),
+            cause: self.word.as_ref().map(|(_, refused)| refused.cause.clone()),
+        })
     }
 
     pub fn edition(&self) -> Edition {
         self.replay.session().status().edition
     }
 
-    /// The SHA-256 of all bytes read, in hex.
+    /// The SHA-256 of all bytes read, in hex; of those too that came before the state that it
+    /// goes on from.
     pub fn digest(&self) -> Option<String> {
-        let bytes = self.digest.clone()?.finalize();
-        Some(bytes.iter().map(|byte| format!("{byte:02x}")).collect())
+        Some(digest::hex(self.digest.as_ref()?.finished()))
     }
 
     /// Reads all inputs, one behind the other. Where one fails on the way, what
@@ -96,16 +127,18 @@ impl Log {
     /// handed on as it is read.
     pub fn read(&mut self, sources: Vec<Source>, also: &mut dyn FnMut(&[u8])) -> Outcome {
         let named = |source: &Source| (source.name.clone(), u64::MAX);
-        self.inputs = sources.iter().map(named).collect();
+        let before = self.inputs.len();
+        self.inputs.extend(sources.iter().map(named));
         let mut room = vec![0; PIECE];
         for (place, mut source) in sources.into_iter().enumerate() {
-            self.inputs[place].1 = self.bytes;
+            self.inputs[before + place].1 = self.bytes;
             loop {
                 match source.fill(&mut room)? {
                     0 => break,
                     count => {
                         self.piece(&room[..count]);
                         also(&room[..count]);
+                        self.ask_again(before)?;
                     }
                 }
             }
@@ -116,12 +149,32 @@ impl Log {
         Ok(())
     }
 
-    /// What to try where this is no log at all.
+    /// Whether the inputs begin with all that came before the state: they are refused, and
+    /// what was read is no log.
+    pub fn is_again(&self) -> bool {
+        self.resumed.as_ref().map_or(false, Resumed::is_again)
+    }
+
+    fn ask_again(&self, before: usize) -> Outcome {
+        match &self.resumed {
+            Some(resumed) if resumed.is_again() => {
+                Err(Failure::Wrong(resumed.complaint(&self.inputs[before].0)))
+            }
+            _ => Ok(()),
+        }
+    }
+
+    /// What to try where this is no log at all, or not the one that goes on.
     pub fn hint(&self) -> Option<String> {
-        looks::hint(&self.begin, Looks::Log)
+        let goes_on = self.resumed.as_ref().zip(self.stop.as_ref());
+        let goes_on = goes_on.and_then(|(resumed, (_, refused))| resumed.hint(refused.number));
+        goes_on.or_else(|| looks::hint(&self.begin, Looks::Log))
     }
 
     fn piece(&mut self, piece: &[u8]) {
+        if let Some(resumed) = &mut self.resumed {
+            resumed.meet(piece);
+        }
         if self.stop.is_none() {
             self.feed(piece);
         }
@@ -187,12 +240,14 @@ impl Log {
     fn place(&self, byte: u64, day: Option<u32>) -> Place {
         let holds = |(_, begin): &&(String, u64)| *begin <= byte;
         let input = self.inputs.iter().rev().find(holds);
+        let before = |resumed: &Resumed| byte < resumed.bytes;
         Place {
             byte,
             record: byte / RECORD,
             day,
             input: match self.inputs.len() {
                 1 => None,
+                _ if self.resumed.as_ref().map_or(false, before) => None,
                 _ => input.map(|(name, begin)| (name.clone(), byte - begin)),
             },
         }
@@ -221,8 +276,8 @@ impl Log {
 
     /// What to say of a refusal on standard error, with the input's name.
     pub fn complaint(&self, (place, refused): &RefusedAt) -> String {
-        match self.inputs.as_slice() {
-            [(name, _)] => format!("{name}: {place}: {refused}"),
+        match (&place.input, self.inputs.first()) {
+            (None, Some((name, _))) => format!("{name}: {place}: {refused}"),
             _ => format!("{place}: {refused}"),
         }
     }

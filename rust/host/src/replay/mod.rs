@@ -1,13 +1,15 @@
 //! `egretfold replay`: a station's log, day by day.
 
 pub mod days;
+pub mod kept;
 pub mod log;
+pub mod resumed;
 
 use crate::common::digits::Digits;
 use crate::common::edition::{self, EditionOption};
 use crate::common::failure::{Failure, Outcome};
 use crate::input::source::Source;
-use crate::replay::log::Log;
+use crate::replay::resumed::StateOptions;
 use clap::Args;
 use std::io::Write;
 use std::path::PathBuf;
@@ -17,13 +19,17 @@ pub const EXAMPLES: &str = "\
 A record is a byte of kind and a number of four bytes, low byte first: kind 1 a command
 word, kind 2 a midnight with the number of the day that begins. Exit status 1 also where
 a word was refused: the days go on, but later words add nothing.
+--save keeps the state at the log's end in a file, also inside a command or a record; --resume goes on
+from it, with the bytes that came behind. A log that is stopped isn't saved.
 
 Examples, from the repository's root:
   egretfold replay samples/three-days.log
   egretfold replay --json samples/refused.log
   egretfold replay --csv samples/three-days.log
   egretfold replay --edition 2 samples/station-14.log
-  head -c 98 samples/three-days.log | egretfold replay -";
+  head -c 98 samples/three-days.log | egretfold replay -
+  egretfold replay samples/station-14-march.log --save march.state
+  egretfold replay samples/station-14-april.log --resume samples/station-14-march.state";
 
 #[derive(Args)]
 pub struct Options {
@@ -39,13 +45,19 @@ pub struct Options {
     #[arg(long, conflicts_with_all = ["json", "csv"])]
     plain: bool,
     #[command(flatten)]
+    state: StateOptions,
+    #[command(flatten)]
     edition: EditionOption,
 }
 
 pub fn run(options: &Options, out: &mut dyn Write) -> Outcome {
     let edition = options.edition.accepted().map_err(edition::refused)?;
-    let mut log = Log::new(edition);
+    let saved = options.state.place()?;
+    let mut log = options.state.begin(edition)?;
     let ended = log.read(Source::open_all(&options.files)?, &mut |_| {});
+    if log.is_again() {
+        return ended;
+    }
     match (options.json, options.csv) {
         (true, _) => days::json(&log, out)?,
         (_, true) => days::csv(&log, out)?,
@@ -53,8 +65,12 @@ pub fn run(options: &Options, out: &mut dyn Write) -> Outcome {
     }
     ended?;
     // What stopped the replay tells more than a word that it went on after.
-    match log.stop.as_ref().or(log.word.as_ref()) {
+    let outcome = match log.stop.as_ref().or(log.word.as_ref()) {
         Some(refused) => Err(Failure::Refused(log.complaint(refused)).hinted(log.hint())),
         None => Ok(()),
+    };
+    match saved {
+        Some(saved) => saved.save(&log, outcome),
+        None => outcome,
     }
 }

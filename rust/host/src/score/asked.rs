@@ -6,6 +6,7 @@ use crate::explain::cause::{self, Refused};
 use crate::input::source::{self, Source};
 use crate::replay::days;
 use crate::replay::log::Log;
+use crate::replay::resumed;
 use crate::score::civil::Date;
 use crate::score::issue::Issue;
 use crate::score::month::Score;
@@ -27,6 +28,8 @@ pub struct Asked {
     pub edition: u32,
     pub line: LeaseLine,
     pub from: Option<Date>,
+    /// The state's file that the log goes on from.
+    pub resume: Option<PathBuf>,
     pub files: Vec<PathBuf>,
     pub issue: Issue,
 }
@@ -143,10 +146,13 @@ impl Asked {
             true => source::STANDARD.to_string(),
             false => visible::line(&file.display().to_string()),
         };
-        match self.files.as_slice() {
-            [] => vec![source::STANDARD.to_string()],
-            files => files.iter().map(|file| name(file)).collect(),
-        }
+        let standard = [PathBuf::from("-")];
+        let files = match self.files.as_slice() {
+            [] => &standard,
+            files => files,
+        };
+        let all = self.resume.iter().chain(files);
+        all.map(|file| name(file)).collect()
     }
 
     /// The lease line, or the refusal of it.
@@ -184,19 +190,33 @@ impl Asked {
         dates: Vec<Option<Date>>,
         also: &mut dyn FnMut(&[u8]),
     ) -> Card {
-        let mut log = Log::with_digest(edition);
-        // A score of a part of what was asked for would be no score.
-        let read = Source::open_all(&self.files).and_then(|sources| log.read(sources, also));
-        if let Err(failure) = read {
-            return Card::Unscored(Unscored::new(self, failure));
+        match self.log(edition, also) {
+            Ok(log) => self.card(lease, dates, &log),
+            Err(failure) => self.unread(failure),
         }
-        match month_of(&log, &lease) {
+    }
+
+    /// Reads the log. A score of a part of what was asked for would be no score.
+    pub fn log(&self, edition: Edition, also: &mut dyn FnMut(&[u8])) -> Outcome<Log> {
+        let mut log = resumed::begin(self.resume.as_deref(), edition)?;
+        log.read(Source::open_all(&self.files)?, also)?;
+        Ok(log)
+    }
+
+    /// The card of a log that couldn't be read.
+    pub fn unread(&self, failure: Failure) -> Card {
+        Card::Unscored(Unscored::new(self, failure))
+    }
+
+    /// The card of a log that was read.
+    pub fn card(&self, lease: Lease, dates: Vec<Option<Date>>, log: &Log) -> Card {
+        match month_of(log, &lease) {
             Ok(month) => {
                 let issue = self.issue.clone();
-                Card::Scored(Score::new(lease, dates, month, &log, issue))
+                Card::Scored(Score::new(lease, dates, month, log, issue))
             }
             Err(failure) => {
-                let told = days::summary(&log);
+                let told = days::summary(log);
                 Card::Unscored(Unscored {
                     refusal: told["refusal"].clone(),
                     log: told,

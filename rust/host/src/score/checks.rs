@@ -104,7 +104,8 @@ fn refused(log: &Log, days: &[Day], checks: &mut Vec<Check>) {
     if refused.number == NOT_SET && nothing_is_set(log) {
         checks.push(Check::new(
             "set_up_missing",
-            "the first start was refused 7 before anything was set: files from the set-up on are missing"
+            "the first start was refused 7 before anything was set: files from the set-up on are missing; \
+             the state saved at the end of the month before would do (score --resume)"
                 .to_string(),
             short.then(|| "the set-up is missing"),
         ));

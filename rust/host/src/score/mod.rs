@@ -19,6 +19,7 @@ use crate::fleet::page;
 use crate::input::numbers;
 use crate::input::source::Source;
 use crate::replay::log::Log;
+use crate::replay::resumed::StateOptions;
 use crate::score::asked::{accepted, dates, month_of, Asked, Card, LeaseLine};
 use crate::score::civil::Date;
 use crate::score::issue::Issue;
@@ -39,12 +40,15 @@ With --edition 2 a pair counts the unmasked channels of each output, where editi
 output that isn't silent once.
 Exit status: 0 full or nothing owed, 3 short, 1 refused, 2 a wrong command line or file.
 Where there is no score, a card asked for with --svg or --html says so, in place of an earlier one.
+--save keeps the state at the log's end in a file, and --resume goes on from it: so a month whose set-up lies in the
+month before is scored from its own files.
 
 Examples, from the repository's root:
   egretfold score samples/station-14.log --first-day 101 --days 30 --owed 14000000
   egretfold score samples/station-14.log --first-day 101 --days 30 --owed 56000000 --edition 2
   egretfold score samples/full-month.log --first-day 131 --days 31 --owed 14000000 --from 2026-05-01 --csv
-  egretfold score samples/station-14.log --first-day 101 --days 30 --owed 14000000 --from 2026-04-01 --svg april.svg --station 14 --lessee 'the harbour'";
+  egretfold score samples/station-14.log --first-day 101 --days 30 --owed 14000000 --from 2026-04-01 --svg april.svg --station 14 --lessee 'the harbour'
+  egretfold score samples/station-14-april.log --resume samples/station-14-march.state --first-day 101 --days 30 --owed 14000000";
 
 #[derive(Args)]
 pub struct Options {
@@ -81,6 +85,8 @@ pub struct Options {
     #[arg(long, value_name = "FILE")]
     html: Option<PathBuf>,
     #[command(flatten)]
+    state: StateOptions,
+    #[command(flatten)]
     edition: EditionOption,
     #[command(flatten)]
     issue: issue::IssueOptions,
@@ -96,6 +102,7 @@ impl Options {
                 owed: self.owed,
             },
             from: self.from,
+            resume: self.state.resume.clone(),
             files: self.files.clone(),
             issue: Issue::new(&self.issue),
         }
@@ -136,37 +143,46 @@ impl Places {
 
 pub fn run(options: &Options, out: &mut dyn Write) -> Outcome {
     let places = Places::asked(options)?;
+    let saved = options.state.place()?;
     let asked = options.asked();
-    let card = card(options, &asked)?;
+    let (card, log) = card(options, &asked)?;
     let written = places.write(&card, out);
     if !places.take_standard() {
         show_as_asked(options, &card, out)?;
     }
-    match (card.outcome(), written) {
+    let outcome = match (card.outcome(), written) {
         (Err(Failure::Short) | Ok(()), Err(failure)) => Err(failure),
         (Err(failure), Err(Failure::Wrong(text))) => Err(failure.hinted(Some(text))),
         (outcome, _) => outcome,
+    };
+    match (saved, log) {
+        (Some(saved), Some(log)) => saved.save(&log, outcome),
+        _ => outcome,
     }
 }
 
-/// Before any log is opened the edition is judged, before all else, then the lease line.
-fn card(options: &Options, asked: &Asked) -> Outcome<Card> {
+/// The card, and the log where it was read. Before any log is opened the edition is judged, before
+/// all else, then the lease line.
+fn card(options: &Options, asked: &Asked) -> Outcome<(Card, Option<Log>)> {
     let edition = match options.edition.accepted() {
         Ok(edition) => edition,
         Err(refused) => {
             let failure = edition::refused(refused.clone());
-            return Ok(asked.refused(refused, failure));
+            return Ok((asked.refused(refused, failure), None));
         }
     };
     let lease = match asked.lease() {
         Ok(lease) => lease,
         Err(refused) => {
             let failure = Failure::Refused(format!("lease line: {refused}"));
-            return Ok(asked.refused(refused, failure));
+            return Ok((asked.refused(refused, failure), None));
         }
     };
     let dates = asked.dates(&lease).map_err(wrong_from)?;
-    Ok(asked.score(edition, lease, dates, &mut |_| {}))
+    Ok(match asked.log(edition, &mut |_| {}) {
+        Ok(log) => (asked.card(lease, dates, &log), Some(log)),
+        Err(failure) => (asked.unread(failure), None),
+    })
 }
 
 fn show_as_asked(options: &Options, card: &Card, out: &mut dyn Write) -> Outcome {

@@ -210,7 +210,8 @@ fn a_log_that_is_not_whole_is_told() {
     let log = [midnights(101..102), words(&[START_PROGRAM, 0]), vec![1, 0]].concat();
     let (texts, verdict) = checked(&log, lease);
     assert_eq!(texts.len(), 3, "{texts:?}");
-    let due = "the first start was refused 7 before anything was set: files from the set-up on are missing";
+    let due = "the first start was refused 7 before anything was set: files from the set-up on are missing; \
+               the state saved at the end of the month before would do (score --resume)";
     assert_eq!(texts[0], due);
     assert!(
         texts[1].contains("day 101: word refused 7, start without "),

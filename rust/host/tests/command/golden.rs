@@ -120,6 +120,111 @@ const CASES: &[(&str, &str, &str)] = &[
         "score samples/damaged.log --first-day 101 --days 32 --owed 1 --edition 3 --json --issued 2026-05-02",
         "",
     ),
+    (
+        "score-april-alone",
+        "score samples/station-14-april.log --first-day 101 --days 30 --owed 14000000 --from 2026-04-01",
+        "",
+    ),
+    (
+        "score-april-resumed",
+        "score samples/station-14-april.log --resume samples/station-14-march.state --first-day 101 --days 30 --owed 14000000 --from 2026-04-01",
+        "",
+    ),
+    (
+        "score-april-resumed-json",
+        "score samples/station-14-april.log --resume samples/station-14-march.state --first-day 101 --days 30 --owed 14000000 --from 2026-04-01 --json --issued 2026-05-02",
+        "",
+    ),
+    (
+        "score-april-resumed-csv",
+        "score samples/station-14-april.log --resume samples/station-14-march.state --first-day 101 --days 30 --owed 14000000 --from 2026-04-01 --csv",
+        "",
+    ),
+    (
+        "score-resume-again",
+        "score samples/station-14-march.log samples/station-14-april.log --resume samples/station-14-march.state --first-day 101 --days 30 --owed 14000000 --from 2026-04-01",
+        "",
+    ),
+    (
+        "score-resume-again-json",
+        "score samples/station-14-march.log samples/station-14-april.log --resume samples/station-14-march.state --first-day 101 --days 30 --owed 14000000 --from 2026-04-01 --json --issued 2026-05-02",
+        "",
+    ),
+    (
+        "score-resume-edition",
+        "score samples/station-14-april.log --resume samples/station-14-march.state --first-day 101 --days 30 --owed 14000000 --from 2026-04-01 --edition 2",
+        "",
+    ),
+    (
+        "replay-resumed",
+        "replay samples/station-14-april.log --resume samples/station-14-march.state",
+        "",
+    ),
+    (
+        "replay-resumed-json",
+        "replay samples/station-14-april.log --resume samples/station-14-march.state --json",
+        "",
+    ),
+    (
+        "replay-resumed-csv",
+        "replay samples/station-14-april.log --resume samples/station-14-march.state --csv",
+        "",
+    ),
+    (
+        "replay-state-as-a-log",
+        "replay samples/station-14-march.state",
+        "",
+    ),
+    (
+        "score-state-as-a-log",
+        "score samples/station-14-march.state samples/station-14-april.log --first-day 101 --days 30 --owed 14000000 --from 2026-04-01",
+        "",
+    ),
+    (
+        "replay-resume-no-state",
+        "replay samples/station-14-april.log --resume samples/station-14-march.log",
+        "",
+    ),
+    (
+        "replay-resume-missing",
+        "replay samples/station-14-april.log --resume samples/nothing.state",
+        "",
+    ),
+    (
+        "replay-resume-a-folder",
+        "replay samples/station-14-april.log --resume samples",
+        "",
+    ),
+    (
+        "replay-resume-again",
+        "replay samples/station-14-march.log --resume samples/station-14-march.state",
+        "",
+    ),
+    (
+        "replay-resume-edition",
+        "replay samples/station-14-april.log --resume samples/station-14-march.state --edition 2",
+        "",
+    ),
+    (
+        "replay-resume-another-log",
+        "replay samples/full-month.log --resume samples/station-14-march.state",
+        "",
+    ),
+    (
+        "replay-resume-standard",
+        "replay samples/station-14-april.log --resume -",
+        "",
+    ),
+    (
+        "replay-save-standard",
+        "replay samples/station-14-april.log --save -",
+        "",
+    ),
+    (
+        "replay-save-over-a-log",
+        "replay samples/station-14-april.log --save samples/station-14.log",
+        "",
+    ),
     ("fleet", "fleet samples/leases.csv", ""),
     (
         "fleet-edition-2",

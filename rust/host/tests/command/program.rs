@@ -191,6 +191,7 @@ fn the_examples_of_the_help_texts_run() {
             let status = match () {
                 _ if line.contains("/refused.") || line.contains("/intruder.") => 1,
                 _ if line.contains(" score ") && line.contains("/station-14.") => 3,
+                _ if line.contains(" score ") && line.contains("/station-14-april.") => 3,
                 _ => 0,
             };
             assert_eq!(output.status.code(), Some(status), "{line}");

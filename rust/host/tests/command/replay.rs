@@ -40,7 +40,7 @@ fn the_samples_are_what_their_program_makes() {
             }
         }
     }
-    assert_eq!(count, 20);
+    assert_eq!(count, 22);
 }
 
 #[test]

@@ -1,6 +1,7 @@
 //! Hostile inputs and lines, made from a case's number.
 
 use crate::common::sample;
+use crate::states::sealed;
 use compare::random::Random;
 use std::ffi::OsString;
 use std::os::unix::ffi::OsStringExt;
@@ -240,7 +241,41 @@ impl Made<'_> {
         }
         self.valued(8, "--svg", &["-"]);
         self.valued(10, "--html", &["-"]);
+        self.state();
         self.logs();
+    }
+
+    /// A state to go on from, as it was or damaged, and then often with the digest that its bytes have, so that its
+    /// numbers are looked at; and one to save.
+    fn state(&mut self) {
+        self.valued(
+            8,
+            "--save",
+            &["own/saved.state", "own/saved.state", "-", "samples"],
+        );
+        if !self.random.once_in(4) {
+            return self.valued(20, "--resume", &["samples/three-days.log", "-", "no-such"]);
+        }
+        let mut bytes = sample("station-14-march.state");
+        match self.random.below(8) {
+            0 => {}
+            1 => self.damage(&mut bytes),
+            _ => {
+                for _ in 0..self.random.between(1, 3) {
+                    // Of the head, of the replay's own numbers, or anywhere.
+                    let end = self.random.one_of(&[128, 168, bytes.len() as u32 - 32]);
+                    let at = self.random.between(20, end - 1) as usize;
+                    bytes[at] ^= 1 << self.random.below(8);
+                }
+                bytes = sealed(bytes);
+            }
+        }
+        self.put("--resume");
+        self.put("own/kept.state");
+        self.case.files.push(("kept.state".into(), bytes));
+        if self.random.coin() {
+            self.put("samples/station-14-april.log");
+        }
     }
 
     fn two_parties(&mut self) {
@@ -357,6 +392,7 @@ impl Made<'_> {
         for flag in ["--json", "--csv", "--plain"] {
             self.flag(5, flag);
         }
+        self.state();
         self.logs();
     }
 

@@ -6,7 +6,7 @@ use native.Mathlib.Nat.{pow-suc}
 use native.Mathlib.Omega.{arith}
 use Rattle.laws.specs.Choice.{pick}
 use Rattle.laws.proofs.Choice.{pick-yes, pick-no, by-pick}
-use Rattle.owners.specs.Owners.{blend}
+use Rattle.owners.specs.Owners.{blend, maskBy, ownsOutput}
 
 nibble-lt : (t : Bool) (a b : ℕ) → pick t (a % 16) (b % 16) < 16
 nibble-lt t a b = by-pick (λ (n : ℕ). n < 16) t (a % 16) (b % 16) (λ e. omega arith) (λ e. omega arith)
@@ -65,6 +65,10 @@ pub blend-lt : (n : ℕ) (f : ℕ → Bool) (a b : ℕ) → blend n f a b < 16 ^
 unfolding blend
 blend-lt zero f a b = omega arith
 blend-lt (suc n) f a b = omega (arith, nibble-lt (f zero) a b, blend-lt n (λ k. f (suc k)) (a / 16) (b / 16), pow-suc 16 n)
+
+-- so a mask of which a party sets its own outputs' bits has 16
+pub mask-lt : (mine new old : ℕ) → maskBy mine new old < 2 ^ 16
+mask-lt mine new old = omega (arith, blend-lt 4 (ownsOutput mine) new old)
 
 -- who owns all sees all
 pub blend-all : (n : ℕ) (f : ℕ → Bool) (a b : ℕ) → ((k : ℕ) → k < n → f k ≡ true) → a < 16 ^ n → blend n f a b ≡ a

@@ -1,0 +1,4 @@
+pub mod Buffers
+pub mod Joined
+pub mod Valid
+pub mod Windows
