@@ -1,14 +1,14 @@
 // States that were kept elsewhere, on disk say: whether the arrays are such as the entries take and leave. A yes is just what the
-// functions on a session, on two parties and on a replay require of these arrays; nothing is written.
+// functions on a session, on two parties, on a replay and on a group require of these arrays; nothing is written.
 ghost use mathlib.Core.Path.{_≡_};
-ghost use mathlib.Core.Bool.{true};
 ghost use lib.ListN.{length};
 ghost use Rattle.group.specs.Cells.{cellCount};
 ghost use Rattle.state.specs.Asked.{Given};
 ghost use Rattle.state.specs.Cells.{Sized};
 ghost use Rattle.lessees.specs.Rooms.{PairGiven};
 ghost use Rattle.replay.specs.Cells.{ReplayGiven};
-ghost use Rattle.judges_log.specs.Judged.{ReplaySized};
+ghost use Rattle.log.specs.Asked.{ReplaySized};
+ghost use Rattle.judges.specs.Judged.{Judges};
 ghost use Rattle.judges_group.specs.Judged.{JudgesGroup};
 
 // Whether the arrays hold a session.
@@ -19,8 +19,7 @@ pub extern "C" fn egretfold_session_check(
     shared: &[u32; state::SHARED_CELLS],
 ) -> bool
     requires { ⌜ Sized (now own) (now tallies) (now shared) ⌝ }
-    ensures sound { λ r. ⌜ (r ≡ true → Given (now (own .entry)) (now (tallies .entry)) (now (shared .entry))) ⌝ }
-    ensures complete { λ r. ⌜ (Given (now (own .entry)) (now (tallies .entry)) (now (shared .entry)) → r ≡ true) ⌝ }
+    ensures { λ r. ⌜ Judges r (Given (now (own .entry)) (now (tallies .entry)) (now (shared .entry))) ⌝ }
 {
     judges::is_session(own, tallies, shared)
 }
@@ -35,8 +34,7 @@ pub extern "C" fn egretfold_pair_check(
     shared: &[u32; state::SHARED_CELLS],
 ) -> bool
     requires { ⌜ Sized (now own0) (now tallies0) (now shared) × Sized (now own1) (now tallies1) (now shared) ⌝ }
-    ensures sound { λ r. ⌜ (r ≡ true → PairGiven (now (own0 .entry)) (now (tallies0 .entry)) (now (own1 .entry)) (now (tallies1 .entry)) (now (shared .entry))) ⌝ }
-    ensures complete { λ r. ⌜ (PairGiven (now (own0 .entry)) (now (tallies0 .entry)) (now (own1 .entry)) (now (tallies1 .entry)) (now (shared .entry)) → r ≡ true) ⌝ }
+    ensures { λ r. ⌜ Judges r (PairGiven (now (own0 .entry)) (now (tallies0 .entry)) (now (own1 .entry)) (now (tallies1 .entry)) (now (shared .entry))) ⌝ }
 {
     judges_pair::is_pair(own0, tallies0, own1, tallies1, shared)
 }
@@ -51,8 +49,7 @@ pub extern "C" fn egretfold_log_check(
     shared: &[u32; state::SHARED_CELLS],
 ) -> bool
     requires { ⌜ ReplaySized (now log) (now marks) (now own) (now tallies) (now shared) ⌝ }
-    ensures sound { λ r. ⌜ (r ≡ true → ReplayGiven (now (log .entry)) (now (marks .entry)) (now (own .entry)) (now (tallies .entry)) (now (shared .entry))) ⌝ }
-    ensures complete { λ r. ⌜ (ReplayGiven (now (log .entry)) (now (marks .entry)) (now (own .entry)) (now (tallies .entry)) (now (shared .entry)) → r ≡ true) ⌝ }
+    ensures { λ r. ⌜ Judges r (ReplayGiven (now (log .entry)) (now (marks .entry)) (now (own .entry)) (now (tallies .entry)) (now (shared .entry))) ⌝ }
 {
     judges_log::is_replay(log, marks, own, tallies, shared)
 }

@@ -25,6 +25,7 @@ use Rattle.state.specs.Cells.{partyOf, sharedOf, sessionOf, readinessCells, Siz
 use Rattle.state.specs.Asked.{Given}
 use Rattle.judges.proofs.Joined.{joined}
 use Rattle.judges.specs.Judged.{
+  Judges,
   WorkAsked,
   passedAt,
   openBy,
@@ -428,10 +429,10 @@ module _ {own tallies shared : List ℕ} where
 -- each return of the judge
 module _ (own tallies shared : List ℕ) (z : Sized own tallies shared) {t : Bool} (p : t ≡ partyBy (partyOf own tallies)) where
   abbrev Answers : Bool → Type 0
-  Answers r = (r ≡ true → Given own tallies shared) × (Given own tallies shared → r ≡ true)
+  Answers r = Judges r (Given own tallies shared)
 
   answers : {r : Bool} → r ≡ sessionBy (sessionOf own tallies shared) → Answers r
-  answers e = (λ y. judged-given z (sym e ∙ y), λ g. e ∙ given-judged g)
+  answers e = record { sound = λ y. judged-given z (sym e ∙ y); complete = λ g. e ∙ given-judged g }
 
   pub work-asked : t ≡ true → WorkAsked own shared
   unfolding partyOf

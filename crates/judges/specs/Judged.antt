@@ -1,7 +1,7 @@
 -- What a session that comes back is judged by, as one test: every number by compares, the open command's parameters by their kinds, and
 -- what is kept of readiness by working it out anew. That the test is the validity that the entries ask is proved. Assumes nothing.
 use mathlib.Core.Path.{_≡_}
-use mathlib.Core.Bool.{Bool}
+use mathlib.Core.Bool.{Bool, true}
 use mathlib.Core.List.{List, []}
 use Prim.Native.Nat.{ℕ, _*_}
 use lib.Dec.{eqb, leb, ltb}
@@ -20,6 +20,11 @@ use Rattle.state.specs.Readiness.{readinessFor, windowFor}
 use Rattle.state.specs.Lawful.{lawfulBuffer, lawfulRow, lawfulDomain, lawfulWord}
 use Rattle.state.specs.Valid.{DomainValid}
 use Rattle.state.specs.Cells.{partyOf, readinessCells, ownLength, sharedLength}
+
+-- an answer that is yes just where a fact holds
+pub record Judges (yes : Bool) (fact : Type 0) : Type 0 where
+  pub sound : yes ≡ true → fact
+  pub complete : fact → yes ≡ true
 
 -- an open command of these numbers
 abbrev pub openFrom : ℕ → ℕ → ℕ → ℕ → ℕ → ℕ → Open

@@ -6,10 +6,9 @@ pub mod settings;
 pub mod tests;
 
 use crate::tests::both;
-ghost use mathlib.Core.Path.{_≡_};
-ghost use mathlib.Core.Bool.{true};
 ghost use Rattle.state.specs.Asked.{Given};
 ghost use Rattle.state.specs.Cells.{Sized};
+ghost use Rattle.judges.specs.Judged.{Judges};
 
 // Whether the arrays hold a session: the party's own numbers, the settings, and what is kept of readiness, worked out anew.
 pub fn is_session(
@@ -18,8 +17,7 @@ pub fn is_session(
     shared: &[u32; state::SHARED_CELLS],
 ) -> bool
     requires { ⌜ Sized (now own) (now tallies) (now shared) ⌝ }
-    ensures sound { λ r. ⌜ (r ≡ true → Given (now (own .entry)) (now (tallies .entry)) (now (shared .entry))) ⌝ }
-    ensures complete { λ r. ⌜ (Given (now (own .entry)) (now (tallies .entry)) (now (shared .entry)) → r ≡ true) ⌝ }
+    ensures { λ r. ⌜ Judges r (Given (now (own .entry)) (now (tallies .entry)) (now (shared .entry))) ⌝ }
 {
     if party::is_kept(own, tallies) {
         both(settings::are_kept(shared), readiness::is_kept(own, shared))

@@ -19,10 +19,11 @@ use Rattle.replay.specs.State.{OpenRecord, WordRefused, Replay, noRecord, mostM
 use Rattle.replay.specs.Step.{StopNumber, byKind, byDay, isKind}
 use Rattle.replay.specs.Report.{beganWith, endedWith}
 use Rattle.replay.specs.Cells.{viewed, replayIn, Grows, ReplayValid, ReplayGiven}
+use Rattle.log.specs.Asked.{ReplaySized}
 use Rattle.days.specs.Reported.{nowIn}
+use Rattle.judges.specs.Judged.{Judges}
 use Rattle.judges.proofs.Joined.{joined}
 use Rattle.judges_log.specs.Judged.{
-  ReplaySized,
   stopBy,
   byteBy,
   bytesBy,
@@ -345,7 +346,7 @@ midnights-few log n y = days-by _ _ (numbers-days (viewed log [] (newSession 1))
 -- each return of the judge
 module _ (log marks own tallies shared : List ℕ) {t : Bool} (n : t ≡ numbersBy (viewed log [] (newSession 1))) where
   abbrev Answers : Bool → Type 0
-  Answers r = (r ≡ true → ReplayGiven log marks own tallies shared) × (ReplayGiven log marks own tallies shared → r ≡ true)
+  Answers r = Judges r (ReplayGiven log marks own tallies shared)
 
   abbrev whole : Replay
   whole = replayIn log marks own tallies shared
@@ -355,26 +356,29 @@ module _ (log marks own tallies shared : List ℕ) {t : Bool} (n : t ≡ numbers
   seen = n
 
   pub replay-yes : ReplaySized log marks own tallies shared → t ≡ true → {a b r : Bool} →
-      (a ≡ true → Given own tallies shared) × (Given own tallies shared → a ≡ true) → b ≡ marksBy marks (getD log 3 0) (nowIn tallies) →
-      r ≡ (a and b) → Answers r
+      Judges a (Given own tallies shared) → b ≡ marksBy marks (getD log 3 0) (nowIn tallies) → r ≡ (a and b) → Answers r
   unfolding viewed partyOf
-  replay-yes z y {a} {b} s m e = (
-    λ yes.
-        let both : (a and b) ≡ true = sym e ∙ yes in
-        record {
-          log-length = z .log-length;
-          marks-length = z .marks-length;
-          session-sized = z .session-sized;
-          valid =
-              judged-valid whole (s .0 (and-left _ _ both) .valid) (z .marks-length) (sym seen ∙ y) (sym m ∙ and-right _ _ both);
-        },
-    λ g.
-        e ∙
-        and-intro (s .1 (record { sized = g .session-sized; valid = g .valid .session })) (m ∙ valid-marks whole (g .valid)),
-  )
+  replay-yes z y {a} {b} s m e =
+      record {
+        sound =
+            λ yes.
+            let both : (a and b) ≡ true = sym e ∙ yes in
+            record {
+              log-length = z .log-length;
+              marks-length = z .marks-length;
+              session-sized = z .session-sized;
+              valid =
+                  judged-valid whole (s .sound (and-left _ _ both) .valid) (z .marks-length) (sym seen ∙ y)
+                  (sym m ∙ and-right _ _ both);
+            };
+        complete =
+            λ g.
+            e ∙
+            and-intro (s .complete (record { sized = g .session-sized; valid = g .valid .session })) (m ∙ valid-marks whole (g .valid));
+      }
 
   no-way : false ≡ true → ⊥
   no-way e = let z : _≡_ {A = ℕ} 0 1 = cc in omega arith
 
   pub replay-no : t ≡ false → Answers false
-  replay-no f = (λ yes. absurd (no-way yes), λ g. sym f ∙ seen ∙ valid-numbers whole (g .valid))
+  replay-no f = record { sound = λ yes. absurd (no-way yes); complete = λ g. sym f ∙ seen ∙ valid-numbers whole (g .valid) }

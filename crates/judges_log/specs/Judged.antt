@@ -1,17 +1,14 @@
 -- What a replay that comes back is judged by beside its session, as tests: its own ten numbers, and the tallies at the midnights. That
 -- they are the validity that the entries ask is proved. Assumes nothing.
-use mathlib.Core.Path.{_≡_}
 use mathlib.Core.Bool.{Bool, true}
 use mathlib.Core.List.{List}
 use Prim.Native.Nat.{ℕ, _+_, _*_}
 use lib.Dec.{eqb, leb, ltb}
-use lib.ListN.{length, getD}
+use lib.ListN.{getD}
 use Rattle.laws.specs.Choice.{_and_, pick}
 use Rattle.laws.specs.Below.{every}
 use Rattle.state.specs.State.{Tally}
-use Rattle.state.specs.Cells.{Sized}
 use Rattle.replay.specs.State.{OpenRecord, WordRefused, Replay, mostMidnights, marksLength}
-use Rattle.replay.specs.Places.{logLength}
 use Rattle.replay.specs.Step.{isKind}
 use Rattle.replay.specs.Report.{beganWith, endedWith}
 
@@ -56,9 +53,3 @@ restAt marks midnights k = pick (ltb k (2 * midnights)) true (eqb (getD marks k 
 
 unfoldable pub marksBy : List ℕ → ℕ → Tally → Bool
 marksBy marks midnights now = every (midnights + 1) (growsAt marks midnights now) and every marksLength (restAt marks midnights)
-
--- arrays of a replay's lengths
-pub record ReplaySized (log marks own tallies shared : List ℕ) : Type 0 where
-  pub log-length : length log ≡ logLength
-  pub marks-length : length marks ≡ marksLength
-  pub session-sized : Sized own tallies shared

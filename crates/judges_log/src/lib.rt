@@ -6,10 +6,9 @@ pub mod numbers;
 use judges;
 use judges::tests::both;
 use replay::own;
-ghost use mathlib.Core.Path.{_≡_};
-ghost use mathlib.Core.Bool.{true};
 ghost use Rattle.replay.specs.Cells.{ReplayGiven};
-ghost use Rattle.judges_log.specs.Judged.{ReplaySized};
+ghost use Rattle.log.specs.Asked.{ReplaySized};
+ghost use Rattle.judges.specs.Judged.{Judges};
 
 // Whether the arrays hold a replay: its own numbers, its session, and the tallies at the midnights.
 pub fn is_replay(
@@ -20,8 +19,7 @@ pub fn is_replay(
     shared: &[u32; state::SHARED_CELLS],
 ) -> bool
     requires { ⌜ ReplaySized (now log) (now marks) (now own) (now tallies) (now shared) ⌝ }
-    ensures sound { λ r. ⌜ (r ≡ true → ReplayGiven (now (log .entry)) (now (marks .entry)) (now (own .entry)) (now (tallies .entry)) (now (shared .entry))) ⌝ }
-    ensures complete { λ r. ⌜ (ReplayGiven (now (log .entry)) (now (marks .entry)) (now (own .entry)) (now (tallies .entry)) (now (shared .entry)) → r ≡ true) ⌝ }
+    ensures { λ r. ⌜ Judges r (ReplayGiven (now (log .entry)) (now (marks .entry)) (now (own .entry)) (now (tallies .entry)) (now (shared .entry))) ⌝ }
 {
     if numbers::are_kept(log) {
         let session = judges::is_session(own, tallies, shared);

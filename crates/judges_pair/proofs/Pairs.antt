@@ -19,6 +19,7 @@ use Rattle.state.specs.Cells.{partyOf, Sized}
 use Rattle.state.specs.Asked.{Given}
 use Rattle.lessees.specs.Sight.{Apart}
 use Rattle.lessees.specs.Rooms.{PairGiven}
+use Rattle.judges.specs.Judged.{Judges}
 use Rattle.judges.proofs.Joined.{joined}
 
 none-some : (k : ℕ) (f : ℕ → Bool) → ((i : ℕ) → i < k → f i ≡ false) → some k f ≡ false
@@ -95,18 +96,20 @@ module _ (own0 tallies0 own1 tallies1 shared : List ℕ) where
   given-pair v = apart-bits _ _ (v .valid .valid0 .mine-most) (v .valid .valid1 .mine-most) (v .valid .apart01)
 
   -- the judge's answer
-  pub pair-judged : {x y z u r : Bool} → (x ≡ true → Given own0 tallies0 shared) × (Given own0 tallies0 shared → x ≡ true) →
-      (y ≡ true → Given own1 tallies1 shared) × (Given own1 tallies1 shared → y ≡ true) →
-      z ≡ eqb (bitAnd (getD own0 17 0) (getD own1 17 0)) 0 → u ≡ (y and z) → r ≡ (x and u) → (r ≡ true → Pairs) × (Pairs → r ≡ true)
+  pub pair-judged : {x y z u r : Bool} → Judges x (Given own0 tallies0 shared) → Judges y (Given own1 tallies1 shared) →
+      z ≡ eqb (bitAnd (getD own0 17 0) (getD own1 17 0)) 0 → u ≡ (y and z) → r ≡ (x and u) → Judges r Pairs
   unfolding partyOf
   pair-judged {x} {y} {z} a b e f g =
-      let whole = joined g refl f in (
-        λ t.
+      let whole = joined g refl f in
+      record {
+        sound =
+            λ t.
             let all : (x and (y and z)) ≡ true = sym whole ∙ t in
             let rest : (y and z) ≡ true = and-right _ _ all in
-            pair-given (a .0 (and-left _ _ all)) (b .0 (and-left _ _ rest)) (sym e ∙ and-right _ _ rest),
-        λ v.
+            pair-given (a .sound (and-left _ _ all)) (b .sound (and-left _ _ rest)) (sym e ∙ and-right _ _ rest);
+        complete =
+            λ v.
             whole ∙
-            and-intro (a .1 (record { sized = v .sized0; valid = v .valid .valid0 }))
-            (and-intro (b .1 (record { sized = v .sized1; valid = v .valid .valid1 })) (e ∙ given-pair v)),
-      )
+            and-intro (a .complete (record { sized = v .sized0; valid = v .valid .valid0 }))
+            (and-intro (b .complete (record { sized = v .sized1; valid = v .valid .valid1 })) (e ∙ given-pair v));
+      }

@@ -4,11 +4,11 @@ use judges;
 use judges::tests::both;
 use state::own;
 ghost use mathlib.Core.Path.{_≡_};
-ghost use mathlib.Core.Bool.{true};
 ghost use lib.Bits.{bitAnd};
 ghost use lib.Dec.{eqb};
 ghost use Rattle.state.specs.Cells.{Sized};
 ghost use Rattle.lessees.specs.Rooms.{PairGiven};
+ghost use Rattle.judges.specs.Judged.{Judges};
 
 // Whether nothing is owned by both.
 fn are_apart(mine: u32, other: u32) -> bool
@@ -26,8 +26,7 @@ pub fn is_pair(
     shared: &[u32; state::SHARED_CELLS],
 ) -> bool
     requires { ⌜ Sized (now own0) (now tallies0) (now shared) × Sized (now own1) (now tallies1) (now shared) ⌝ }
-    ensures sound { λ r. ⌜ (r ≡ true → PairGiven (now (own0 .entry)) (now (tallies0 .entry)) (now (own1 .entry)) (now (tallies1 .entry)) (now (shared .entry))) ⌝ }
-    ensures complete { λ r. ⌜ (PairGiven (now (own0 .entry)) (now (tallies0 .entry)) (now (own1 .entry)) (now (tallies1 .entry)) (now (shared .entry)) → r ≡ true) ⌝ }
+    ensures { λ r. ⌜ Judges r (PairGiven (now (own0 .entry)) (now (tallies0 .entry)) (now (own1 .entry)) (now (tallies1 .entry)) (now (shared .entry))) ⌝ }
 {
     let first = judges::is_session(own0, tallies0, shared);
     let second = judges::is_session(own1, tallies1, shared);

@@ -28,7 +28,8 @@ returns : tie.Need-returns
 returns c =
     let at-if1 = c .before .before .before in
     let at-is-kept = at-if1 .before in
-    judged-yes _ _ _ (at-is-kept .before .pre) (at-is-kept .is-kept .ensures) (at-if1 .if1 .taken) (c .before .before .are-kept .ensures) (c .before .is-kept2 .ensures) (c .both .ensures)
+    judged-yes _ _ _ (at-is-kept .before .pre) (at-is-kept .is-kept .ensures) (at-if1 .if1 .taken)
+    (c .before .before .are-kept .ensures) (c .before .is-kept2 .ensures) (c .both .ensures)
 
 returns-2 : tie.Need-returns-2
 returns-2 c = judged-no _ _ _ (c .before .before .pre) (c .before .is-kept .ensures) (c .if1 .left)

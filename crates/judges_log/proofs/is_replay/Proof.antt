@@ -32,7 +32,8 @@ returns c =
     let at-is-session = c .before .before .before in
     let at-if1 = at-is-session .before in
     let at-are-kept = at-if1 .before in
-    replay-yes _ _ _ _ _ (at-are-kept .are-kept .ensures) (at-are-kept .before .pre) (at-if1 .if1 .taken) (at-is-session .is-session .ensures) (c .before .are-kept2 .ensures) (c .both .ensures)
+    replay-yes _ _ _ _ _ (at-are-kept .are-kept .ensures) (at-are-kept .before .pre) (at-if1 .if1 .taken)
+    (at-is-session .is-session .ensures) (c .before .are-kept2 .ensures) (c .both .ensures)
 
 returns-2 : tie.Need-returns-2
 returns-2 c = replay-no _ _ _ _ _ (c .before .are-kept .ensures) (c .if1 .left)

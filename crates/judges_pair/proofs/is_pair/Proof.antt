@@ -33,7 +33,8 @@ both-requires-2 c κs = search needs
 returns : tie.Need-returns
 returns c =
     let at-is-session2 = c .before .before .before .before .before in
-    pair-judged _ _ _ _ _ (at-is-session2 .before .is-session .ensures) (at-is-session2 .is-session2 .ensures) (c .before .before .are-apart .ensures) (c .before .both .ensures) (c .both2 .ensures)
+    pair-judged _ _ _ _ _ (at-is-session2 .before .is-session .ensures) (at-is-session2 .is-session2 .ensures)
+    (c .before .before .are-apart .ensures) (c .before .both .ensures) (c .both2 .ensures)
 
 pub is-pair-spec : {M : Type 1} → statement M
 is-pair-spec =

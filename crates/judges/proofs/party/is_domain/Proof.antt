@@ -46,7 +46,9 @@ returns c =
     let at-both = at-both2 .before in
     joined (c .both7 .ensures)
     (joined (at-both3 .both3 .ensures) refl
-    (joined (at-both2 .both2 .ensures) refl (at-both .both .ensures))) (c .before .is-lawful .ensures ∙ ap (λ (z : Bool). lawful (at-both .before .args .flag) z true)
+    (joined (at-both2 .both2 .ensures) refl (at-both .both .ensures)))
+    (c .before .is-lawful .ensures ∙
+    ap (λ (z : Bool). lawful (at-both .before .args .flag) z true)
     (joined (c .before .before .both6 .ensures) refl
     (joined (at-both5 .both5 .ensures) refl (at-both4 .both4 .ensures))))
 

@@ -27,13 +27,15 @@ renew-requires c κs =
     let at-keep-window3 = c .before .before .before in
     let at-keep-window2 = at-keep-window3 .before .before in
     let at-keep-window = at-keep-window2 .before .before in
-    renew-asked _ _ _ _ _ _ (at-keep-window .keep-window .ensures) (at-keep-window2 .keep-window2 .ensures) (at-keep-window3 .keep-window3 .ensures) (c .before .keep-window4 .ensures) (at-keep-window .before .before .pre)
+    renew-asked _ _ _ _ _ _ (at-keep-window .keep-window .ensures) (at-keep-window2 .keep-window2 .ensures)
+    (at-keep-window3 .keep-window3 .ensures) (c .before .keep-window4 .ensures) (at-keep-window .before .before .pre)
 
 returns : tie.Need-returns
 returns c =
     let at-keep-window3 = c .before .before .before .before in
     let at-keep-window2 = at-keep-window3 .before .before in
-    worked-out _ _ _ _ _ _ (at-keep-window2 .before .before .keep-window .ensures) (at-keep-window2 .keep-window2 .ensures) (at-keep-window3 .keep-window3 .ensures) (c .before .before .keep-window4 .ensures) (c .renew .ensures)
+    worked-out _ _ _ _ _ _ (at-keep-window2 .before .before .keep-window .ensures) (at-keep-window2 .keep-window2 .ensures)
+    (at-keep-window3 .keep-window3 .ensures) (c .before .before .keep-window4 .ensures) (c .renew .ensures)
 
 pub work-out-spec : {M : Type 1} → statement M
 work-out-spec =

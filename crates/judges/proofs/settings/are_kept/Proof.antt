@@ -44,7 +44,9 @@ returns c =
     let at-are-common = at-are-buffers .before in
     joined (c .both3 .ensures) (at-are-common .before .are-masks .ensures)
     (joined (c .before .both2 .ensures) (at-are-common .are-common .ensures)
-    (joined (c .before .before .both .ensures) (at-are-buffers .are-buffers .ensures ∙ outputs-listed (lawfulBuffer Format) _) (at-are-buffers2 .are-buffers2 .ensures ∙ inputs-listed (lawfulBuffer InputFormat) _)))
+    (joined (c .before .before .both .ensures)
+    (at-are-buffers .are-buffers .ensures ∙ outputs-listed (lawfulBuffer Format) _)
+    (at-are-buffers2 .are-buffers2 .ensures ∙ inputs-listed (lawfulBuffer InputFormat) _)))
 
 pub are-kept-spec : {M : Type 1} → statement M
 are-kept-spec =

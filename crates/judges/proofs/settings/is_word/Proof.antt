@@ -18,7 +18,9 @@ is-lawful-requires c κs = search needs
 
 returns : tie.Need-returns
 unfolding lawfulWord
-returns c = c .is-lawful .ensures ∙ ap (lawful (c .before .before .args .flag) (eqb (c .before .before .args .word) 0)) (c .before .is-allowed .ensures)
+returns c =
+    c .is-lawful .ensures ∙
+    ap (lawful (c .before .before .args .flag) (eqb (c .before .before .args .word) 0)) (c .before .is-allowed .ensures)
 
 pub is-word-spec : {M : Type 1} → statement M
 is-word-spec = tie.close (tie.spec is-allowed-requires is-lawful-requires returns)

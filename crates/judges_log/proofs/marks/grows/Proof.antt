@@ -26,7 +26,9 @@ returns : tie.Need-returns
 unfolding growsAt
 returns c =
     let at-ended = c .before .before .before .before .before in
-    joined (c .both .ensures) (ap₂ leb (ap (λ (t : Tally). t .runs) (at-ended .before .began .ensures)) (ap (λ (t : Tally). t .runs) (at-ended .ended .ensures))) (ap₂ leb (ap (λ (t : Tally). t .claims) (at-ended .before .began .ensures)) (ap (λ (t : Tally). t .claims) (at-ended .ended .ensures)))
+    joined (c .both .ensures)
+    (ap₂ leb (ap (λ (t : Tally). t .runs) (at-ended .before .began .ensures)) (ap (λ (t : Tally). t .runs) (at-ended .ended .ensures)))
+    (ap₂ leb (ap (λ (t : Tally). t .claims) (at-ended .before .began .ensures)) (ap (λ (t : Tally). t .claims) (at-ended .ended .ensures)))
 
 pub grows-spec : {M : Type 1} → statement M
 grows-spec = tie.close (tie.spec began-requires ended-requires both-requires returns)

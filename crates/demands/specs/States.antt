@@ -1,0 +1,88 @@
+-- States that were kept elsewhere and come back: the arrays that a host has of a session, of two parties and of a replay, from the calls
+-- that begin them, from a check that took them, and from the calls that go on; each constructor has its call's contract. Assumes nothing.
+use mathlib.Core.Path.{_≡_}
+use mathlib.Core.Bool.{Bool, true}
+use mathlib.Core.List.{List, [], _∷_}
+use Prim.Native.Nat.{ℕ, _<_}
+use Rattle.state.specs.Start.{isEdition}
+use Rattle.state.specs.Asked.{Given}
+use Rattle.state.specs.Cells.{sessionOf}
+use Rattle.session.specs.Step.{stepOf}
+use Rattle.session.specs.Feed.{feedOf}
+use Rattle.session.specs.Answers.{Begins}
+use Rattle.session_rooms.specs.Rooms.{WordCrosses, FeedCrosses}
+use Rattle.lessees.specs.Begin.{mayBegin}
+use Rattle.lessees.specs.Rooms.{PairGiven, PairBegins, PairFeeds}
+use Rattle.log.specs.Asked.{Bytes8}
+use Rattle.log.specs.Feed.{replayOf}
+use Rattle.log_rooms.specs.Pieces.{Arrays, replayAt, GivenAt, BeginsAt, FedAt, ByteAt}
+use Rattle.judges.specs.Judged.{Judges}
+
+-- a session's arrays
+pub data Session : List ℕ → List ℕ → List ℕ → Type 0 where
+  -- egretfold_session_begin that returned 0
+  begun : (edition : ℕ) → isEdition edition ≡ true → (r : ℕ) (own tallies shared own' tallies' shared' : List ℕ) →
+      Begins edition r own tallies shared own' tallies' shared' → Session own' tallies' shared'
+  -- egretfold_session_check that returned true, wherever the arrays came from
+  checked : (own tallies shared : List ℕ) → Judges true (Given own tallies shared) → Session own tallies shared
+  -- egretfold_session_word
+  word : {own tallies shared : List ℕ} → Session own tallies shared → (w r : ℕ) (own' tallies' shared' command command' : List ℕ) →
+      WordCrosses (stepOf (sessionOf own tallies shared) w) r own' tallies' shared' command command' → Session own' tallies' shared'
+  -- egretfold_session_feed
+  piece : {own tallies shared : List ℕ} → Session own tallies shared → (ws : List ℕ) (r : ℕ) (own' tallies' shared' fed : List ℕ) →
+      FeedCrosses (feedOf (sessionOf own tallies shared) ws) r own' tallies' shared' fed → Session own' tallies' shared'
+
+-- two parties' arrays
+pub record PairArrays : Type 0 where
+  pub own0 : List ℕ
+  pub tallies0 : List ℕ
+  pub own1 : List ℕ
+  pub tallies1 : List ℕ
+  pub shared : List ℕ
+
+abbrev pub PairGivenAt : PairArrays → Type 0
+PairGivenAt a = PairGiven (a .own0) (a .tallies0) (a .own1) (a .tallies1) (a .shared)
+
+-- what one call of egretfold_pair_feed answers and leaves
+abbrev pub PairFedAt : List ℕ → List ℕ → ℕ → PairArrays → List ℕ → PairArrays → List ℕ → Type 0
+PairFedAt words parties r a fed a' fed' =
+    PairFeeds words parties r (a .own0) (a .tallies0) (a .own1) (a .tallies1) (a .shared) fed (a' .own0) (a' .tallies0) (a' .own1)
+    (a' .tallies1) (a' .shared) fed'
+
+abbrev pub PairBegunAt : ℕ → ℕ → ℕ → ℕ → PairArrays → PairArrays → Type 0
+PairBegunAt inputs outputs edition r a a' =
+    PairBegins inputs outputs edition r (a .own0) (a .tallies0) (a .own1) (a .tallies1) (a .shared) (a' .own0) (a' .tallies0) (a' .own1)
+    (a' .tallies1) (a' .shared)
+
+pub data Pair : PairArrays → Type 0 where
+  -- egretfold_pair_begin that returned 0
+  begun : (inputs outputs edition r : ℕ) → mayBegin inputs outputs edition ≡ true → (a a' : PairArrays) →
+      PairBegunAt inputs outputs edition r a a' → Pair a'
+  -- egretfold_pair_check that returned true
+  checked : (a : PairArrays) → Judges true (PairGivenAt a) → Pair a
+  -- egretfold_pair_feed
+  piece : {a : PairArrays} → Pair a → (words parties : List ℕ) (r : ℕ) (fed : List ℕ) (a' : PairArrays) (fed' : List ℕ) →
+      PairFedAt words parties r a fed a' fed' → Pair a'
+
+-- a replay's arrays
+pub data Replay : Arrays → Type 0 where
+  -- egretfold_log_begin that returned 0
+  begun : (edition : ℕ) → isEdition edition ≡ true → (r : ℕ) (a a' : Arrays) → BeginsAt edition r a a' → Replay a'
+  -- egretfold_log_check that returned true
+  checked : (a : Arrays) → Judges true (GivenAt a) → Replay a
+  -- egretfold_log_byte
+  byte : {a : Arrays} → Replay a → (b r : ℕ) (a' : Arrays) → b < 256 → ByteAt (replayOf (replayAt a) (b ∷ [])) r a' → Replay a'
+  -- egretfold_log_feed
+  piece : {a : Arrays} → Replay a → (bytes : List ℕ) (r taken : ℕ) (a' : Arrays) → Bytes8 bytes →
+      FedAt (replayOf (replayAt a) bytes) r taken a' → Replay a'
+
+-- a state that was saved and read back is taken, and goes on as the one that was saved
+pub record GoesOn (yes : Bool) (same : Type 0) : Type 0 where
+  pub taken : yes ≡ true
+  pub goes-on : same
+
+-- a piece of two parties' words leaves the same by two callers' arrays: the status, the arrays, and the answers where there are any
+pub record SamePiece (r r' : ℕ) (a a' : PairArrays) (fed fed' : List ℕ) : Type 0 where
+  pub status : r ≡ r'
+  pub arrays : a ≡ a'
+  pub answers : r ≡ 0 → fed ≡ fed'
