@@ -3,13 +3,15 @@
 
 #![forbid(unsafe_code)]
 
+mod command;
 mod inputs;
 mod lines;
 mod table;
+mod targets;
 mod way;
 
 use std::process::exit;
-use table::Table;
+use table::{Mode, Table};
 
 const USAGE: &str = "\
 usage: ./bench [--quick] [--only SUBSTRING] [--list]
@@ -17,23 +19,44 @@ usage: ./bench [--quick] [--only SUBSTRING] [--list]
   --only SUBSTRING   only the lines whose name has it
   --list             the lines' names alone, none of them timed
   --help             this text
+./bench --places tells what whole pictures cost as memory and room are moved about
+./bench --count counts the instructions of the lines instead: see ./bench --count --help
+./bench --command [MB] times the command on a log of so many MB (1000), and the library alone
 ./bench --proofs [NAME...] times the proofs of all crates, or of these";
 
 struct Options {
-    repeats: usize,
+    mode: Mode,
     only: String,
-    list: bool,
 }
 
 fn main() {
-    let options = options(std::env::args().skip(1)).unwrap_or_else(|| {
+    let words: Vec<String> = std::env::args().skip(1).collect();
+    let words: Vec<&str> = words.iter().map(String::as_str).collect();
+    let done = match words[..] {
+        // what tools/command-times asks for
+        ["--make-log", bytes] => command::write_log(bytes),
+        ["--replay", name] => command::replay(name),
+        ["--places"] => {
+            lines::places::print();
+            Ok(())
+        }
+        _ => {
+            table(&words);
+            Ok(())
+        }
+    };
+    if let Err(error) = done {
+        eprintln!("bench: {error}");
+        exit(1)
+    }
+}
+
+fn table(words: &[&str]) {
+    let options = options(words).unwrap_or_else(|| {
         eprintln!("{USAGE}");
         exit(2)
     });
-    let mut table = match options.list {
-        true => Table::names(options.only),
-        false => Table::begin(options.repeats, options.only),
-    };
+    let mut table = Table::begin(options.mode, options.only);
     lines::feed::add(&mut table);
     lines::lessees::add(&mut table);
     lines::log::add(&mut table);
@@ -49,17 +72,18 @@ fn main() {
 }
 
 /// The options, or nothing where one is unknown or lacks its word.
-fn options(mut words: impl Iterator<Item = String>) -> Option<Options> {
+fn options(words: &[&str]) -> Option<Options> {
+    let mut words = words.iter().copied();
     let mut options = Options {
-        repeats: 21,
+        mode: Mode::Times(21),
         only: String::new(),
-        list: false,
     };
     while let Some(word) = words.next() {
-        match word.as_str() {
-            "--quick" => options.repeats = 5,
-            "--only" => options.only = words.next()?,
-            "--list" => options.list = true,
+        match word {
+            "--quick" => options.mode = Mode::Times(5),
+            "--only" => options.only = words.next()?.to_string(),
+            "--once" => options.mode = Mode::Once,
+            "--list" => options.mode = Mode::Names,
             "--help" => {
                 println!("{USAGE}");
                 exit(0)

@@ -1,5 +1,7 @@
 //! Timing and the printed table. A line has two passes, the product's and Rust's, that do the same work on the same inputs.
+//! The same lines can be only named, or run once each for a program that counts their instructions (tools/counts).
 
+use crate::targets;
 use std::fs;
 use std::sync::atomic::{AtomicU64, Ordering};
 use std::time::{Duration, Instant};
@@ -11,9 +13,18 @@ const SLICES: usize = 6;
 /// How long a side runs before it is timed.
 const WARM_UP: Duration = Duration::from_millis(10);
 
+#[derive(Clone, Copy, PartialEq, Eq)]
+pub enum Mode {
+    /// Each line is timed so many times.
+    Times(usize),
+    /// Each line is run once on either side.
+    Once,
+    /// The lines are only named.
+    Names,
+}
+
 pub struct Table {
-    /// 0 where the lines are only named.
-    repeats: usize,
+    mode: Mode,
     only: String,
     rows: Vec<Row>,
 }
@@ -21,49 +32,42 @@ pub struct Table {
 struct Row {
     name: String,
     ratio: f64,
+    /// Whether the other side is fast Rust that does the same.
+    by_rust: bool,
 }
 
 impl Table {
-    /// Prints the head of the table.
-    pub fn begin(repeats: usize, only: String) -> Table {
-        println!(
-            "Egretfold through its C boundary beside fast Rust: nanoseconds, and product / Rust"
-        );
-        println!("{}; {}", processor(), env!("BENCH_RUSTC"));
-        println!(
-            "Medians over {repeats} interleaved repeats of {SLICES} slices of about {} ms each.",
-            SLICE.as_millis()
-        );
-        println!("The product is called through safe wrappers that inline down to its C functions; Rust's entries");
-        println!("are marked #[inline(never)], so that on both sides a call stays a call. Both judge all refusals.");
-        println!();
-        println!(
-            "{:<58} {:>11} {:>11} {:>8}",
-            "line", "product ns", "Rust ns", "ratio"
-        );
+    /// Prints the head of a table of times.
+    pub fn begin(mode: Mode, only: String) -> Table {
+        if let Mode::Times(repeats) = mode {
+            head(repeats);
+        }
         Table {
-            repeats,
+            mode,
             only,
             rows: Vec::new(),
         }
     }
 
-    /// A table of names alone: each line is named when it asks whether it is wanted, and isn't.
-    pub fn names(only: String) -> Table {
-        Table {
-            repeats: 0,
-            only,
-            rows: Vec::new(),
-        }
-    }
-
+    /// Whether a line is run. Where the lines are only named, it is named now, and isn't.
     pub fn wants(&self, name: &str) -> bool {
         let wanted = name.contains(&self.only);
-        if wanted && self.repeats == 0 {
-            println!("{name}");
-            return false;
+        match self.mode {
+            Mode::Times(_) => wanted,
+            // a copy or single calls are no rival, and single calls have lines of their own
+            Mode::Once => wanted && !name.contains(", beside "),
+            Mode::Names => {
+                if wanted {
+                    println!("{name}");
+                }
+                false
+            }
         }
-        wanted
+    }
+
+    /// The same for a line that goes the way of a shorter one on more memory: a count would tell nothing new.
+    pub fn wants_long(&self, name: &str) -> bool {
+        self.wants(name) && self.mode != Mode::Once
     }
 
     /// Times a line and prints it. `units` is how many words, calls or steps one pass makes; a pass gives a sum over its
@@ -75,12 +79,19 @@ impl Table {
         mut product: impl FnMut() -> u64,
         mut rust: impl FnMut() -> u64,
     ) {
-        let (product_sum, rust_sum) = (product(), rust());
-        assert_eq!(product_sum, rust_sum, "{name}: the answers' sums differ");
+        if self.mode == Mode::Once {
+            println!("{units} {name}");
+        }
+        let sums = (first(&mut product), first(&mut rust));
+        assert_eq!(sums.0, sums.1, "{name}: the answers' sums differ");
+        let repeats = match self.mode {
+            Mode::Times(repeats) => repeats,
+            _ => return,
+        };
         let product_rounds = warm_up(&mut product);
         let rust_rounds = warm_up(&mut rust);
         let (mut product_times, mut rust_times) = (Vec::new(), Vec::new());
-        for repeat in 0..self.repeats {
+        for repeat in 0..repeats {
             // the two sides take turns in going first
             if repeat % 2 == 0 {
                 product_times.extend(slices(&mut product, product_rounds));
@@ -107,9 +118,10 @@ impl Table {
         product: impl FnMut() -> u64,
         other: impl FnMut() -> u64,
     ) {
-        let counted = self.rows.len();
         self.line(name, units, product, other);
-        self.rows.truncate(counted);
+        if let Some(row) = self.rows.last_mut() {
+            row.by_rust = false;
+        }
     }
 
     fn row(&mut self, name: &str, product: f64, rust: f64) {
@@ -117,27 +129,71 @@ impl Table {
         let ratio = (product / rust * 100.0).round() / 100.0;
         println!("{name:<58} {product:>11.2} {rust:>11.2} {ratio:>8.2}");
         let name = name.to_string();
-        self.rows.push(Row { name, ratio });
+        self.rows.push(Row {
+            name,
+            ratio,
+            by_rust: true,
+        });
     }
 
-    /// Prints the table's last line.
+    /// Prints the table's last line, and what was asked for.
     pub fn end(self) {
-        if self.repeats == 0 {
+        if self.mode == Mode::Names || self.mode == Mode::Once {
             return;
         }
-        let low = self.rows.iter().filter(|row| row.ratio <= 1.0).count();
-        let worst = self.rows.iter().max_by(|a, b| a.ratio.total_cmp(&b.ratio));
+        let rows: Vec<&Row> = self.rows.iter().filter(|row| row.by_rust).collect();
+        let low = rows.iter().filter(|row| row.ratio <= 1.0).count();
+        let worst = rows.iter().max_by(|a, b| a.ratio.total_cmp(&b.ratio));
         println!();
         match worst {
             Some(row) => println!(
                 "{low} of {} lines at or below 1.00; worst ratio {:.2}: {}",
-                self.rows.len(),
+                rows.len(),
                 row.ratio,
                 row.name
             ),
             None => println!("no line has that in its name"),
         }
+        let ratios = self.rows.into_iter().map(|row| (row.name, row.ratio));
+        targets::print(&ratios.collect::<Vec<_>>());
     }
+}
+
+/// Prints the head of a table of times.
+fn head(repeats: usize) {
+    println!("Egretfold through its C boundary beside fast Rust: nanoseconds, and product / Rust");
+    println!("{}; {}", processor(), env!("BENCH_RUSTC"));
+    println!(
+        "Medians over {repeats} interleaved repeats of {SLICES} slices of about {} ms each.",
+        SLICE.as_millis()
+    );
+    println!("The product is called through safe wrappers that inline down to its C functions; Rust's entries");
+    println!("are marked #[inline(never)], so that on both sides a call stays a call. Both judge all refusals.");
+    println!();
+    println!(
+        "{:<58} {:>11} {:>11} {:>8}",
+        "line", "product ns", "Rust ns", "ratio"
+    );
+}
+
+/// A pass whose instructions tools/counts adds up, by this name, from the call to the return; then a mark.
+fn first(pass: &mut dyn FnMut() -> u64) -> u64 {
+    let sum = counted_pass(pass);
+    counted_mark();
+    sum
+}
+
+#[inline(never)]
+fn counted_pass(pass: &mut dyn FnMut() -> u64) -> u64 {
+    let sum = pass();
+    keep(sum);
+    sum
+}
+
+/// Where tools/counts writes one sum down and begins the next, by this name.
+#[inline(never)]
+fn counted_mark() {
+    keep(1);
 }
 
 /// Runs a pass until it is warm; gives how many passes make a slice.
@@ -165,7 +221,7 @@ fn slices(pass: &mut impl FnMut() -> u64, rounds: usize) -> [f64; SLICES] {
 
 /// Uses a pass's sum, so that the compiler can't leave the pass out. (`std::hint::black_box` is younger than the oldest
 /// compiler that this builds with.)
-fn keep(sum: u64) {
+pub fn keep(sum: u64) {
     static KEPT: AtomicU64 = AtomicU64::new(0);
     KEPT.fetch_xor(sum, Ordering::Relaxed);
 }

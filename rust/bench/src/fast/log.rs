@@ -1,6 +1,7 @@
 //! A station's log over midnight: bytes taken in pieces, the words given to one session, and what each day came to.
 //!
-//! A record that lies whole in a piece is read at once. Only what a piece's end cuts is kept, byte by byte.
+//! Records that lie whole in a piece are read at once, and words that stand side by side are fed to the session together. Only
+//! what a piece's end cuts is kept, byte by byte.
 
 use super::refusal::{DAY, KIND};
 use super::session::{Edition, Session};
@@ -9,6 +10,10 @@ const RECORD: usize = 5;
 const WORD: u8 = 1;
 const MIDNIGHT: u8 = 2;
 const MOST_MIDNIGHTS: usize = 400;
+/// Words that are fed to the session in one piece, at most: the fastest of 64, 128, 256 and 1,024.
+const BATCH: usize = 1024;
+/// Records that are gathered before their kinds are looked at.
+const GROUP: usize = 8;
 
 /// What a piece of bytes answers.
 #[derive(Clone, Copy, Debug, PartialEq, Eq)]
@@ -31,6 +36,39 @@ pub struct Replay {
     marks: Vec<(u64, u64)>,
 }
 
+/// The words of the records off the front that are words, as many as there is room for; gives how many they are.
+#[inline(always)]
+fn gather(bytes: &[u8], words: &mut [u32; BATCH]) -> usize {
+    let mut count = 0;
+    let groups = bytes.chunks_exact(GROUP * RECORD);
+    for (records, room) in groups.zip(words.chunks_exact_mut(GROUP)) {
+        let mut others = 0;
+        for (record, word) in records.chunks_exact(RECORD).zip(room) {
+            others |= record[0] ^ WORD;
+            *word = number_of(record);
+        }
+        if others != 0 {
+            break;
+        }
+        count += GROUP;
+    }
+    let records = bytes[RECORD * count..].chunks_exact(RECORD);
+    for (record, word) in records.zip(&mut words[count..]) {
+        if record[0] != WORD {
+            break;
+        }
+        *word = number_of(record);
+        count += 1;
+    }
+    count
+}
+
+/// A whole record's number, low byte first.
+#[inline(always)]
+fn number_of(record: &[u8]) -> u32 {
+    u32::from_le_bytes([record[1], record[2], record[3], record[4]])
+}
+
 impl Replay {
     #[inline(never)]
     pub fn new() -> Replay {
@@ -48,6 +86,33 @@ impl Replay {
     /// Takes a piece of bytes, one after another up to the first refused one. 18 or 19; both stop the replay.
     #[inline(never)]
     pub fn feed(&mut self, bytes: &[u8]) -> Fed {
+        match *bytes {
+            [byte] if self.grows(byte) => Fed {
+                taken: 1,
+                refusal: None,
+            },
+            _ => self.piece(bytes),
+        }
+    }
+
+    /// Whether a byte only adds to a record, as its kind or inside its number; then it is added. Four bytes of five do, so that a
+    /// log that comes byte by byte is soon read.
+    #[inline(always)]
+    fn grows(&mut self, byte: u8) -> bool {
+        let adds = match self.filled {
+            0 => byte == WORD || byte == MIDNIGHT,
+            filled => filled < RECORD - 1,
+        };
+        if !adds || self.stopped.is_some() {
+            return false;
+        }
+        self.open[self.filled] = byte;
+        self.filled += 1;
+        true
+    }
+
+    #[inline(never)]
+    fn piece(&mut self, bytes: &[u8]) -> Fed {
         let mut rest = bytes;
         let mut refusal = None;
         while !rest.is_empty() && refusal.is_none() {
@@ -63,12 +128,20 @@ impl Replay {
         }
     }
 
-    /// Takes whole records off the front, up to one that is refused; gives its refusal.
-    #[inline(always)]
+    /// Takes whole records off the front, up to one that is refused; gives its refusal. Words that stand side by side are fed to the
+    /// session in one piece, so that it sees whole commands. A call of its own: bytes one by one need no room for words.
+    #[inline(never)]
     fn records(&mut self, rest: &mut &[u8]) -> Option<u32> {
-        while let [kind, a, b, c, d, after @ ..] = rest {
-            let number = u32::from_le_bytes([*a, *b, *c, *d]);
-            match self.record(*kind, number) {
+        let mut words = [0; BATCH];
+        while rest.len() >= RECORD {
+            let (record, after) = rest.split_at(RECORD);
+            if record[0] == WORD {
+                let count = gather(rest, &mut words);
+                self.words(&words[..count]);
+                *rest = &rest[RECORD * count..];
+                continue;
+            }
+            match self.other_record(record[0], number_of(record)) {
                 Ok(()) => *rest = after,
                 Err(refusal) => {
                     // a midnight is refused at its last byte, any other kind at once
@@ -92,8 +165,10 @@ impl Replay {
         self.filled += 1;
         if self.filled == RECORD {
             self.filled = 0;
-            let [kind, a, b, c, d] = self.open;
-            if let Err(refusal) = self.record(kind, u32::from_le_bytes([a, b, c, d])) {
+            let (kind, number) = (self.open[0], number_of(&self.open));
+            if kind == WORD {
+                self.word(number);
+            } else if let Err(refusal) = self.other_record(kind, number) {
                 return Some(self.stop(refusal));
             }
         }
@@ -107,22 +182,32 @@ impl Replay {
         refusal
     }
 
-    #[inline(always)]
-    fn record(&mut self, kind: u8, number: u32) -> Result<(), u32> {
+    /// A record that isn't a word. 18 or 19.
+    fn other_record(&mut self, kind: u8, number: u32) -> Result<(), u32> {
         match kind {
-            WORD => self.word(number),
-            MIDNIGHT => self.midnight(number)?,
-            _ => return Err(KIND),
+            MIDNIGHT => self.midnight(number),
+            _ => Err(KIND),
         }
-        Ok(())
     }
 
     #[inline(always)]
     fn word(&mut self, word: u32) {
         if let Err(number) = self.session.take(word) {
-            let midnights = self.marks.len();
-            self.refused.get_or_insert((number, midnights));
+            self.note(number);
         }
+    }
+
+    /// Words in one piece. A refused one stops the session, so that later ones add nothing.
+    #[inline(always)]
+    fn words(&mut self, words: &[u32]) {
+        if let Some(number) = self.session.feed(words).refusal {
+            self.note(number);
+        }
+    }
+
+    fn note(&mut self, number: u32) {
+        let midnights = self.marks.len();
+        self.refused.get_or_insert((number, midnights));
     }
 
     fn midnight(&mut self, day: u32) -> Result<(), u32> {

@@ -76,9 +76,9 @@ fn mixed(table: &mut Table) {
     let name = "feed, mixed stream under edition 2, one piece, a word";
     pieces(table, name, second, &stream, stream.len());
     let name = "feed, mixed stream of 2^20 words, one piece, a word";
-    if table.wants(name) {
+    if table.wants_long(name) {
         let long = mixed_stream(LONG);
-        pieces(table, name, new(), &long, long.len());
+        line(table, name, new(), &long, long.len());
     }
     let name = "word by word, mixed stream, a word";
     if !table.wants(name) {
@@ -143,16 +143,19 @@ fn new() -> Sessions {
 }
 
 /// A line for a stream fed in pieces of one length, to such sessions.
-fn pieces(
+fn pieces(table: &mut Table, name: &str, sessions: Sessions, stream: &[u32], length: usize) {
+    if table.wants(name) {
+        line(table, name, sessions, stream, length);
+    }
+}
+
+fn line(
     table: &mut Table,
     name: &str,
     (product_ready, rust_ready): Sessions,
     stream: &[u32],
     length: usize,
 ) {
-    if !table.wants(name) {
-        return;
-    }
     check_pieces(&product_ready, &rust_ready, stream, length);
     table.line(
         name,

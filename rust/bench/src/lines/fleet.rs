@@ -17,8 +17,9 @@ pub fn add(table: &mut Table) {
     if !table.wants(name) {
         return;
     }
-    let (logs, numbers) = fleet();
+    let (logs, numbers) = fleet(WORDS / 100);
     check(&logs, &numbers);
+    let (logs, numbers) = fleet(WORDS);
     table.line(
         name,
         logs.len(),
@@ -36,8 +37,8 @@ pub fn add(table: &mut Table) {
 }
 
 /// The logs, one behind the other, and four numbers for each. They differ in where they end.
-fn fleet() -> (Vec<u8>, Vec<u64>) {
-    let month = mixed_log(WORDS, WORDS / DAYS);
+fn fleet(words: usize) -> (Vec<u8>, Vec<u64>) {
+    let month = mixed_log(words, words / DAYS);
     let (mut logs, mut numbers) = (Vec::new(), Vec::new());
     for station in 0..STATIONS {
         let length = month.len() - 5 * 7 * station;

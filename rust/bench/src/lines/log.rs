@@ -1,4 +1,4 @@
-//! Bytes fed to a replay: a log of the mixed stream with midnights in it, in pieces of several lengths.
+//! Bytes fed to a replay: logs of the mixed stream with midnights in them, in pieces of several lengths.
 
 use super::feed::check_sessions;
 use crate::inputs::mixed_log;
@@ -6,21 +6,39 @@ use crate::table::Table;
 use bench::fast::log as fast;
 use boundary::Edition;
 
-/// The log has about this many words, and a midnight before every so many of them.
+/// A log has about this many words, and a midnight before every so many of them.
 const WORDS: usize = 1 << 16;
 const DAY: usize = 1 << 10;
+/// A log that is too long to be learnt by the processor's branch prediction: a replay has at most 400 days.
+const LONG: usize = 1 << 20;
+const LONG_DAY: usize = 1 << 12;
+
+/// The bytes of a record.
+const RECORD: usize = 5;
 
 pub fn add(table: &mut Table) {
-    let log = mixed_log(WORDS, DAY);
-    for (name, length) in [
-        ("one piece", log.len()),
-        ("pieces of 4096", 4096),
-        ("pieces of 1", 1),
+    let whole = usize::MAX;
+    for (log, words, day, lengths) in [
+        ("mixed log", WORDS, DAY, &[whole, 4096, 1][..]),
+        ("mixed log of 2^20 words", LONG, LONG_DAY, &[whole, 4096]),
     ] {
-        let name = format!("replay, mixed log, {name}, a byte");
-        if table.wants(&name) {
-            check_pieces(&log, length);
-            pieces(table, &name, &log, length);
+        for &length in lengths {
+            let cut = match length {
+                usize::MAX => "one piece".to_string(),
+                length => format!("pieces of {length}"),
+            };
+            let name = format!("replay, {log}, {cut}, a byte");
+            let wanted = match words {
+                LONG => table.wants_long(&name),
+                _ => table.wants(&name),
+            };
+            if wanted {
+                check_damaged(&mixed_log(40, 10));
+                let log = mixed_log(words, day);
+                let refusal = check_pieces(&log, length);
+                assert_eq!(refusal, None, "the benchmark's logs are good");
+                pieces(table, &name, &log, length);
+            }
         }
     }
 }
@@ -42,18 +60,23 @@ fn pieces(table: &mut Table, name: &str, log: &[u8], length: usize) {
     );
 }
 
-/// Feeds the pieces to both sides: equal answers, nothing refused, and at the end equal days and equal sessions.
-fn check_pieces(log: &[u8], length: usize) {
+/// Feeds the pieces to both sides: equal answers, and at the end equal days and equal sessions. The number of a refused byte or
+/// word, where there is one.
+fn check_pieces(log: &[u8], length: usize) -> Option<u32> {
     let mut product = boundary::Replay::new(Edition::First);
     let mut rust = fast::Replay::new();
     for piece in log.chunks(length) {
         let (by_product, by_rust) = (product.feed(piece), rust.feed(piece));
         assert_eq!(by_product.taken, by_rust.taken, "bytes taken");
-        assert_eq!((by_product.refusal, by_rust.refusal), (None, None));
+        assert_eq!(by_product.refusal.map(u32::from), by_rust.refusal);
     }
     let status = product.status();
+    assert_eq!(status.stopped.map(u32::from), rust.stopped(), "stopped");
     assert_eq!(status.midnights as usize, rust.midnights(), "midnights");
-    assert_eq!((status.refused, rust.refused()), (None, None));
+    let word = status
+        .refused
+        .map(|word| (u32::from(word.refusal), word.midnights as usize));
+    assert_eq!(word, rust.refused(), "refused word");
     assert_eq!(status.unfinished as usize, rust.unfinished());
     for number in 0..=status.midnights {
         let part = product.part(number);
@@ -61,4 +84,26 @@ fn check_pieces(log: &[u8], length: usize) {
         assert_eq!(by_product, rust.part(number as usize), "part {number}");
     }
     check_sessions(product.session(), rust.session());
+    rust.stopped().or(word.map(|(number, _)| number))
+}
+
+/// The log with one record made a wrong one, wherever it stands among those that are read together: of no kind, a midnight whose
+/// day is wrong, and a word that is refused.
+fn check_damaged(log: &[u8]) {
+    for place in (0..log.len()).step_by(RECORD) {
+        for damage in [
+            [3, 0, 0, 0, 0],
+            [2, 9, 9, 9, 9],
+            [1, 0xFE, 0xFF, 0xFF, 0xFF],
+        ] {
+            let mut damaged = log.to_vec();
+            damaged[place..][..RECORD].copy_from_slice(&damage);
+            for length in [log.len(), 203, 7, 1] {
+                assert!(
+                    check_pieces(&damaged, length).is_some(),
+                    "{damage:?} at {place}"
+                );
+            }
+        }
+    }
 }

@@ -10,6 +10,7 @@ pub mod kill;
 pub mod lessees;
 pub mod log;
 pub mod picture;
+pub mod places;
 pub mod survey;
 pub mod writer;
 

@@ -7,6 +7,7 @@ use crate::table::Table;
 use bench::fast::layout::{judge, Layout};
 use bench::fast::picture::{copy_out, paint, translate_row, Rectangle};
 use boundary::Answer;
+use std::cell::RefCell;
 
 const BASE: u32 = 0x0100_0000;
 const KB: usize = 1024;
@@ -17,13 +18,13 @@ const LENGTHS: [usize; 3] = [64 * KB, 4 * MB, 64 * MB];
 const SIZES: [u32; 5] = [1, 2, 4, 8, 16];
 
 #[derive(Clone, Copy, PartialEq, Eq)]
-enum Way {
+pub(super) enum Way {
     Out,
     In,
 }
 
 impl Way {
-    fn name(self) -> &'static str {
+    pub(super) fn name(self) -> &'static str {
         match self {
             Way::Out => "copy_out",
             Way::In => "paint",
@@ -31,99 +32,135 @@ impl Way {
     }
 }
 
-/// Memory and room of one side.
-struct Side {
-    memory: Vec<u8>,
-    room: Vec<u8>,
+/// How many ways memory and room lie to each other. Passes go through them one after the other.
+const PLACES: usize = 8;
+const PAGE: usize = 4096;
+
+/// Where memory and room begin in their pages.
+pub(super) type Places = (usize, usize);
+
+/// The places of a pass of this number. Where bytes lie to lines of 64 bytes and to pages can cost as
+/// much as the work itself, so that both sides have the same places, and several: multiples of 16, as allocators give them, in all
+/// four places of a line, and all over a page.
+fn places(pass: usize) -> Places {
+    let place = pass % PLACES;
+    (16 * (place % 4), 528 * place + 16 * (place / 4))
 }
 
-/// What is moved, with both sides' memory and room alike.
-struct Scene {
+/// Bytes that can begin anywhere in a page.
+struct Placed {
+    bytes: Vec<u8>,
+    /// Where the first page begins.
+    page: usize,
+    length: usize,
+}
+
+impl Placed {
+    fn new(bytes: &[u8]) -> Placed {
+        let mut all = vec![0; bytes.len() + 2 * PAGE];
+        let page = PAGE - all.as_ptr() as usize % PAGE;
+        all[page..][..bytes.len()].copy_from_slice(bytes);
+        Placed {
+            bytes: all,
+            page,
+            length: bytes.len(),
+        }
+    }
+
+    fn at(&mut self, place: usize) -> &mut [u8] {
+        &mut self.bytes[self.page + place..][..self.length]
+    }
+}
+
+/// What is moved, in memory and a room that both sides use by turns.
+pub(super) struct Scene {
     layout: Layout,
     area: Rectangle,
-    ours: Side,
-    theirs: Side,
+    memory: Placed,
+    room: Placed,
 }
 
 impl Scene {
+    /// Both ways, held against each other, with a refusal, each side with bytes of its own.
     fn new(layout: Layout, area: Rectangle) -> Scene {
         let window = judge(&layout).expect("an accepted layout");
         let bytes = (area.columns * area.rows * layout.size) as usize;
-        let side = || Side {
-            memory: noise(window.span as usize, 3),
-            room: noise(bytes, 4),
-        };
-        Scene {
+        let (memory, room) = (noise(window.span as usize, 3), noise(bytes, 4));
+        let scene = || Scene {
             layout,
             area,
-            ours: side(),
-            theirs: side(),
-        }
+            memory: Placed::new(&memory),
+            room: Placed::new(&room),
+        };
+        check(&mut scene(), &mut scene());
+        scene()
     }
 
     fn bytes(&self) -> usize {
-        self.ours.room.len()
+        self.room.length
     }
 
-    /// Rust's side as the product's.
-    fn level(&mut self) {
-        self.theirs.memory.copy_from_slice(&self.ours.memory);
-        self.theirs.room.copy_from_slice(&self.ours.room);
+    fn sides(&mut self, (memory, room): Places) -> (&mut [u8], &mut [u8]) {
+        (self.memory.at(memory), self.room.at(room))
     }
 
-    /// Both ways, held against each other, with a refusal.
-    fn check(&mut self) {
-        for way in [Way::In, Way::Out] {
-            let noise = noise(self.bytes(), 5);
-            if way == Way::Out {
-                self.ours.room.copy_from_slice(&noise);
-                self.theirs.room.copy_from_slice(&noise);
-            }
-            assert_eq!(self.by_product(way), Ok(()));
-            assert_eq!(self.by_rust(way), Ok(()));
-            let name = way.name();
-            assert!(self.ours.memory == self.theirs.memory, "{name}: memory");
-            assert!(self.ours.room == self.theirs.room, "{name}: room");
-        }
-        let outside = Rectangle {
-            columns: self.area.columns + self.layout.pitch,
-            ..self.area
-        };
-        let (layout, room) = (&self.layout, &mut self.ours.room);
-        let product = boundary::copy_out(
-            &lent(layout),
-            &for_product(&outside),
-            &self.ours.memory,
-            BASE,
-            room,
-        );
-        assert_eq!(
-            product.map_err(u32::from),
-            copy_out(
-                layout,
-                &outside,
-                &self.theirs.memory,
-                BASE,
-                &mut self.theirs.room
-            )
-        );
-    }
-
-    fn by_product(&mut self, way: Way) -> Answer<()> {
+    pub(super) fn by_product(&mut self, way: Way, places: Places) -> Answer<()> {
         let (layout, area) = (lent(&self.layout), for_product(&self.area));
-        let Side { memory, room } = &mut self.ours;
+        let (memory, room) = self.sides(places);
         match way {
             Way::Out => boundary::copy_out(&layout, &area, memory, BASE, room),
             Way::In => boundary::paint(&layout, &area, memory, BASE, room),
         }
     }
 
-    fn by_rust(&mut self, way: Way) -> Result<(), u32> {
-        let Side { memory, room } = &mut self.theirs;
+    pub(super) fn by_rust(&mut self, way: Way, places: Places) -> Result<(), u32> {
+        let (layout, area) = (self.layout, self.area);
+        let (memory, room) = self.sides(places);
         match way {
-            Way::Out => copy_out(&self.layout, &self.area, memory, BASE, room),
-            Way::In => paint(&self.layout, &self.area, memory, BASE, room),
+            Way::Out => copy_out(&layout, &area, memory, BASE, room),
+            Way::In => paint(&layout, &area, memory, BASE, room),
         }
+    }
+
+    /// As many bytes one behind the other.
+    pub(super) fn by_memcpy(&mut self, way: Way, places: Places) -> u64 {
+        let (memory, room) = self.sides(places);
+        match way {
+            Way::Out => copied(room, memory),
+            Way::In => copied(memory, room),
+        }
+    }
+
+    /// The first byte and the last one that were moved.
+    fn ends(&mut self, way: Way, places: Places) -> u64 {
+        let (memory, room) = self.sides(places);
+        let moved = match way {
+            Way::Out => room,
+            Way::In => memory,
+        };
+        u64::from(moved[0]) + u64::from(moved[moved.len() - 1])
+    }
+}
+
+fn check(ours: &mut Scene, theirs: &mut Scene) {
+    for way in [Way::In, Way::Out] {
+        let name = way.name();
+        if way == Way::Out {
+            let noise = noise(ours.bytes(), 5);
+            ours.room.at(0).copy_from_slice(&noise);
+            theirs.room.at(0).copy_from_slice(&noise);
+        }
+        assert_eq!(ours.by_product(way, (0, 0)), Ok(()));
+        assert_eq!(theirs.by_rust(way, (0, 0)), Ok(()));
+        assert!(ours.memory.at(0) == theirs.memory.at(0), "{name}: memory");
+        assert!(ours.room.at(0) == theirs.room.at(0), "{name}: room");
+    }
+    ours.area.columns += ours.layout.pitch;
+    theirs.area.columns += theirs.layout.pitch;
+    for way in [Way::In, Way::Out] {
+        let by_product = ours.by_product(way, (0, 0)).map_err(u32::from);
+        assert_eq!(by_product, theirs.by_rust(way, (0, 0)));
+        assert!(by_product.is_err());
     }
 }
 
@@ -136,12 +173,12 @@ fn for_product(area: &Rectangle) -> boundary::Rectangle {
     }
 }
 
+/// Pseudo-random bytes that repeat after a number of them that is no multiple of a row's, a block's or a tile's.
 fn noise(length: usize, seed: u64) -> Vec<u8> {
+    const PERIOD: usize = 65_521;
     let mut random = Random::new(seed);
-    let mut bytes = Vec::with_capacity(length + 4);
-    while bytes.len() < length {
-        bytes.extend(random.word().to_le_bytes());
-    }
+    let period: Vec<u8> = (0..PERIOD).map(|_| random.word() as u8).collect();
+    let mut bytes = period.repeat(length / PERIOD + 1);
     bytes.truncate(length);
     bytes
 }
@@ -163,13 +200,8 @@ pub fn add(table: &mut Table) {
     }
 }
 
-/// A tiled window that is this long, all of it.
-fn whole_window(table: &mut Table, size: u32, length: usize) {
-    let told = match length / MB {
-        0 => format!("{} KB", length / KB),
-        count => format!("{count} MB"),
-    };
-    // as wide as it is high, more or less, and a whole number of tiles each way
+/// A tiled window that is this long, as wide as it is high, more or less, and a whole number of tiles each way; and all of it.
+fn window_of(size: u32, length: usize) -> (Layout, Rectangle) {
     let (pitch, height) = match length {
         65_536 => (128, 512 / size),
         4_194_304 => (1024, 4096 / size),
@@ -182,12 +214,21 @@ fn whole_window(table: &mut Table, size: u32, length: usize) {
         size,
         tiled: true,
     };
-    let area = Rectangle {
-        x: 0,
-        y: 0,
-        columns: pitch,
-        rows: height,
+    (layout, part_of(0, 0, pitch, height))
+}
+
+/// All of 64 KB, for lines/places.rs.
+pub(super) fn small_window(size: u32) -> Scene {
+    let (layout, area) = window_of(size, 64 * KB);
+    Scene::new(layout, area)
+}
+
+fn whole_window(table: &mut Table, size: u32, length: usize) {
+    let told = match length / MB {
+        0 => format!("{} KB", length / KB),
+        count => format!("{count} MB"),
     };
+    let (layout, area) = window_of(size, length);
     let name =
         |way: Way, how: &str| format!("{}, tiled, size {size}, {told}{how}, a KB", way.name());
     // single calls are lent no more than 64 KB
@@ -199,17 +240,17 @@ fn whole_window(table: &mut Table, size: u32, length: usize) {
     let lines: Vec<(Way, &str, String)> = [Way::Out, Way::In]
         .into_iter()
         .flat_map(|way| hows.iter().map(move |how| (way, *how, name(way, how))))
-        .filter(|(_, _, name)| table.wants(name))
+        .filter(|(_, _, name)| match length {
+            65_536 => table.wants(name),
+            _ => table.wants_long(name),
+        })
         .collect();
     if lines.is_empty() {
         return;
     }
     let mut scene = Scene::new(layout, area);
     assert_eq!(scene.bytes(), length);
-    scene.check();
     for (way, how, name) in lines {
-        // A plain copy leaves another room, so both sides begin alike again.
-        scene.level();
         match how {
             "" => beside_rust(table, &name, length / KB, &mut scene, way),
             ", beside memcpy" => beside_memcpy(table, &name, &mut scene, way),
@@ -218,51 +259,39 @@ fn whole_window(table: &mut Table, size: u32, length: usize) {
     }
 }
 
-/// The first byte and the last one that were moved.
-fn ends(way: Way, side: &Side) -> u64 {
-    let moved = match way {
-        Way::Out => &side.room,
-        Way::In => &side.memory,
-    };
-    u64::from(moved[0]) + u64::from(moved[moved.len() - 1])
-}
-
 fn beside_rust(table: &mut Table, name: &str, units: usize, scene: &mut Scene, way: Way) {
-    let both = std::cell::RefCell::new(scene);
+    let both = RefCell::new(scene);
+    let (mut ours, mut theirs) = ((0..).map(places), (0..).map(places));
     table.line(
         name,
         units,
         || {
-            let scene = &mut *both.borrow_mut();
-            scene
-                .by_product(way)
-                .map_or_else(u64::from, |()| ends(way, &scene.ours))
+            let (scene, places) = (&mut *both.borrow_mut(), ours.next().unwrap_or_default());
+            let moved = scene.by_product(way, places);
+            moved.map_or_else(u64::from, |()| scene.ends(way, places))
         },
         || {
-            let scene = &mut *both.borrow_mut();
-            scene
-                .by_rust(way)
-                .map_or_else(u64::from, |()| ends(way, &scene.theirs))
+            let (scene, places) = (&mut *both.borrow_mut(), theirs.next().unwrap_or_default());
+            let moved = scene.by_rust(way, places);
+            moved.map_or_else(u64::from, |()| scene.ends(way, places))
         },
     );
 }
 
 fn beside_memcpy(table: &mut Table, name: &str, scene: &mut Scene, way: Way) {
     let units = scene.bytes() / KB;
-    let both = std::cell::RefCell::new(scene);
+    let both = RefCell::new(scene);
+    let (mut ours, mut theirs) = ((0..).map(places), (0..).map(places));
     table.beside(
         name,
         units,
         || {
-            let scene = &mut *both.borrow_mut();
-            u64::from(scene.by_product(way).is_err())
+            let places = ours.next().unwrap_or_default();
+            u64::from(both.borrow_mut().by_product(way, places).is_err())
         },
         || {
-            let Side { memory, room } = &mut both.borrow_mut().theirs;
-            match way {
-                Way::Out => copied(room, memory),
-                Way::In => copied(memory, room),
-            }
+            let places = theirs.next().unwrap_or_default();
+            both.borrow_mut().by_memcpy(way, places)
         },
     );
 }
@@ -277,20 +306,16 @@ fn copied(to: &mut [u8], from: &[u8]) -> u64 {
 /// The same by the product's single reads and writes.
 fn beside_single_calls(table: &mut Table, name: &str, scene: &mut Scene, way: Way) {
     let units = scene.bytes() / KB;
-    let both = std::cell::RefCell::new(scene);
+    let both = RefCell::new(scene);
     table.beside(
         name,
         units,
-        || u64::from(both.borrow_mut().by_product(way).is_err()),
+        || u64::from(both.borrow_mut().by_product(way, (0, 0)).is_err()),
         || {
-            let Scene {
-                layout,
-                area,
-                theirs,
-                ..
-            } = &mut **both.borrow_mut();
-            let Side { memory, room } = theirs;
-            let (layout, size) = (lent(layout), layout.size as usize);
+            let scene = &mut *both.borrow_mut();
+            let (layout, area) = (lent(&scene.layout), scene.area);
+            let size = layout.size as usize;
+            let (memory, room) = scene.sides((0, 0));
             let rows = (0..area.rows).flat_map(|y| (0..area.columns).map(move |x| (x, y)));
             let mut refused = 0;
             for ((x, y), element) in rows.zip(room.chunks_exact_mut(size)) {
@@ -343,7 +368,6 @@ fn part(table: &mut Table, size: u32, tiled: bool, area: Rectangle, what: &str) 
         );
         if table.wants(&name) {
             let mut scene = Scene::new(layout, area);
-            scene.check();
             beside_rust(table, &name, rows as usize, &mut scene, way);
         }
     }
