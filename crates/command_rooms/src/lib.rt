@@ -7,7 +7,11 @@ use command::table::Line;
 use refusal::Refusal;
 use rules::writer;
 use rules::writer::Written;
+ghost use mathlib.Core.Path.{_≡_};
+ghost use Prim.Native.Nat.{_<_};
 ghost use Rattle.refusal.specs.Crossing.{Crosses};
+ghost use Rattle.command.specs.Table.{headerOf};
+ghost use Rattle.command.specs.Commands.{commandOf};
 ghost use Rattle.command_rooms.specs.Rooms.{parametersOf, CommandCrosses, WordsCross};
 
 // The most parameters of a command, and so the length of its fields.
@@ -39,6 +43,29 @@ fn write_words(command: Command, room: &mut [u32], written: &mut [u32; 1]) -> u3
     }
 }
 
+// The same of the command of a line, whose header is given. The tests of the line come first, and the fields are asked one by one
+// only for the refusal that they cause.
+fn write_line(
+    line: u32,
+    header: u32,
+    p0: u32,
+    p1: u32,
+    p2: u32,
+    p3: u32,
+    room: &mut [u32],
+    written: &mut [u32; 1],
+) -> u32
+    requires { ⌜ (line < 21) × (header ≡ headerOf line) ⌝ }
+    ensures { λ r. ⌜ WordsCross (commandOf line p0 p1 p2 p3) r (now (room .entry)) (now (room .exit)) (now (written .entry)) (now (written .exit)) ⌝ }
+{
+    let words = line_writer::write(line, header, p0, p1, p2, p3, room);
+    if 0 < words {
+        *written = [words];
+        return 0;
+    }
+    write_words(commands::build(line, p0, p1, p2, p3), room, written)
+}
+
 // The words of the command with this header and these fields to the front of the room, and their number; 2, then the
 // writer's 3, 4, 5, 6 and 11. Fields past the command's last aren't read.
 pub fn write(header: u32, fields: &[u32; FIELDS], room: &mut [u32], written: &mut [u32; 1]) -> u32
@@ -46,9 +73,15 @@ pub fn write(header: u32, fields: &[u32; FIELDS], room: &mut [u32], written: &mu
 {
     match table::line_of(header) {
         Line::Unknown => refusal::number(Refusal::UnknownHeader),
-        Line::At(line) => {
-            let command = commands::build(line, fields[0], fields[1], fields[2], fields[3]);
-            write_words(command, room, written)
-        }
+        Line::At(line) => write_line(
+            line,
+            header,
+            fields[0],
+            fields[1],
+            fields[2],
+            fields[3],
+            room,
+            written,
+        ),
     }
 }

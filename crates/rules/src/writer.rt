@@ -57,7 +57,7 @@ pub fn check_command(command: Command) -> Checked
 }
 
 // A header and the first `count` parameters to the front of the room.
-fn put(room: &mut [u32], count: u32, first: u32, p0: u32, p1: u32, p2: u32, p3: u32)
+pub fn put(room: &mut [u32], count: u32, first: u32, p0: u32, p1: u32, p2: u32, p3: u32)
     requires { ⌜ (1 ≤ count) × (count ≤ 4) × (count < length (now room)) ⌝ }
     ensures { λ r. ⌜ now (room .exit) ≡ (first ∷ take count (p0 ∷ p1 ∷ p2 ∷ p3 ∷ [])) ++ drop (count + 1) (now (room .entry)) ⌝ }
 {

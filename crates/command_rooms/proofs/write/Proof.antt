@@ -21,26 +21,24 @@ number-requires c κs = search needs
 enum-known-line : tie.Need-enum-known-line
 enum-known-line c = search needs
 
-element-copy-out-build : tie.Need-element-copy-out-build
-element-copy-out-build c = search needs
+element-copy-out-write-line : tie.Need-element-copy-out-write-line
+element-copy-out-write-line c = search needs
 
-element-copy-out-build-2 : tie.Need-element-copy-out-build-2
-element-copy-out-build-2 c = search needs
+element-copy-out-write-line-2 : tie.Need-element-copy-out-write-line-2
+element-copy-out-write-line-2 c = search needs
 
-element-copy-out-build-3 : tie.Need-element-copy-out-build-3
-element-copy-out-build-3 c = search needs
+element-copy-out-write-line-3 : tie.Need-element-copy-out-write-line-3
+element-copy-out-write-line-3 c = search needs
 
-element-copy-out-build-4 : tie.Need-element-copy-out-build-4
-element-copy-out-build-4 c = search needs
+element-copy-out-write-line-4 : tie.Need-element-copy-out-write-line-4
+element-copy-out-write-line-4 c = search needs
 
-build-requires : tie.Need-build-requires
-build-requires c κs =
-    let at-line = c .before .before .before .before .before in
+write-line-requires : tie.Need-write-line-requires
+write-line-requires c κs =
+    let at-line = c .before .before .before .before .before .before .before in
     let at-line-of = at-line .before .before in
-    accepted-listed _ _ (sym (at-line-of .line-of .ensures) ∙ ap toldLine (at-line .line .given .1)) .line
-
-write-words-requires : tie.Need-write-words-requires
-write-words-requires c κs = search needs
+    let known = accepted-listed _ _ (sym (at-line-of .line-of .ensures) ∙ ap toldLine (at-line .line .given .1)) in
+    (known .line, sym (known .header))
 
 returns : tie.Need-returns
 returns c =
@@ -56,13 +54,11 @@ same-length c = search needs
 
 returns-2 : tie.Need-returns-2
 returns-2 c =
-    let at-write-words = c .before .before in
-    let at-build = at-write-words .before .before .before in
-    let near-at-line = at-build .before .before .before .before .before in
-    let at-line = near-at-line .before in
+    let at-write-line = c .before .before in
+    let near-at-line = at-write-line .before .before .before .before .before .before in
+    let at-line = near-at-line .before .before in
     let at-line-of = at-line .before .before in
-    write-known _ _ _ _ (sym (at-line-of .line-of .ensures) ∙ ap toldLine (at-line .line .given .1)) (at-build .build .ensures)
-    (at-write-words .write-words .ensures)
+    write-known _ _ _ (sym (at-line-of .line-of .ensures) ∙ ap toldLine (at-line .line .given .1)) (at-write-line .write-line .ensures)
 
 pub write-spec : {M : Type 1} → statement M
 write-spec =
@@ -72,12 +68,11 @@ write-spec =
     enum-told
     number-requires
     enum-known-line
-    element-copy-out-build
-    element-copy-out-build-2
-    element-copy-out-build-3
-    element-copy-out-build-4
-    build-requires
-    write-words-requires
+    element-copy-out-write-line
+    element-copy-out-write-line-2
+    element-copy-out-write-line-3
+    element-copy-out-write-line-4
+    write-line-requires
     returns
     same-length
     returns-2)
