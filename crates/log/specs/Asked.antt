@@ -83,7 +83,7 @@ Bytes8 bs = (k : ℕ) → k < length bs → getD bs k 0 < 256
 
 -- how many words are fed to the session in one piece at most
 abbrev pub batch : ℕ
-batch = 128
+batch = 1024
 
 -- bytes begin with `n` records of words, and these words are the first of a list
 pub record Gathered (bs : List ℕ) (n : ℕ) (words : List ℕ) : Type 0 where

@@ -18,8 +18,8 @@ ghost use Rattle.replay.specs.Step.{StopNumber};
 ghost use Rattle.log.specs.Asked.{Became, Begins, ByteLeft, batch, Gathered, Grew, OpenAsked, PieceLeft, RecordsLeft, WordsAsked, WordsLeft};
 ghost use Rattle.replay.specs.Own.{replyOf};
 
-// Words of records that are fed to the session in one piece.
-const BATCH: usize = 128;
+// Words of records that are fed to the session in one piece: so many that a piece's beginning and end cost little beside them.
+const BATCH: usize = 1024;
 
 // Bytes of a record: its kind and four of its number.
 const RECORD: usize = 5;

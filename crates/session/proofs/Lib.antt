@@ -12,6 +12,7 @@ pub mod ReadAgain
 pub mod ReadBack
 pub mod Refusals
 pub mod Silent
+pub mod Single
 pub mod Stepping
 pub mod Stored
 pub mod Taking

@@ -32,9 +32,9 @@ const WORD_LIMIT: u32 = 1000000000;
 
 // What a word is answered as one number, which stays in a register: the command is still open, the word completed it, or else
 // the refusal's number.
-const OPEN: u32 = 0;
+pub const OPEN: u32 = 0;
 
-const COMPLETED: u32 = 64;
+pub const COMPLETED: u32 = 64;
 
 // A word that was read and is its command's last: the cells hold the whole command, which is still to be judged.
 const WHOLE: u32 = 64;
@@ -178,7 +178,7 @@ fn read(
 }
 
 // One word as a number.
-fn step(
+pub fn step(
     own: &mut [u32; state::OWN_CELLS],
     tallies: &mut [u64; state::TALLIES],
     shared: &mut [u32; state::SHARED_CELLS],

@@ -5,6 +5,7 @@ use command::table;
 use session::stream;
 use session::stream::Answer;
 use session::stream::First;
+ghost use mathlib.Core.List.{[], _∷_};
 ghost use Rattle.state.specs.Asked.{Given};
 ghost use Rattle.state.specs.Cells.{sessionOf};
 ghost use Rattle.session.specs.Feed.{feedOf};
@@ -42,6 +43,30 @@ pub fn word(
     }
 }
 
+// A piece of one word. Its answer is a number all the way: a stream that comes word by word pays for the call as for the word.
+fn feed_one(
+    own: &mut [u32; state::OWN_CELLS],
+    tallies: &mut [u64; state::TALLIES],
+    shared: &mut [u32; state::SHARED_CELLS],
+    word: u32,
+    fed: &mut [u64; PIECE_NUMBERS],
+) -> u32
+    requires { ⌜ Given (now own) (now tallies) (now shared) ⌝ }
+    ensures { λ r. ⌜ FeedCrosses (feedOf (sessionOf (now (own .entry)) (now (tallies .entry)) (now (shared .entry))) (word ∷ [])) r (now (own .exit)) (now (tallies .exit)) (now (shared .exit)) (now (fed .exit)) ⌝ }
+{
+    let number = stream::step(own, tallies, shared, word);
+    if number == stream::OPEN {
+        *fed = [1, 0];
+        return 0;
+    }
+    if number == stream::COMPLETED {
+        *fed = [1, 1];
+        return 0;
+    }
+    *fed = [0, 0];
+    number
+}
+
 // A piece of words: the words taken and the commands that they completed, and the first refusal, if any.
 pub fn feed(
     own: &mut [u32; state::OWN_CELLS],
@@ -53,6 +78,9 @@ pub fn feed(
     requires { ⌜ Given (now own) (now tallies) (now shared) ⌝ }
     ensures { λ r. ⌜ FeedCrosses (feedOf (sessionOf (now (own .entry)) (now (tallies .entry)) (now (shared .entry))) (now (words .entry))) r (now (own .exit)) (now (tallies .exit)) (now (shared .exit)) (now (fed .exit)) ⌝ }
 {
+    if words.len() == 1 {
+        return feed_one(own, tallies, shared, words[0], fed);
+    }
     let piece = stream::feed(own, tallies, shared, words);
     *fed = [piece.taken.0, piece.commands];
     let refusal = piece.refusal;
