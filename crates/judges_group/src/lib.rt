@@ -10,9 +10,10 @@ ghost use Rattle.group.specs.Proc.{mostProcessors};
 ghost use Rattle.group.specs.Cells.{cellCount};
 ghost use Rattle.judges_group.specs.Judged.{strays, inARow, tooHigh, countersFit, stackOf, loopFits, returnsFit, loopsFit, Words, JudgesGroup};
 
-// What a LOOP's cell has in its bits 31:24, which in a REP's are 0; and the highest count of either, which also is the byte that has it.
+// The lowest of bits 31:24, which are 1 in a LOOP's cell and 0 in a REP's.
 const LOOP_MARK: u32 = 0x1000000;
 
+// The values of the byte that has a loop's count, and the highest of them.
 const COUNTS: u32 = 256;
 
 const HIGHEST: u32 = 255;
