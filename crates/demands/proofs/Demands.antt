@@ -1,4 +1,4 @@
--- The page of top theorems, in the order of the demands: 1, 2, 3, then elements, flow, and the requests 1 to 14. Each statement has
+-- The page of top theorems, in the order of the demands: 1, 2, 3, then elements, flow, the requests 1 to 14, and kept states. Each statement has
 -- its sentence above it and a proof that only cites the file that has it. What a statement asks for is what its sentence says or what an
 -- entry asks for: a session, a replay or a group's cells that came from the entries (`Reached`, `Handed`), and bytes that are bytes.
 -- Assumes nothing.
@@ -8,7 +8,7 @@ use mathlib.Core.List.{List, [], _∷_, _++_, map, List·Permᴰ}
 use Prim.Native.Nat.{ℕ, suc, _+_, _-_, _*_, _%_, _^_, _<_, _≤_}
 use lib.Count.{ones, trailingZeros}
 use lib.Ieee.{Float, lt}
-use lib.ListN.{length, take, drop, getD}
+use lib.ListN.{length, take, drop, getD, replicate}
 use Rattle.laws.specs.Bits.{xor}
 use Rattle.laws.specs.Choice.{_and_, pick, placeOf}
 use Rattle.laws.specs.Below.{some, every, sum, count, least}
@@ -189,6 +189,22 @@ use Rattle.lessees.proofs.Host.{party0-isolated, party1-isolated}
 use Rattle.lessees.proofs.Cut.{cut as pieces-cut}
 use Rattle.lessees.proofs.WriteBack.{party-back, party-again}
 use Rattle.lessees.proofs.Runs.{ranFor, one-party, other-untouched0, other-untouched1}
+use Rattle.state.specs.Cells.{Sized, ownLength}
+use Rattle.log_rooms.specs.Pieces.{firstOfTwo}
+use Rattle.judges.specs.Judged.{Judges, sessionBy}
+use Rattle.demands.specs.Pieces.{firstOf}
+use Rattle.demands.specs.States.{PairArrays, PairGivenAt, PairFedAt, GoesOn, SamePiece}
+use Rattle.demands.specs.States as states
+use Rattle.demands.proofs.States.{
+  session-judged,
+  session-taken,
+  pair-taken,
+  replay-taken,
+  zeros-refused,
+  session-goes-on,
+  replay-goes-on,
+  pair-goes-on,
+}
 use Rattle.fleet.specs.Fleet.{Station, stationsIn, stationAt, addUp, fleetTold, fleetIn, reportTold}
 use Rattle.fleet.specs.Answers.{fleetNumbers}
 use Rattle.fleet.specs.Join.{sumsOf, fleetSums, behind, joined as joinedFleet}
@@ -1059,6 +1075,61 @@ fleet-joined-calls = behind-told
 pub fleet-sums-joined :
     (n m : ℕ) (stations : ℕ → Station) → sumsOf (n + m) stations ≡ joinedFleet n (sumsOf n stations) (sumsOf m (behind n stations))
 fleet-sums-joined = sums-joined
+
+-- STATES THAT WERE KEPT ELSEWHERE, the project's own promise: "A state may be copied and kept (on disk, say) as it is". `Judges yes fact` is
+-- what egretfold_session_check, egretfold_pair_check and egretfold_log_check answer of the arrays that they are lent: a yes just where the
+-- fact holds that every entry over these arrays requires (`Given`, `PairGiven`, `ReplayGiven`).
+
+-- That a session is such is a test that can be worked out: every number by compares, parameters by their kinds, buffers by the rules of the
+-- command that set them, and what is kept of readiness by working it out anew.
+pub state-session-test :
+    {own tallies shared : List ℕ} → Sized own tallies shared → Judges (sessionBy (sessionOf own tallies shared)) (Given own tallies shared)
+state-session-test = session-judged
+
+-- Every entry's state is judged yes: what begin, word, byte and feed leave, also where the arrays came from elsewhere and a check took them
+-- (`states.Session`, `states.Pair`, `states.Replay` have a constructor for each call).
+pub state-session-taken :
+    {own tallies shared : List ℕ} → states.Session own tallies shared → {yes : Bool} → Judges yes (Given own tallies shared) → yes ≡ true
+state-session-taken = session-taken
+
+pub state-pair-taken : {a : PairArrays} → states.Pair a → {yes : Bool} → Judges yes (PairGivenAt a) → yes ≡ true
+state-pair-taken = pair-taken
+
+pub state-replay-taken : {a : Arrays} → states.Replay a → {yes : Bool} → Judges yes (GivenAt a) → yes ≡ true
+state-replay-taken = replay-taken
+
+-- Arrays of zeros are no state.
+pub state-zeros :
+    (tallies shared : List ℕ) {yes : Bool} → Judges yes (Given (replicate ownLength 0) tallies shared) → yes ≡ false
+state-zeros = zeros-refused
+
+-- Save, load, go on = go on. A session is fed words, and its arrays are saved; where those read back are the same, they are judged yes, and
+-- the pieces that they are fed then leave the status, the sums and the arrays that one call with all the words leaves.
+pub state-session-goes-on :
+    {own tallies shared : List ℕ} → states.Session own tallies shared → (before : List ℕ) (r taken commands : ℕ) (own₁ tallies₁ shared₁ : List ℕ) →
+    FeedCrosses (feedOf (sessionOf own tallies shared) before) r own₁ tallies₁ shared₁ (taken ∷ commands ∷ []) →
+    (own₂ tallies₂ shared₂ : List ℕ) → own₂ ≡ own₁ → tallies₂ ≡ tallies₁ → shared₂ ≡ shared₁ → {yes : Bool} →
+    Judges yes (Given own₂ tallies₂ shared₂) → (ps : List (List ℕ)) (r' n m : ℕ) (own₃ tallies₃ shared₃ : List ℕ) →
+    InTurn own₂ tallies₂ shared₂ ps r' n m own₃ tallies₃ shared₃ → (r'' : ℕ) (own₄ tallies₄ shared₄ fed : List ℕ) →
+    FeedCrosses (feedOf (sessionOf own tallies shared) (uncut (before ∷ ps))) r'' own₄ tallies₄ shared₄ fed →
+    GoesOn yes (AsOne (firstOf r r') (taken + n) (commands + m) own₃ tallies₃ shared₃ r'' own₄ tallies₄ shared₄ fed)
+state-session-goes-on = session-goes-on
+
+-- So of a replay's bytes.
+pub state-replay-goes-on :
+    {a : Arrays} → states.Replay a → (before : List ℕ) → Bytes8 before → (status taken : ℕ) (saved : Arrays) →
+    FedAt (replayOf (replayAt a) before) status taken saved → (back : Arrays) → back ≡ saved → {yes : Bool} → Judges yes (GivenAt back) →
+    (ps : List (List ℕ)) (status' taken' : ℕ) (end : Arrays) → Pieces back ps status' taken' end →
+    GoesOn yes (FedAt (replayOf (replayAt a) (uncut (before ∷ ps))) (firstOfTwo status status') (taken + taken') end)
+state-replay-goes-on = replay-goes-on
+
+-- And of two parties' words: a piece leaves, with the arrays that were read back, the status, the arrays and the answers that it leaves with
+-- those that were saved.
+pub state-pair-goes-on :
+    {saved back : PairArrays} → back ≡ saved → (words parties : List ℕ) (r r' : ℕ) (room room' : List ℕ) (after after' : PairArrays)
+    (fed fed' : List ℕ) → PairFedAt words parties r saved room after fed → PairFedAt words parties r' back room' after' fed' →
+    states.Pair saved → {yes : Bool} → Judges yes (PairGivenAt back) → GoesOn yes (SamePiece r' r after' after fed' fed)
+state-pair-goes-on = pair-goes-on
 
 -- THE WORKED CASES
 

@@ -10,5 +10,6 @@ pub mod Painting
 pub mod Pieces
 pub mod Rectangles
 pub mod Refused
+pub mod States
 pub mod Surveys
 pub mod Windows

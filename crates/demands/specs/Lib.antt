@@ -8,5 +8,6 @@ pub mod Painting
 pub mod Pieces
 pub mod Rectangles
 pub mod Refused
+pub mod States
 pub mod Surveys
 pub mod Windows
