@@ -9,6 +9,7 @@ use bench::fast::session::Session;
 use bench::fast::survey::{conditional_test, survey};
 use boundary::headers::{SET_COND_OUT_FMT, SET_COND_TEST};
 use boundary::{Answer, Edition};
+use std::cell::RefCell;
 
 const BASE: u32 = 0x0123_4800;
 const PITCH: u32 = 256;
@@ -114,19 +115,18 @@ fn survey_line(table: &mut Table, scene: &Scene, domain: [u32; 4], what: &str) {
     }
     let pairs = (columns * rows) as usize;
     scene.check(domain, pairs);
-    let (mut ours, mut theirs) = (vec![0; pairs], vec![0; pairs]);
+    // one room, so that both sides have it in the same place
+    let room = RefCell::new(vec![0; pairs]);
     table.line(
         &name,
         pairs,
         || {
-            scene
-                .by_product(domain, &mut ours)
-                .map_or_else(u64::from, u64::from)
+            let passed = scene.by_product(domain, &mut room.borrow_mut());
+            passed.map_or_else(u64::from, u64::from)
         },
         || {
-            scene
-                .by_rust(domain, &mut theirs)
-                .map_or_else(u64::from, u64::from)
+            let passed = scene.by_rust(domain, &mut room.borrow_mut());
+            passed.map_or_else(u64::from, u64::from)
         },
     );
 }
