@@ -20,6 +20,7 @@ usage: ./bench [--quick] [--only SUBSTRING] [--list]
   --list             the lines' names alone, none of them timed
   --help             this text
 ./bench --places tells what whole pictures cost as memory and room are moved about
+./bench --write [--quick] puts the table into docs/SPEED.md instead
 ./bench --count counts the instructions of the lines instead: see ./bench --count --help
 ./bench --command [MB] times the command on a log of so many MB (1000), and the library alone
 ./bench --proofs [NAME...] times the proofs of all crates, or of these";
