@@ -6,10 +6,12 @@ use mathlib.Core.List.{List, [], _∷_, _++_}
 use Prim.Native.Nat.{ℕ, zero, suc, _+_, _-_, _*_, _/_, _%_, _<_, _≤_, _^_}
 use native.Mathlib.Nat.{zero-add}
 use native.Mathlib.Omega.{arith}
-use lib.Dec.{eqb}
+use lib.Dec.{eqb, ltb}
 use lib.ListN.{length, length-append, getD, take, drop}
-use borrow.Author.Tests.{eq-eqb, ne-eqb, eqb-true, eqb-false}
+use borrow.Author.Tests.{eq-eqb, ne-eqb, eqb-true, eqb-false, ltb-true, ltb-false}
 use Rattle.laws.specs.Choice.{pick}
+use Rattle.laws.specs.Masks.{on}
+use Rattle.laws.proofs.Table.{_&_, each}
 use Rattle.laws.proofs.Choice.{pick-yes, pick-no, Tested, tested, holds, fails}
 use Rattle.state.specs.State.{Party, Shared, Session}
 use Rattle.state.specs.Valid.{Valid}
@@ -51,16 +53,12 @@ use Rattle.lessees.specs.Rooms.{
   RunAsked,
   RunLeft,
   RunEnds,
+  RunTo,
+  wholeGroup,
 }
 use Rattle.lessees.proofs.Isolation.{pair-kept, partOf}
 use Rattle.lessees.proofs.Cut.{cut}
 use Rattle.lessees.proofs.Runs.{ranFor, ran}
-
--- every word from a place on to another is one party's
-pub record Run (parties : List ℕ) (length from : ℕ) (party : Bool) (at : ℕ) : Type 0 where
-  pub from-at : from ≤ at
-  pub at-most : at ≤ length
-  pub same-party : (k : ℕ) → from ≤ k → k < at → partyAt parties k ≡ party
 
 -- what the test of two parties tells
 differ-no : (t p : Bool) → not (Bool·beq t p) ≡ false → t ≡ p
@@ -80,14 +78,14 @@ differ-yes t p e k = apart (sym (ap (λ (x : Bool). not (Bool·beq x p)) k ∙ s
     apart z = let n : _≡_ {A = ℕ} 0 1 = cc in omega arith
 
 module _ (parties : List ℕ) (len from : ℕ) (party : Bool) where
-  pub run-begins : from ≤ len → Run parties len from party from
+  pub run-begins : from ≤ len → RunTo parties len from party from
   run-begins h = record { from-at = omega arith; at-most = h; same-party = λ k a b. absurd (none k a b) }
     where
       none : (k : ℕ) → from ≤ k → k < from → ⊥
       none k a b = omega arith
 
-  module _ (at : ℕ) (r : Run parties len from party at) where
-    pub run-on : {t : Bool} → at < len → t ≡ partyAt parties at → not (Bool·beq t party) ≡ false → Run parties len from party (at + 1)
+  module _ (at : ℕ) (r : RunTo parties len from party at) where
+    pub run-on : {t : Bool} → at < len → t ≡ partyAt parties at → not (Bool·beq t party) ≡ false → RunTo parties len from party (at + 1)
     run-on {t} h e y =
         record {
           from-at = omega (arith, r .from-at);
@@ -112,6 +110,58 @@ module _ (parties : List ℕ) (len from : ℕ) (party : Bool) where
 
     pub run-out : len ≤ at → RunEnds parties len from party at
     run-out h = ends (λ l y. omega (arith, h))
+
+-- each word of a whole group is the party's
+whole-on : (party : Bool) (j : ℕ) → j < 32 → on j (wholeGroup party) ≡ party
+unfolding on
+whole-on false =
+    each (λ (j : ℕ). on j 0 ≡ false) 32
+    (tt &
+    refl & refl & refl & refl & refl & refl & refl & refl &
+    refl & refl & refl & refl & refl & refl & refl & refl &
+    refl & refl & refl & refl & refl & refl & refl & refl &
+    refl & refl & refl & refl & refl & refl & refl & refl)
+whole-on true =
+    each (λ (j : ℕ). on j 4294967295 ≡ true) 32
+    (tt &
+    refl & refl & refl & refl & refl & refl & refl & refl &
+    refl & refl & refl & refl & refl & refl & refl & refl &
+    refl & refl & refl & refl & refl & refl & refl & refl &
+    refl & refl & refl & refl & refl & refl & refl & refl)
+
+module _ (parties : List ℕ) (groups from : ℕ) (party : Bool) (at : ℕ) (r : RunTo parties (32 * groups) (32 * from) party (32 * at)) where
+  pub group-on : at < groups → getD parties at 0 ≡ wholeGroup party → RunTo parties (32 * groups) (32 * from) party (32 * (at + 1))
+  group-on h e =
+      record {
+        from-at = omega (arith, r .from-at);
+        at-most = omega (arith, h);
+        same-party = λ k a b. go k a b (tested (ltb k (32 * at)));
+      }
+    where
+      place : (k : ℕ) → 32 * at ≤ k → k < 32 * (at + 1) → k / 32 ≡ at
+      place k a b = omega arith
+
+      within : (k : ℕ) → k % 32 < 32
+      within k = omega arith
+
+      go : (k : ℕ) → 32 * from ≤ k → k < 32 * (at + 1) → Tested (ltb k (32 * at)) → partyAt parties k ≡ party
+      go k a b (holds z) = r .same-party k a (ltb-true k (32 * at) z)
+      go k a b (fails z) =
+          ap (λ (g : ℕ). on (k % 32) (getD parties g 0)) (place k (ltb-false k (32 * at) z) b) ∙ ap (on (k % 32)) e ∙
+          whole-on party (k % 32) (within k)
+
+-- a place that begins a group
+pub passed-groups : (parties : List ℕ) (len from : ℕ) (party : Bool) (end : ℕ) → from % 32 ≡ 0 →
+    RunTo parties (32 * (len / 32)) (32 * (from / 32)) party (32 * end) → RunTo parties len from party (32 * end)
+passed-groups parties len from party end e r =
+    record {
+      from-at = omega (arith, r .from-at, e);
+      at-most = omega (arith, r .at-most);
+      same-party = λ k a b. r .same-party k (begins k a) b;
+    }
+  where
+    begins : (k : ℕ) → from ≤ k → 32 * (from / 32) ≤ k
+    begins k a = omega arith
 
 -- a first refusal is told by a number that isn't 0
 abbrev pub Told : First → Type 0

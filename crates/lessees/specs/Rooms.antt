@@ -93,6 +93,17 @@ pub record RunLeft (f : Fed) (own tallies shared told told' : List ℕ) : Type 0
       (getD told 0 0 + f .taken) ∷ (getD told 1 0 + length (f .commands)) ∷ earlierNumber (getD told 2 0) (firstStatus (f .refusal)) ∷ []
   pub held : Held (f .session) own tallies shared
 
+-- every word from a place on to another is one party's; nothing is said of the words after that
+pub record RunTo (parties : List ℕ) (length from : ℕ) (party : Bool) (at : ℕ) : Type 0 where
+  pub from-at : from ≤ at
+  pub at-most : at ≤ length
+  pub same-party : (k : ℕ) → from ≤ k → k < at → partyAt parties k ≡ party
+
+-- the number of 32 words that are all one party's
+abbrev pub wholeGroup : Bool → ℕ
+wholeGroup true = 4294967295
+wholeGroup false = 0
+
 -- where a run of one party's words ends that goes on at a place
 pub record RunEnds (parties : List ℕ) (length from : ℕ) (party : Bool) (end : ℕ) : Type 0 where
   pub from-end : from ≤ end

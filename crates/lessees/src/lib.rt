@@ -15,7 +15,7 @@ ghost use Rattle.session.specs.Answers.{firstOf};
 ghost use Rattle.session.specs.Feed.{feedOf, firstStatus};
 ghost use Rattle.lessees.specs.Begin.{mayBegin, newPair};
 ghost use Rattle.lessees.specs.Pair.{pieceOf};
-ghost use Rattle.lessees.specs.Rooms.{PairBegins, PairFeeds, PairGiven, PairHeld, PairLeft, RunAsked, RunEnds, RunLeft, earlierNumber, groupsOf, pairOf, partyAt, sentOf};
+ghost use Rattle.lessees.specs.Rooms.{PairBegins, PairFeeds, PairGiven, PairHeld, PairLeft, RunAsked, RunEnds, RunLeft, RunTo, earlierNumber, groupsOf, pairOf, partyAt, sentOf, wholeGroup};
 
 // What a piece tells a party: words taken, commands completed, first refusal; and both parties.
 const PART: usize = 3;
@@ -98,12 +98,46 @@ fn party_of(parties: &[u32], at: usize) -> bool
     owners::is_on(parties[at / 32], (at % 32) as u32)
 }
 
+// The number of 32 words that are all one party's.
+fn whole_group(party: bool) -> u32
+    ensures { λ r. ⌜ r ≡ wholeGroup party ⌝ }
+{
+    if party { 0xFFFF_FFFF } else { 0 }
+}
+
+// Where groups of 32 words end that are all one party's, from a group on: a long run is passed by groups.
+fn groups_end(parties: &[u32], groups: usize, from: usize, party: bool) -> usize
+    requires { ⌜ (from ≤ groups) × (groups ≤ length (now parties)) ⌝ }
+    ensures { λ r. ⌜ RunTo (now (parties .entry)) (32 * groups) (32 * from) party (32 * r) ⌝ }
+{
+    let whole = whole_group(party);
+    let mut at = from;
+    while at < groups {
+        if parties[at] != whole {
+            return at;
+        }
+        at = at + 1;
+    }
+    at
+}
+
+// How far one party's words surely go from a place on: whole groups where the place begins one, else nowhere.
+fn passed(parties: &[u32], length: usize, from: usize, party: bool) -> usize
+    requires { ⌜ (from ≤ length) × (length ≤ 32 * lib.ListN.length (now parties)) ⌝ }
+    ensures { λ r. ⌜ RunTo (now (parties .entry)) length from party r ⌝ }
+{
+    if from % 32 == 0 {
+        return 32 * groups_end(parties, length / 32, from / 32, party);
+    }
+    from
+}
+
 // Where the run of one party's words ends that goes on at a place.
 fn run_end(parties: &[u32], length: usize, from: usize, party: bool) -> usize
     requires { ⌜ (from ≤ length) × (length ≤ 32 * lib.ListN.length (now parties)) ⌝ }
     ensures { λ r. ⌜ RunEnds (now (parties .entry)) length from party r ⌝ }
 {
-    let mut at = from;
+    let mut at = passed(parties, length, from, party);
     while at < length {
         if party_of(parties, at) != party {
             return at;
