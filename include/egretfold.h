@@ -389,11 +389,11 @@ void egretfold_register_choice(const float a[EGRETFOLD_CHANNELS], const float b[
                                const float third[EGRETFOLD_CHANNELS], float choice[EGRETFOLD_CHANNELS]);
 
 /* ---- States that were kept elsewhere ----
- * Each returns true where the arrays hold a state that the functions above take and leave, whatever numbers they have and wherever
- * they come from, and false else; so arrays that it takes may be handed to them. Nothing is written. Damage that makes one such state
- * of another isn't seen. */
+ * Each returns true just where the arrays, wherever they come from and whatever numbers they have, are such as the functions above may
+ * have, so that they may be handed to them; all that these functions leave is such. Nothing is written. Damage that makes one such
+ * state of another isn't seen. */
 
-/* A session. */
+/* A session; what one party of two has, with the settings, is one too. */
 bool egretfold_session_check(const uint32_t own[EGRETFOLD_OWN], const uint64_t tallies[EGRETFOLD_TALLIES],
                              const uint32_t shared[EGRETFOLD_SHARED]);
 

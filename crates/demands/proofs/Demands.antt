@@ -200,7 +200,7 @@ use Rattle.demands.proofs.States.{
   session-taken,
   pair-taken,
   replay-taken,
-  zeros-refused,
+  zeros-untaken,
   session-goes-on,
   replay-goes-on,
   pair-goes-on,
@@ -1101,7 +1101,7 @@ state-replay-taken = replay-taken
 -- Arrays of zeros are no state.
 pub state-zeros :
     (tallies shared : List ℕ) {yes : Bool} → Judges yes (Given (replicate ownLength 0) tallies shared) → yes ≡ false
-state-zeros = zeros-refused
+state-zeros = zeros-untaken
 
 -- Save, load, go on = go on. A session is fed words, and its arrays are saved; where those read back are the same, they are judged yes, and
 -- the pieces that they are fed then leave the status, the sums and the arrays that one call with all the words leaves.

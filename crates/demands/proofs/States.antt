@@ -62,8 +62,8 @@ pub session-taken : {o t s : List ℕ} → states.Session o t s → {yes : Bool}
 session-taken h j = j .complete (session-given h)
 
 -- arrays of zeros have no edition
-pub zeros-refused : (t s : List ℕ) {yes : Bool} → Judges yes (Given (replicate ownLength 0) t s) → yes ≡ false
-zeros-refused t s {yes} j = go (tested yes)
+pub zeros-untaken : (t s : List ℕ) {yes : Bool} → Judges yes (Given (replicate ownLength 0) t s) → yes ≡ false
+zeros-untaken t s {yes} j = go (tested yes)
   where
     go : Tested yes → yes ≡ false
     go (holds e) = e ∙ sym (zero-edition t s (j .sound e))

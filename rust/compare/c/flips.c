@@ -286,7 +286,7 @@ static void sessions(void)
 /* Party 1 has inputs 7 and 15 and outputs 1 and 3. */
 enum { INPUTS = 0x8080, OUTPUTS = 0xA };
 
-/* Whose each command of the settings is, a bit each: the first ones are party 0's, and the last ones both send. */
+/* The settings that each party may send, one party after the other, and whose each word is; as many as a million words have room for. */
 static uint32_t mixed[MILLION], parties[MILLION / 32];
 static size_t mixed_length;
 
@@ -355,7 +355,7 @@ static void pairs(void)
 {
     struct kind k = {"pairs", check_pair, feed_pair, {{PART(own, EGRETFOLD_OWN), PART(tallies, EGRETFOLD_TALLIES),
                      PART(own1, EGRETFOLD_OWN), PART(tallies1, EGRETFOLD_TALLIES), PART(shared, EGRETFOLD_SHARED)}, 5},
-                     {MILLION / 4, MILLION / 4, MILLION / 4, MILLION / 4, FOR_SETTINGS}, 0, 0, 0};
+                     {MILLION, MILLION, MILLION, MILLION, FOR_SETTINGS}, 0, 0, 0};
     pair_of(1, 0);
     all_flips(&k);
     /* Inside an output of party 1; and one stopped, which sent what is party 0's. */
@@ -433,7 +433,7 @@ static void replays(void)
 {
     struct kind k = {"replays", check_replay, feed_replay, {{PART(log_cells, EGRETFOLD_LOG), PART(marks, EGRETFOLD_MARKS),
                      PART(own, EGRETFOLD_OWN), PART(tallies, EGRETFOLD_TALLIES), PART(shared, EGRETFOLD_SHARED)}, 5},
-                     {MILLION, FOR_MARKS, MILLION / 4, MILLION / 4, FOR_SETTINGS}, 0, 0, 0};
+                     {MILLION, FOR_MARKS, MILLION, MILLION, FOR_SETTINGS}, 0, 0, 0};
     replay_of(1, 0, 0, 0);
     all_flips(&k);
     /* Inside a command, and inside a record of it. */

@@ -31,6 +31,9 @@ const HEAD: usize = 128;
 /// No cause is longer.
 const MOST_CAUSE: usize = 1024;
 
+/// No log is longer, and so its bytes can be counted on.
+const MOST_CONSUMED: u64 = 1 << 60;
+
 /// No state file is longer.
 pub const MOST: usize = HEAD + Replay::BYTES + BACK + MOST_CAUSE + LENGTH;
 
@@ -225,6 +228,7 @@ impl Kept {
             None => taken == words,
         });
         counted
+            && bytes <= MOST_CONSUMED
             && bytes % RECORD == u64::from(unfinished)
             && session.stopped == refused.is_some()
             && self.cause.is_some() == refused.is_some()
@@ -384,6 +388,27 @@ mod tests {
             let longer = [&bytes[..], &[0]].concat();
             let due = bytes.len() as u64;
             assert_eq!(Kept::from_bytes(&longer), Err(Wrong::TooLong { due }));
+        }
+    }
+
+    /// Behind a refused word the state doesn't tell how many words came, but no log has so many.
+    #[test]
+    fn a_log_longer_than_any_is_refused() {
+        let mut kept = kept(Edition::First, 140);
+        kept.last = vec![0; BACK];
+        for (consumed, taken) in [
+            (5 << 40, true),
+            (MOST_CONSUMED + 4, false),
+            (u64::MAX, false),
+        ] {
+            let words = kept.digest.words();
+            kept.digest =
+                Digest::again(words, consumed, &kept.last).expect("enough of the last bytes");
+            assert_eq!(
+                Kept::from_bytes(&kept.to_bytes()).is_ok(),
+                taken,
+                "{consumed} bytes"
+            );
         }
     }
 
