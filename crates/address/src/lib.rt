@@ -96,6 +96,43 @@ pub fn linear_number(base: u32, pitch: u32, height: u32, size: u32, x: u32, y: u
     sized(base, pitch, height, size, false, x, y)
 }
 
+// The answers of the five tiled kinds. Each is a function of its own so that the compiler expands the offset in it: it doesn't
+// expand a call that it takes for a rare one, and behind the tests and the branch of `tiled_number` it takes each arm's for that.
+fn tiled_1(base: u32, pitch: u32, height: u32, x: u32, y: u32) -> u64
+    requires { ⌜ wellFormed base pitch 1 ≡ true ⌝ }
+    ensures { λ r. ⌜ toldNumber r ≡ translateOf (layoutOf base pitch height 1 true) x y ⌝ }
+{
+    sized(base, pitch, height, 1, true, x, y)
+}
+
+fn tiled_2(base: u32, pitch: u32, height: u32, x: u32, y: u32) -> u64
+    requires { ⌜ wellFormed base pitch 2 ≡ true ⌝ }
+    ensures { λ r. ⌜ toldNumber r ≡ translateOf (layoutOf base pitch height 2 true) x y ⌝ }
+{
+    sized(base, pitch, height, 2, true, x, y)
+}
+
+fn tiled_4(base: u32, pitch: u32, height: u32, x: u32, y: u32) -> u64
+    requires { ⌜ wellFormed base pitch 4 ≡ true ⌝ }
+    ensures { λ r. ⌜ toldNumber r ≡ translateOf (layoutOf base pitch height 4 true) x y ⌝ }
+{
+    sized(base, pitch, height, 4, true, x, y)
+}
+
+fn tiled_8(base: u32, pitch: u32, height: u32, x: u32, y: u32) -> u64
+    requires { ⌜ wellFormed base pitch 8 ≡ true ⌝ }
+    ensures { λ r. ⌜ toldNumber r ≡ translateOf (layoutOf base pitch height 8 true) x y ⌝ }
+{
+    sized(base, pitch, height, 8, true, x, y)
+}
+
+fn tiled_16(base: u32, pitch: u32, height: u32, x: u32, y: u32) -> u64
+    requires { ⌜ wellFormed base pitch 16 ≡ true ⌝ }
+    ensures { λ r. ⌜ toldNumber r ≡ translateOf (layoutOf base pitch height 16 true) x y ⌝ }
+{
+    sized(base, pitch, height, 16, true, x, y)
+}
+
 // The answer of a tiled layout, given by its numbers, with one branch on the size.
 pub fn tiled_number(base: u32, pitch: u32, height: u32, size: u32, x: u32, y: u32) -> u64
     ensures { λ r. ⌜ toldNumber r ≡ translateOf (layoutOf base pitch height size true) x y ⌝ }
@@ -104,11 +141,11 @@ pub fn tiled_number(base: u32, pitch: u32, height: u32, size: u32, x: u32, y: u3
         return MALFORMED;
     }
     match size {
-        1 => sized(base, pitch, height, 1, true, x, y),
-        2 => sized(base, pitch, height, 2, true, x, y),
-        4 => sized(base, pitch, height, 4, true, x, y),
-        8 => sized(base, pitch, height, 8, true, x, y),
-        16 => sized(base, pitch, height, 16, true, x, y),
+        1 => tiled_1(base, pitch, height, x, y),
+        2 => tiled_2(base, pitch, height, x, y),
+        4 => tiled_4(base, pitch, height, x, y),
+        8 => tiled_8(base, pitch, height, x, y),
+        16 => tiled_16(base, pitch, height, x, y),
         _ => MALFORMED,
     }
 }

@@ -1,5 +1,5 @@
 -- Reads and writes by the number of a translation: each return as a law. Assumes nothing.
-use mathlib.Core.Path.{_≡_, refl, sym, ap, _∙_, subst}
+use mathlib.Core.Path.{_≡_, sym, ap, _∙_, subst}
 use mathlib.Core.Bool.{Bool}
 use mathlib.Core.List.{List, [], _∷_}
 use Prim.Native.Nat.{ℕ, _+_, _-_, _%_, _^_, _<_, _≤_}
@@ -14,8 +14,8 @@ use Rattle.layout.specs.Sizes.{sizes}
 use Rattle.address.specs.Address.{layoutOf, translateOf, toldNumber, refusedAs}
 use Rattle.address.proofs.Answers.{told-address, told-refusal, sizeless}
 use borrow.Rule.Slice.PartMut.{mid-len}
-use Rattle.memory.specs.Answers.{filled, PutAsked}
-use Rattle.memory.specs.Elements.{readOf, writeOf, findOf, startOf, overwritten, memoryAfter, Wrote}
+use Rattle.memory.specs.Answers.{PutAsked}
+use Rattle.memory.specs.Elements.{readOf, findOf, startOf, overwritten, Wrote}
 use Rattle.memory.proofs.Places.{find-refused, find-started, found}
 use Rattle.memory.proofs.Calls.{read-refused, read-found, small-element, ends-inside}
 use Rattle.memory.proofs.Copies.{reading-of-one}

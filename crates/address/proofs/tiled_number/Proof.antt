@@ -24,33 +24,33 @@ returns c =
     let form-told = sym (at-formed .formed .ensures) ∙ not-true _ (c .if1 .taken) in
     told-refused 3 ∙ sym (malformed layout _ (formless _ _ _ form-told))
 
-sized-requires : tie.Need-sized-requires
+tiled-1-requires : tie.Need-tiled-1-requires
 unfolding isSize placeOf
-sized-requires c κs =
+tiled-1-requires c κs =
     let at-if1 = c .before in
     form-at _ _ 1 _ (sym (at-if1 .before .formed .ensures) ∙ not-false _ (at-if1 .if1 .left)) refl
 
-sized-requires-2 : tie.Need-sized-requires-2
+tiled-2-requires : tie.Need-tiled-2-requires
 unfolding isSize placeOf
-sized-requires-2 c κs =
+tiled-2-requires c κs =
     let at-if1 = c .before in
     form-at _ _ 1 _ (sym (at-if1 .before .formed .ensures) ∙ not-false _ (at-if1 .if1 .left)) refl
 
-sized-requires-3 : tie.Need-sized-requires-3
+tiled-4-requires : tie.Need-tiled-4-requires
 unfolding isSize placeOf
-sized-requires-3 c κs =
+tiled-4-requires c κs =
     let at-if1 = c .before in
     form-at _ _ 1 _ (sym (at-if1 .before .formed .ensures) ∙ not-false _ (at-if1 .if1 .left)) refl
 
-sized-requires-4 : tie.Need-sized-requires-4
+tiled-8-requires : tie.Need-tiled-8-requires
 unfolding isSize placeOf
-sized-requires-4 c κs =
+tiled-8-requires c κs =
     let at-if1 = c .before in
     form-at _ _ 1 _ (sym (at-if1 .before .formed .ensures) ∙ not-false _ (at-if1 .if1 .left)) refl
 
-sized-requires-5 : tie.Need-sized-requires-5
+tiled-16-requires : tie.Need-tiled-16-requires
 unfolding isSize placeOf
-sized-requires-5 c κs =
+tiled-16-requires c κs =
     let at-if1 = c .before in
     form-at _ _ 1 _ (sym (at-if1 .before .formed .ensures) ∙ not-false _ (at-if1 .if1 .left)) refl
 
@@ -58,7 +58,7 @@ returns-2 : tie.Need-returns-2
 returns-2 c =
     let at-match = c .before in
     let args = at-match .before .before .before .args in
-    c .sized .ensures
+    c .tiled-1 .ensures
     ∙ ap (λ (s : ℕ). translateOf (layoutOf (args .base) (args .pitch) (args .height) s true) (args .x) (args .y))
     (sym (at-match .match .keys1))
 
@@ -66,7 +66,7 @@ returns-3 : tie.Need-returns-3
 returns-3 c =
     let at-match = c .before in
     let args = at-match .before .before .before .args in
-    c .sized2 .ensures
+    c .tiled-2 .ensures
     ∙ ap (λ (s : ℕ). translateOf (layoutOf (args .base) (args .pitch) (args .height) s true) (args .x) (args .y))
     (sym (at-match .match .keys2))
 
@@ -74,7 +74,7 @@ returns-4 : tie.Need-returns-4
 returns-4 c =
     let at-match = c .before in
     let args = at-match .before .before .before .args in
-    c .sized3 .ensures
+    c .tiled-4 .ensures
     ∙ ap (λ (s : ℕ). translateOf (layoutOf (args .base) (args .pitch) (args .height) s true) (args .x) (args .y))
     (sym (at-match .match .keys3))
 
@@ -82,7 +82,7 @@ returns-5 : tie.Need-returns-5
 returns-5 c =
     let at-match = c .before in
     let args = at-match .before .before .before .args in
-    c .sized4 .ensures
+    c .tiled-8 .ensures
     ∙ ap (λ (s : ℕ). translateOf (layoutOf (args .base) (args .pitch) (args .height) s true) (args .x) (args .y))
     (sym (at-match .match .keys4))
 
@@ -90,7 +90,7 @@ returns-6 : tie.Need-returns-6
 returns-6 c =
     let at-match = c .before in
     let args = at-match .before .before .before .args in
-    c .sized5 .ensures
+    c .tiled-16 .ensures
     ∙ ap (λ (s : ℕ). translateOf (layoutOf (args .base) (args .pitch) (args .height) s true) (args .x) (args .y))
     (sym (at-match .match .keys5))
 
@@ -104,11 +104,11 @@ tiled-number-spec =
     (tie.spec
     formed-requires
     returns
-    sized-requires
-    sized-requires-2
-    sized-requires-3
-    sized-requires-4
-    sized-requires-5
+    tiled-1-requires
+    tiled-2-requires
+    tiled-4-requires
+    tiled-8-requires
+    tiled-16-requires
     returns-2
     returns-3
     returns-4

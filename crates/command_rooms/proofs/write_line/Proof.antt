@@ -1,10 +1,6 @@
 -- `command_rooms::write_line` meets its contract: by the tests of the line, or as the command is written. Assumes nothing.
-use mathlib.Core.Path.{sym, subst}
-use mathlib.Core.List.{List}
 use native.Mathlib.Omega.{arith}
 use borrow.Author.Needs.{needs}
-use Rattle.command.specs.declared.commands.Command.{Command}
-use Rattle.line_writer.specs.Tried.{Tried}
 use Rattle.command_rooms.proofs.Written.{by-line, by-command}
 use Rattle.command_rooms.proofs.write_line.Statement.{statement}
 use Rattle.command_rooms.proofs.write_line.Tie as tie
@@ -15,6 +11,7 @@ write-requires c κs = search needs
 same-length : tie.Need-same-length
 same-length c = search needs
 
+-- its words are written by the tests of the line
 returns : tie.Need-returns
 returns c =
     let at-if1 = c .before in
@@ -29,6 +26,7 @@ write-words-requires c κs = search needs
 same-length-2 : tie.Need-same-length-2
 same-length-2 c = search needs
 
+-- nothing was written: as the command is written, which finds its refusal
 returns-2 : tie.Need-returns-2
 returns-2 c =
     let at-write-words = c .before .before in

@@ -21,6 +21,7 @@ cast-result c =
     let layout = layoutOf (args .base) (args .pitch) (args .height) (args .size) (args .tiled) in
     record { fits = omega (arith, number-small layout (args .x) (args .y) _ (at-numbers .translate-numbers .ensures)) }
 
+-- the translation is refused
 returns : tie.Need-returns
 returns c = read-no _ _ _ _ _ _ _ _ (refused-number _ _ _ _ _ _ (c .before .translate-numbers .ensures) (c .if1 .taken)) refl
 
@@ -45,7 +46,8 @@ add-put c =
     let at-start = at-a .before .before in
     let at-if1 = at-start .before in
     let begins =
-    started _ _ _ _ _ _ (at-if1 .before .translate-numbers .ensures) (at-if1 .if1 .left) _ (at-start .start .ensures) ∙ ap toldPlace (at-a .a .given .1) in
+    started _ _ _ _ _ _ (at-if1 .before .translate-numbers .ensures) (at-if1 .if1 .left) _ (at-start .start .ensures) ∙
+    ap toldPlace (at-a .a .given .1) in
     record { fits = end-fits _ _ _ _ _ _ begins }
 
 sub-put : tie.Need-sub-put
@@ -60,7 +62,8 @@ part-put-end c =
     let at-start = at-a .before .before in
     let at-if1 = at-start .before in
     let begins =
-    started _ _ _ _ _ _ (at-if1 .before .translate-numbers .ensures) (at-if1 .if1 .left) _ (at-start .start .ensures) ∙ ap toldPlace (at-a .a .given .1) in
+    started _ _ _ _ _ _ (at-if1 .before .translate-numbers .ensures) (at-if1 .if1 .left) _ (at-start .start .ensures) ∙
+    ap toldPlace (at-a .a .given .1) in
     ends-inside _ _ _ _ _ _ begins
 
 put-requires : tie.Need-put-requires
@@ -69,25 +72,30 @@ put-requires c κs =
     let at-start = at-a .before .before in
     let at-if1 = at-start .before in
     let begins =
-    started _ _ _ _ _ _ (at-if1 .before .translate-numbers .ensures) (at-if1 .if1 .left) _ (at-start .start .ensures) ∙ ap toldPlace (at-a .a .given .1) in
+    started _ _ _ _ _ _ (at-if1 .before .translate-numbers .ensures) (at-if1 .if1 .left) _ (at-start .start .ensures) ∙
+    ap toldPlace (at-a .a .given .1) in
     put-asked _ _ _ _ _ _ begins
 
+-- memory isn't fit, or doesn't hold the element
 returns-2 : tie.Need-returns-2
 returns-2 c =
     let at-why = c .before .before in
     let at-start = at-why .before .before in
     let at-if1 = at-start .before in
     let begins =
-    started _ _ _ _ _ _ (at-if1 .before .translate-numbers .ensures) (at-if1 .if1 .left) _ (at-start .start .ensures) ∙ ap toldPlace (at-why .why .given .1) in
+    started _ _ _ _ _ _ (at-if1 .before .translate-numbers .ensures) (at-if1 .if1 .left) _ (at-start .start .ensures) ∙
+    ap toldPlace (at-why .why .given .1) in
     read-no _ _ _ _ _ _ _ _ begins (c .number .ensures)
 
+-- the element is read
 returns-3 : tie.Need-returns-3
 returns-3 c =
     let at-a = c .before .before .before in
     let at-start = at-a .before .before in
     let at-if1 = at-start .before in
     let begins =
-    started _ _ _ _ _ _ (at-if1 .before .translate-numbers .ensures) (at-if1 .if1 .left) _ (at-start .start .ensures) ∙ ap toldPlace (at-a .a .given .1) in
+    started _ _ _ _ _ _ (at-if1 .before .translate-numbers .ensures) (at-if1 .if1 .left) _ (at-start .start .ensures) ∙
+    ap toldPlace (at-a .a .given .1) in
     read-yes _ _ _ _ _ _ _ begins _ (c .put .ensures)
 
 pub read-sized-spec : {M : Type 1} → statement M

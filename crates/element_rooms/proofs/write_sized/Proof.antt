@@ -20,6 +20,7 @@ cast-result c =
     let layout = layoutOf (args .base) (args .pitch) (args .height) (args .size) (args .tiled) in
     record { fits = omega (arith, number-small layout (args .x) (args .y) _ (at-numbers .translate-numbers .ensures)) }
 
+-- the translation is refused
 returns : tie.Need-returns
 returns c = write-crosses _ refl (write-refused _ _ _ _ _ _ _ (refused-number _ _ _ _ _ _ (c .before .translate-numbers .ensures) (c .if1 .taken)))
 
@@ -41,13 +42,15 @@ enum-known-a c = search needs
 number-requires-2 : tie.Need-number-requires-2
 number-requires-2 c κs = search needs
 
+-- the data isn't the element's size
 returns-2 : tie.Need-returns-2
 returns-2 c =
     let at-a = c .before .before .before in
     let at-start = at-a .before .before in
     let at-if1 = at-start .before in
     let begins =
-    started _ _ _ _ _ _ (at-if1 .before .translate-numbers .ensures) (at-if1 .if1 .left) _ (at-start .start .ensures) ∙ ap toldPlace (at-a .a .given .1) in
+    started _ _ _ _ _ _ (at-if1 .before .translate-numbers .ensures) (at-if1 .if1 .left) _ (at-start .start .ensures) ∙
+    ap toldPlace (at-a .a .given .1) in
     write-crosses _ (c .number2 .ensures) (write-unfit _ _ _ _ _ _ _ begins (c .before .if2 .taken))
 
 add-store : tie.Need-add-store
@@ -56,7 +59,8 @@ add-store c =
     let at-start = at-a .before .before in
     let at-if1 = at-start .before in
     let begins =
-    started _ _ _ _ _ _ (at-if1 .before .translate-numbers .ensures) (at-if1 .if1 .left) _ (at-start .start .ensures) ∙ ap toldPlace (at-a .a .given .1) in
+    started _ _ _ _ _ _ (at-if1 .before .translate-numbers .ensures) (at-if1 .if1 .left) _ (at-start .start .ensures) ∙
+    ap toldPlace (at-a .a .given .1) in
     record { fits = end-fits _ _ _ _ _ _ begins }
 
 sub-store : tie.Need-sub-store
@@ -71,7 +75,8 @@ part-store-end c =
     let at-start = at-a .before .before in
     let at-if1 = at-start .before in
     let begins =
-    started _ _ _ _ _ _ (at-if1 .before .translate-numbers .ensures) (at-if1 .if1 .left) _ (at-start .start .ensures) ∙ ap toldPlace (at-a .a .given .1) in
+    started _ _ _ _ _ _ (at-if1 .before .translate-numbers .ensures) (at-if1 .if1 .left) _ (at-start .start .ensures) ∙
+    ap toldPlace (at-a .a .given .1) in
     ends-inside _ _ _ _ _ _ begins
 
 store-requires : tie.Need-store-requires
@@ -80,29 +85,34 @@ store-requires c κs =
     let at-start = at-a .before .before in
     let at-if1 = at-start .before in
     let begins =
-    started _ _ _ _ _ _ (at-if1 .before .translate-numbers .ensures) (at-if1 .if1 .left) _ (at-start .start .ensures) ∙ ap toldPlace (at-a .a .given .1) in
+    started _ _ _ _ _ _ (at-if1 .before .translate-numbers .ensures) (at-if1 .if1 .left) _ (at-start .start .ensures) ∙
+    ap toldPlace (at-a .a .given .1) in
     let args = at-if1 .before .before .before .before .args in
     store-asked _ _ _ _ (args .memory .now) _ begins (args .given .now) (c .before .if2 .left)
 
+-- memory isn't fit, or doesn't hold the element
 returns-3 : tie.Need-returns-3
 returns-3 c =
     let at-why = c .before .before in
     let at-start = at-why .before .before in
     let at-if1 = at-start .before in
     let begins =
-    started _ _ _ _ _ _ (at-if1 .before .translate-numbers .ensures) (at-if1 .if1 .left) _ (at-start .start .ensures) ∙ ap toldPlace (at-why .why .given .1) in
+    started _ _ _ _ _ _ (at-if1 .before .translate-numbers .ensures) (at-if1 .if1 .left) _ (at-start .start .ensures) ∙
+    ap toldPlace (at-why .why .given .1) in
     write-crosses _ (c .number .ensures) (write-refused _ _ _ _ _ _ _ begins)
 
 same-length : tie.Need-same-length
 same-length c = search needs
 
+-- the element is stored
 returns-4 : tie.Need-returns-4
 returns-4 c =
     let at-a = c .before .before .before .before .before .before in
     let at-start = at-a .before .before in
     let at-if1 = at-start .before in
     let begins =
-    started _ _ _ _ _ _ (at-if1 .before .translate-numbers .ensures) (at-if1 .if1 .left) _ (at-start .start .ensures) ∙ ap toldPlace (at-a .a .given .1) in
+    started _ _ _ _ _ _ (at-if1 .before .translate-numbers .ensures) (at-if1 .if1 .left) _ (at-start .start .ensures) ∙
+    ap toldPlace (at-a .a .given .1) in
     write-crosses _ refl (write-done _ _ _ _ _ _ _ begins _ (c .before .before .before .before .if2 .left) (c .before .before .store .ensures))
 
 pub write-sized-spec : {M : Type 1} → statement M

@@ -1,6 +1,5 @@
 -- `line_writer::write` meets its contract: each arm by the command of its line. Assumes nothing.
 use mathlib.Core.Path.{_∙_}
-use mathlib.Core.List.{[], _∷_}
 use borrow.Author.Needs.{needs}
 use Rattle.command.specs.Commands.{storedLine, lineOf, fieldsOf, wordsOf, commandOf}
 use Rattle.command.specs.declared.commands.Stored.the-variants.{Instructions, Floats, Integers, Booleans}
@@ -78,7 +77,8 @@ returns c =
     let at-place = c .before .before in
     let at-fits = at-place .before .before in
     let at-match = at-fits .before in
-    at-line _ _ _ _ _ _ _ _ _ _ (at-match .match .keys1) (at-match .before .before .pre .1) (λ w. at-place .place .ensures _ (at-fits .domain .ensures) (headed _ w))
+    at-line _ _ _ _ _ _ _ _ _ _ (at-match .match .keys1) (at-match .before .before .pre .1)
+    (λ w. at-place .place .ensures _ (at-fits .domain .ensures) (headed _ w))
 
 same-length-2 : tie.Need-same-length-2
 same-length-2 c = search needs
@@ -89,7 +89,8 @@ returns-2 c =
     let at-place = c .before .before in
     let at-fits = at-place .before .before in
     let at-match = at-fits .before in
-    at-line _ _ _ _ _ _ _ _ _ _ (at-match .match .keys2) (at-match .before .before .pre .1) (λ w. at-place .place2 .ensures _ (at-fits .window .ensures ∙ store-decided _ _ Instructions) (headed _ w))
+    at-line _ _ _ _ _ _ _ _ _ _ (at-match .match .keys2) (at-match .before .before .pre .1)
+    (λ w. at-place .place2 .ensures _ (at-fits .window .ensures ∙ store-decided _ _ Instructions) (headed _ w))
 
 same-length-3 : tie.Need-same-length-3
 same-length-3 c = search needs
@@ -100,7 +101,8 @@ returns-3 c =
     let at-place = c .before .before in
     let at-fits = at-place .before .before in
     let at-match = at-fits .before in
-    at-line _ _ _ _ _ _ _ _ _ _ (at-match .match .keys3) (at-match .before .before .pre .1) (λ w. at-place .place3 .ensures _ (at-fits .input .ensures) (headed _ w))
+    at-line _ _ _ _ _ _ _ _ _ _ (at-match .match .keys3) (at-match .before .before .pre .1)
+    (λ w. at-place .place3 .ensures _ (at-fits .input .ensures) (headed _ w))
 
 same-length-4 : tie.Need-same-length-4
 same-length-4 c = search needs
@@ -111,7 +113,8 @@ returns-4 c =
     let at-place = c .before .before in
     let at-fits = at-place .before .before in
     let at-match = at-fits .before in
-    at-line _ _ _ _ _ _ _ _ _ _ (at-match .match .keys4) (at-match .before .before .pre .1) (λ w. at-place .place4 .ensures _ (at-fits .output .ensures) (headed _ w))
+    at-line _ _ _ _ _ _ _ _ _ _ (at-match .match .keys4) (at-match .before .before .pre .1)
+    (λ w. at-place .place4 .ensures _ (at-fits .output .ensures) (headed _ w))
 
 same-length-5 : tie.Need-same-length-5
 same-length-5 c = search needs
@@ -122,7 +125,8 @@ returns-5 c =
     let at-place = c .before .before in
     let at-fits = at-place .before .before in
     let at-match = at-fits .before in
-    at-line _ _ _ _ _ _ _ _ _ _ (at-match .match .keys5) (at-match .before .before .pre .1) (λ w. at-place .place5 .ensures _ (at-fits .window2 .ensures) (headed _ w))
+    at-line _ _ _ _ _ _ _ _ _ _ (at-match .match .keys5) (at-match .before .before .pre .1)
+    (λ w. at-place .place5 .ensures _ (at-fits .window2 .ensures) (headed _ w))
 
 same-length-6 : tie.Need-same-length-6
 same-length-6 c = search needs
@@ -133,7 +137,8 @@ returns-6 c =
     let at-place = c .before .before in
     let at-fits = at-place .before .before in
     let at-match = at-fits .before in
-    at-line _ _ _ _ _ _ _ _ _ _ (at-match .match .keys6) (at-match .before .before .pre .1) (λ w. at-place .place6 .ensures _ (at-fits .window3 .ensures ∙ store-decided _ _ Floats) (headed _ w))
+    at-line _ _ _ _ _ _ _ _ _ _ (at-match .match .keys6) (at-match .before .before .pre .1)
+    (λ w. at-place .place6 .ensures _ (at-fits .window3 .ensures ∙ store-decided _ _ Floats) (headed _ w))
 
 same-length-7 : tie.Need-same-length-7
 same-length-7 c = search needs
@@ -144,7 +149,8 @@ returns-7 c =
     let at-place = c .before .before in
     let at-fits = at-place .before .before in
     let at-match = at-fits .before in
-    at-line _ _ _ _ _ _ _ _ _ _ (at-match .match .keys7) (at-match .before .before .pre .1) (λ w. at-place .place7 .ensures _ (at-fits .window4 .ensures ∙ store-decided _ _ Integers) (headed _ w))
+    at-line _ _ _ _ _ _ _ _ _ _ (at-match .match .keys7) (at-match .before .before .pre .1)
+    (λ w. at-place .place7 .ensures _ (at-fits .window4 .ensures ∙ store-decided _ _ Integers) (headed _ w))
 
 same-length-8 : tie.Need-same-length-8
 same-length-8 c = search needs
@@ -155,7 +161,8 @@ returns-8 c =
     let at-place = c .before .before in
     let at-fits = at-place .before .before in
     let at-match = at-fits .before in
-    at-line _ _ _ _ _ _ _ _ _ _ (at-match .match .keys8) (at-match .before .before .pre .1) (λ w. at-place .place8 .ensures _ (at-fits .window5 .ensures ∙ store-decided _ _ Booleans) (headed _ w))
+    at-line _ _ _ _ _ _ _ _ _ _ (at-match .match .keys8) (at-match .before .before .pre .1)
+    (λ w. at-place .place8 .ensures _ (at-fits .window5 .ensures ∙ store-decided _ _ Booleans) (headed _ w))
 
 same-length-9 : tie.Need-same-length-9
 same-length-9 c = search needs
@@ -165,7 +172,8 @@ unfolding commandOf wordsOf fieldsOf lineOf
 returns-9 c =
     let at-place = c .before .before in
     let at-match = at-place .before .before in
-    at-line _ _ _ _ _ _ _ _ _ _ (at-match .match .keys9) (at-match .before .before .pre .1) (λ w. at-place .place9 .ensures _ (mask-decided _) (headed _ w))
+    at-line _ _ _ _ _ _ _ _ _ _ (at-match .match .keys9) (at-match .before .before .pre .1)
+    (λ w. at-place .place9 .ensures _ (mask-decided _) (headed _ w))
 
 same-length-10 : tie.Need-same-length-10
 same-length-10 c = search needs
@@ -175,7 +183,8 @@ unfolding commandOf wordsOf fieldsOf lineOf
 returns-10 c =
     let at-place = c .before .before in
     let at-match = at-place .before .before in
-    at-line _ _ _ _ _ _ _ _ _ _ (at-match .match .keys10) (at-match .before .before .pre .1) (λ w. at-place .place10 .ensures _ (conditional-mask-decided _) (headed _ w))
+    at-line _ _ _ _ _ _ _ _ _ _ (at-match .match .keys10) (at-match .before .before .pre .1)
+    (λ w. at-place .place10 .ensures _ (conditional-mask-decided _) (headed _ w))
 
 same-length-11 : tie.Need-same-length-11
 same-length-11 c = search needs
@@ -185,7 +194,8 @@ unfolding commandOf wordsOf fieldsOf lineOf
 returns-11 c =
     let at-place = c .before .before in
     let at-match = at-place .before .before in
-    at-line _ _ _ _ _ _ _ _ _ _ (at-match .match .keys11) (at-match .before .before .pre .1) (λ w. at-place .place11 .ensures _ (test-decided _) (headed _ w))
+    at-line _ _ _ _ _ _ _ _ _ _ (at-match .match .keys11) (at-match .before .before .pre .1)
+    (λ w. at-place .place11 .ensures _ (test-decided _) (headed _ w))
 
 same-length-12 : tie.Need-same-length-12
 same-length-12 c = search needs
