@@ -2,7 +2,8 @@
  * damaged state, it is fed on, in arrays of which each ends where a page begins that nobody may touch: a call that reads or writes past
  * one ends this program. A flip in a number that counts or says where something stands is fed a million words, one in the settings
  * 20,000, one in a replay's marks, which are 51,200 bits, 500, and one in a group's cells 100,000 steps. What the calls leave must be
- * taken again. Prints a line a kind with what was refused and what was taken; ends with 1 where a check is wrong. */
+ * taken again. With an argument, any, each is fed a million, which takes some minutes. Prints a line a kind with what was refused and what
+ * was taken; ends with 1 where a check is wrong. */
 #define _DEFAULT_SOURCE
 #include <egretfold.h>
 
@@ -15,6 +16,14 @@
 enum { MILLION = 1000000, FOR_SETTINGS = 20000, FOR_MARKS = 500, STEPS = 100000, RECORD = 5 };
 
 static unsigned wrong;
+
+/* How much a damaged state is fed: as much as is said for its place, or a million whatever its place. */
+static bool at_length;
+
+static size_t amount(size_t for_its_place)
+{
+    return at_length ? MILLION : for_its_place;
+}
 
 static void demand(bool holds, const char *what, size_t bit)
 {
@@ -265,7 +274,7 @@ static void session_of(uint32_t edition, size_t words)
 static void sessions(void)
 {
     struct kind k = {"sessions", check_session, feed_session, {{PART(own, EGRETFOLD_OWN), PART(tallies, EGRETFOLD_TALLIES),
-                     PART(shared, EGRETFOLD_SHARED)}, 3}, {MILLION, MILLION, FOR_SETTINGS}, 0, 0, 0};
+                     PART(shared, EGRETFOLD_SHARED)}, 3}, {MILLION, MILLION, amount(FOR_SETTINGS)}, 0, 0, 0};
     const size_t words[] = {0, SETTINGS, INSIDE_OUTPUT, INSIDE_INPUT, INSIDE_DOMAIN, INSIDE_START};
     for (uint32_t i = 0; i < 6; i++) {
         session_of(1 + i % 2, words[i]);
@@ -355,7 +364,7 @@ static void pairs(void)
 {
     struct kind k = {"pairs", check_pair, feed_pair, {{PART(own, EGRETFOLD_OWN), PART(tallies, EGRETFOLD_TALLIES),
                      PART(own1, EGRETFOLD_OWN), PART(tallies1, EGRETFOLD_TALLIES), PART(shared, EGRETFOLD_SHARED)}, 5},
-                     {MILLION, MILLION, MILLION, MILLION, FOR_SETTINGS}, 0, 0, 0};
+                     {MILLION, MILLION, MILLION, MILLION, amount(FOR_SETTINGS)}, 0, 0, 0};
     pair_of(1, 0);
     all_flips(&k);
     /* Inside an output of party 1; and one stopped, which sent what is party 0's. */
@@ -433,7 +442,7 @@ static void replays(void)
 {
     struct kind k = {"replays", check_replay, feed_replay, {{PART(log_cells, EGRETFOLD_LOG), PART(marks, EGRETFOLD_MARKS),
                      PART(own, EGRETFOLD_OWN), PART(tallies, EGRETFOLD_TALLIES), PART(shared, EGRETFOLD_SHARED)}, 5},
-                     {MILLION, FOR_MARKS, MILLION, MILLION, FOR_SETTINGS}, 0, 0, 0};
+                     {MILLION, amount(FOR_MARKS), MILLION, MILLION, amount(FOR_SETTINGS)}, 0, 0, 0};
     replay_of(1, 0, 0, 0);
     all_flips(&k);
     /* Inside a command, and inside a record of it. */
@@ -522,7 +531,7 @@ static void feed_group(size_t steps)
 
 static void groups(void)
 {
-    struct kind k = {"groups", check_group, feed_group, {{PART(cells, EGRETFOLD_CELLS)}, 1}, {STEPS}, 0, 0, 0};
+    struct kind k = {"groups", check_group, feed_group, {{PART(cells, EGRETFOLD_CELLS)}, 1}, {amount(STEPS)}, 0, 0, 0};
     const uint32_t sizes[] = {1, 8, 31, 32};
     for (uint32_t i = 0; i < 8; i++) {
         demand(egretfold_group_begin(sizes[i % 4], i / 4, cells) == 0, "a group begins", i);
@@ -535,8 +544,10 @@ static void groups(void)
     tell(&k);
 }
 
-int main(void)
+int main(int count, char **arguments)
 {
+    (void)arguments;
+    at_length = count > 1;
     make_streams();
     make_rooms();
     make_mixed();
