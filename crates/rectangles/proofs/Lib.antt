@@ -1,5 +1,6 @@
 pub mod Blocks
 pub mod Inside
+pub mod Lines
 pub mod Moves
 pub mod Pictures
 pub mod Plans

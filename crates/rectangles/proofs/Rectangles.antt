@@ -55,7 +55,7 @@ module _ (out : Bool) (l : Layout) (x y w h first source target : ℕ) (lent : R
   pub size-of : isSize (l .size) ≡ true
   size-of = form-size (l .base .0) (l .pitch) (l .size) (lent .accepted .form)
 
-  bounds-of : (stepOf l ≤ 4096) × (l .height ≤ 4096)
+  pub bounds-of : (stepOf l ≤ 4096) × (l .height ≤ 4096)
   bounds-of =
       let b = rule-bounds (l .base .0) (l .tiled) (l .size) (stepOf l) (l .height) (lent .accepted .window) in
       (b .step-most, b .height-most)
@@ -123,7 +123,7 @@ module _ (out : Bool) (l : Layout) (x y w h first source target step : ℕ) (len
         let up : j + 1 ≤ h = omega (arith, hj) in
         omega (arith, lent .room, add-mul j 1 (w * s), mul-le-mul-right (w * s) up)
 
-  room-most : roomOf out source target ≤ 2 ^ 32
+  pub room-most : roomOf out source target ≤ 2 ^ 32
   room-most =
       let a : w ≤ 4096 = omega (arith, columns-most out l x y w h first source target lent) in
       let b : h ≤ 4096 = omega (arith, lent .rows, bounds .1) in
@@ -142,34 +142,46 @@ module _ (out : Bool) (l : Layout) (x y w h first source target step : ℕ) (len
         (ap (λ (q : ℕ). 8 * q) en ∙ sym (mul-assoc 8 (blockWidth s) s) ∙ ap (λ (q : ℕ). q * s) (mul-comm 8 (blockWidth s) ∙ sym (z .wide)) ∙ mul-comm (widthOf s) s) ∙
         sym (div-div-eq-div-mul (step * s) s (widthOf s))
 
+    runs-asked :
+        (j : ℕ) (hj : j < h) →
+        RunsAsked out (l .tiled) s (step * s) (l .base .0 - first) x (y + j) (p .lead + p .inner + p .tail)
+        (0 + j * ((p .lead + p .inner + p .tail) * s)) source target
+    runs-asked j hj =
+        record {
+          size = size;
+          most = size-most s size;
+          whole = ap (λ (q : ℕ). q * s) (mul-div-cancel step (z .pos));
+          step = omega (arith, same-step, bounds .0);
+          columns = omega (arith, same-step, plan .all, lent .columns, step-is);
+          row = omega (arith, below j hj, bounds .1);
+          memory-most = lent .high;
+          room-most = room-most;
+          some = λ c hc.
+              subst (λ (e : ℕ). 0 < runNumber (l .tiled) s e c) (sym same-step) (some-run j hj c (omega (arith, hc, same-step)));
+          follow = λ c k hc hk.
+              subst (λ (e : ℕ). offsetOf (l .tiled) s e (c + k) (y + j) ≡ offsetOf (l .tiled) s e c (y + j) + k * s) (sym same-step)
+              (follow-run j hj c k (omega (arith, hc, same-step))
+              (subst (λ (e : ℕ). k < runNumber (l .tiled) s e c) same-step hk));
+          places = λ i hi.
+              subst (λ (e : ℕ). elementPlace (l .tiled) s e (l .base .0 - first) (y + j) (x + i) + s ≤ memoryOf out source target) (sym same-step)
+              (place-in j hj i (omega (arith, hi, plan .all)));
+          line-fits =
+              subst (λ (q : ℕ). 0 + j * (q * s) + q * s ≤ roomOf out source target) (sym (plan .all)) (line-in j hj);
+        }
+
     pub rect-asked :
-        RectAsked out (l .tiled) s n (step * s) (step * s / (8 * n)) (l .base .0 - first) x y (p .lead) (p .first) (p .count) (p .inner) (p .tail) h source target
-    rect-asked =
+        l .tiled ≡ true →
+        RectAsked out s n (step * s) (step * s / (8 * n)) (l .base .0 - first) x y (p .lead) (p .first) (p .count) (p .inner) (p .tail) h source target
+    rect-asked tiled =
         record {
           row = λ j hj.
               record {
                 runs =
-                    record {
-                      size = size;
-                      most = size-most s size;
-                      whole = ap (λ (q : ℕ). q * s) (mul-div-cancel step (z .pos));
-                      step = omega (arith, same-step, bounds .0);
-                      columns = omega (arith, same-step, plan .all, lent .columns, step-is);
-                      row = omega (arith, below j hj, bounds .1);
-                      memory-most = lent .high;
-                      room-most = room-most;
-                      some = λ c hc.
-                          subst (λ (e : ℕ). 0 < runNumber (l .tiled) s e c) (sym same-step) (some-run j hj c (omega (arith, hc, same-step)));
-                      follow = λ c k hc hk.
-                          subst (λ (e : ℕ). offsetOf (l .tiled) s e (c + k) (y + j) ≡ offsetOf (l .tiled) s e c (y + j) + k * s) (sym same-step)
-                          (follow-run j hj c k (omega (arith, hc, same-step))
-                          (subst (λ (e : ℕ). k < runNumber (l .tiled) s e c) same-step hk));
-                      places = λ i hi.
-                          subst (λ (e : ℕ). elementPlace (l .tiled) s e (l .base .0 - first) (y + j) (x + i) + s ≤ memoryOf out source target) (sym same-step)
-                          (place-in j hj i (omega (arith, hi, plan .all)));
-                      line-fits =
-                          subst (λ (q : ℕ). 0 + j * (q * s) + q * s ≤ roomOf out source target) (sym (plan .all)) (line-in j hj);
-                    };
+                    subst
+                    (λ (t : Bool).
+                    RunsAsked out t s (step * s) (l .base .0 - first) x (y + j) (p .lead + p .inner + p .tail)
+                    (0 + j * ((p .lead + p .inner + p .tail) * s)) source target)
+                    tiled (runs-asked j hj);
                 bytes = en;
                 few = block-few .1;
                 some = z .some;
@@ -201,8 +213,11 @@ module _ (out : Bool) (l : Layout) (x y w h first source target step : ℕ) (len
             let b = Rattle.address.proofs.Inverse.room l (lent .accepted) in omega (arith, b)
 
     pub rect-told :
-        (src m m' : List ℕ) →
-        m' ≡ moved (rectMoves out (elementPlace (l .tiled) s (step * s / s) (l .base .0 - first)) s x (p .lead + p .inner + p .tail) 0 y h) src m →
+        (src m m' : List ℕ) → l .tiled ≡ true →
+        m' ≡ moved (rectMoves out (elementPlace true s (step * s / s) (l .base .0 - first)) s x (p .lead + p .inner + p .tail) 0 y h) src m →
         m' ≡ moved (rectMoves out (elementPlace (l .tiled) s (stepOf l) (l .base .0 - first)) s x w 0 y h) src m
-    rect-told src m m' e =
-        e ∙ ap₂ (λ (a b : ℕ). moved (rectMoves out (elementPlace (l .tiled) s a (l .base .0 - first)) s x b 0 y h) src m) same-step (plan .all)
+    rect-told src m m' tiled e =
+        e ∙
+        ap (λ (t : Bool). moved (rectMoves out (elementPlace t s (step * s / s) (l .base .0 - first)) s x (p .lead + p .inner + p .tail) 0 y h) src m)
+        (sym tiled) ∙
+        ap₂ (λ (a b : ℕ). moved (rectMoves out (elementPlace (l .tiled) s a (l .base .0 - first)) s x b 0 y h) src m) same-step (plan .all)

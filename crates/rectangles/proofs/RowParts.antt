@@ -48,8 +48,26 @@ part-of-row out tiled s stride at x y count line source target asked a b x' line
       line-fits = omega (arith, asked .line-fits, el, add-mul a b s, mul-le-mul-right s h);
     })
 
+-- the last elements of a row, after `before` of them
+module _ (out : Bool) (s stride at x y before count line source target : ℕ)
+    (asked : RunsAsked out true s stride at x y (before + count) line source target) where
+  pub rest-fits : (before * s ≤ 65536) × (line + before * s ≤ 2 ^ 32) × (x + before ≤ 4096)
+  rest-fits =
+      let h : before ≤ before + count = omega arith in
+      let few : before ≤ 4096 = omega (arith, asked .columns, asked .step) in
+      let z : before * s ≤ 4096 * 16 = mul-le-mul few (asked .most) in (
+        omega (arith, z),
+        omega (arith, mul-le-mul-right s h, asked .line-fits, asked .room-most),
+        omega (arith, asked .columns, asked .step),
+      )
+
+  pub rest-asked : RunsAsked out true s stride at (x + before) y count (line + before * s) source target
+  rest-asked =
+      part-of-row out true s stride at x y (before + count) line source target asked before count (x + before) (line + before * s) target
+      (omega arith) refl refl refl
+
 module _ (out : Bool) (s n stride columns at x y lead first count inner tail line source target : ℕ)
-    (asked : RowAsked out true s n stride columns at x y lead first count inner tail line source target) where
+    (asked : RowAsked out s n stride columns at x y lead first count inner tail line source target) where
   abbrev e : ℕ
   e = stride / s
 
@@ -93,26 +111,16 @@ module _ (out : Bool) (s n stride columns at x y lead first count inner tail lin
       let z : lead * s ≤ 4096 * 16 = mul-le-mul few (asked .runs .most) in
       (omega (arith, z), omega (arith, mul-le-mul-right s h, asked .runs .line-fits, asked .runs .room-most))
 
-  pub last-fit : ((lead + inner) * s ≤ 65536) × (line + (lead + inner) * s ≤ 2 ^ 32) × (lead + inner ≤ 4096) × (x + (lead + inner) ≤ 4096)
-  last-fit =
-      let h : lead + inner ≤ lead + inner + tail = omega arith in
-      let few : lead + inner ≤ 4096 = omega (arith, wide) in
-      let z : (lead + inner) * s ≤ 4096 * 16 = mul-le-mul few (asked .runs .most) in (
-        omega (arith, z),
-        omega (arith, mul-le-mul-right s h, asked .runs .line-fits, asked .runs .room-most),
-        omega (arith, wide),
-        omega (arith, asked .runs .columns, asked .runs .step),
-      )
+  pub before-fit : lead + inner ≤ 4096
+  before-fit = omega (arith, wide)
 
   pub lead-asked : RunsAsked out true s stride at x y lead line source target
   lead-asked =
       part-of-row out true s stride at x y (lead + inner + tail) line source target (asked .runs) 0 lead x line target (omega arith) (omega arith)
       (omega arith) refl
 
-  pub tail-asked : (target' : ℕ) → target' ≡ target → RunsAsked out true s stride at (x + (lead + inner)) y tail (line + (lead + inner) * s) source target'
-  tail-asked target' et =
-      part-of-row out true s stride at x y (lead + inner + tail) line source target (asked .runs) (lead + inner) tail (x + (lead + inner))
-      (line + (lead + inner) * s) target' (omega arith) refl refl et
+  pub tail-asked : (target' : ℕ) → target' ≡ target → RunsAsked out true s stride at x y (lead + inner + tail) line source target'
+  tail-asked target' et = subst (RunsAsked out true s stride at x y (lead + inner + tail) line source) (sym et) (asked .runs)
 
   same-start : rowStart at columns n y ≡ rowStart at (e / widthOf s) (p * s) y
   same-start = ap₂ (λ (a b : ℕ). rowStart at a b y) (asked .columns-are) (asked .bytes)
@@ -173,7 +181,7 @@ module _ (out : Bool) (s n stride columns at x y lead first count inner tail lin
 -- the tiles' blocks are the inner elements
 inner-part :
     (out : Bool) (s n stride columns at x y lead first count inner tail line : ℕ) (source m : List ℕ)
-    (asked : RowAsked out true s n stride columns at x y lead first count inner tail line (length source) (length m)) →
+    (asked : RowAsked out s n stride columns at x y lead first count inner tail line (length source) (length m)) →
     moved (rowMoves out (blockPlace (rowStart at columns n y) (y * n / 32)) n (8 * first) (line + lead * s) (8 * count)) source m ≡
     moved (rowMoves out (elementPlace true s (stride / s) at y) s (x + lead) (line + lead * s) inner) source m
 inner-part out s n stride columns at x y lead first zero inner tail line source m asked =
@@ -194,7 +202,7 @@ inner-part out s n stride columns at x y lead first (suc count) inner tail line 
 
 pub three-parts :
     (out : Bool) (s n stride columns at x y lead first count inner tail line : ℕ) (source m m1 m2 m3 : List ℕ)
-    (asked : RowAsked out true s n stride columns at x y lead first count inner tail line (length source) (length m)) →
+    (asked : RowAsked out s n stride columns at x y lead first count inner tail line (length source) (length m)) →
     length m1 ≡ length m → m1 ≡ moved (rowMoves out (elementPlace true s (stride / s) at y) s x line lead) source m →
     m2 ≡ moved (rowMoves out (blockPlace (rowStart at columns n y) (y * n / 32)) n (8 * first) (line + lead * s) (8 * count)) source m1 →
     m3 ≡ moved (rowMoves out (elementPlace true s (stride / s) at y) s (x + (lead + inner)) (line + (lead + inner) * s) tail) source m2 →
@@ -204,7 +212,7 @@ three-parts out s n stride columns at x y lead first count inner tail line sourc
     ap (λ (q : List ℕ). moved (rowMoves out P s (x + (lead + inner)) (line + (lead + inner) * s) tail) source q)
     (e2 ∙
     inner-part out s n stride columns at x y lead first count inner tail line source m1
-    (subst (RowAsked out true s n stride columns at x y lead first count inner tail line (length source)) (sym long) asked) ∙
+    (subst (RowAsked out s n stride columns at x y lead first count inner tail line (length source)) (sym long) asked) ∙
     ap (λ (q : List ℕ). moved (rowMoves out P s (x + lead) (line + lead * s) inner) source q) e1 ∙
     sym (row-add out P s source x line lead inner (x + lead) (line + lead * s) m refl refl)) ∙
     sym (row-add out P s source x line (lead + inner) tail (x + (lead + inner)) (line + (lead + inner) * s) m refl refl)
@@ -265,38 +273,23 @@ module _ (out : Bool) (place : ℕ → ℕ → ℕ) (s x w y rows : ℕ) (source
       g .so-far ∙ ap (λ (q : ℕ). moved (rectMoves out place s x w 0 y q) source m₀) {x = j} {y = rows} (omega (arith, g .up, h))
 
 pub row-asked :
-    (out tiled : Bool) (s n stride columns at x y lead first count inner tail rows source target : ℕ) →
-    RectAsked out tiled s n stride columns at x y lead first count inner tail rows source target →
+    (out : Bool) (s n stride columns at x y lead first count inner tail rows source target : ℕ) →
+    RectAsked out s n stride columns at x y lead first count inner tail rows source target →
     (j line target' : ℕ) → j < rows → line ≡ 0 + j * ((lead + inner + tail) * s) → target' ≡ target →
-    RowAsked out tiled s n stride columns at x (y + j) lead first count inner tail line source target'
-row-asked out tiled s n stride columns at x y lead first count inner tail rows source target asked j line target' h el et =
-    subst₂ (λ (a b : ℕ). RowAsked out tiled s n stride columns at x (y + j) lead first count inner tail a source b) (sym el) (sym et) (asked .row j h)
+    RowAsked out s n stride columns at x (y + j) lead first count inner tail line source target'
+row-asked out s n stride columns at x y lead first count inner tail rows source target asked j line target' h el et =
+    subst₂ (λ (a b : ℕ). RowAsked out s n stride columns at x (y + j) lead first count inner tail a source b) (sym el) (sym et) (asked .row j h)
 
 pub rect-bytes :
-    (out tiled : Bool) (s n stride columns at x y lead first count inner tail rows source target : ℕ) →
-    RectAsked out tiled s n stride columns at x y lead first count inner tail rows source target →
+    (out : Bool) (s n stride columns at x y lead first count inner tail rows source target : ℕ) →
+    RectAsked out s n stride columns at x y lead first count inner tail rows source target →
     (lead + inner + tail) * s ≤ 65536
-rect-bytes out tiled s n stride columns at x y lead first count inner tail rows source target asked =
+rect-bytes out s n stride columns at x y lead first count inner tail rows source target asked =
     let z : (lead + inner + tail) * s ≤ 4096 * 16 = mul-le-mul (asked .width-most) (asked .size-most) in omega (arith, z)
 
--- a row whose kind is known
-pub of-kind :
-    (out tiled kind : Bool) (s n stride columns at x y lead first count inner tail line source target : ℕ) →
-    RowAsked out tiled s n stride columns at x y lead first count inner tail line source target → tiled ≡ kind →
-    RowAsked out kind s n stride columns at x y lead first count inner tail line source target
-of-kind out tiled kind s n stride columns at x y lead first count inner tail line source target asked e =
-    subst (λ (t : Bool). RowAsked out t s n stride columns at x y lead first count inner tail line source target) e asked
-
-pub told-kind :
-    (out tiled kind : Bool) (s e at y x line w : ℕ) (source m m' : List ℕ) → tiled ≡ kind →
-    m' ≡ moved (rowMoves out (elementPlace kind s e at y) s x line w) source m →
-    m' ≡ moved (rowMoves out (elementPlace tiled s e at y) s x line w) source m
-told-kind out tiled kind s e at y x line w source m m' same told =
-    told ∙ ap (λ (t : Bool). moved (rowMoves out (elementPlace t s e at y) s x line w) source m) (sym same)
-
 pub line-in :
-    (out tiled : Bool) (s n stride columns at x y lead first count inner tail rows source target : ℕ) →
-    RectAsked out tiled s n stride columns at x y lead first count inner tail rows source target →
+    (out : Bool) (s n stride columns at x y lead first count inner tail rows source target : ℕ) →
+    RectAsked out s n stride columns at x y lead first count inner tail rows source target →
     (j line : ℕ) → j < rows → line ≡ 0 + j * ((lead + inner + tail) * s) → line + (lead + inner + tail) * s ≤ 2 ^ 32
-line-in out tiled s n stride columns at x y lead first count inner tail rows source target asked j line h el =
+line-in out s n stride columns at x y lead first count inner tail rows source target asked j line h el =
     let r = asked .row j h .runs in omega (arith, r .line-fits, r .room-most, el)

@@ -17,7 +17,7 @@ use Rattle.address.specs.Run.{runNumber}
 use Rattle.memory.specs.Elements.{overwritten}
 use Rattle.memory.proofs.Overwritten.{length-overwritten}
 use Rattle.rectangles.specs.Moves.{Move, partOf, moved, turned, memoryOf, roomOf, along, rowMove, rowMoves, PartAsked, StretchAsked, RunsAsked, elementPlace}
-use Rattle.rectangles.proofs.Moves.{part-length, moved-one}
+use Rattle.rectangles.proofs.Moves.{part-length, length-one, turned-fits}
 use Rattle.rectangles.proofs.RowMoves.{row-add, RowGoing, row-start, row-next}
 
 -- two parts side by side are one
@@ -74,6 +74,77 @@ unfolding moved
 joined true place line i k source m p q = join place line i k source m p q
 joined false place line i k source m p q = join line place i k source m q p
 
+-- of two parts at the same place the second stays, where it is no shorter
+again :
+    (a : ℕ) (g h m : List ℕ) → length h ≤ length g → a + length g ≤ length m → overwritten a g (overwritten a h m) ≡ overwritten a g m
+unfolding overwritten
+again a g h m less fits =
+    ap₂ (λ (p q : List ℕ). p ++ (g ++ q)) (take-at (take a m) (h ++ drop (a + length h) m) a front) after
+  where
+    front : length (take a m) ≡ a
+    front = length-take-le a m (omega (arith, fits))
+
+    head : length (take a m ++ h) ≡ a + length h
+    head = length-append (take a m) h ∙ ap (λ (n : ℕ). n + length h) front
+
+    after : drop (a + length g) (take a m ++ (h ++ drop (a + length h) m)) ≡ drop (a + length g) m
+    after =
+        ap₂ (λ (n : ℕ) (q : List ℕ). drop n q) {x = a + length g} {y = length (take a m ++ h) + (length g - length h)} (omega (arith, head, less))
+        (sym (append-assoc (take a m) h (drop (a + length h) m))) ∙
+        drop-append-add (take a m ++ h) (drop (a + length h) m) (length g - length h) ∙ drop-drop (length g - length h) (a + length h) m ∙
+        ap (λ (n : ℕ). drop n m) {x = a + length h + (length g - length h)} {y = a + length g} (omega (arith, less))
+
+again-part :
+    (a b j k : ℕ) (source m : List ℕ) → j ≤ k → a + k ≤ length source → b + k ≤ length m →
+    overwritten b (take k (drop a source)) (overwritten b (take j (drop a source)) m) ≡ overwritten b (take k (drop a source)) m
+again-part a b j k source m less from-fits to-fits =
+    again b (take k (drop a source)) (take j (drop a source)) m
+    (omega (arith, part-length source a j (omega (arith, less, from-fits)), part-length source a k from-fits, less))
+    (omega (arith, part-length source a k from-fits, to-fits))
+
+moved-again :
+    (out : Bool) (place line j k : ℕ) (source m : List ℕ) → j ≤ k → place + k ≤ memoryOf out (length source) (length m) →
+    line + k ≤ roomOf out (length source) (length m) →
+    moved (turned out place line k ∷ []) source (moved (turned out place line j ∷ []) source m) ≡ moved (turned out place line k ∷ []) source m
+unfolding moved
+moved-again true place line j k source m less p q = again-part place line j k source m less p q
+moved-again false place line j k source m less p q = again-part line place j k source m less q p
+
+length-moved :
+    (out : Bool) (place line n : ℕ) (source m : List ℕ) → place + n ≤ memoryOf out (length source) (length m) →
+    line + n ≤ roomOf out (length source) (length m) → length (moved (turned out place line n ∷ []) source m) ≡ length m
+unfolding moved
+length-moved out place line n source m p q =
+    length-one (turned out place line n) source m (turned-fits out place line n (length source) (length m) p q)
+
+-- the first `i` bytes of a stretch, then its last `k`, over some of the same: all of it
+pub overlapped :
+    (out : Bool) (place line n i k a : ℕ) (source m : List ℕ) → place + n ≤ memoryOf out (length source) (length m) →
+    line + n ≤ roomOf out (length source) (length m) → a ≤ i → i ≤ n → a + k ≡ n →
+    moved (turned out (place + a) (line + a) k ∷ []) source (moved (turned out place line i ∷ []) source m) ≡
+    moved (turned out place line n ∷ []) source m
+overlapped out place line n i k a source m p q low up all =
+    ap (λ (l : List ℕ). moved (turned out (place + a) (line + a) k ∷ []) source l)
+    (ap (λ (j : ℕ). moved (turned out place line j ∷ []) source m) {x = i} {y = a + (i - a)} (omega (arith, low)) ∙
+    sym (joined out place line a (i - a) source m p-first q-first)) ∙
+    moved-again out (place + a) (line + a) (i - a) k source before (omega (arith, up, all))
+    (subst (λ (l : ℕ). place + a + k ≤ memoryOf out (length source) l) (sym long) (omega (arith, p, all)))
+    (subst (λ (l : ℕ). line + a + k ≤ roomOf out (length source) l) (sym long) (omega (arith, q, all))) ∙
+    joined out place line a k source m p-first q-first ∙
+    ap (λ (j : ℕ). moved (turned out place line j ∷ []) source m) all
+  where
+    before : List ℕ
+    before = moved (turned out place line a ∷ []) source m
+
+    p-first : place + a ≤ memoryOf out (length source) (length m)
+    p-first = omega (arith, p, all)
+
+    q-first : line + a ≤ roomOf out (length source) (length m)
+    q-first = omega (arith, q, all)
+
+    long : length before ≡ length m
+    long = length-moved out place line a source m p-first q-first
+
 nothing : (a b : ℕ) (source m : List ℕ) → overwritten b (take 0 (drop a source)) m ≡ m
 unfolding overwritten
 nothing a b source m =
@@ -94,36 +165,45 @@ module _ (out : Bool) (place line n : ℕ) (source m₀ : List ℕ) (asked : Str
   pub stretch-start : StretchGoing out place line n source m₀ 0 m₀
   stretch-start = record { up = omega arith; long = refl; so-far = sym (none-moved out place line source m₀) }
 
+  -- its first `i` bytes
+  pub begun :
+      (i : ℕ) (m : List ℕ) → i ≤ n → length m ≡ length m₀ → m ≡ moved (turned out place line i ∷ []) source m₀ →
+      StretchGoing out place line n source m₀ i m
+  begun i m h long e = record { up = h; long = long; so-far = e }
+
   module _ (i : ℕ) (m : List ℕ) (g : StretchGoing out place line n source m₀ i m) where
     pub part-asked : (k : ℕ) → k ≤ 32 → i + k ≤ n → PartAsked out (place + i) (line + i) k (length source) (length m)
     part-asked k few h =
         subst (PartAsked out (place + i) (line + i) k (length source)) (sym (g .long))
         (record { few = few; place-fits = omega (arith, asked .place-fits, h); line-fits = omega (arith, asked .line-fits, h) })
 
-    pub sums-fit : Fits w64 (place + i) × Fits w64 (line + i)
-    sums-fit =
-        (omega (arith, asked .place-fits, asked .memory-most, g .up), omega (arith, asked .line-fits, asked .room-most, g .up))
-
-    pub one-more :
-        (k : ℕ) (m' : List ℕ) → m' ≡ moved (turned out (place + i) (line + i) k ∷ []) source m →
-        m' ≡ moved (turned out place line (i + k) ∷ []) source m₀
-    one-more k m' e =
-        e ∙ ap (λ (q : List ℕ). moved (turned out (place + i) (line + i) k ∷ []) source q) (g .so-far) ∙
-        joined out place line i k source m₀ (omega (arith, asked .place-fits, g .up)) (omega (arith, asked .line-fits, g .up))
+    pub sums-fit : (k : ℕ) → k ≤ n → Fits w64 (place + k) × Fits w64 (line + k)
+    sums-fit k h = (omega (arith, asked .place-fits, asked .memory-most, h), omega (arith, asked .line-fits, asked .room-most, h))
 
     pub stretch-next :
-        (m' : List ℕ) → 32 < n - i → length m' ≡ length m → m' ≡ moved (turned out (place + i) (line + i) 32 ∷ []) source m →
+        (m' : List ℕ) → i < n - 32 → length m' ≡ length m → m' ≡ moved (turned out (place + i) (line + i) 32 ∷ []) source m →
         StretchGoing out place line n source m₀ (i + 32) m'
-    stretch-next m' h same e = record { up = omega (arith, h); long = same ∙ g .long; so-far = one-more 32 m' e }
+    stretch-next m' h same e =
+        record {
+          up = omega (arith, h);
+          long = same ∙ g .long;
+          so-far =
+              e ∙ ap (λ (q : List ℕ). moved (turned out (place + i) (line + i) 32 ∷ []) source q) (g .so-far) ∙
+              joined out place line i 32 source m₀ (omega (arith, asked .place-fits, g .up)) (omega (arith, asked .line-fits, g .up));
+        }
+
+    -- the last `k` bytes
+    pub stretch-end : (k : ℕ) → k ≤ 32 → k ≤ n → PartAsked out (place + (n - k)) (line + (n - k)) k (length source) (length m)
+    stretch-end k few fit =
+        subst (PartAsked out (place + (n - k)) (line + (n - k)) k (length source)) (sym (g .long))
+        (record { few = few; place-fits = omega (arith, asked .place-fits, fit); line-fits = omega (arith, asked .line-fits, fit) })
 
     pub stretch-done :
-        (m' : List ℕ) → m' ≡ moved (turned out (place + i) (line + i) (n - i) ∷ []) source m →
+        (k : ℕ) (m' : List ℕ) → k ≤ n → n - k ≤ i → m' ≡ moved (turned out (place + (n - k)) (line + (n - k)) k ∷ []) source m →
         m' ≡ moved (turned out place line n ∷ []) source m₀
-    stretch-done m' e =
-        one-more (n - i) m' e ∙ ap (λ (q : ℕ). moved (turned out place line q ∷ []) source m₀) {x = i + (n - i)} {y = n} (omega (arith, g .up))
-
-    pub stretch-end : n - i ≤ 32 → PartAsked out (place + i) (line + i) (n - i) (length source) (length m)
-    stretch-end few = part-asked (n - i) few (omega (arith, g .up))
+    stretch-done k m' fit low e =
+        e ∙ ap (λ (q : List ℕ). moved (turned out (place + (n - k)) (line + (n - k)) k ∷ []) source q) (g .so-far) ∙
+        overlapped out place line n i k (n - k) source m₀ (asked .place-fits) (asked .line-fits) low (g .up) (omega (arith, fit))
 
 -- `k` elements that follow each other in memory are one stretch
 pub one-stretch :

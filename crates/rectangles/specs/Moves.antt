@@ -103,6 +103,13 @@ pub record StretchAsked (out : Bool) (place line n source target : ℕ) : Type 0
   pub place-fits : place + n ≤ memoryOf out source target
   pub line-fits : line + n ≤ roomOf out source target
 
+-- its first `k` bytes and its last `k` are all of it
+pub record EndsAsked (out : Bool) (place line n k source target : ℕ) : Type 0 where
+  pub stretch : StretchAsked out place line n source target
+  pub few : k ≤ 32
+  pub fit : k ≤ n
+  pub meet : n ≤ 2 * k
+
 -- where the elements of the row `y` stand, of a window whose base is at the place `at` of memory
 abbrev pub elementPlace : Bool → ℕ → ℕ → ℕ → ℕ → ℕ → ℕ
 elementPlace tiled s e at y x = at + offsetOf tiled s e x y

@@ -1,4 +1,5 @@
 // A rectangle of an accepted window, between lent memory and a lent room.
+use crate::linear;
 use crate::plan;
 use crate::rows;
 use layout::ByteAddress;
@@ -55,28 +56,33 @@ pub fn carry(
     let base = layout.base.0;
     let pitch = layout.pitch;
     let step = layout::row_step(pitch, size, tiled);
-    let parts = plan::split(tiled, size, x, columns);
-    let n = plan::block_bytes(size);
     let stride = step * size;
-    let tiles = stride / (8 * n);
     let at = (base - first) as usize;
-    rows::rows(
-        out,
-        tiled,
-        size,
-        n,
-        stride,
-        tiles,
-        at,
-        x,
-        y,
-        parts.lead,
-        parts.first,
-        parts.count,
-        parts.inner,
-        parts.tail,
-        rows,
-        from,
-        to,
-    );
+    if tiled {
+        let parts = plan::split(size, x, columns);
+        let n = plan::block_bytes(size);
+        let tiles = stride / (8 * n);
+        rows::rows(
+            out,
+            size,
+            n,
+            stride,
+            tiles,
+            at,
+            x,
+            y,
+            parts.lead,
+            parts.first,
+            parts.count,
+            parts.inner,
+            parts.tail,
+            rows,
+            from,
+            to,
+        )
+    } else {
+        let place = at + (y * stride + x * size) as usize;
+        let bytes = (columns * size) as usize;
+        linear::lines(out, place, stride as usize, bytes, rows, from, to)
+    }
 }

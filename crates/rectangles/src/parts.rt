@@ -30,7 +30,7 @@ fn carry(from: &[u8], a: usize, to: &mut [u8], b: usize, n: usize)
 }
 
 // A part out of memory into the room, or the other way.
-fn turn(out: bool, place: usize, line: usize, n: usize, from: &[u8], to: &mut [u8])
+pub fn turn(out: bool, place: usize, line: usize, n: usize, from: &[u8], to: &mut [u8])
     requires { ⌜ PartAsked out place line n (length (now from)) (length (now to)) ⌝ }
     ensures { λ _. ⌜ now (to .exit) ≡ moved (turned out place line n ∷ []) (now (from .entry)) (now (to .entry)) ⌝ }
 {
@@ -106,21 +106,5 @@ pub fn four_pairs(
                 two_pairs(false, n, c, d, middle, from, to);
             }
         }
-    }
-}
-
-// One part. The lengths of elements and of blocks are constants in their arms.
-pub fn one(out: bool, place: usize, line: usize, n: usize, from: &[u8], to: &mut [u8])
-    requires { ⌜ PartAsked out place line n (length (now from)) (length (now to)) ⌝ }
-    ensures { λ _. ⌜ now (to .exit) ≡ moved (turned out place line n ∷ []) (now (from .entry)) (now (to .entry)) ⌝ }
-{
-    match n {
-        1 => turn(out, place, line, 1, from, to),
-        2 => turn(out, place, line, 2, from, to),
-        4 => turn(out, place, line, 4, from, to),
-        8 => turn(out, place, line, 8, from, to),
-        16 => turn(out, place, line, 16, from, to),
-        32 => turn(out, place, line, 32, from, to),
-        _ => turn(out, place, line, n, from, to),
     }
 }

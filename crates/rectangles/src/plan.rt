@@ -54,24 +54,24 @@ fn tile_width(size: u32) -> u32
     }
 }
 
-pub fn split(tiled: bool, size: u32, x: u32, columns: u32) -> Plan
+pub fn split(size: u32, x: u32, columns: u32) -> Plan
     requires { ⌜ (isSize size ≡ true) × (x + columns ≤ 4096) ⌝ }
     ensures { λ r. ⌜ PlanOf size x columns r ⌝ }
 {
-    if tiled {
-        let width = tile_width(size);
-        let first = (x + (width - 1)) / width;
-        let end = (x + columns) / width;
-        if first < end {
-            Plan {
-                lead: width * first - x,
-                first,
-                count: end - first,
-                inner: width * (end - first),
-                tail: x + columns - width * end,
-            }
-        } else {
-            plain(columns)
+    let width = tile_width(size);
+    let first = (x + (width - 1)) / width;
+    let end = (x + columns) / width;
+    if first < end {
+        let lead = width * first - x;
+        let count = end - first;
+        let inner = width * count;
+        let tail = x + columns - width * end;
+        Plan {
+            lead,
+            first,
+            count,
+            inner,
+            tail,
         }
     } else {
         plain(columns)

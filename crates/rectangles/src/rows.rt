@@ -1,8 +1,8 @@
-// Rows of a rectangle of elements, between memory and a room in which they stand row by row.
+// Rows of a tiled rectangle of elements, between memory and a room in which they stand row by row.
 use crate::runs;
 use crate::tiles;
 ghost use mathlib.Core.Path.{_≡_};
-ghost use mathlib.Core.Bool.{true, false};
+ghost use mathlib.Core.Bool.{true};
 ghost use Prim.Native.Nat.{_+_, _*_, _/_};
 ghost use lib.ListN.{length};
 ghost use Rattle.rectangles.specs.Moves.{moved, rowMoves, elementPlace, RunsAsked};
@@ -15,31 +15,53 @@ const TILE_BYTES: u32 = 2048;
 
 const TILE_SIDE: u32 = 8;
 
-// The elements of a tiled row that are in no whole tile of the rectangle; mostly none.
-fn edge(
+// The elements of a row before the first whole tile; mostly none.
+fn first_edge(
     out: bool,
     size: u32,
     stride: u32,
     at: usize,
     x: u32,
     y: u32,
+    lead: u32,
+    line: usize,
+    from: &[u8],
+    to: &mut [u8],
+)
+    requires { ⌜ RunsAsked out true size stride at x y lead line (length (now from)) (length (now to)) ⌝ }
+    ensures { λ _. ⌜ now (to .exit) ≡ moved (rowMoves out (elementPlace true size (stride / size) at y) size x line lead) (now (from .entry)) (now (to .entry)) ⌝ }
+{
+    if 0 < lead {
+        runs::by_runs(out, size, stride, at, x, y, lead, line, from, to)
+    }
+}
+
+// The elements after the last whole tile; mostly none. `before` of the row's elements stand before them.
+fn last_edge(
+    out: bool,
+    size: u32,
+    stride: u32,
+    at: usize,
+    x: u32,
+    y: u32,
+    before: u32,
     count: u32,
     line: usize,
     from: &[u8],
     to: &mut [u8],
 )
-    requires { ⌜ RunsAsked out true size stride at x y count line (length (now from)) (length (now to)) ⌝ }
-    ensures { λ _. ⌜ now (to .exit) ≡ moved (rowMoves out (elementPlace true size (stride / size) at y) size x line count) (now (from .entry)) (now (to .entry)) ⌝ }
+    requires { ⌜ RunsAsked out true size stride at x y (before + count) line (length (now from)) (length (now to)) ⌝ }
+    ensures { λ _. ⌜ now (to .exit) ≡ moved (rowMoves out (elementPlace true size (stride / size) at y) size (x + before) (line + before * size) count) (now (from .entry)) (now (to .entry)) ⌝ }
 {
     if 0 < count {
-        runs::by_runs(out, true, size, stride, at, x, y, count, line, from, to)
+        let here = line + (before * size) as usize;
+        runs::by_runs(out, size, stride, at, x + before, y, count, here, from, to)
     }
 }
 
 // A row, as RowAsked tells it.
 fn row(
     out: bool,
-    tiled: bool,
     size: u32,
     n: u32,
     stride: u32,
@@ -56,61 +78,43 @@ fn row(
     from: &[u8],
     to: &mut [u8],
 )
-    requires { ⌜ RowAsked out tiled size n stride columns at x y lead first count inner tail line (length (now from)) (length (now to)) ⌝ }
-    ensures { λ _. ⌜ now (to .exit) ≡ moved (rowMoves out (elementPlace tiled size (stride / size) at y) size x line (lead + inner + tail)) (now (from .entry)) (now (to .entry)) ⌝ }
+    requires { ⌜ RowAsked out size n stride columns at x y lead first count inner tail line (length (now from)) (length (now to)) ⌝ }
+    ensures { λ _. ⌜ now (to .exit) ≡ moved (rowMoves out (elementPlace true size (stride / size) at y) size x line (lead + inner + tail)) (now (from .entry)) (now (to .entry)) ⌝ }
 {
-    if tiled {
-        let bytes = y * n;
-        let start = at
-            + (TILE_BYTES * (bytes / BLOCK_BYTES / TILE_SIDE * columns)
-                + bytes % BLOCK_BYTES) as usize;
-        let middle = line + (lead * size) as usize;
-        let last = line + ((lead + inner) * size) as usize;
-        edge(out, size, stride, at, x, y, lead, line, from, to);
-        tiles::tiles(
-            out,
-            n as usize,
-            start,
-            bytes / BLOCK_BYTES,
-            first,
-            count,
-            middle,
-            from,
-            to,
-        );
-        edge(
-            out,
-            size,
-            stride,
-            at,
-            x + (lead + inner),
-            y,
-            tail,
-            last,
-            from,
-            to,
-        )
-    } else {
-        runs::by_runs(
-            out,
-            false,
-            size,
-            stride,
-            at,
-            x,
-            y,
-            lead + inner + tail,
-            line,
-            from,
-            to,
-        )
-    }
+    let bytes = y * n;
+    let start = at
+        + (TILE_BYTES * (bytes / BLOCK_BYTES / TILE_SIDE * columns) + bytes % BLOCK_BYTES) as usize;
+    let middle = line + (lead * size) as usize;
+    first_edge(out, size, stride, at, x, y, lead, line, from, to);
+    tiles::tiles(
+        out,
+        n as usize,
+        start,
+        bytes / BLOCK_BYTES,
+        first,
+        count,
+        middle,
+        from,
+        to,
+    );
+    last_edge(
+        out,
+        size,
+        stride,
+        at,
+        x,
+        y,
+        lead + inner,
+        tail,
+        line,
+        from,
+        to,
+    )
 }
 
 // `rows` rows from the row y on.
 pub fn rows(
     out: bool,
-    tiled: bool,
     size: u32,
     n: u32,
     stride: u32,
@@ -127,8 +131,8 @@ pub fn rows(
     from: &[u8],
     to: &mut [u8],
 )
-    requires { ⌜ RectAsked out tiled size n stride columns at x y lead first count inner tail rows (length (now from)) (length (now to)) ⌝ }
-    ensures { λ _. ⌜ now (to .exit) ≡ moved (rectMoves out (elementPlace tiled size (stride / size) at) size x (lead + inner + tail) 0 y rows) (now (from .entry)) (now (to .entry)) ⌝ }
+    requires { ⌜ RectAsked out size n stride columns at x y lead first count inner tail rows (length (now from)) (length (now to)) ⌝ }
+    ensures { λ _. ⌜ now (to .exit) ≡ moved (rectMoves out (elementPlace true size (stride / size) at) size x (lead + inner + tail) 0 y rows) (now (from .entry)) (now (to .entry)) ⌝ }
 {
     let bytes = ((lead + inner + tail) * size) as usize;
     let mut j = 0;
@@ -136,7 +140,6 @@ pub fn rows(
     while j < rows {
         row(
             out,
-            tiled,
             size,
             n,
             stride,

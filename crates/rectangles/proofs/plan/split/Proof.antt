@@ -23,44 +23,53 @@ add-end c = search needs
 div-end : tie.Need-div-end
 div-end c = search needs
 
-mul-t14 : tie.Need-mul-t14
-mul-t14 c = split-fits _ _ _ _ (c .before .tile-width .ensures .1) (c .before .tile-width .ensures .2) (c .before .tile-width .ensures .3) (c .before .before .before .pre .1) (c .if2 .taken) .0
+mul-lead : tie.Need-mul-lead
+mul-lead c =
+    let at-width = c .before in
+    split-fits _ _ _ _ (at-width .tile-width .ensures .1) (at-width .tile-width .ensures .2) (at-width .tile-width .ensures .3)
+    (c .before .before .pre .1) (c .if1 .taken) .0
 
-sub-t15 : tie.Need-sub-t15
-sub-t15 c = split-fits _ _ _ _ (c .before .tile-width .ensures .1) (c .before .tile-width .ensures .2) (c .before .tile-width .ensures .3) (c .before .before .before .pre .1) (c .if2 .taken) .1
+sub-lead : tie.Need-sub-lead
+sub-lead c =
+    let at-width = c .before in
+    split-fits _ _ _ _ (at-width .tile-width .ensures .1) (at-width .tile-width .ensures .2) (at-width .tile-width .ensures .3)
+    (c .before .before .pre .1) (c .if1 .taken) .1
 
-sub-t16 : tie.Need-sub-t16
-sub-t16 c = search needs
+sub-count : tie.Need-sub-count
+sub-count c = search needs
 
-sub-t17 : tie.Need-sub-t17
-sub-t17 c = search needs
+mul-inner : tie.Need-mul-inner
+mul-inner c =
+    let at-width = c .before in
+    split-fits _ _ _ _ (at-width .tile-width .ensures .1) (at-width .tile-width .ensures .2) (at-width .tile-width .ensures .3)
+    (c .before .before .pre .1) (c .if1 .taken) .2
 
-mul-t18 : tie.Need-mul-t18
-mul-t18 c = split-fits _ _ _ _ (c .before .tile-width .ensures .1) (c .before .tile-width .ensures .2) (c .before .tile-width .ensures .3) (c .before .before .before .pre .1) (c .if2 .taken) .2
+add-tail : tie.Need-add-tail
+add-tail c = search needs
 
-add-t19 : tie.Need-add-t19
-add-t19 c = search needs
+mul-tail : tie.Need-mul-tail
+mul-tail c =
+    let at-width = c .before in
+    split-fits _ _ _ _ (at-width .tile-width .ensures .1) (at-width .tile-width .ensures .2) (at-width .tile-width .ensures .3)
+    (c .before .before .pre .1) (c .if1 .taken) .3
 
-mul-t20 : tie.Need-mul-t20
-mul-t20 c = split-fits _ _ _ _ (c .before .tile-width .ensures .1) (c .before .tile-width .ensures .2) (c .before .tile-width .ensures .3) (c .before .before .before .pre .1) (c .if2 .taken) .3
-
-sub-t21 : tie.Need-sub-t21
-sub-t21 c = split-fits _ _ _ _ (c .before .tile-width .ensures .1) (c .before .tile-width .ensures .2) (c .before .tile-width .ensures .3) (c .before .before .before .pre .1) (c .if2 .taken) .4
+sub-tail : tie.Need-sub-tail
+sub-tail c =
+    let at-width = c .before in
+    split-fits _ _ _ _ (at-width .tile-width .ensures .1) (at-width .tile-width .ensures .2) (at-width .tile-width .ensures .3)
+    (c .before .before .pre .1) (c .if1 .taken) .4
 
 plain-requires : tie.Need-plain-requires
 plain-requires c κs = search needs
 
-plain-requires-2 : tie.Need-plain-requires-2
-plain-requires-2 c κs = search needs
-
 returns : tie.Need-returns
-returns c = split-plan _ _ _ _ (c .before .tile-width .ensures .1) (c .before .tile-width .ensures .2) (c .before .tile-width .ensures .3) (c .before .before .before .pre .1) (c .if2 .taken)
+returns c =
+    let at-width = c .before in
+    split-plan _ _ _ _ (at-width .tile-width .ensures .1) (at-width .tile-width .ensures .2) (at-width .tile-width .ensures .3)
+    (c .before .before .pre .1) (c .if1 .taken)
 
 returns-2 : tie.Need-returns-2
 returns-2 c = plain-plan _ _ _ _ (c .plain .ensures)
-
-returns-3 : tie.Need-returns-3
-returns-3 c = plain-plan _ _ _ _ (c .plain2 .ensures)
 
 pub split-spec : {M : Type 1} → statement M
 split-spec =
@@ -72,16 +81,13 @@ split-spec =
     div-first
     add-end
     div-end
-    mul-t14
-    sub-t15
-    sub-t16
-    sub-t17
-    mul-t18
-    add-t19
-    mul-t20
-    sub-t21
+    mul-lead
+    sub-lead
+    sub-count
+    mul-inner
+    add-tail
+    mul-tail
+    sub-tail
     plain-requires
-    plain-requires-2
     returns
-    returns-2
-    returns-3)
+    returns-2)

@@ -1,5 +1,5 @@
 -- `rectangles::runs::by_runs` meets its contract: each run is one stretch. Assumes nothing.
-use mathlib.Core.Path.{_∙_}
+use mathlib.Core.Bool.{true}
 use Prim.Native.Nat.{ℕ, _-_, _/_, _≤_}
 use native.Mathlib.Omega.{arith}
 use borrow.Author.Needs.{needs}
@@ -10,11 +10,11 @@ use Rattle.rectangles.proofs.runs.by_runs.Statement.{statement}
 use Rattle.rectangles.proofs.runs.by_runs.Tie as tie
 
 abbrev Inv-loop : tie.InvT-loop
-Inv-loop out tiled size stride at x y count line from to₀ i₀ here₀ to i here =
-    (i ≤ count) × RowGoing out (elementPlace tiled size (stride / size) at y) size x line from to₀ i here to
+Inv-loop out size stride at x y count line from to₀ i₀ here₀ to i here =
+    (i ≤ count) × RowGoing out (elementPlace true size (stride / size) at y) size x line from to₀ i here to
 
 abbrev μ-loop : tie.MeasureT-loop
-μ-loop out tiled size stride at x y count line from to₀ i₀ here₀ to i here = count - i
+μ-loop out size stride at x y count line from to₀ i₀ here₀ to i here = count - i
 
 loop-holds : tie.Need-loop-holds Inv-loop μ-loop
 loop-holds c = runs-start _ _ _ _ _ _ _ _ _ _ _ (c .before .before .pre)
