@@ -41,10 +41,6 @@ unfolding moved
 moved-both [] ws source m = refl
 moved-both (v ∷ vs) ws source m = moved-both vs ws source (overwritten (v .to) (partOf source v) m)
 
-pub moved-one : (v : Move) (source m : List ℕ) → moved (v ∷ []) source m ≡ overwritten (v .to) (partOf source v) m
-unfolding moved
-moved-one v source m = refl
-
 -- a move that fits
 pub record MoveFits (v : Move) (source target : ℕ) : Type 0 where
   pub from-fits : v .from + v .bytes ≤ source
@@ -151,8 +147,3 @@ eight-moved out o n k a b c d line source m m1 m2 eo en e1 e2 =
     e2 ∙ ap (λ (l : List ℕ). moved (pairsOf o k c d (line + 4 * n)) source l) e1 ∙
     sym (moved-both (pairsOf o k a b line) (pairsOf o k c d (line + 4 * n)) source m) ∙
     ap₂ (λ (p : Bool) (q : ℕ). moved (pairsOf p q a b line ++ pairsOf p q c d (line + 4 * n)) source m) (sym eo) (sym en)
-
-pub same-part :
-    (out : Bool) (place line n k : ℕ) (source m m' : List ℕ) → n ≡ k → m' ≡ moved (turned out place line k ∷ []) source m →
-    m' ≡ moved (turned out place line n ∷ []) source m
-same-part out place line n k source m m' e same = same ∙ ap (λ (q : ℕ). moved (turned out place line q ∷ []) source m) (sym e)
