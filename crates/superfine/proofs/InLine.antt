@@ -12,8 +12,8 @@ use Rattle.memory.proofs.Copies.{zeros, grown, reading-of}
 use Rattle.superfine.specs.InLine.{FourAsked}
 
 pub reading-of-four :
-    (n : ℕ) (a b c d b₁ b₂ b₃ b₄ : List ℕ) → FourAsked a b c d → n ≡ length a → b₁ ≡ overwritten 0 a (zeros 16) → b₂ ≡ overwritten n b b₁ →
-    b₃ ≡ overwritten (n * 2) c b₂ → b₄ ≡ overwritten (n * 3) d b₃ →
+    (n : ℕ) (a b c d b₁ b₂ b₃ b₄ : List ℕ) → FourAsked a b c d → n ≡ length a →
+    b₁ ≡ overwritten 0 a (zeros 16) → b₂ ≡ overwritten n b b₁ → b₃ ≡ overwritten (n * 2) c b₂ → b₄ ≡ overwritten (n * 3) d b₃ →
     Answered (gives (a ++ (b ++ (c ++ d)))) (record { answer = Bytes (n * 4); bytes = b₄ })
 reading-of-four n a b c d b₁ b₂ b₃ b₄ asked e e₁ e₂ e₃ e₄ =
     let z = zeros 16 in

@@ -3,7 +3,8 @@
 use mathlib.Core.Path.{sym, ap, _∙_}
 use Rattle.memory.specs.Elements.{toldPlace}
 use Rattle.memory.proofs.Calls.{told-so}
-use Rattle.superfine.proofs.Channels.{right-unheld, below-unheld, across-unheld, own-unheld, parts-asked, parts-asked-at, four-read, four-read-at}
+use Rattle.superfine.proofs.Channels.{right-unheld, below-unheld, across-unheld, own-unheld}
+use Rattle.superfine.proofs.Channels.{parts-asked, parts-asked-at, four-read, four-read-at}
 use borrow.Author.Needs.{needs}
 use Rattle.superfine.proofs.four.Statement.{statement}
 use Rattle.superfine.proofs.four.Tie as tie
@@ -86,27 +87,104 @@ returns-4 c =
 
 parts-requires : tie.Need-parts-requires
 parts-requires c κs =
-    parts-asked-at _ _ _ _ _ _ _ _ _ _ _ (sym (c .before .before .before .before .before .before .before .before .before .before .before .before .before .before .before .before .start .ensures) ∙ ap toldPlace (c .before .before .before .before .before .before .before .before .before .before .before .before .before .before .a .given .1)) (sym (c .before .before .before .before .before .before .before .before .before .before .before .before .start2 .ensures) ∙ ap toldPlace (c .before .before .before .before .before .before .before .before .before .before .b .given .1)) (sym (c .before .before .before .before .before .before .before .before .start3 .ensures) ∙ ap toldPlace (c .before .before .before .before .before .before .c .given .1)) (sym (c .before .before .before .before .start4 .ensures) ∙ ap toldPlace (c .before .before .d .given .1)) 2 (c .match5 .keys1) (c .before .before .before .before .before .before .before .before .before .before .before .before .before .before .before .before .before .before .pre)
+    let at-d = c .before .before in
+    let at-start4 = at-d .before .before in
+    let at-c = at-start4 .before .before in
+    let at-start3 = at-c .before .before in
+    let at-b = at-start3 .before .before in
+    let at-start2 = at-b .before .before in
+    let at-a = at-start2 .before .before in
+    let at-start = at-a .before .before in
+    let entry = at-start .before .before in
+    let start-told = sym (at-start .start .ensures) ∙ ap toldPlace (at-a .a .given .1) in
+    let start2-told = sym (at-start2 .start2 .ensures) ∙ ap toldPlace (at-b .b .given .1) in
+    let start3-told = sym (at-start3 .start3 .ensures) ∙ ap toldPlace (at-c .c .given .1) in
+    let start4-told = sym (at-start4 .start4 .ensures) ∙ ap toldPlace (at-d .d .given .1) in
+    parts-asked-at _ _ _ _ _ _ _ _ _ _ _ start-told start2-told start3-told start4-told 2 (c .match5 .keys1) (entry .pre)
 
 parts-requires-2 : tie.Need-parts-requires-2
 parts-requires-2 c κs =
-    parts-asked-at _ _ _ _ _ _ _ _ _ _ _ (sym (c .before .before .before .before .before .before .before .before .before .before .before .before .before .before .before .before .start .ensures) ∙ ap toldPlace (c .before .before .before .before .before .before .before .before .before .before .before .before .before .before .a .given .1)) (sym (c .before .before .before .before .before .before .before .before .before .before .before .before .start2 .ensures) ∙ ap toldPlace (c .before .before .before .before .before .before .before .before .before .before .b .given .1)) (sym (c .before .before .before .before .before .before .before .before .start3 .ensures) ∙ ap toldPlace (c .before .before .before .before .before .before .c .given .1)) (sym (c .before .before .before .before .start4 .ensures) ∙ ap toldPlace (c .before .before .d .given .1)) 4 (c .match5 .keys2) (c .before .before .before .before .before .before .before .before .before .before .before .before .before .before .before .before .before .before .pre)
+    let at-d = c .before .before in
+    let at-start4 = at-d .before .before in
+    let at-c = at-start4 .before .before in
+    let at-start3 = at-c .before .before in
+    let at-b = at-start3 .before .before in
+    let at-start2 = at-b .before .before in
+    let at-a = at-start2 .before .before in
+    let at-start = at-a .before .before in
+    let entry = at-start .before .before in
+    let start-told = sym (at-start .start .ensures) ∙ ap toldPlace (at-a .a .given .1) in
+    let start2-told = sym (at-start2 .start2 .ensures) ∙ ap toldPlace (at-b .b .given .1) in
+    let start3-told = sym (at-start3 .start3 .ensures) ∙ ap toldPlace (at-c .c .given .1) in
+    let start4-told = sym (at-start4 .start4 .ensures) ∙ ap toldPlace (at-d .d .given .1) in
+    parts-asked-at _ _ _ _ _ _ _ _ _ _ _ start-told start2-told start3-told start4-told 4 (c .match5 .keys2) (entry .pre)
 
 parts-requires-3 : tie.Need-parts-requires-3
 parts-requires-3 c κs =
-    parts-asked _ _ _ _ _ _ _ _ _ _ _ (sym (c .before .before .before .before .before .before .before .before .before .before .before .before .before .before .before .before .start .ensures) ∙ ap toldPlace (c .before .before .before .before .before .before .before .before .before .before .before .before .before .before .a .given .1)) (sym (c .before .before .before .before .before .before .before .before .before .before .before .before .start2 .ensures) ∙ ap toldPlace (c .before .before .before .before .before .before .before .before .before .before .b .given .1)) (sym (c .before .before .before .before .before .before .before .before .start3 .ensures) ∙ ap toldPlace (c .before .before .before .before .before .before .c .given .1)) (sym (c .before .before .before .before .start4 .ensures) ∙ ap toldPlace (c .before .before .d .given .1)) (c .before .before .before .before .before .before .before .before .before .before .before .before .before .before .before .before .before .before .pre)
+    let at-d = c .before .before in
+    let at-start4 = at-d .before .before in
+    let at-c = at-start4 .before .before in
+    let at-start3 = at-c .before .before in
+    let at-b = at-start3 .before .before in
+    let at-start2 = at-b .before .before in
+    let at-a = at-start2 .before .before in
+    let at-start = at-a .before .before in
+    let entry = at-start .before .before in
+    let start-told = sym (at-start .start .ensures) ∙ ap toldPlace (at-a .a .given .1) in
+    let start2-told = sym (at-start2 .start2 .ensures) ∙ ap toldPlace (at-b .b .given .1) in
+    let start3-told = sym (at-start3 .start3 .ensures) ∙ ap toldPlace (at-c .c .given .1) in
+    let start4-told = sym (at-start4 .start4 .ensures) ∙ ap toldPlace (at-d .d .given .1) in
+    parts-asked _ _ _ _ _ _ _ _ _ _ _ start-told start2-told start3-told start4-told (entry .pre)
 
 returns-5 : tie.Need-returns-5
 returns-5 c =
-    told-so (four-read-at _ _ _ _ _ _ _ _ _ _ _ (sym (c .before .before .before .before .before .before .before .before .before .before .before .before .before .before .before .before .before .start .ensures) ∙ ap toldPlace (c .before .before .before .before .before .before .before .before .before .before .before .before .before .before .before .a .given .1)) (sym (c .before .before .before .before .before .before .before .before .before .before .before .before .before .start2 .ensures) ∙ ap toldPlace (c .before .before .before .before .before .before .before .before .before .before .before .b .given .1)) (sym (c .before .before .before .before .before .before .before .before .before .start3 .ensures) ∙ ap toldPlace (c .before .before .before .before .before .before .before .c .given .1)) (sym (c .before .before .before .before .before .start4 .ensures) ∙ ap toldPlace (c .before .before .before .d .given .1)) 2 (c .before .match5 .keys1)) (c .parts .ensures)
+    let at-match5 = c .before in
+    let at-d = at-match5 .before .before in
+    let at-start4 = at-d .before .before in
+    let at-c = at-start4 .before .before in
+    let at-start3 = at-c .before .before in
+    let at-b = at-start3 .before .before in
+    let at-start2 = at-b .before .before in
+    let at-a = at-start2 .before .before in
+    let at-start = at-a .before .before in
+    let start-told = sym (at-start .start .ensures) ∙ ap toldPlace (at-a .a .given .1) in
+    let start2-told = sym (at-start2 .start2 .ensures) ∙ ap toldPlace (at-b .b .given .1) in
+    let start3-told = sym (at-start3 .start3 .ensures) ∙ ap toldPlace (at-c .c .given .1) in
+    let start4-told = sym (at-start4 .start4 .ensures) ∙ ap toldPlace (at-d .d .given .1) in
+    told-so (four-read-at _ _ _ _ _ _ _ _ _ _ _ start-told start2-told start3-told start4-told 2 (at-match5 .match5 .keys1)) (c .parts .ensures)
 
 returns-6 : tie.Need-returns-6
 returns-6 c =
-    told-so (four-read-at _ _ _ _ _ _ _ _ _ _ _ (sym (c .before .before .before .before .before .before .before .before .before .before .before .before .before .before .before .before .before .start .ensures) ∙ ap toldPlace (c .before .before .before .before .before .before .before .before .before .before .before .before .before .before .before .a .given .1)) (sym (c .before .before .before .before .before .before .before .before .before .before .before .before .before .start2 .ensures) ∙ ap toldPlace (c .before .before .before .before .before .before .before .before .before .before .before .b .given .1)) (sym (c .before .before .before .before .before .before .before .before .before .start3 .ensures) ∙ ap toldPlace (c .before .before .before .before .before .before .before .c .given .1)) (sym (c .before .before .before .before .before .start4 .ensures) ∙ ap toldPlace (c .before .before .before .d .given .1)) 4 (c .before .match5 .keys2)) (c .parts2 .ensures)
+    let at-match5 = c .before in
+    let at-d = at-match5 .before .before in
+    let at-start4 = at-d .before .before in
+    let at-c = at-start4 .before .before in
+    let at-start3 = at-c .before .before in
+    let at-b = at-start3 .before .before in
+    let at-start2 = at-b .before .before in
+    let at-a = at-start2 .before .before in
+    let at-start = at-a .before .before in
+    let start-told = sym (at-start .start .ensures) ∙ ap toldPlace (at-a .a .given .1) in
+    let start2-told = sym (at-start2 .start2 .ensures) ∙ ap toldPlace (at-b .b .given .1) in
+    let start3-told = sym (at-start3 .start3 .ensures) ∙ ap toldPlace (at-c .c .given .1) in
+    let start4-told = sym (at-start4 .start4 .ensures) ∙ ap toldPlace (at-d .d .given .1) in
+    told-so (four-read-at _ _ _ _ _ _ _ _ _ _ _ start-told start2-told start3-told start4-told 4 (at-match5 .match5 .keys2)) (c .parts2 .ensures)
 
 returns-7 : tie.Need-returns-7
 returns-7 c =
-    told-so (four-read _ _ _ _ _ _ _ _ _ _ _ (sym (c .before .before .before .before .before .before .before .before .before .before .before .before .before .before .before .before .before .start .ensures) ∙ ap toldPlace (c .before .before .before .before .before .before .before .before .before .before .before .before .before .before .before .a .given .1)) (sym (c .before .before .before .before .before .before .before .before .before .before .before .before .before .start2 .ensures) ∙ ap toldPlace (c .before .before .before .before .before .before .before .before .before .before .before .b .given .1)) (sym (c .before .before .before .before .before .before .before .before .before .start3 .ensures) ∙ ap toldPlace (c .before .before .before .before .before .before .before .c .given .1)) (sym (c .before .before .before .before .before .start4 .ensures) ∙ ap toldPlace (c .before .before .before .d .given .1))) (c .parts3 .ensures)
+    let at-d = c .before .before .before in
+    let at-start4 = at-d .before .before in
+    let at-c = at-start4 .before .before in
+    let at-start3 = at-c .before .before in
+    let at-b = at-start3 .before .before in
+    let at-start2 = at-b .before .before in
+    let at-a = at-start2 .before .before in
+    let at-start = at-a .before .before in
+    let start-told = sym (at-start .start .ensures) ∙ ap toldPlace (at-a .a .given .1) in
+    let start2-told = sym (at-start2 .start2 .ensures) ∙ ap toldPlace (at-b .b .given .1) in
+    let start3-told = sym (at-start3 .start3 .ensures) ∙ ap toldPlace (at-c .c .given .1) in
+    let start4-told = sym (at-start4 .start4 .ensures) ∙ ap toldPlace (at-d .d .given .1) in
+    told-so (four-read _ _ _ _ _ _ _ _ _ _ _ start-told start2-told start3-told start4-told) (c .parts3 .ensures)
 
 pub four-spec : {M : Type 1} → statement M
 four-spec =

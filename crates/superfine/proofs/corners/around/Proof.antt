@@ -29,7 +29,11 @@ corner-requires-4 : tie.Need-corner-requires-4
 corner-requires-4 c κs = search needs
 
 returns : tie.Need-returns
-returns c = corners-told _ _ _ _ _ _ _ _ _ _ (c .before .before .before .corner .ensures) (c .before .before .corner2 .ensures) (c .before .corner3 .ensures) (c .corner4 .ensures)
+returns c =
+    let at-corner3 = c .before in
+    let at-corner2 = at-corner3 .before in
+    let at-corner = at-corner2 .before in
+    corners-told _ _ _ _ _ _ _ _ _ _ (at-corner .corner .ensures) (at-corner2 .corner2 .ensures) (at-corner3 .corner3 .ensures) (c .corner4 .ensures)
 
 pub around-spec : {M : Type 1} → statement M
 around-spec =
