@@ -1,11 +1,10 @@
 -- What a superfine read answers: one law a return of the code. Assumes nothing.
-use mathlib.Core.Path.{_≡_, sym, ap, ap₂, _∙_}
+use mathlib.Core.Path.{_≡_, sym, ap, ap₂, _∙_, subst}
 use mathlib.Core.Bool.{Bool, true, false}
 use mathlib.Core.List.{List, [], _∷_, _++_}
 use Prim.Native.Nat.{ℕ, _+_, _-_, _^_, _<_, _≤_}
 use native.Mathlib.Omega.{arith}
 use lib.ListN.{length, take, drop}
-use borrow.Rule.Slice.PartMut.{mid-len}
 use Rattle.laws.specs.Choice.{_and_}
 use Rattle.laws.proofs.Choice.{pick-yes, pick-no, and-intro, and-no-left, and-no-right}
 use Rattle.refusal.specs.Told.{gives, refuses}
@@ -14,28 +13,14 @@ use Rattle.layout.specs.declared.ByteAddress.{ByteAddress}
 use Rattle.address.specs.Address.{addressOf}
 use Rattle.command.specs.Format.{pitchOf, tiledOf, codeOf, sizeOf}
 use Rattle.memory.specs.Elements.{bytesAt, startOf}
-use Rattle.superfine.specs.InLine.{FourAsked}
+use Rattle.superfine.specs.InLine.{PartsAsked, partAt, fourParts}
 use Rattle.superfine.specs.Superfine.{superfineWord, formatLayout, fourInside, fourHeld, fourBytes, fourOf, fourAtOf, superfineReadOf, cornersOf}
 use Rattle.memory.proofs.Pairs.{given, passed}
 use Rattle.memory.proofs.Places.{not-held, begins}
 use Rattle.superfine.proofs.Words.{small-size}
 
--- the part of memory that an element's place begins
-abbrev part : List ℕ → ℕ → ℕ → List ℕ
-part m s p = take (p + s - p) (drop p m)
-
-module _ (first n s a p : ℕ) (told : startOf a s first n ≡ gives (p ∷ [])) where
-  pub part-ends : p + s ≤ n
-  part-ends = begins first n a s p told .fits
-
-  pub part-fits : p + s < 2 ^ 64
-  part-fits = let b = begins first n a s p told in omega (arith, b .fits, b .small)
-
 module _ (first : ℕ) (m : List ℕ) (s a p : ℕ) (told : startOf a s first (length m) ≡ gives (p ∷ [])) where
-  part-length : length (part m s p) ≡ s
-  part-length = mid-len p (p + s) m (part-ends first (length m) s a p told) ∙ omega arith
-
-  part-bytes : bytesAt first m a s ≡ part m s p
+  part-bytes : bytesAt first m a s ≡ partAt m s p
   unfolding bytesAt
   part-bytes =
       ap₂ (λ (n q : ℕ). take n (drop q m)) {x = s} {y = p + s - p} (omega arith)
@@ -66,17 +51,23 @@ module _ (first : ℕ) (m : List ℕ) (s right below across own : ℕ) where
   module _
       (a b c d : ℕ) (ta : startOf right s first (length m) ≡ gives (a ∷ [])) (tb : startOf below s first (length m) ≡ gives (b ∷ []))
       (tc : startOf across s first (length m) ≡ gives (c ∷ [])) (td : startOf own s first (length m) ≡ gives (d ∷ [])) where
-    pub four-asked : s ≤ 4 → FourAsked (part m s a) (part m s b) (part m s c) (part m s d)
-    four-asked small =
-        let la = part-length first m s right a ta in
+    pub parts-asked : s ≤ 4 → PartsAsked m s a b c d
+    parts-asked few =
+        let at-a = begins first (length m) right s a ta in
         record {
-          small = omega (arith, la);
-          second = part-length first m s below b tb ∙ sym la;
-          third = part-length first m s across c tc ∙ sym la;
-          fourth = part-length first m s own d td ∙ sym la;
+          few = few;
+          small = at-a .small;
+          first = at-a .fits;
+          second = begins first (length m) below s b tb .fits;
+          third = begins first (length m) across s c tc .fits;
+          fourth = begins first (length m) own s d td .fits;
         }
 
-    pub four-read : fourOf first m s right below across own ≡ gives (part m s a ++ (part m s b ++ (part m s c ++ part m s d)))
+    -- the size as a number that it is
+    pub parts-asked-at : (n : ℕ) → s ≡ n → s ≤ 4 → PartsAsked m n a b c d
+    parts-asked-at n e few = subst (λ (k : ℕ). PartsAsked m k a b c d) e (parts-asked few)
+
+    pub four-read : fourOf first m s right below across own ≡ gives (fourParts m s a b c d)
     unfolding fourOf fourHeld fourBytes
     four-read =
         pick-yes _ _
@@ -89,6 +80,9 @@ module _ (first : ℕ) (m : List ℕ) (s right below across own : ℕ) where
           part-bytes first m s across c tc,
           part-bytes first m s own d td,
         )
+
+    pub four-read-at : (n : ℕ) → s ≡ n → fourOf first m s right below across own ≡ gives (fourParts m n a b c d)
+    four-read-at n e = four-read ∙ ap (λ (k : ℕ). gives (fourParts m k a b c d)) e
 
 module _ (base format height x y first : ℕ) (m : List ℕ) where
   pub word-refused : superfineWord base format ≡ false → superfineReadOf base format height x y first m ≡ refuses 3

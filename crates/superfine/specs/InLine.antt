@@ -1,8 +1,8 @@
 -- Four elements one after the other in a reading's 16 bytes, and a superfine read as four reads. Assumes nothing.
 use mathlib.Core.Path.{_≡_}
 use mathlib.Core.List.{List, _++_}
-use Prim.Native.Nat.{ℕ, _*_, _≤_, min}
-use lib.ListN.{length, replicate}
+use Prim.Native.Nat.{ℕ, _+_, _-_, _*_, _≤_, min}
+use lib.ListN.{length, replicate, take, drop}
 use Rattle.refusal.specs.Told.{Told, gives, refuses}
 use Rattle.memory.specs.Elements.{overwritten}
 
@@ -12,6 +12,23 @@ pub record FourAsked (a b c d : List ℕ) : Type 0 where
   pub second : length b ≡ length a
   pub third : length c ≡ length a
   pub fourth : length d ≡ length a
+
+-- four places in lent memory, each of which has `n` bytes behind it
+pub record PartsAsked (m : List ℕ) (n a b c d : ℕ) : Type 0 where
+  pub few : n ≤ 4
+  pub small : length m ≤ 65536
+  pub first : a + n ≤ length m
+  pub second : b + n ≤ length m
+  pub third : c + n ≤ length m
+  pub fourth : d + n ≤ length m
+
+-- the `n` bytes from a place on, as a part of memory has them
+abbrev pub partAt : List ℕ → ℕ → ℕ → List ℕ
+partAt m n p = take (p + n - p) (drop p m)
+
+-- the parts at four places, one after the other
+abbrev pub fourParts : List ℕ → ℕ → ℕ → ℕ → ℕ → ℕ → List ℕ
+fourParts m n a b c d = partAt m n a ++ (partAt m n b ++ (partAt m n c ++ partAt m n d))
 
 -- 16 zeros with four parts of `n` bytes put in, one after the other
 unfoldable pub inLine : ℕ → List ℕ → List ℕ → List ℕ → List ℕ → List ℕ

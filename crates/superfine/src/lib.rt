@@ -13,7 +13,9 @@ use memory::place::Place;
 use refusal::Refusal;
 ghost use mathlib.Core.Path.{_≡_};
 ghost use Prim.Native.Nat.{_≤_};
+ghost use Rattle.refusal.specs.Told.{gives};
 ghost use Rattle.memory.specs.Answers.{Answered};
+ghost use Rattle.superfine.specs.InLine.{PartsAsked, fourParts};
 ghost use Rattle.superfine.specs.Superfine.{superfineReadOf, superfineWord, fourOf};
 
 // Whether base and format word are allowed, the word is superfine and its elements have one channel.
@@ -30,6 +32,20 @@ fn superfine_word(base: u32, format: u32) -> bool
         return false;
     }
     command::format::channels(command::format::code(format)) == 1
+}
+
+// The parts of `n` bytes at four places of memory, one after the other.
+fn parts(memory: &[u8], a: usize, b: usize, c: usize, d: usize, n: usize) -> Reading
+    requires { ⌜ PartsAsked (now memory) n a b c d ⌝ }
+    ensures { λ r. ⌜ Answered (gives (fourParts (now (memory .entry)) n a b c d)) r ⌝ }
+{
+    line::four(
+        &memory[a..a + n],
+        &memory[b..b + n],
+        &memory[c..c + n],
+        &memory[d..d + n],
+        n,
+    )
 }
 
 // The elements of `size` bytes at four addresses, one after the other, or 11 where memory is too long, ends too high or
@@ -59,13 +75,12 @@ fn four(
     let Place::At(d) = place::start(own, size, first, length) else {
         return copy::refused(Refusal::WrongLength);
     };
-    let n = size as usize;
-    line::four(
-        &memory[a..a + n],
-        &memory[b..b + n],
-        &memory[c..c + n],
-        &memory[d..d + n],
-    )
+    // the sizes of a superfine read are constants in their arms, so that no loop is left there
+    match size {
+        2 => parts(memory, a, b, c, d, 2),
+        4 => parts(memory, a, b, c, d, 4),
+        _ => parts(memory, a, b, c, d, size as usize),
+    }
 }
 
 // A superfine read: the elements at (x + 1, y), (x, y + 1), (x + 1, y + 1) and (x, y), in that order into channels 0 to 3.

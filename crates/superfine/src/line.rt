@@ -20,26 +20,12 @@ fn in_line(a: &[u8], b: &[u8], c: &[u8], d: &[u8], n: usize) -> [u8; 16]
     copy::put(bytes, n * 3, d, n)
 }
 
-// The bytes of a reading of four elements: the sizes of a superfine read are constants in their arms.
-fn first_four(a: &[u8], b: &[u8], c: &[u8], d: &[u8]) -> [u8; 16]
-    requires { ⌜ FourAsked (now a) (now b) (now c) (now d) ⌝ }
-    ensures { λ r. ⌜ r ≡ inLine (length (now (a .entry))) (now (a .entry)) (now (b .entry)) (now (c .entry)) (now (d .entry)) ⌝ }
-{
-    let n = a.len();
-    match n {
-        2 => in_line(a, b, c, d, 2),
-        4 => in_line(a, b, c, d, 4),
-        _ => in_line(a, b, c, d, n),
-    }
-}
-
 // A reading of four elements of one size, one after the other.
-pub fn four(a: &[u8], b: &[u8], c: &[u8], d: &[u8]) -> Reading
-    requires { ⌜ FourAsked (now a) (now b) (now c) (now d) ⌝ }
+pub fn four(a: &[u8], b: &[u8], c: &[u8], d: &[u8], n: usize) -> Reading
+    requires { ⌜ FourAsked (now a) (now b) (now c) (now d) × (n ≡ length (now a)) ⌝ }
     ensures { λ r. ⌜ Answered (gives (now (a .entry) ++ (now (b .entry) ++ (now (c .entry) ++ now (d .entry))))) r ⌝ }
 {
-    let n = a.len();
-    let bytes = first_four(a, b, c, d);
+    let bytes = in_line(a, b, c, d, n);
     Reading {
         answer: Answer::Bytes(n * 4),
         bytes,

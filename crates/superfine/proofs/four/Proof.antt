@@ -3,7 +3,8 @@
 use mathlib.Core.Path.{sym, ap, _∙_}
 use Rattle.memory.specs.Elements.{toldPlace}
 use Rattle.memory.proofs.Calls.{told-so}
-use Rattle.superfine.proofs.Channels.{right-unheld, below-unheld, across-unheld, own-unheld, part-fits, part-ends, four-asked, four-read}
+use Rattle.superfine.proofs.Channels.{right-unheld, below-unheld, across-unheld, own-unheld}
+use Rattle.superfine.proofs.Channels.{parts-asked, parts-asked-at, four-read, four-read-at}
 use borrow.Author.Needs.{needs}
 use Rattle.superfine.proofs.four.Statement.{statement}
 use Rattle.superfine.proofs.four.Tie as tie
@@ -84,89 +85,9 @@ returns-4 c =
     told-so (own-unheld _ _ _ _ _ _ _ _ (sym (at-start4 .start4 .ensures) ∙ ap toldPlace (at-enum-told4 .enum-told4 .given .1)))
     (c .refused4 .ensures)
 
-add-four : tie.Need-add-four
-add-four c =
-    let at-c = c .before .before .before .before .before in
-    let at-match2 = at-c .before .before .before .before .before in
-    let at-a = at-match2 .before .before .before in
-    let at-start = at-a .before .before in
-    record { fits = part-fits _ _ _ _ _ (sym (at-start .start .ensures) ∙ ap toldPlace (at-a .a .given .1)) }
-
-sub-four : tie.Need-sub-four
-sub-four c = search needs
-
-part-four-start : tie.Need-part-four-start
-part-four-start c = search needs
-
-part-four-end : tie.Need-part-four-end
-part-four-end c =
-    let at-c = c .before .before .before .before .before in
-    let at-match2 = at-c .before .before .before .before .before in
-    let at-a = at-match2 .before .before .before in
-    let at-start = at-a .before .before in
-    part-ends _ _ _ _ _ (sym (at-start .start .ensures) ∙ ap toldPlace (at-a .a .given .1))
-
-add-four-2 : tie.Need-add-four-2
-add-four-2 c =
-    let at-known-told3 = c .before .before .before .before .before in
-    let at-b = at-known-told3 .before .before .before .before .before in
-    let at-start2 = at-b .before .before in
-    record { fits = part-fits _ _ _ _ _ (sym (at-start2 .start2 .ensures) ∙ ap toldPlace (at-b .b .given .1)) }
-
-sub-four-2 : tie.Need-sub-four-2
-sub-four-2 c = search needs
-
-part-four-start-2 : tie.Need-part-four-start-2
-part-four-start-2 c = search needs
-
-part-four-end-2 : tie.Need-part-four-end-2
-part-four-end-2 c =
-    let at-known-told3 = c .before .before .before .before .before in
-    let at-b = at-known-told3 .before .before .before .before .before in
-    let at-start2 = at-b .before .before in
-    part-ends _ _ _ _ _ (sym (at-start2 .start2 .ensures) ∙ ap toldPlace (at-b .b .given .1))
-
-add-four-3 : tie.Need-add-four-3
-add-four-3 c =
-    let at-start4 = c .before .before .before .before .before in
-    let at-c = at-start4 .before .before in
-    let at-start3 = at-c .before .before in
-    record { fits = part-fits _ _ _ _ _ (sym (at-start3 .start3 .ensures) ∙ ap toldPlace (at-c .c .given .1)) }
-
-sub-four-3 : tie.Need-sub-four-3
-sub-four-3 c = search needs
-
-part-four-start-3 : tie.Need-part-four-start-3
-part-four-start-3 c = search needs
-
-part-four-end-3 : tie.Need-part-four-end-3
-part-four-end-3 c =
-    let at-start4 = c .before .before .before .before .before in
-    let at-c = at-start4 .before .before in
-    let at-start3 = at-c .before .before in
-    part-ends _ _ _ _ _ (sym (at-start3 .start3 .ensures) ∙ ap toldPlace (at-c .c .given .1))
-
-add-four-4 : tie.Need-add-four-4
-add-four-4 c =
-    let at-d = c .before .before .before .before in
-    let at-start4 = at-d .before .before in
-    record { fits = part-fits _ _ _ _ _ (sym (at-start4 .start4 .ensures) ∙ ap toldPlace (at-d .d .given .1)) }
-
-sub-four-4 : tie.Need-sub-four-4
-sub-four-4 c = search needs
-
-part-four-start-4 : tie.Need-part-four-start-4
-part-four-start-4 c = search needs
-
-part-four-end-4 : tie.Need-part-four-end-4
-part-four-end-4 c =
-    let at-d = c .before .before .before .before in
-    let at-start4 = at-d .before .before in
-    part-ends _ _ _ _ _ (sym (at-start4 .start4 .ensures) ∙ ap toldPlace (at-d .d .given .1))
-
-four-requires : tie.Need-four-requires
-four-requires c κs =
-    let at-d = c .before .before .before .before .before in
+parts-requires : tie.Need-parts-requires
+parts-requires c κs =
+    let at-d = c .before .before in
     let at-start4 = at-d .before .before in
     let at-c = at-start4 .before .before in
     let at-start3 = at-c .before .before in
@@ -175,15 +96,15 @@ four-requires c κs =
     let at-a = at-start2 .before .before in
     let at-start = at-a .before .before in
     let entry = at-start .before .before in
-    four-asked _ _ _ _ _ _ _ _ _ _ _ (sym (at-start .start .ensures) ∙ ap toldPlace (at-a .a .given .1))
-    (sym (at-start2 .start2 .ensures) ∙ ap toldPlace (at-b .b .given .1))
-    (sym (at-start3 .start3 .ensures) ∙ ap toldPlace (at-c .c .given .1))
-    (sym (at-start4 .start4 .ensures) ∙ ap toldPlace (at-d .d .given .1)) (entry .pre)
+    let start-told = sym (at-start .start .ensures) ∙ ap toldPlace (at-a .a .given .1) in
+    let start2-told = sym (at-start2 .start2 .ensures) ∙ ap toldPlace (at-b .b .given .1) in
+    let start3-told = sym (at-start3 .start3 .ensures) ∙ ap toldPlace (at-c .c .given .1) in
+    let start4-told = sym (at-start4 .start4 .ensures) ∙ ap toldPlace (at-d .d .given .1) in
+    parts-asked-at _ _ _ _ _ _ _ _ _ _ _ start-told start2-told start3-told start4-told 2 (c .match5 .keys1) (entry .pre)
 
-returns-5 : tie.Need-returns-5
-returns-5 c =
-    let at-known-told4 = c .before .before .before .before .before in
-    let at-d = at-known-told4 .before in
+parts-requires-2 : tie.Need-parts-requires-2
+parts-requires-2 c κs =
+    let at-d = c .before .before in
     let at-start4 = at-d .before .before in
     let at-c = at-start4 .before .before in
     let at-start3 = at-c .before .before in
@@ -191,11 +112,79 @@ returns-5 c =
     let at-start2 = at-b .before .before in
     let at-a = at-start2 .before .before in
     let at-start = at-a .before .before in
+    let entry = at-start .before .before in
+    let start-told = sym (at-start .start .ensures) ∙ ap toldPlace (at-a .a .given .1) in
     let start2-told = sym (at-start2 .start2 .ensures) ∙ ap toldPlace (at-b .b .given .1) in
     let start3-told = sym (at-start3 .start3 .ensures) ∙ ap toldPlace (at-c .c .given .1) in
     let start4-told = sym (at-start4 .start4 .ensures) ∙ ap toldPlace (at-d .d .given .1) in
+    parts-asked-at _ _ _ _ _ _ _ _ _ _ _ start-told start2-told start3-told start4-told 4 (c .match5 .keys2) (entry .pre)
+
+parts-requires-3 : tie.Need-parts-requires-3
+parts-requires-3 c κs =
+    let at-d = c .before .before in
+    let at-start4 = at-d .before .before in
+    let at-c = at-start4 .before .before in
+    let at-start3 = at-c .before .before in
+    let at-b = at-start3 .before .before in
+    let at-start2 = at-b .before .before in
+    let at-a = at-start2 .before .before in
+    let at-start = at-a .before .before in
+    let entry = at-start .before .before in
     let start-told = sym (at-start .start .ensures) ∙ ap toldPlace (at-a .a .given .1) in
-    told-so (four-read _ _ _ _ _ _ _ _ _ _ _ start-told start2-told start3-told start4-told) (c .four .ensures)
+    let start2-told = sym (at-start2 .start2 .ensures) ∙ ap toldPlace (at-b .b .given .1) in
+    let start3-told = sym (at-start3 .start3 .ensures) ∙ ap toldPlace (at-c .c .given .1) in
+    let start4-told = sym (at-start4 .start4 .ensures) ∙ ap toldPlace (at-d .d .given .1) in
+    parts-asked _ _ _ _ _ _ _ _ _ _ _ start-told start2-told start3-told start4-told (entry .pre)
+
+returns-5 : tie.Need-returns-5
+returns-5 c =
+    let at-match5 = c .before in
+    let at-d = at-match5 .before .before in
+    let at-start4 = at-d .before .before in
+    let at-c = at-start4 .before .before in
+    let at-start3 = at-c .before .before in
+    let at-b = at-start3 .before .before in
+    let at-start2 = at-b .before .before in
+    let at-a = at-start2 .before .before in
+    let at-start = at-a .before .before in
+    let start-told = sym (at-start .start .ensures) ∙ ap toldPlace (at-a .a .given .1) in
+    let start2-told = sym (at-start2 .start2 .ensures) ∙ ap toldPlace (at-b .b .given .1) in
+    let start3-told = sym (at-start3 .start3 .ensures) ∙ ap toldPlace (at-c .c .given .1) in
+    let start4-told = sym (at-start4 .start4 .ensures) ∙ ap toldPlace (at-d .d .given .1) in
+    told-so (four-read-at _ _ _ _ _ _ _ _ _ _ _ start-told start2-told start3-told start4-told 2 (at-match5 .match5 .keys1)) (c .parts .ensures)
+
+returns-6 : tie.Need-returns-6
+returns-6 c =
+    let at-match5 = c .before in
+    let at-d = at-match5 .before .before in
+    let at-start4 = at-d .before .before in
+    let at-c = at-start4 .before .before in
+    let at-start3 = at-c .before .before in
+    let at-b = at-start3 .before .before in
+    let at-start2 = at-b .before .before in
+    let at-a = at-start2 .before .before in
+    let at-start = at-a .before .before in
+    let start-told = sym (at-start .start .ensures) ∙ ap toldPlace (at-a .a .given .1) in
+    let start2-told = sym (at-start2 .start2 .ensures) ∙ ap toldPlace (at-b .b .given .1) in
+    let start3-told = sym (at-start3 .start3 .ensures) ∙ ap toldPlace (at-c .c .given .1) in
+    let start4-told = sym (at-start4 .start4 .ensures) ∙ ap toldPlace (at-d .d .given .1) in
+    told-so (four-read-at _ _ _ _ _ _ _ _ _ _ _ start-told start2-told start3-told start4-told 4 (at-match5 .match5 .keys2)) (c .parts2 .ensures)
+
+returns-7 : tie.Need-returns-7
+returns-7 c =
+    let at-d = c .before .before .before in
+    let at-start4 = at-d .before .before in
+    let at-c = at-start4 .before .before in
+    let at-start3 = at-c .before .before in
+    let at-b = at-start3 .before .before in
+    let at-start2 = at-b .before .before in
+    let at-a = at-start2 .before .before in
+    let at-start = at-a .before .before in
+    let start-told = sym (at-start .start .ensures) ∙ ap toldPlace (at-a .a .given .1) in
+    let start2-told = sym (at-start2 .start2 .ensures) ∙ ap toldPlace (at-b .b .given .1) in
+    let start3-told = sym (at-start3 .start3 .ensures) ∙ ap toldPlace (at-c .c .given .1) in
+    let start4-told = sym (at-start4 .start4 .ensures) ∙ ap toldPlace (at-d .d .given .1) in
+    told-so (four-read _ _ _ _ _ _ _ _ _ _ _ start-told start2-told start3-told start4-told) (c .parts3 .ensures)
 
 pub four-spec : {M : Type 1} → statement M
 four-spec =
@@ -221,21 +210,9 @@ four-spec =
     enum-told-4
     refused-requires-4
     returns-4
-    add-four
-    sub-four
-    part-four-start
-    part-four-end
-    add-four-2
-    sub-four-2
-    part-four-start-2
-    part-four-end-2
-    add-four-3
-    sub-four-3
-    part-four-start-3
-    part-four-end-3
-    add-four-4
-    sub-four-4
-    part-four-start-4
-    part-four-end-4
-    four-requires
-    returns-5)
+    parts-requires
+    parts-requires-2
+    parts-requires-3
+    returns-5
+    returns-6
+    returns-7)

@@ -6,15 +6,17 @@ use borrow.Author.Needs.{needs}
 use Rattle.superfine.proofs.line.four.Statement.{statement}
 use Rattle.superfine.proofs.line.four.Tie as tie
 
-first-four-requires : tie.Need-first-four-requires
-first-four-requires c κs = search needs
+in-line-requires : tie.Need-in-line-requires
+in-line-requires c κs = search needs
 
 mul-t7 : tie.Need-mul-t7
 mul-t7 c = search needs
 
 returns : tie.Need-returns
 unfolding inLine
-returns c = reading-of-four _ _ _ _ _ _ _ _ (c .before .before .before .before .before .pre) refl refl refl (c .first-four .ensures)
+returns c =
+    let pre = c .before .before .before .before .before .pre in
+    reading-of-four _ _ _ _ _ _ _ _ _ (pre .0) (pre .1) refl refl refl (c .in-line .ensures)
 
 pub four-spec : {M : Type 1} → statement M
-four-spec = tie.close (tie.spec first-four-requires mul-t7 returns)
+four-spec = tie.close (tie.spec in-line-requires mul-t7 returns)
