@@ -12,6 +12,10 @@ use Rattle.session.proofs.Single.{Told}
 use Rattle.lessees.specs.Rooms.{toldMore, RoomFor, RunAsked, RunLeft, runOf}
 use Rattle.lessees.proofs.Folding.{taken-most, commands-most}
 
+-- what `tell` leaves
+pub told-first : {a b x y : ℕ} → x ≡ y → _≡_ {A = List ℕ} (a ∷ b ∷ x ∷ []) (a ∷ b ∷ y ∷ [])
+told-first {a} {b} e = ap (λ (n : ℕ). a ∷ b ∷ n ∷ []) e
+
 -- there is room for what a run is answered
 pub run-room : (s : Session) {r : stream.Fed} {own tallies shared words told l t c : List ℕ} → RunAsked own tallies shared words told →
     PieceLeft (feedOf s words) r l t c → RoomFor told (r .taken .0) (r .commands)
