@@ -15,7 +15,7 @@ use Rattle.state.specs.State.{Session}
 use Rattle.state.specs.Cells.{Sized, partyOf, sharedOf, sessionOf, partyCells, tallyCells, sharedCells}
 use Rattle.state.specs.Asked.{Given, Held}
 use Rattle.state.proofs.Cells.{own-canon, tally-canon, shared-canon, held-view, held-given}
-use Rattle.session.specs.Answers.{firstOf, PieceLeft}
+use Rattle.session.specs.Answers.{PieceLeft}
 use Rattle.session.specs.declared.stream.Fed as stream
 use Rattle.session.specs.Step.{Reply, stillOpen, completed, refused, stepOf}
 use Rattle.session.specs.Feed.{First, nothing, first, earlier, firstStatus, Fed, proceed, feedOf}
@@ -49,8 +49,10 @@ use Rattle.lessees.specs.Rooms.{
   PairFeeds,
   partCells,
   earlierNumber,
+  toldMore,
   RunAsked,
   RunLeft,
+  runOf,
   RunEnds,
 }
 use Rattle.lessees.proofs.Isolation.{partOf}
@@ -146,28 +148,14 @@ joined-silence t = λ i. record { taken = add-zero (t .taken) i; commands = appe
 
 -- what a run adds to what its party was told
 told-more : (t : Part) (f : Fed) {told told' : List ℕ} → Told (t .refusal) → told ≡ partCells t →
-    told' ≡
-    (getD told 0 0 + f .taken) ∷ (getD told 1 0 + length (f .commands)) ∷ earlierNumber (getD told 2 0) (firstStatus (f .refusal)) ∷ [] →
+    told' ≡ toldMore told (f .taken) (length (f .commands)) (firstStatus (f .refusal)) →
     told' ≡ partCells (joinedPart t (partOf f))
 unfolding joinedPart
 told-more t f {told} {told'} k e h =
     h ∙
-    ap (λ (l : List ℕ). (getD l 0 0 + f .taken) ∷ (getD l 1 0 + length (f .commands)) ∷ earlierNumber (getD l 2 0) (firstStatus (f .refusal)) ∷ []) e ∙
+    ap (λ (l : List ℕ). toldMore l (f .taken) (length (f .commands)) (firstStatus (f .refusal))) e ∙
     ap₂ (λ (x y : ℕ). (t .taken + f .taken) ∷ x ∷ y ∷ []) (sym (length-append (t .commands) (f .commands)))
     (earlier-number (t .refusal) (f .refusal) k)
-
--- what `take_run` leaves
-pub run-left : (f : Fed) {r : stream.Fed} {l t c told : List ℕ} {number first-number : ℕ} → PieceLeft f r l t c →
-    number ≡ firstStatus (firstOf (r .refusal)) → first-number ≡ earlierNumber (getD told 2 0) number →
-    RunLeft f l t c told ((getD told 0 0 + r .taken .0) ∷ (getD told 1 0 + r .commands) ∷ first-number ∷ [])
-run-left f {told = told} h e k =
-    record {
-      told-after =
-          λ i.
-          (getD told 0 0 + h .taken i) ∷ (getD told 1 0 + h .commands i) ∷
-          (k ∙ ap (earlierNumber (getD told 2 0)) (e ∙ ap firstStatus (h .refusal))) i ∷ [];
-      held = h .held;
-    }
 
 -- the cells of a pair and its record
 module _ (q : Pair) (v : PairValid q) {l0 t0 l1 t1 s : List ℕ} (h : PairHeld q l0 t0 l1 t1 s) where
@@ -250,10 +238,6 @@ fold-begins words parties l0 t0 l1 t1 s g =
 -- a run's party by the test of it
 pub as-party : {parties : List ℕ} {n from end : ℕ} {p b : Bool} → p ≡ b → RunEnds parties n from p end → RunEnds parties n from b end
 as-party {parties} {n} {from} {end} e r = subst (λ (x : Bool). RunEnds parties n from x end) e r
-
--- the words of a run
-abbrev pub runOf : List ℕ → ℕ → ℕ → List ℕ
-runOf words at end = take (end - at) (drop at words)
 
 module _ (q : Pair) (words parties l0 t0 l1 t1 s told0 told1 : List ℕ) (at : ℕ) (v : PairValid q) (f : Fold q words parties l0 t0 l1 t1 s told0 told1 at) where
   abbrev sent : List Sent

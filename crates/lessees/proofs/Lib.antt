@@ -9,4 +9,5 @@ pub mod Runs
 pub mod Sight
 pub mod Steps
 pub mod Taking
+pub mod Telling
 pub mod WriteBack

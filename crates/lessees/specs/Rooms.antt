@@ -3,9 +3,9 @@
 use mathlib.Core.Path.{_≡_}
 use mathlib.Core.Bool.{Bool, true, false}
 use mathlib.Core.List.{List, [], _∷_, _++_}
-use Prim.Native.Nat.{ℕ, suc, _+_, _/_, _%_, _<_, _≤_, _^_}
+use Prim.Native.Nat.{ℕ, suc, _+_, _-_, _/_, _%_, _<_, _≤_, _^_}
 use lib.Dec.{eqb}
-use lib.ListN.{length, getD}
+use lib.ListN.{length, getD, take, drop}
 use Rattle.laws.specs.Choice.{pick}
 use Rattle.laws.specs.Masks.{on}
 use Rattle.refusal.specs.Crossing.{statusOf}
@@ -79,6 +79,17 @@ pub record PairLeft (f : PairFed) (own0 tallies0 own1 tallies1 shared fed : List
 unfoldable pub earlierNumber : ℕ → ℕ → ℕ
 earlierNumber before now = pick (eqb before 0) now before
 
+-- what a run adds to the three numbers of what its party was told: a first refusal that isn't told as if there were none
+abbrev pub toldMore : List ℕ → ℕ → ℕ → ℕ → List ℕ
+toldMore told taken commands refusal =
+    (getD told 0 0 + taken) ∷ (getD told 1 0 + commands) ∷ earlierNumber (getD told 2 0) refusal ∷ []
+
+-- three numbers, with room for so many words and commands more
+pub record RoomFor (told : List ℕ) (taken commands : ℕ) : Type 0 where
+  pub told-length : length told ≡ 3
+  pub taken-room : getD told 0 0 + taken < 2 ^ 64
+  pub commands-room : getD told 1 0 + commands < 2 ^ 64
+
 -- a run of one party's words: its cells, and the three numbers of what it was told, with room for so many words more
 pub record RunAsked (own tallies shared words told : List ℕ) : Type 0 where
   pub given : Given own tallies shared
@@ -86,12 +97,14 @@ pub record RunAsked (own tallies shared words told : List ℕ) : Type 0 where
   pub taken-room : getD told 0 0 + length words < 2 ^ 64
   pub commands-room : getD told 1 0 + length words < 2 ^ 64
 
--- a first refusal that isn't told as if there were none
+-- what it leaves
 pub record RunLeft (f : Fed) (own tallies shared told told' : List ℕ) : Type 0 where
-  pub told-after :
-      told' ≡
-      (getD told 0 0 + f .taken) ∷ (getD told 1 0 + length (f .commands)) ∷ earlierNumber (getD told 2 0) (firstStatus (f .refusal)) ∷ []
+  pub told-after : told' ≡ toldMore told (f .taken) (length (f .commands)) (firstStatus (f .refusal))
   pub held : Held (f .session) own tallies shared
+
+-- the words of a run, from a place up to its end
+abbrev pub runOf : List ℕ → ℕ → ℕ → List ℕ
+runOf words from end = take (end - from) (drop from words)
 
 -- every word from a place on to another is one party's; nothing is said of the words after that
 pub record RunTo (parties : List ℕ) (length from : ℕ) (party : Bool) (at : ℕ) : Type 0 where

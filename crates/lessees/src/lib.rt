@@ -8,6 +8,7 @@ use session::stream::First;
 use state::edition;
 ghost use mathlib.Core.Path.{_≡_};
 ghost use mathlib.Core.Bool.{Bool};
+ghost use mathlib.Core.List.{[], _∷_};
 ghost use Prim.Native.Nat.{ℕ, _*_, _/_, _<_, _≤_};
 ghost use lib.ListN.{length};
 ghost use Rattle.state.specs.Cells.{sessionOf};
@@ -15,7 +16,7 @@ ghost use Rattle.session.specs.Answers.{firstOf};
 ghost use Rattle.session.specs.Feed.{feedOf, firstStatus};
 ghost use Rattle.lessees.specs.Begin.{mayBegin, newPair};
 ghost use Rattle.lessees.specs.Pair.{pieceOf};
-ghost use Rattle.lessees.specs.Rooms.{PairBegins, PairFeeds, PairGiven, PairHeld, PairLeft, RunAsked, RunEnds, RunLeft, RunTo, earlierNumber, groupsOf, pairOf, partyAt, sentOf, wholeGroup};
+ghost use Rattle.lessees.specs.Rooms.{PairBegins, PairFeeds, PairGiven, PairHeld, PairLeft, RoomFor, RunAsked, RunEnds, RunLeft, RunTo, earlierNumber, groupsOf, pairOf, partyAt, runOf, sentOf, toldMore, wholeGroup};
 
 // What a piece tells a party: words taken, commands completed, first refusal; and both parties.
 const PART: usize = 3;
@@ -164,6 +165,16 @@ fn number_of(refusal: First) -> u64
     }
 }
 
+// What a run tells its party, added to what it was told before: a first refusal stays.
+fn tell(told: &mut [u64; PART], taken: u64, commands: u64, refusal: u64)
+    requires { ⌜ RoomFor (now told) taken commands ⌝ }
+    ensures { λ _. ⌜ now (told .exit) ≡ toldMore (now (told .entry)) taken commands refusal ⌝ }
+{
+    let before = told[2];
+    let first = earlier(before, refusal);
+    *told = [told[0] + taken, told[1] + commands, first];
+}
+
 // A run of one party's words. Those after a refused one change nothing: the party is stopped.
 fn take_run(
     own: &mut [u32; state::OWN_CELLS],
@@ -176,12 +187,51 @@ fn take_run(
     ensures { λ _. ⌜ RunLeft (feedOf (sessionOf (now (own .entry)) (now (tallies .entry)) (now (shared .entry))) (now (words .entry))) (now (own .exit)) (now (tallies .exit)) (now (shared .exit)) (now (told .entry)) (now (told .exit)) ⌝ }
 {
     let piece = stream::feed(own, tallies, shared, words);
-    let taken = told[0] + piece.taken.0;
-    let commands = told[1] + piece.commands;
-    let before = told[2];
     let refusal = piece.refusal;
-    let number = number_of(refusal);
-    *told = [taken, commands, earlier(before, number)];
+    tell(told, piece.taken.0, piece.commands, number_of(refusal));
+}
+
+// A run of one word. Its answer is a number all the way: parties whose words alternate pay for each run as for a word.
+fn take_one(
+    own: &mut [u32; state::OWN_CELLS],
+    tallies: &mut [u64; state::TALLIES],
+    shared: &mut [u32; state::SHARED_CELLS],
+    word: u32,
+    told: &mut [u64; PART],
+)
+    requires { ⌜ RunAsked (now own) (now tallies) (now shared) (word ∷ []) (now told) ⌝ }
+    ensures { λ _. ⌜ RunLeft (feedOf (sessionOf (now (own .entry)) (now (tallies .entry)) (now (shared .entry))) (word ∷ [])) (now (own .exit)) (now (tallies .exit)) (now (shared .exit)) (now (told .entry)) (now (told .exit)) ⌝ }
+{
+    let number = stream::step(own, tallies, shared, word);
+    if number == stream::OPEN {
+        tell(told, 1, 0, 0);
+        return;
+    }
+    if number == stream::COMPLETED {
+        tell(told, 1, 1, 0);
+        return;
+    }
+    tell(told, 0, 0, number as u64);
+}
+
+// The run of a piece's words from a place up to its end.
+fn take_part(
+    own: &mut [u32; state::OWN_CELLS],
+    tallies: &mut [u64; state::TALLIES],
+    shared: &mut [u32; state::SHARED_CELLS],
+    words: &[u32],
+    from: usize,
+    end: usize,
+    told: &mut [u64; PART],
+)
+    requires { ⌜ (from ≤ end) × (end ≤ length (now words)) × RunAsked (now own) (now tallies) (now shared) (runOf (now words) from end) (now told) ⌝ }
+    ensures { λ _. ⌜ RunLeft (feedOf (sessionOf (now (own .entry)) (now (tallies .entry)) (now (shared .entry))) (runOf (now (words .entry)) from end)) (now (own .exit)) (now (tallies .exit)) (now (shared .exit)) (now (told .entry)) (now (told .exit)) ⌝ }
+{
+    if end - from == 1 {
+        take_one(own, tallies, shared, words[from], told);
+        return;
+    }
+    take_run(own, tallies, shared, &words[from..end], told);
 }
 
 // A piece of both parties' words with their parties' numbers, one for each 32 words: runs of one party's words, one after the other.
@@ -205,9 +255,9 @@ fn take_runs(
         let party = party_of(parties, at);
         let end = run_end(parties, words.len(), at, party);
         if party {
-            take_run(own1, tallies1, shared, &words[at..end], &mut told1);
+            take_part(own1, tallies1, shared, words, at, end, &mut told1);
         } else {
-            take_run(own0, tallies0, shared, &words[at..end], &mut told0);
+            take_part(own0, tallies0, shared, words, at, end, &mut told0);
         }
         at = end;
     }
