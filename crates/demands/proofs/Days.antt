@@ -3,13 +3,13 @@
 use mathlib.Core.Path.{_≡_, refl, sym, ap, ap₂, _∙_, subst}
 use mathlib.Core.Bool.{true}
 use mathlib.Core.List.{List, [], _∷_, _++_, append-nil}
-use Prim.Native.Nat.{ℕ, zero, suc, _+_, _-_, _<_, _≤_}
+use Prim.Native.Nat.{ℕ, zero, suc, _+_, _-_, _<_, _≤_, suc-le-suc}
 use native.Mathlib.Nat.{zero-add}
 use native.Mathlib.Numerals.{add-one}
 use native.Mathlib.Omega.{arith}
-use lib.Dec.{ltb}
+use lib.Dec.{eqb, ltb}
 use lib.ListN.{getD}
-use borrow.Author.Tests.{le-leb, ltb-true, ltb-false}
+use borrow.Author.Tests.{le-leb, ltb-true, ltb-false, eqb-true, eqb-false}
 use Rattle.laws.specs.Choice.{_and_, pick}
 use Rattle.laws.specs.Masks.{_or_}
 use Rattle.laws.proofs.Choice.{Tested, tested, holds, fails, pick-yes, pick-no, by-pick, and-left}
@@ -30,8 +30,8 @@ use Rattle.log.specs.Asked.{Bytes8}
 use Rattle.log.proofs.Cut.{cut}
 use Rattle.log.proofs.Words.{one-session}
 use Rattle.log.proofs.Records.{Ready, record-read}
-use Rattle.log.proofs.Kept.{new-replay-valid, piece-valid}
-use Rattle.demands.specs.Days.{added, replayed, goneOn, AtMidnight, withDay, begun}
+use Rattle.log.proofs.Kept.{new-replay-valid, byte-valid, piece-valid}
+use Rattle.demands.specs.Days.{added, replayed, goneOn, AtMidnight, withDay, begun, bytesBefore}
 
 -- a later replay: the midnights only grow, and the marks of those that came stand
 record Follows (r u : Replay) : Type 0 where
@@ -290,3 +290,142 @@ before-first edition known bytes e =
     })
     (none-yet edition) ∙
     ap₂ {C = Tally} (λ (i j : ℕ). record { runs = i; claims = j }) (zero-add _) (zero-add _)
+
+-- and it stands once the first midnight has come, whatever bytes come later
+module _ (edition : ℕ) (known : isEdition edition ≡ true) (before : List ℕ) (b : Bytes8 before) (none : replayed edition before .midnights ≡ 0)
+    (day : ℕ) (a : AtMidnight (replayed edition before) day) (later : List ℕ) where
+  one-began : 0 < begun edition before day .midnights
+  unfolding afterMidnight
+  one-began = omega arith
+
+  pub before-midnight :
+      partAt (replayed edition (withDay before day later)) 0 ≡ added (newReplay edition .session) (wordsIn (newReplay edition) before)
+  before-midnight =
+      ap (λ (r : Replay). partAt r 0) (to-day edition known before day later b a) ∙
+      stands (begun edition before day) (goneOn (begun edition before day) later) (bytes-follow (begun edition before day) later) 0 one-began ∙
+      closes (replayed edition before) (piece-valid (newReplay edition) (new-replay-valid edition known) before b) day (a .may-begin) 0
+      (omega arith) ∙
+      before-first edition known before none
+
+-- the same of every log: a byte completes a midnight, or leaves their number
+data Byte (r : Replay) : Stepped → Type 0 where
+  keeps : {t : Stepped} → t .replay .midnights ≡ r .midnights → Byte r t
+  midnight : (day : ℕ) → mayBegin (r .midnights) (r .lastDay) day ≡ true → Byte r (taking (afterMidnight r day))
+
+byte-kind : (r : Replay) (b : ℕ) → Byte r (byteStep r b)
+unfolding byteStep kindStep openStep recordStep afterWord midnightStep
+byte-kind r b =
+    by-pick (Byte r) _ _ _
+    (λ e.
+    by-pick (Byte r) _ _ _
+    (λ f. by-pick (Byte r) _ _ _ (λ g. keeps refl) (λ g. keeps refl))
+    (λ f.
+    by-pick (Byte r) _ _ _ (λ g. keeps refl)
+    (λ g. by-pick (Byte r) _ _ _ (λ h. keeps refl) (λ h. by-pick (Byte r) _ _ _ (λ i. midnight _ i) (λ i. keeps refl)))))
+    (λ e. keeps refl)
+
+-- the bytes up to the one that completes the next midnight: no midnight is among them, and they make the part that goes on
+record FirstPart (r : Replay) (bs pre : List ℕ) : Type 0 where
+  same-number : goneOn r pre .midnights ≡ r .midnights
+  same-part : partAt (goneOn r bs) (r .midnights) ≡ partAt (goneOn r pre) (r .midnights)
+
+gone-byte : (r : Replay) (b : ℕ) (bs : List ℕ) (t : Stepped) → byteStep r b ≡ t →
+    goneOn r (b ∷ bs) ≡ proceed (t .reply) (t .replay) (replayOf (t .replay) bs) .replay
+unfolding replayOf
+gone-byte r b bs t e = ap (λ (u : Stepped). proceed (u .reply) (u .replay) (replayOf (u .replay) bs) .replay) e
+
+gone-none : (r : Replay) → goneOn r [] ≡ r
+unfolding replayOf
+gone-none r = refl
+
+module _ (r : Replay) (v : ReplayValid r) (b : ℕ) (bs : List ℕ) where
+  -- a byte that leaves the number of midnights, taken or refused
+  byte-more :
+      (y : Reply) (u : Replay) (pre : List ℕ) → u .midnights ≡ r .midnights → FirstPart u bs pre →
+      FirstPart u bs pre × (partAt (proceed y u (replayOf u bs) .replay) (r .midnights) ≡ partAt (proceed y u (replayOf u pre) .replay) (r .midnights)) ×
+      (proceed y u (replayOf u pre) .replay .midnights ≡ r .midnights)
+  unfolding proceed
+  byte-more taken u pre e f = (
+    f,
+    subst (λ (m : ℕ). partAt (goneOn u bs) m ≡ partAt (goneOn u pre) m) e (f .same-part),
+    f .same-number ∙ e,
+  )
+  byte-more (refused n) u pre e f = (f, refl, e)
+
+  byte-first :
+      (t : Stepped) → byteStep r b ≡ t → Byte r t → Tested (eqb (t .replay .midnights) (r .midnights)) →
+      FirstPart (t .replay) bs (bytesBefore (t .replay) bs) →
+      FirstPart r (b ∷ bs) (pick (eqb (t .replay .midnights) (r .midnights)) (b ∷ bytesBefore (t .replay) bs) [])
+  byte-first t e k (holds q) f =
+      let pre = bytesBefore (t .replay) bs in
+      let both = byte-more (t .reply) (t .replay) pre (eqb-true (t .replay .midnights) (r .midnights) q) f in
+      subst (FirstPart r (b ∷ bs)) (sym (pick-yes (b ∷ pre) [] q))
+      (record {
+        same-number = ap (λ (u : Replay). u .midnights) (gone-byte r b pre t e) ∙ both .2;
+        same-part =
+            ap (λ (u : Replay). partAt u (r .midnights)) (gone-byte r b bs t e) ∙ both .1 ∙
+            sym (ap (λ (u : Replay). partAt u (r .midnights)) (gone-byte r b pre t e));
+      })
+  byte-first t e (keeps same) (fails q) f = absurd (eqb-false (t .replay .midnights) (r .midnights) q same)
+  byte-first _ e (midnight day may) (fails q) f =
+      subst (FirstPart r (b ∷ bs)) (sym (pick-no (b ∷ bytesBefore (afterMidnight r day) bs) [] q))
+      (record {
+        same-number = ap (λ (u : Replay). u .midnights) (gone-none r);
+        same-part =
+            ap (λ (u : Replay). partAt u (r .midnights)) (gone-byte r b bs (taking (afterMidnight r day)) e ∙ taken-on) ∙
+            stands (afterMidnight r day) (goneOn (afterMidnight r day) bs) (bytes-follow (afterMidnight r day) bs) (r .midnights) later-one ∙
+            closes r v day may (r .midnights) (omega arith) ∙ sym (ap (λ (u : Replay). partAt u (r .midnights)) (gone-none r));
+      })
+    where
+      later-one : r .midnights < afterMidnight r day .midnights
+      later-one = unfold afterMidnight in (omega arith)
+
+      taken-on : proceed taken (afterMidnight r day) (replayOf (afterMidnight r day) bs) .replay ≡ goneOn (afterMidnight r day) bs
+      taken-on = unfold proceed in refl
+
+first-part : (r : Replay) → ReplayValid r → (bs : List ℕ) → Bytes8 bs → FirstPart r bs (bytesBefore r bs)
+unfolding bytesBefore
+first-part r v [] h = record { same-number = ap (λ (u : Replay). u .midnights) (gone-none r); same-part = refl }
+first-part r v (b ∷ bs) h =
+    byte-first r v b bs (byteStep r b) refl (byte-kind r b) (tested (eqb (byteStep r b .replay .midnights) (r .midnights)))
+    (first-part (byteStep r b .replay) (byte-valid r v b (h zero (omega arith))) bs (λ k le. h (suc k) (suc-le-suc le)))
+
+-- so of every log part 0 is what the words before the first midnight added
+pub part-0 :
+    (edition : ℕ) → isEdition edition ≡ true → (bytes : List ℕ) → Bytes8 bytes →
+    partAt (replayed edition bytes) 0 ≡ added (newReplay edition .session) (wordsIn (newReplay edition) (bytesBefore (newReplay edition) bytes))
+part-0 edition known bytes h =
+    let f : FirstPart (newReplay edition) bytes (bytesBefore (newReplay edition) bytes) =
+    first-part (newReplay edition) (new-replay-valid edition known) bytes h in
+    f .same-part ∙ before-first edition known (bytesBefore (newReplay edition) bytes) (f .same-number)
+
+-- and of every day: its part is what the words from its midnight to the next one added, or to the log's end
+module _
+    (edition : ℕ)
+    (known : isEdition edition ≡ true)
+    (before : List ℕ)
+    (day : ℕ)
+    (b : Bytes8 before)
+    (a : AtMidnight (replayed edition before) day)
+    (rest : List ℕ)
+    (b' : Bytes8 rest)
+  where
+    valid-day : ReplayValid (begun edition before day)
+    valid-day =
+        midnight-valid (replayed edition before) day (piece-valid (newReplay edition) (new-replay-valid edition known) before b) a
+
+    up-to-next : FirstPart (begun edition before day) rest (bytesBefore (begun edition before day) rest)
+    up-to-next = first-part (begun edition before day) valid-day rest b'
+
+    same-day :
+        partAt (goneOn (begun edition before day) rest) (replayed edition before .midnights + 1) ≡
+        partAt (goneOn (begun edition before day) (bytesBefore (begun edition before day) rest)) (replayed edition before .midnights + 1)
+    unfolding afterMidnight
+    same-day = up-to-next .same-part
+
+    pub day-words :
+        partAt (replayed edition (withDay before day rest)) (replayed edition before .midnights + 1) ≡
+        added (replayed edition before .session) (wordsIn (begun edition before day) (bytesBefore (begun edition before day) rest))
+    day-words =
+        ap (λ (r : Replay). partAt r (replayed edition before .midnights + 1)) (to-day edition known before day rest b a) ∙ same-day ∙
+        during-part edition known before day (bytesBefore (begun edition before day) rest) b a (up-to-next .same-number)

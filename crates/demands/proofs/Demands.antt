@@ -50,7 +50,7 @@ use Rattle.state.specs.Effects.{limit}
 use Rattle.state.specs.Asked.{Given}
 use Rattle.state.specs.Cells.{partyOf, sessionOf}
 use Rattle.state.specs.Valid.{Valid, heldOf}
-use Rattle.session.specs.Step.{refused, startRuleOf, stepOf}
+use Rattle.session.specs.Step.{refused, refusing, startRuleOf, stepOf}
 use Rattle.session.specs.Feed.{nothing, first, ended as feedEnded, feedOf, written, fedPieces, uncut}
 use Rattle.session.specs.Refusals.{RefusedTo}
 use Rattle.session.specs.Again.{Idle, SameSettings, ReadAgain}
@@ -65,12 +65,14 @@ use Rattle.log.specs.Editions.{SameButClaims as ReplaysAgree}
 use Rattle.log.proofs.Editions.{replays-agree as replay-editions, part-runs}
 use Rattle.session.proofs.Reached.{reached-valid, by-writer, back-by-writer, read-in-full, read-here}
 use Rattle.session.proofs.Refusals.{refused-word, refused-piece, stopped-for-good, stopped-piece}
+use Rattle.lessees.specs.Owning.{OwnsAll, OwnerNumber, OwnerRefused, LogNumber, Foreign}
+use Rattle.lessees.proofs.Owning.{owner-refused, reached-owns, piece-number, foreign-only, foreign-gets}
 use Rattle.session.proofs.Silent.{silent-start, as-before}
 use Rattle.session.proofs.Stored.{stored-kept, stored-number, start-reads, as-before as forgotten-answers}
 use Rattle.session.proofs.Tallies.{Tallied, tallied, counted}
 use Rattle.replay.specs.State.{Replay, newReplay}
 use Rattle.replay.specs.Step.{refused as byteRefused, isKind, afterWord}
-use Rattle.replay.specs.Report.{partAt}
+use Rattle.replay.specs.Report.{partAt, firstDay}
 use Rattle.log.specs.Asked.{Bytes8}
 use Rattle.log.specs.Bytes.{byteStep}
 use Rattle.log.specs.Feed.{ended as replayEnded, replayOf, replayPieces, recordBytes, afterWords}
@@ -114,6 +116,7 @@ use Rattle.group.specs.Group.{
   settled,
   opOf,
   jumpStep,
+  withLoops,
   slotStep,
   ended,
   groupRun,
@@ -121,13 +124,14 @@ use Rattle.group.specs.Group.{
 }
 use Rattle.group.specs.Cells as cells
 use Rattle.group.specs.Cells.{activeMask}
-use Rattle.group.specs.Causes.{Cause, Met}
+use Rattle.group.specs.Causes.{Cause}
 use Rattle.group.proofs.State.{old-answers}
-use Rattle.group.proofs.Modes.{step-shared, step-cause, cause-refuses, run-shared, run-cause}
-use Rattle.group_rooms.specs.Rooms.{BeginCrosses as GroupBegins}
+use Rattle.group.proofs.Modes.{step-shared, step-cause, cause-refuses, run-shared}
+use Rattle.group_rooms.specs.Rooms.{BeginCrosses as GroupBegins, StepCrosses, RunCrosses}
 use Rattle.loops.specs.Loops.{Opened, Looping, Repeating, turnOf, shownAL}
 use Rattle.registers.specs.Registers.{float, lessThanZero, atLeastZero, maximumOf, choiceOf, killedBy, registerAt}
 use Rattle.registers.specs.Pattern.{belowZero, notBelowZero, lessThan, maximumBits, choiceBits, noNumber, killedByBits}
+use Rattle.registers.proofs.Copying.{maximum-copies, choice-copies}
 use Rattle.registers.proofs.Order.{less-than}
 use Rattle.registers.proofs.Patterns.{below-zero, at-least-zero, less-than-zero-cases, maximum-pattern, choice-pattern, killed-pattern}
 use Rattle.kill.specs.Kill as killing
@@ -137,14 +141,16 @@ use Rattle.kill.specs.Through.{Leads, withKilled, withKilledAfter}
 use Rattle.kill.proofs.Through as through
 use Rattle.judges_group.specs.Judged.{JudgesGroup, zeroCells}
 use Rattle.judges_group.proofs.Judging.{zeros-refused}
-use Rattle.flow.specs.Looping.{opAt, integerAt, LedBy, Turning, Inside as InLoop}
-use Rattle.flow.proofs.Looping.{step-led, rep-times, loop-times, al-shown-up, al-shown-down}
+use Rattle.flow.specs.Looping.{opAt, integerAt, countAt, openOp, LedBy, Turning, Inside as InLoop, Opens, Closes, Comes, RanThrough}
+use Rattle.flow.proofs.Looping.{step-led, opened, turns-fewer, close-turn, runs-through, al-turns-up, al-turns-down}
+use Rattle.flow.specs.Plain.{AllPlain, plainRun, loopsAfter}
+use Rattle.flow.proofs.Plain.{old-run, plain-run-loops}
 use Rattle.flow.proofs.Counting.{mask-count, mask-first, mask-none}
 use Rattle.flow.specs.Cases.{oneWord, c9, c10, c11, c12}
 use Rattle.element_rooms.specs.Rooms.{WriteCrosses}
 use Rattle.picture_rooms.specs.Rooms.{copyOf, PaintCrosses}
 use Rattle.session_rooms.specs.Rooms.{WordCrosses, FeedCrosses}
-use Rattle.replay.specs.Cells.{ReplayHeld, ReplayGiven}
+use Rattle.replay.specs.Cells.{ReplayHeld, ReplayValid, ReplayGiven}
 use Rattle.log.proofs.Handed.{begun-given}
 use Rattle.log_rooms.specs.Pieces.{Arrays, replayAt, GivenAt, BeginsAt, FedAt, Pieces}
 use Rattle.log_rooms.proofs.Cut.{any-pieces, pieces-given}
@@ -152,22 +158,25 @@ use Rattle.score_rooms.specs.Rooms.{lineTold, MonthCrosses, ScoreCrosses}
 use Rattle.score_rooms.proofs.FromLog.{score-from-log}
 use Rattle.demands.specs.Calls.{Call, Untouched}
 use Rattle.demands.specs.Cases.{Agree as Cases, cases}
-use Rattle.demands.specs.Days.{added, replayed, goneOn, AtMidnight, withDay, begun}
+use Rattle.demands.specs.Days.{added, replayed, AtMidnight, withDay, begun, bytesBefore}
 use Rattle.demands.specs.Flow.{Agree, AllAgree, Made, Ran, Refused}
 use Rattle.demands.specs.Flow as flow
 use Rattle.demands.specs.Painting.{Painting, Painted}
 use Rattle.demands.specs.Rectangles.{RectanglePainted, RectangleRead}
+use Rattle.demands.specs.Partial.{FirstMet, inFull, Beside}
 use Rattle.demands.specs.Pieces.{Handed, WordRefused, InTurn, AsOne}
 use Rattle.demands.specs.Refused.{FirstRefused, Reported}
 use Rattle.demands.specs.Windows.{Fits, PairOutside, ByteShared}
 use Rattle.demands.proofs.Calls.{refused-call}
-use Rattle.demands.proofs.Days.{day-so-far, day-ended, before-first, days-stand}
+use Rattle.demands.proofs.Days.{part-0, before-midnight, day-words, days-stand}
 use Rattle.demands.proofs.Elements.{write-done}
 use Rattle.demands.specs.Editions.{FitTallies}
 use Rattle.demands.proofs.Editions.{before-line, greatest, fit-tallies}
 use Rattle.demands.proofs.Flow.{step-made, step-refused, run-walks, same-step, same-run, handed-made, begun-mode, step-mode, run-mode}
+use Rattle.demands.proofs.Owning.{log-number}
 use Rattle.demands.proofs.Painting.{every-order}
 use Rattle.demands.proofs.Rectangles.{rectangle-painted, rectangle-read}
+use Rattle.demands.proofs.Partial.{run-first-cause, first-cause-refuses, one-number, full-given, full-mode, full-group, step-beside, run-beside}
 use Rattle.demands.proofs.Pieces.{handed-reached, handed-given, word-refused, as-one}
 use Rattle.demands.proofs.Refused.{refused-place}
 use Rattle.demands.proofs.Windows.{passes, gets-eight, gets-nine}
@@ -179,14 +188,15 @@ use Rattle.conditional_rooms.specs.Rooms.{SurveyCrosses}
 use Rattle.demands.specs.Surveys.{inTurn, testAsks, surveyAsks, ByTests, Opposite, Split, SameTests}
 use Rattle.demands.proofs.Surveys.{test-called, survey-called, test-left, survey-left, by-tests, opposites-split, same-tests}
 use Rattle.refusal.specs.Told.{thenTold}
-use Rattle.lessees.specs.Pair.{Pair, Sent, side, pieceOf, joinedPair, wordsFor, alone, sentAll, PairValid}
+use Rattle.lessees.specs.Pair.{Pair, Sent, side, pieceOf, wordsFor, alone, sentAll, PairValid}
+use Rattle.lessees.specs.Life.{pairPieces, uncutSent, repliesFor, toldsFor}
+use Rattle.lessees.specs.Life as lives
 use Rattle.lessees.specs.Sight.{seen}
 use Rattle.lessees.specs.Begin.{mayBegin, newPair}
-use Rattle.lessees.specs.Rooms.{sentOf, groupsOf, PairGiven, PairFeeds, SameSight}
+use Rattle.lessees.specs.Rooms.{sentOf, groupsOf}
 use Rattle.lessees.proofs.Begun.{begun-valid}
 use Rattle.lessees.proofs.Isolation.{isolated}
-use Rattle.lessees.proofs.Host.{party0-isolated, party1-isolated}
-use Rattle.lessees.proofs.Cut.{cut as pieces-cut}
+use Rattle.lessees.proofs.Life.{same-pieces, same-replies, same-tolds, cut-anywhere as pairs-cut-anywhere}
 use Rattle.lessees.proofs.WriteBack.{party-back, party-again}
 use Rattle.lessees.proofs.Runs.{ranFor, one-party, other-untouched0, other-untouched1}
 use Rattle.state.specs.Cells.{Sized, ownLength}
@@ -195,11 +205,22 @@ use Rattle.judges.specs.Judged.{Judges, sessionBy}
 use Rattle.demands.specs.Pieces.{firstOf}
 use Rattle.demands.specs.States.{PairArrays, PairGivenAt, PairFedAt, GoesOn, SamePiece}
 use Rattle.demands.specs.States as states
+use Rattle.demands.specs.Lives.{sessionAt, Life, LookAlike, SameTo, AsOneCall, SameWord}
+use Rattle.demands.proofs.Lives.{life-isolated, word-isolated, life-given, life-as-one}
+use Rattle.demands.specs.Trims.{TrimmedAt, SameAfter, HadRoom}
+use Rattle.demands.proofs.Trims.{trimmed-goes-on, trimmed-view}
+use Rattle.trim.specs.Trim.{trimmed}
+use Rattle.trim.specs.Laws.{NotFull}
+use Rattle.trim.proofs.Kept.{trimmed-again}
+use Rattle.trim.proofs.Laws.{trim-takes, trim-any-time}
+use Rattle.trim.specs.Free.{newFree, freeOf, Years}
+use Rattle.trim.proofs.Years.{years-follow, years-scores, new-follows}
 use Rattle.demands.proofs.States.{
   session-judged,
   session-taken,
   pair-taken,
   replay-taken,
+  replay-given,
   zeros-untaken,
   session-goes-on,
   replay-goes-on,
@@ -209,9 +230,14 @@ use Rattle.fleet.specs.Fleet.{Station, stationsIn, stationAt, addUp, fleetTold,
 use Rattle.fleet.specs.Answers.{fleetNumbers}
 use Rattle.fleet.specs.Join.{sumsOf, fleetSums, behind, joined as joinedFleet}
 use Rattle.fleet.proofs.Join.{told-joined, sums-joined}
+use Rattle.growing.specs.Sums.{toldUp}
+use Rattle.growing.specs.Cells.{SumsGiven}
+use Rattle.growing.specs.Calls.{Grown, IsReport}
+use Rattle.growing.proofs.Growing.{grown-told}
+use Rattle.growing.proofs.Calls.{is-report, grown-given}
 use Rattle.fleet.proofs.Behind.{behind-told}
 use Rattle.demands.specs.Fleets.{fleetAsks, FleetSummed, FleetRefused}
-use Rattle.demands.proofs.Fleets.{report-called, report-left, report-first, report-summed}
+use Rattle.demands.proofs.Fleets.{report-called, report-left, report-first, report-summed, report-grown}
 
 -- DEMAND 1. "Every entry answers, and bad input gets the refusal number in document 01. A refused call or word changes no byte of lent
 -- memory and no setting, except that a refused command word stops the session and drops the unfinished command. Words taken before it
@@ -231,10 +257,23 @@ pub demand1-words :
     WordRefused n r own tallies shared room own' tallies' shared' room'
 demand1-words own tallies shared h = word-refused own tallies shared (handed-given h)
 
--- The same of sessions, whatever their cells: with 1 nothing at all has changed; with 2 to 9 and 17, and no other number comes, nothing
--- but the stop and the dropped command.
+-- The same of sessions, whatever their cells: with 1 nothing at all has changed; with 2 to 9, 17 and request 9's 20, and no other number
+-- comes, nothing but the stop and the dropped command.
 pub demand1-sessions : (s : Session) (w n : ℕ) → stepOf s w .reply ≡ refused n → RefusedTo s n (stepOf s w .session)
 demand1-sessions = refused-word
+
+-- 20 never comes to a party that owns every number, as the one party of a session does: its words are refused with 1, or with 2 to 9 and 17.
+pub demand1-owner :
+    (s : Session) → OwnsAll s → (w n : ℕ) → stepOf s w .reply ≡ refused n → OwnerRefused s n (stepOf s w .session)
+demand1-owner = owner-refused
+
+pub demand1-owns : {s : Session} → Reached s → OwnsAll s
+demand1-owns = reached-owns
+
+-- The first refusal of a piece is one of 2 to 9 and 17, where the session wasn't stopped before.
+pub demand1-first :
+    (s : Session) → OwnsAll s → s .party .stopped ≡ 0 → (ws : List ℕ) (n : ℕ) → feedOf s ws .refusal ≡ first n → OwnerNumber n
+demand1-first = piece-number
 
 -- Words taken before a refusal stand: a refused piece leaves what its refused word leaves of the session after the words that were
 -- taken.
@@ -458,6 +497,10 @@ pub log-first-refusal :
     replayOf r bs .replay .refused .number ≡ reported (feedOf (r .session) (wordsIn r bs) .refusal) (r .refused .number)
 log-first-refusal = first-refusal
 
+-- "Words of a log are party 0's, which there owns every number": what is reported is 0, or one of 2 to 9 and 17, and never 20.
+pub log-numbers : (edition : ℕ) (bytes : List ℕ) → LogNumber (replayed edition bytes .refused .number)
+log-numbers = log-number
+
 pub log-later-words :
     (r : Replay) (w n : ℕ) (ws : List ℕ) → stepOf (r .session) w .reply ≡ refused n → afterWords (afterWord r w) ws ≡ afterWord r w
 log-later-words = later-words
@@ -469,29 +512,27 @@ pub log-refused-place :
     Reported before n (replayed edition (before ++ (recordBytes 1 w ++ later)))
 log-refused-place = refused-place
 
--- "gives runs and claimed elements for each day; what ends before the first midnight is given apart": a part is what the words since its
--- midnight added, and once the next midnight has come it is what the words between the two added, whatever bytes come later.
+-- "what ends before the first midnight is given apart": of every log part 0 is what the words before its first midnight added (`bytesBefore` are
+-- the bytes before the one that completes that midnight's record, and all bytes where none comes).
 pub log-before-days :
-    (edition : ℕ) → isEdition edition ≡ true → (bytes : List ℕ) → replayed edition bytes .midnights ≡ 0 →
-    partAt (replayed edition bytes) 0 ≡ added (newReplay edition .session) (wordsIn (newReplay edition) bytes)
-log-before-days = before-first
+    (edition : ℕ) → isEdition edition ≡ true → (bytes : List ℕ) → Bytes8 bytes →
+    partAt (replayed edition bytes) 0 ≡ added (newReplay edition .session) (wordsIn (newReplay edition) (bytesBefore (newReplay edition) bytes))
+log-before-days = part-0
 
-pub log-day-so-far :
-    (edition : ℕ) → isEdition edition ≡ true →
-    (before : List ℕ) (day : ℕ) (during : List ℕ) → Bytes8 before → AtMidnight (replayed edition before) day →
-    goneOn (begun edition before day) during .midnights ≡ begun edition before day .midnights →
-    partAt (replayed edition (withDay before day during)) (replayed edition before .midnights + 1) ≡
-    added (replayed edition before .session) (wordsIn (begun edition before day) during)
-log-day-so-far = day-so-far
+-- In a log that is cut at its first midnight it is what the words before that midnight added, whatever bytes come later.
+pub log-before-first :
+    (edition : ℕ) → isEdition edition ≡ true → (before : List ℕ) → Bytes8 before → replayed edition before .midnights ≡ 0 →
+    (day : ℕ) → AtMidnight (replayed edition before) day → (later : List ℕ) →
+    partAt (replayed edition (withDay before day later)) 0 ≡ added (newReplay edition .session) (wordsIn (newReplay edition) before)
+log-before-first = before-midnight
 
+-- "gives runs and claimed elements for each day": a day's part is what the words from its midnight to the next one added, or to the log's end.
 pub log-day :
-    (edition : ℕ) → isEdition edition ≡ true →
-    (before : List ℕ) (day : ℕ) (during : List ℕ) → Bytes8 before → AtMidnight (replayed edition before) day →
-    goneOn (begun edition before day) during .midnights ≡ begun edition before day .midnights → Bytes8 during →
-    (next : ℕ) (later : List ℕ) → AtMidnight (goneOn (begun edition before day) during) next →
-    partAt (replayed edition ((withDay before day during ++ recordBytes 2 next) ++ later)) (replayed edition before .midnights + 1) ≡
-    added (replayed edition before .session) (wordsIn (begun edition before day) during)
-log-day = day-ended
+    (edition : ℕ) → isEdition edition ≡ true → (before : List ℕ) (day : ℕ) → Bytes8 before → AtMidnight (replayed edition before) day →
+    (rest : List ℕ) → Bytes8 rest →
+    partAt (replayed edition (withDay before day rest)) (replayed edition before .midnights + 1) ≡
+    added (replayed edition before .session) (wordsIn (begun edition before day) (bytesBefore (begun edition before day) rest))
+log-day = day-words
 
 -- Days that have ended never change, whatever bytes come.
 pub log-days-stand :
@@ -558,34 +599,62 @@ pub loops-decide :
     LedBy (turnOf (opAt p g) (integerAt p g) (g .loops)) (flowStep mode p alu predicate booleans g)
 loops-decide = step-led
 
--- A loop of count n around a body that comes back to the loop's close with the loops as they were runs the body n times: where k closes
--- have jumped and the next one stays, k + 1 is n, and the loop is gone.
-pub rep-runs :
-    (mode : Mode) (p : Program) (booleans : ℕ) (Body : Group → Group → Type 0) → InLoop p false Body →
-    (n : ℕ) (loops : List Opened) (k : ℕ) (g s c g' : Group) (alu predicate : ℕ) → 1 ≤ n → g .loops ≡ Repeating n ∷ loops →
-    Turning mode p booleans Body k g s → Body s c → flowStep mode p alu predicate booleans c ≡ Steps false g' →
-    (suc k ≡ n) × (g' .loops ≡ loops)
-rep-runs = rep-times
+-- So a run of slots whose ops are all 0 is document 01's run, whatever integer words are lent; and that run looks at no open loop: with others
+-- open it answers the same, and leaves those.
+pub loops-op-0-runs :
+    (p : Program) → AllPlain p → (booleans : ℕ) (masks : List ℕ) (g : Group) →
+    groupRun FullMode p booleans masks g ≡ plainRun (p .firsts) (p .seconds) (p .slots) booleans masks g
+loops-op-0-runs p plain booleans = old-run p plain booleans
 
-pub loop-runs :
-    (mode : Mode) (p : Program) (booleans : ℕ) (Body : Group → Group → Type 0) → InLoop p true Body →
-    (n al step : ℕ) (loops : List Opened) (k : ℕ) (g s c g' : Group) (alu predicate : ℕ) → 1 ≤ n → g .loops ≡ Looping n al step ∷ loops →
-    Turning mode p booleans Body k g s → Body s c → flowStep mode p alu predicate booleans c ≡ Steps false g' →
-    (suc k ≡ n) × (g' .loops ≡ loops)
-loop-runs = loop-times
+pub loops-op-0-blind :
+    (firsts seconds : List ℕ) (slots booleans : ℕ) (loops : List Opened) (masks : List ℕ) (g : Group) →
+    plainRun firsts seconds slots booleans masks (withLoops g loops) ≡ loopsAfter loops (plainRun firsts seconds slots booleans masks g)
+loops-op-0-blind = plain-run-loops
 
--- After k turns the aL shown is its start and k steps, as long as that is within 0 to 255; a step of 128 or more is itself less 256.
+-- "Opening: count 0 jumps; otherwise stay and push count and, for LOOP, aL and step.": so of an opening that is made, LOOP's (true) or REP's.
+pub loops-open :
+    (mode : Mode) (p : Program) (alu predicate booleans : ℕ) (loop : Bool) (o g : Group) (jump : Bool) → opAt p o ≡ openOp loop →
+    flowStep mode p alu predicate booleans o ≡ Steps jump g → Opens loop (integerAt p o) (o .loops) jump (g .loops)
+loops-open = opened
+
+-- "Closing: the count falls by one; if it is then above 0 jump, else pop and stay.": a loop of count n, opened at o, around a body that comes
+-- back to the loop's close with the loops as they were runs the body exactly n times. After k closes that jumped k is below n, so that
+-- the n-th close can't jump; and a close that is made after k that jumped jumps where k + 1 is below n, and stays where k + 1 is n, so that no
+-- earlier close can stay. Then the loops are those that were open at o.
+pub loops-turns :
+    (mode : Mode) (p : Program) (booleans : ℕ) (Body : Group → Group → Type 0) (loop : Bool) → InLoop p loop Body →
+    (alu predicate : ℕ) (o g : Group) → opAt p o ≡ openOp loop → flowStep mode p alu predicate booleans o ≡ Steps false g →
+    (k : ℕ) (s : Group) → Turning mode p booleans Body k g s → k < countAt p o
+loops-turns = turns-fewer
+
+pub loops-close :
+    (mode : Mode) (p : Program) (booleans : ℕ) (Body : Group → Group → Type 0) (loop : Bool) → InLoop p loop Body →
+    (alu predicate : ℕ) (o g : Group) → opAt p o ≡ openOp loop → flowStep mode p alu predicate booleans o ≡ Steps false g →
+    (k : ℕ) (s c g' : Group) (jump : Bool) (alu' predicate' : ℕ) → Turning mode p booleans Body k g s → Body s c →
+    flowStep mode p alu' predicate' booleans c ≡ Steps jump g' → Closes (countAt p o) (o .loops) k jump g'
+loops-close = close-turn
+
+-- So where the body comes back each time, and the closes are made, the loop ends once it has run the body count times.
+pub loops-run-through :
+    (mode : Mode) (p : Program) (booleans : ℕ) (Body : Group → Group → Type 0) (loop : Bool) → InLoop p loop Body →
+    (alu predicate : ℕ) (o g : Group) → opAt p o ≡ openOp loop → flowStep mode p alu predicate booleans o ≡ Steps false g →
+    ((k : ℕ) (s : Group) → Turning mode p booleans Body k g s → Comes mode p booleans Body s) →
+    RanThrough mode p booleans Body (countAt p o) (o .loops) g
+loops-run-through = runs-through
+
+-- After k turns the aL shown is its start and k steps, and within 0 to 255; a step of 128 or more is itself less 256.
 pub al-rises :
     (mode : Mode) (p : Program) (booleans : ℕ) (Body : Group → Group → Type 0) → InLoop p true Body →
-    (n al step : ℕ) (loops : List Opened) (k : ℕ) (g s : Group) → g .loops ≡ Looping n al step ∷ loops → Turning mode p booleans Body k g s →
-    step < 128 → k < n → al + k * step ≤ 255 → shownAL (s .loops) ≡ al + k * step
-al-rises = al-shown-up
+    (n al step : ℕ) (loops : List Opened) (k : ℕ) (g s : Group) → 1 ≤ n → al ≤ 255 → g .loops ≡ Looping n al step ∷ loops →
+    Turning mode p booleans Body k g s → step < 128 → (shownAL (s .loops) ≡ al + k * step) × (al + k * step ≤ 255)
+al-rises = al-turns-up
 
 pub al-falls :
     (mode : Mode) (p : Program) (booleans : ℕ) (Body : Group → Group → Type 0) → InLoop p true Body →
-    (n al step : ℕ) (loops : List Opened) (k : ℕ) (g s : Group) → g .loops ≡ Looping n al step ∷ loops → Turning mode p booleans Body k g s →
-    128 ≤ step → step ≤ 255 → k < n → k * (256 - step) ≤ al → shownAL (s .loops) ≡ al - k * (256 - step)
-al-falls = al-shown-down
+    (n al step : ℕ) (loops : List Opened) (k : ℕ) (g s : Group) → 1 ≤ n → g .loops ≡ Looping n al step ∷ loops →
+    Turning mode p booleans Body k g s → 128 ≤ step → step ≤ 255 →
+    (shownAL (s .loops) ≡ al - k * (256 - step)) × (k * (256 - step) ≤ al)
+al-falls = al-turns-down
 
 -- REQUEST 5, "Monthly score"
 
@@ -703,7 +772,7 @@ pub partial-run-shared :
 partial-run-shared = run-shared
 
 -- "Partial mode refuses what full mode accepts for the three causes above and no other.": where full mode makes the step, partial mode refuses it
--- with a number exactly where there is a cause of that number; and a run, where full mode's run comes to a step with a cause.
+-- with a number exactly where there is a cause of that number.
 pub partial-causes :
     (p : Program) (alu predicate booleans : ℕ) (g : Group) (n : ℕ) (jump : Bool) (g' : Group) →
     flowStep PartialMode p alu predicate booleans g ≡ Fails n → flowStep FullMode p alu predicate booleans g ≡ Steps jump g' →
@@ -716,10 +785,47 @@ pub partial-refuses :
     flowStep PartialMode p alu predicate booleans g ≡ Fails n
 partial-refuses = cause-refuses
 
+-- And a run that full mode makes: partial mode refuses it with a number exactly where the run comes to a step with a cause before the program's
+-- end, and the first such step has a cause of that number. (A step's causes have one number.)
 pub partial-run-causes :
-    (p : Program) (booleans : ℕ) (masks : List ℕ) (g g' : Group) (n k : ℕ) →
-    groupRun PartialMode p booleans masks g ≡ Breaks n → groupRun FullMode p booleans masks g ≡ Makes k g' → Met p booleans masks g n
-partial-run-causes = run-cause
+    (p : Program) (booleans : ℕ) (masks : List ℕ) (g g' : Group) (k : ℕ) → groupRun FullMode p booleans masks g ≡ Makes k g' →
+    (n : ℕ) → groupRun PartialMode p booleans masks g ≡ Breaks n → FirstMet p booleans masks g n
+partial-run-causes = run-first-cause
+
+pub partial-run-refuses :
+    (p : Program) (booleans : ℕ) (masks : List ℕ) (g g' : Group) (k : ℕ) → groupRun FullMode p booleans masks g ≡ Makes k g' →
+    (n : ℕ) → FirstMet p booleans masks g n → groupRun PartialMode p booleans masks g ≡ Breaks n
+partial-run-refuses = first-cause-refuses
+
+pub partial-one-number :
+    {p : Program} {g : Group} {alu predicate booleans n m : ℕ} → Cause p g alu predicate booleans n → Cause p g alu predicate booleans m → n ≡ m
+partial-one-number = one-number
+
+-- The same over the cells: cells in partial mode, and the same cells with the mode's cell 12 set to 0, which are such as step and run ask for
+-- and hold the same state in full mode. A step and a run on the ones beside the same on the others: with status 0 the other's status is 0,
+-- its room is the same, and its cells too but for cell 12; and where the other's status is 0, the status is n just where there is a cause of n.
+pub partial-cells : (l : List ℕ) → cells.GroupGiven l → cells.GroupGiven (inFull l)
+partial-cells = full-given
+
+pub partial-cells-mode : (l : List ℕ) → cells.GroupGiven l → cells.modeIn (inFull l) ≡ FullMode
+partial-cells-mode = full-mode
+
+pub partial-cells-group : (l : List ℕ) → cells.GroupGiven l → cells.groupOf (inFull l) ≡ cells.groupOf l
+partial-cells-group = full-group
+
+pub partial-step-cells :
+    (l : List ℕ) → cells.GroupGiven l → cells.modeIn l ≡ PartialMode → (p : Program) (booleans r r' : ℕ) (l₁ f₁ room room₁ other other₁ : List ℕ)
+    (alu predicate : ℕ) → StepCrosses (flowStep (cells.modeIn l) p alu predicate booleans (cells.groupOf l)) r l l₁ room room₁ →
+    StepCrosses (flowStep (cells.modeIn (inFull l)) p alu predicate booleans (cells.groupOf (inFull l))) r' (inFull l) f₁ other other₁ →
+    Beside (Cause p (cells.groupOf l) alu predicate booleans) r r' l₁ f₁ room₁ other₁
+partial-step-cells = step-beside
+
+pub partial-run-cells :
+    (l : List ℕ) → cells.GroupGiven l → cells.modeIn l ≡ PartialMode → (p : Program) (booleans r r' : ℕ) (l₁ f₁ room room₁ other other₁ : List ℕ)
+    (masks : List ℕ) → RunCrosses (groupRun (cells.modeIn l) p booleans masks (cells.groupOf l)) r l l₁ room room₁ →
+    RunCrosses (groupRun (cells.modeIn (inFull l)) p booleans masks (cells.groupOf (inFull l))) r' (inFull l) f₁ other other₁ →
+    Beside (FirstMet p booleans masks (cells.groupOf l)) r r' l₁ f₁ room₁ other₁
+partial-run-cells = run-beside
 
 -- REQUEST 8, "How far may a copy run?"
 
@@ -756,25 +862,46 @@ run-back = leads-back
 pub lessees-begun : (inputs outputs edition : ℕ) → mayBegin inputs outputs edition ≡ true → PairValid (newPair inputs outputs edition)
 lessees-begun = begun-valid
 
--- "Change party 1's words and their places at will: party 0's answers, settings and tallies stay the same": two calls of
--- egretfold_pair_feed from the same arrays, with the same words of party 0 among any of party 1's, leave party 0 the same own cells, tallies
--- and answers, and the same settings of those that it sees.
-pub lessees-party-0 :
-    {l0 t0 l1 t1 s fed fed' : List ℕ} {r r' : ℕ} → PairGiven l0 t0 l1 t1 s → (a pa b pb : List ℕ) →
-    length pa ≡ groupsOf (length a) → length pb ≡ groupsOf (length b) → {x0 u0 x1 u1 z feda y0 w0 y1 w1 k fedb : List ℕ} →
-    PairFeeds a pa r l0 t0 l1 t1 s fed x0 u0 x1 u1 z feda → PairFeeds b pb r' l0 t0 l1 t1 s fed' y0 w0 y1 w1 k fedb →
-    wordsFor false (sentOf a pa) ≡ wordsFor false (sentOf b pb) →
-    SameSight (partyOf l0 t0 .birth .mine) x0 u0 z (take 3 feda) y0 w0 k (take 3 fedb)
-lessees-party-0 g a pa b pb ga gb ha hb = party0-isolated g a pa b pb ga gb ha hb
+-- "Change party 1's words and their places at will: party 0's answers, settings and tallies stay the same", and the reverse, over the whole life
+-- of the arrays. `Life` has a constructor for each call: egretfold_pair_feed with a piece of both parties' words, and egretfold_session_word
+-- and egretfold_session_feed with one party's own arrays and the shared ones. From arrays of two callers that look alike to a party (its own
+-- cells and tallies are the same, and the settings of those that it sees), through any such calls in which its words are the same and in
+-- the same order, however they are cut into calls and whatever the other party's words and their places, the party is told the same in
+-- all (words taken, commands, first refusal), and the arrays still look alike to it.
+pub lessees-life :
+    (p : Bool) {a a' : PairArrays} → PairGivenAt a → PairGivenAt a' → LookAlike p a a' →
+    {ws ws' : List Sent} {told told' : Bool → List ℕ} {b b' : PairArrays} → Life a ws told b → Life a' ws' told' b' →
+    wordsFor p ws ≡ wordsFor p ws' → SameTo p told told' b b'
+lessees-life = life-isolated
 
--- And the reverse.
-pub lessees-party-1 :
-    {l0 t0 l1 t1 s fed fed' : List ℕ} {r r' : ℕ} → PairGiven l0 t0 l1 t1 s → (a pa b pb : List ℕ) →
-    length pa ≡ groupsOf (length a) → length pb ≡ groupsOf (length b) → {x0 u0 x1 u1 z feda y0 w0 y1 w1 k fedb : List ℕ} →
-    PairFeeds a pa r l0 t0 l1 t1 s fed x0 u0 x1 u1 z feda → PairFeeds b pb r' l0 t0 l1 t1 s fed' y0 w0 y1 w1 k fedb →
-    wordsFor true (sentOf a pa) ≡ wordsFor true (sentOf b pb) →
-    SameSight (partyOf l1 t1 .birth .mine) x1 u1 z (drop 3 feda) y1 w1 k (drop 3 fedb)
-lessees-party-1 g a pa b pb ga gb ha hb = party1-isolated g a pa b pb ga gb ha hb
+-- Word by word: the same word of the party has the same status, and where that is 0 the same answer in its room.
+pub lessees-word :
+    (p : Bool) {a a' : PairArrays} → PairGivenAt a → PairGivenAt a' → LookAlike p a a' →
+    (w r r' : ℕ) (own tallies shared command command₁ own' tallies' shared' command' command₁' : List ℕ) →
+    WordCrosses (stepOf (sessionAt p a) w) r own tallies shared command command₁ →
+    WordCrosses (stepOf (sessionAt p a') w) r' own' tallies' shared' command' command₁' → SameWord r r' command₁ command₁'
+lessees-word = word-isolated
+
+-- What such calls leave is what they ask for.
+pub lessees-given :
+    {a : PairArrays} {ws : List Sent} {told : Bool → List ℕ} {b : PairArrays} → PairGivenAt a → Life a ws told b → PairGivenAt b
+lessees-given = life-given
+
+-- The same of records: pairs that look alike to a party, and each of its words has the same reply, and each piece the same answer.
+pub lessees-pieces :
+    (p : Bool) (q q' : Pair) → PairValid q → PairValid q' → lives.LookAlike p q q' →
+    (ps ps' : List (List Sent)) → wordsFor p (uncutSent ps) ≡ wordsFor p (uncutSent ps') → lives.SameTo p (pairPieces q ps) (pairPieces q' ps')
+lessees-pieces = same-pieces
+
+pub lessees-replies :
+    (p : Bool) (q q' : Pair) → PairValid q → PairValid q' → lives.LookAlike p q q' →
+    (ws ws' : List Sent) → wordsFor p ws ≡ wordsFor p ws' → repliesFor p q ws ≡ repliesFor p q' ws'
+lessees-replies = same-replies
+
+pub lessees-each-piece :
+    (p : Bool) (q q' : Pair) → PairValid q → PairValid q' → lives.LookAlike p q q' →
+    (ps ps' : List (List Sent)) → map (wordsFor p) ps ≡ map (wordsFor p) ps' → toldsFor p q ps ≡ toldsFor p q' ps'
+lessees-each-piece = same-tolds
 
 -- Each party has and is told what its own words, fed by themselves to what it sees, leave and are told: so demand 2's rules are each
 -- party's.
@@ -799,9 +926,26 @@ pub lessees-read-again :
     (feedOf u (written (alone p (pieceOf q ws) .commands)))
 lessees-read-again = party-again
 
--- "Demand 2's cut rule is read over the stream of (party, word)."
-pub lessees-cut : (q : Pair) (a b : List Sent) → pieceOf q (a ++ b) ≡ joinedPair (pieceOf q a) (pieceOf (pieceOf q a .pair) b)
-lessees-cut = pieces-cut
+-- "Demand 2's cut rule is read over the stream of (party, word).": pieces cut anywhere, into any number, answer and leave what the uncut
+-- stream does.
+pub lessees-cut : (q : Pair) (ps : List (List Sent)) → pairPieces q ps ≡ pieceOf q (uncutSent ps)
+lessees-cut = pairs-cut-anywhere
+
+-- The same over the arrays: calls in any order leave the arrays, and tell each party in all, what one call of egretfold_pair_feed with all
+-- their words leaves and tells.
+pub lessees-cut-calls :
+    {a : PairArrays} {ws : List Sent} {told : Bool → List ℕ} {b : PairArrays} → PairGivenAt a → Life a ws told b →
+    (words parties : List ℕ) (r : ℕ) (fed : List ℕ) (c : PairArrays) (fed' : List ℕ) → length parties ≡ groupsOf (length words) →
+    sentOf words parties ≡ ws → PairFedAt words parties r a fed c fed' → AsOneCall told fed' b c
+lessees-cut-calls = life-as-one
+
+-- "Constant formats and the conditional buffer, mask and test belong to party 0; party 1's header setting them gets 20."; "A number one doesn't
+-- own gets 20 at its word, after 4.": 20 comes to such words, and to no other.
+pub lessees-20 : (s : Session) (w : ℕ) → stepOf s w .reply ≡ refused 20 → Foreign s w
+lessees-20 = foreign-only
+
+pub lessees-gets-20 : (s : Session) (w : ℕ) → Foreign s w → stepOf s w ≡ refusing s 20
+lessees-gets-20 = foreign-gets
 
 -- With party 0 owning all and no word of party 1, every answer is the old one.
 pub lessees-one-party :
@@ -933,6 +1077,15 @@ maximum-by-bits = maximum-pattern
 
 pub choice-by-bits : (a b third : ℕ) → third < 2 ^ 32 → choiceOf (float a) (float b) (float third) ≡ float (choiceBits a b third)
 choice-by-bits = choice-pattern
+
+-- "copying bits exactly": the maximum and the choice over bit patterns (registers::maximum_bits and choice_bits, whose contracts are
+-- `eachBits2 maximumBits` and `eachBits3 choiceBits`) are, for every pattern, one of the operands as it stands, a NaN's payload too:
+-- "maximum of A and B is A if B < A, otherwise B", and the first operand where the third is at least zero, else the second.
+pub maximum-copied : (a b : ℕ) → maximumBits a b ≡ pick (lt (float b) (float a)) a b
+maximum-copied = maximum-copies
+
+pub choice-copied : (a b third : ℕ) → third < 2 ^ 32 → choiceBits a b third ≡ pick (atLeastZero (float third)) a b
+choice-copied = choice-copies
 
 -- REQUEST 12, "Conditional output tests"
 
@@ -1076,6 +1229,28 @@ pub fleet-sums-joined :
     (n m : ℕ) (stations : ℕ → Station) → sumsOf (n + m) stations ≡ joinedFleet n (sumsOf n stations) (sumsOf m (behind n stations))
 fleet-sums-joined = sums-joined
 
+-- A report that grows: stations that are added one by one, by calls of egretfold_fleet_add, tell what the report of them all tells, refusals
+-- first, however many they are.
+pub fleet-grown : (stations : ℕ → Station) (n : ℕ) → toldUp stations n ≡ fleetTold n stations
+fleet-grown = grown-told
+
+-- The numbers in the arrays after these calls are that report's four, beside how many stations were added, and what the station named is
+-- served and owes: it owes 0 where none owes, so that 64, the report's number for none, is told from a station of that number.
+pub fleet-grown-calls : (stations : ℕ → Station) (n : ℕ) (sums : List ℕ) → Grown stations n sums → IsReport stations n sums
+fleet-grown-calls = is-report
+
+-- So where the stations are those of a call of egretfold_fleet_report that returned 0, its room has these four numbers.
+pub fleet-grown-report :
+    (edition : ℕ) (logs numbers : List ℕ) (r : ℕ) (room room' : List ℕ) →
+    Crosses (reportTold edition logs numbers (length room)) r room room' → r ≡ 0 → (sums : List ℕ) →
+    Grown (stationAt edition logs numbers) (stationsIn numbers) sums →
+    room' ≡ getD sums 1 0 ∷ getD sums 2 0 ∷ getD sums 3 0 ∷ getD sums 4 0 ∷ []
+fleet-grown-report = report-grown
+
+-- At each of these calls the numbers are such as the next one asks for; there is room for 4,294,967,296 stations.
+pub fleet-grown-given : (stations : ℕ → Station) (n : ℕ) (sums : List ℕ) → Grown stations n sums → SumsGiven sums
+fleet-grown-given = grown-given
+
 -- STATES THAT WERE KEPT ELSEWHERE, the project's own promise: "A state may be copied and kept (on disk, say) as it is". `Judges yes fact` is
 -- what egretfold_session_check, egretfold_pair_check and egretfold_log_check answer of the arrays that they are lent: a yes just where the
 -- fact holds that every entry over these arrays requires (`Given`, `PairGiven`, `ReplayGiven`).
@@ -1130,6 +1305,44 @@ pub state-pair-goes-on :
     (fed fed' : List ℕ) → PairFedAt words parties r saved room after fed → PairFedAt words parties r' back room' after' fed' →
     states.Pair saved → {yes : Bool} → Judges yes (PairGivenAt back) → GoesOn yes (SamePiece r' r after' after fed' fed)
 state-pair-goes-on = pair-goes-on
+
+-- DAYS THAT ARE FORGOTTEN. egretfold_log_trim keeps of a replay's midnights the last one only, so that 399 more may come. Whatever bytes come
+-- then, both replays answer the same, each part from that midnight on has the same runs, claims and day, and each lease line that begins on
+-- its day or later has the same score; unless the untrimmed replay, with its 400 midnights, has no room for one more.
+pub trim-goes-on :
+    {a : Arrays} → states.Replay a → 0 < replayAt a .midnights → {r : ℕ} {a' : Arrays} → TrimmedAt a r a' → (bytes : List ℕ) → Bytes8 bytes →
+    (status taken : ℕ) (e : Arrays) → FedAt (replayOf (replayAt a) bytes) status taken e → (status' taken' : ℕ) (e' : Arrays) →
+    FedAt (replayOf (replayAt a') bytes) status' taken' e' → HadRoom status e →
+    SameAfter (replayAt a .midnights) (replayAt a .lastDay) status taken e status' taken' e'
+trim-goes-on h some c = trimmed-goes-on (replay-given h) some c
+
+-- Over the years, without that "unless": a replay that is begun, fed and trimmed, in any order and for as long as its pieces are taken whole, is held
+-- against one with room for any number of midnights (`freeOf`: document 02's replay, "at most 400 come in all" left out). That one takes the
+-- same bytes, and its score by every lease line from the first day that the trimmed one has, and its parts, are those of the trimmed one.
+pub trim-years :
+    (edition : ℕ) (bytes : List ℕ) (q : Replay) → Years (newReplay edition) bytes q → 0 < q .midnights → (l : Lease) →
+    firstDay (q .midnights) (q .lastDay) ≤ l .firstDay → scoreOf l (freeOf (newFree edition) bytes .replay) ≡ scoreOf l q
+trim-years edition bytes q y some l h =
+    years-scores (freeOf (newFree edition) bytes .replay) q
+    (years-follow (newFree edition) (newReplay edition) (new-follows edition) bytes q y .1) some l h
+
+-- And in any case: what the untrimmed replay takes, the trimmed one takes.
+pub trim-takes-all :
+    (r : Replay) → ReplayValid r → 0 < r .midnights → (bytes : List ℕ) → replayOf r bytes .taken ≤ replayOf (trimmed r) bytes .taken
+trim-takes-all = trim-takes
+
+-- Trimming again changes nothing, and a replay may be trimmed at any time: before a piece and after it leaves what after it alone leaves.
+pub trim-again : (r : Replay) → trimmed (trimmed r) ≡ trimmed r
+trim-again = trimmed-again
+
+pub trim-when :
+    (r : Replay) → ReplayValid r → 0 < r .midnights → (bytes : List ℕ) → NotFull (replayOf r bytes) →
+    trimmed (replayOf (trimmed r) bytes .replay) ≡ trimmed (replayOf r bytes .replay)
+trim-when = trim-any-time
+
+-- What trimming leaves is judged yes (`states.Replay` has a constructor for it), and is the trimmed replay, cell by cell.
+pub trim-cells : {a : Arrays} → states.Replay a → {r : ℕ} {a' : Arrays} → TrimmedAt a r a' → replayAt a' ≡ trimmed (replayAt a)
+trim-cells h c = trimmed-view (replay-given h) c
 
 -- THE WORKED CASES
 

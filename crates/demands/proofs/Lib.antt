@@ -5,11 +5,15 @@ pub mod Editions
 pub mod Elements
 pub mod Fleets
 pub mod Flow
+pub mod Lives
 pub mod Numbers
+pub mod Owning
 pub mod Painting
+pub mod Partial
 pub mod Pieces
 pub mod Rectangles
 pub mod Refused
 pub mod States
 pub mod Surveys
+pub mod Trims
 pub mod Windows

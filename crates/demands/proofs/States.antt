@@ -39,6 +39,7 @@ use Rattle.demands.specs.Pieces.{firstOf, InTurn, andThen, AsOne}
 use Rattle.demands.specs.States.{PairArrays, PairGivenAt, PairFedAt, GoesOn, SamePiece}
 use Rattle.demands.specs.States as states
 use Rattle.demands.proofs.Pieces.{as-one}
+use Rattle.demands.proofs.Trims.{trimmed-given}
 
 -- the test of a session is what the entries ask
 pub session-judged : {o t s : List ℕ} → Sized o t s → Judges (sessionBy (sessionOf o t s)) (Given o t s)
@@ -96,7 +97,7 @@ module _ {o t s : List ℕ} (h : states.Session o t s) (before : List ℕ) (r ta
 module _ {a a' : PairArrays} (e : PairUntouched (a .own0) (a .tallies0) (a .own1) (a .tallies1) (a .shared) (a' .own0) (a' .tallies0) (a' .own1)
     (a' .tallies1) (a' .shared))
   where
-    untouched-same : a' ≡ a
+    pub untouched-same : a' ≡ a
     untouched-same =
         λ i.
         record {
@@ -177,6 +178,7 @@ replay-given (states.begun edition known r b a h) = begun-given edition known (h
 replay-given (states.checked a j) = j .sound refl
 replay-given (states.byte h b r a small c) = byte-given (replay-given h) b r small c
 replay-given (states.piece h bytes r taken a small c) = piece-given (replay-given h) bytes small (c .held)
+replay-given (states.trim h r a c) = trimmed-given (replay-given h) c
 
 pub replay-taken : {a : Arrays} → states.Replay a → {yes : Bool} → Judges yes (GivenAt a) → yes ≡ true
 replay-taken h j = j .complete (replay-given h)

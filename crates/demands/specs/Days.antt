@@ -1,13 +1,16 @@
 -- Request 1's days in words of a log's bytes: what the words of a stretch add, and a log cut at its midnights. Assumes nothing.
 use mathlib.Core.Path.{_≡_}
 use mathlib.Core.Bool.{true}
-use mathlib.Core.List.{List, _++_}
+use mathlib.Core.List.{List, [], _∷_, _++_}
 use Prim.Native.Nat.{ℕ, _<_}
+use lib.Dec.{eqb}
+use Rattle.laws.specs.Choice.{pick}
 use Rattle.state.specs.State.{Tally, Session}
 use Rattle.session.specs.Feed.{feedOf}
 use Rattle.session.specs.Tallies.{runsOf, claimsOf}
 use Rattle.replay.specs.State.{Replay, newReplay, noRecord}
 use Rattle.replay.specs.Step.{mayBegin, afterMidnight}
+use Rattle.log.specs.Bytes.{byteStep}
 use Rattle.log.specs.Feed.{replayOf, recordBytes}
 
 -- what words add to a session's tallies: the starts among the commands that they complete, and what these claim by its edition
@@ -39,3 +42,9 @@ withDay before day during = before ++ (recordBytes 2 day ++ during)
 -- the replay at the beginning of the day, and after it
 abbrev pub begun : ℕ → List ℕ → ℕ → Replay
 begun edition before day = afterMidnight (replayed edition before) day
+
+-- the bytes of a log before the one that completes its next midnight; all of them where none comes
+unfoldable pub bytesBefore : Replay → List ℕ → List ℕ
+bytesBefore r [] = []
+bytesBefore r (b ∷ bs) =
+    pick (eqb (byteStep r b .replay .midnights) (r .midnights)) (b ∷ bytesBefore (byteStep r b .replay) bs) []

@@ -4,10 +4,13 @@ pub mod Days
 pub mod Editions
 pub mod Fleets
 pub mod Flow
+pub mod Lives
 pub mod Painting
+pub mod Partial
 pub mod Pieces
 pub mod Rectangles
 pub mod Refused
 pub mod States
 pub mod Surveys
+pub mod Trims
 pub mod Windows

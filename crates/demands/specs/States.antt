@@ -17,6 +17,7 @@ use Rattle.log.specs.Asked.{Bytes8}
 use Rattle.log.specs.Feed.{replayOf}
 use Rattle.log_rooms.specs.Pieces.{Arrays, replayAt, GivenAt, BeginsAt, FedAt, ByteAt}
 use Rattle.judges.specs.Judged.{Judges}
+use Rattle.demands.specs.Trims.{TrimmedAt}
 
 -- a session's arrays
 pub data Session : List ℕ → List ℕ → List ℕ → Type 0 where
@@ -75,6 +76,8 @@ pub data Replay : Arrays → Type 0 where
   -- egretfold_log_feed
   piece : {a : Arrays} → Replay a → (bytes : List ℕ) (r taken : ℕ) (a' : Arrays) → Bytes8 bytes →
       FedAt (replayOf (replayAt a) bytes) r taken a' → Replay a'
+  -- egretfold_log_trim
+  trim : {a : Arrays} → Replay a → (r : ℕ) (a' : Arrays) → TrimmedAt a r a' → Replay a'
 
 -- a state that was saved and read back is taken, and goes on as the one that was saved
 pub record GoesOn (yes : Bool) (same : Type 0) : Type 0 where

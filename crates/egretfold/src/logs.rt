@@ -1,16 +1,20 @@
 // A station's log: bytes in pieces of any length, and what their replay reports. A replay's five arrays are as
 // `egretfold_log_begin`, `egretfold_log_byte` and `egretfold_log_feed` left them; the last three are its session's.
 use log::stream;
+ghost use mathlib.Core.Path.{_≡_};
 ghost use mathlib.Core.List.{[], _∷_};
+ghost use lib.ListN.{length};
 ghost use Rattle.state.specs.State.{newSession};
 ghost use Rattle.log.specs.Asked.{Begins, ByteLeft};
 ghost use Rattle.log.specs.Feed.{replayOf};
+ghost use Rattle.replay.specs.Places.{logLength};
 ghost use Rattle.replay.specs.Report.{partOf};
 ghost use Rattle.replay.specs.Cells.{ReplayGiven, replayIn, viewed};
 ghost use Rattle.days.specs.Reported.{midnightsIn, nowIn, standingOf};
 ghost use Rattle.refusal.specs.Crossing.{Shows};
 ghost use Rattle.setting_rooms.specs.Rooms.{tallyNumbers};
 ghost use Rattle.log_rooms.specs.Rooms.{FeedCrosses, standingNumbers};
+ghost use Rattle.trim.specs.Left.{TrimCrosses};
 
 // A replay that has read nothing, over a new session of an edition; 3.
 #[no_mangle]
@@ -84,4 +88,17 @@ pub extern "C" fn egretfold_log_part(
     ensures { λ r. ⌜ Shows (tallyNumbers (partOf (now (marks .entry)) (midnightsIn (now (log .entry))) (nowIn (now (tallies .entry))) part)) r (now (counts .exit)) ⌝ }
 {
     log_rooms::part(log, marks, tallies, part, counts)
+}
+
+// Forgets all midnights but the last, so that 399 more may come: what was before it can no longer be reported, and all from its day on
+// is as before. 0 in any case.
+#[no_mangle]
+pub extern "C" fn egretfold_log_trim(
+    log: &mut [u32; replay::LOG_CELLS],
+    marks: &mut [u64; replay::MARKS],
+) -> u32
+    requires { ⌜ length (now log) ≡ logLength ⌝ }
+    ensures { λ r. ⌜ TrimCrosses (now (log .entry)) (now (marks .entry)) r (now (log .exit)) (now (marks .exit)) ⌝ }
+{
+    trim::cross(log, marks)
 }

@@ -1,5 +1,5 @@
 // States that were kept elsewhere, on disk say: whether the arrays are such as the entries take and leave. A yes is just what the
-// functions on a session, on two parties, on a replay and on a group require of these arrays; nothing is written.
+// functions on a session, on two parties, on a replay, on a group and on a growing report require of these arrays; nothing is written.
 ghost use mathlib.Core.Path.{_≡_};
 ghost use lib.ListN.{length};
 ghost use Rattle.group.specs.Cells.{cellCount};
@@ -10,6 +10,7 @@ ghost use Rattle.replay.specs.Cells.{ReplayGiven};
 ghost use Rattle.log.specs.Asked.{ReplaySized};
 ghost use Rattle.judges.specs.Judged.{Judges};
 ghost use Rattle.judges_group.specs.Judged.{JudgesGroup};
+ghost use Rattle.growing.specs.Cells.{SumsGiven};
 
 // Whether the arrays hold a session.
 #[no_mangle]
@@ -61,4 +62,13 @@ pub extern "C" fn egretfold_group_check(cells: &[u32; group::CELLS]) -> bool
     ensures { λ r. ⌜ JudgesGroup (now (cells .entry)) r ⌝ }
 {
     judges_group::is_group(cells)
+}
+
+// Whether the numbers are a growing report's.
+#[no_mangle]
+pub extern "C" fn egretfold_fleet_check(sums: &[u64; growing::SUMS]) -> bool
+    requires { ⌜ length (now sums) ≡ 7 ⌝ }
+    ensures { λ r. ⌜ Judges r (SumsGiven (now (sums .entry))) ⌝ }
+{
+    growing::is_kept(sums)
 }

@@ -50,14 +50,18 @@ added fleet number served owed silent =
       part = partNext (fleet .part) number served owed;
     }
 
+-- how many stations 64 bits have room for beside one more
+abbrev pub mostAdded : ℕ
+mostAdded = 4294967295
+
 -- room in 64 bits for one station more, and for the products
 pub record AddAsked (fleet : Fleet) (served owed silent : ℕ) : Type 0 where
   pub served-month : served ≤ mostMonth
   pub owed-month : owed ≤ mostMonth
   pub silent-month : silent ≤ 31
-  pub served-most : fleet .served ≤ 63 * mostMonth
-  pub owed-most : fleet .owed ≤ 63 * mostMonth
-  pub silent-most : fleet .silent ≤ 63 * 31
+  pub served-most : fleet .served ≤ mostAdded * mostMonth
+  pub owed-most : fleet .owed ≤ mostAdded * mostMonth
+  pub silent-most : fleet .silent ≤ mostAdded * 31
   pub part-served : fleet .part .served ≤ mostMonth
   pub part-owed : fleet .part .owed ≤ mostMonth
 

@@ -53,7 +53,7 @@ fn silent_days(served: &[u64; score::DAYS], days: u32, owed: u32) -> u64
 }
 
 // The month of a replay.
-fn summed(
+pub fn summed(
     log: &[u32; replay::LOG_CELLS],
     marks: &[u64; replay::MARKS],
     tallies: &[u64; state::TALLIES],

@@ -4,4 +4,5 @@ pub mod Counting
 pub mod Given
 pub mod Loading
 pub mod Looping
+pub mod Plain
 pub mod Running

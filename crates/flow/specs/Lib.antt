@@ -1,4 +1,5 @@
 pub mod Answers
 pub mod Cases
 pub mod Looping
+pub mod Plain
 pub mod Store

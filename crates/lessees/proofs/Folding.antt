@@ -133,7 +133,7 @@ pub commands-most : (s : Session) (ws : List ℕ) {r : stream.Fed} {l t c : List
 commands-most s ws h = omega (arith, few s ws .commands, h .commands)
 
 -- the earlier refusal by its number
-earlier-number : (a b : First) → Told a → earlierNumber (firstStatus a) (firstStatus b) ≡ firstStatus (earlier a b)
+pub earlier-number : (a b : First) → Told a → earlierNumber (firstStatus a) (firstStatus b) ≡ firstStatus (earlier a b)
 unfolding earlierNumber
 earlier-number nothing b t = pick-yes _ _ refl
 earlier-number (first n) b t = pick-no _ _ (ne-eqb n 0 (λ (e : n ≡ 0). let k : 0 < n = t n refl in omega arith))

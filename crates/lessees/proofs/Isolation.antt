@@ -99,15 +99,15 @@ module _ (q : Pair) (v : PairValid q) where
       }
 
   -- what the other party sees after a word: as before
-  unmoved : (b : Bool) (w : ℕ) → seen (side (not b) (putBack b (stepOf (side b q) w .session) q)) ≡ seen (side (not b) q)
+  pub unmoved : (b : Bool) (w : ℕ) → seen (side (not b) (putBack b (stepOf (side b q) w .session) q)) ≡ seen (side (not b) q)
   unmoved false w = λ i. record { party = q .party1; shared = hidden-step (side false q) w (v .valid0) (q .party1 .birth .mine) (v .apart01) i }
   unmoved true w = λ i. record { party = q .party0; shared = hidden-step (side true q) w (v .valid1) (q .party0 .birth .mine) (v .apart10) i }
 
-  own-side : (b : Bool) (w : ℕ) → side b (putBack b (stepOf (side b q) w .session) q) ≡ stepOf (side b q) w .session
+  pub own-side : (b : Bool) (w : ℕ) → side b (putBack b (stepOf (side b q) w .session) q) ≡ stepOf (side b q) w .session
   own-side false w = refl
   own-side true w = refl
 
-  side-valid : (b : Bool) → Valid (side b q)
+  pub side-valid : (b : Bool) → Valid (side b q)
   side-valid false = v .valid0
   side-valid true = v .valid1
 

@@ -4,7 +4,9 @@ pub mod Cut
 pub mod Folding
 pub mod Host
 pub mod Isolation
+pub mod Life
 pub mod Lawful
+pub mod Owning
 pub mod Runs
 pub mod Sight
 pub mod Steps

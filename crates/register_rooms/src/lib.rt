@@ -4,6 +4,7 @@ use kill::Killed;
 use registers::Register;
 ghost use mathlib.Core.Path.{_≡_};
 ghost use Rattle.registers.specs.Registers.{maximumOf, choiceOf, eachOf2, eachOf3, registerAt, channelsOf};
+ghost use Rattle.registers.specs.Pattern.{maximumBits, choiceBits, eachBits2, eachBits3};
 ghost use Rattle.group.specs.Cells.{groupOf, GroupGiven};
 ghost use Rattle.kill.specs.Kill.{killOf};
 ghost use Rattle.register_rooms.specs.Rooms.{KillCrosses};
@@ -63,4 +64,27 @@ pub fn choice(
 {
     let chosen = registers::choice(register_of(a), register_of(b), register_of(third));
     *room = [chosen.c0, chosen.c1, chosen.c2, chosen.c3];
+}
+
+// The maximum of two registers of bit patterns, channel by channel: each answer is one of the operands' patterns, a NaN's too.
+pub fn maximum_bits(
+    a: &[u32; registers::CHANNELS],
+    b: &[u32; registers::CHANNELS],
+    room: &mut [u32; registers::CHANNELS],
+)
+    ensures { λ r. ⌜ now (room .exit) ≡ eachBits2 maximumBits (now (a .entry)) (now (b .entry)) ⌝ }
+{
+    *room = registers::maximum_bits(a, b);
+}
+
+// The choice between two registers of bit patterns by a third one, channel by channel.
+pub fn choice_bits(
+    a: &[u32; registers::CHANNELS],
+    b: &[u32; registers::CHANNELS],
+    third: &[u32; registers::CHANNELS],
+    room: &mut [u32; registers::CHANNELS],
+)
+    ensures { λ r. ⌜ now (room .exit) ≡ eachBits3 choiceBits (now (a .entry)) (now (b .entry)) (now (third .entry)) ⌝ }
+{
+    *room = registers::choice_bits(a, b, third);
 }

@@ -1,3 +1,4 @@
+pub mod Copying
 pub mod Killing
 pub mod Magnitudes
 pub mod Order

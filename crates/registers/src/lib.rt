@@ -8,6 +8,7 @@ ghost use lib.ListN.{length};
 ghost use Rattle.laws.specs.Choice.{_and_};
 ghost use Rattle.laws.specs.Masks.{digit};
 ghost use Rattle.registers.specs.Registers.{lessThanZero, killedBy, maximumOf, choiceOf, eachOf2, eachOf3, channelCount, mostChannels, unmasked, maskedAt, killMask};
+ghost use Rattle.registers.specs.Pattern.{isNumber, notBelowZero, lessThan, maximumBits, choiceBits, eachBits2, eachBits3};
 
 // "a register of four f32 channels"
 pub struct Register {
@@ -118,4 +119,80 @@ pub fn kill_mask(registers: &[f32], mask: u32) -> u32
         found = found * 2 + bit_of(kills(masked_at(registers, i, mask)));
     }
     found
+}
+
+// The sign bit of a pattern, and infinity's: without its sign bit a greater pattern is a NaN.
+const SIGN: u32 = 0x80000000;
+
+const INFINITY: u32 = 0x7F800000;
+
+// Whether a bit pattern is a number's, and no NaN's.
+fn is_number(bits: u32) -> bool
+    ensures { λ r. ⌜ r ≡ isNumber bits ⌝ }
+{
+    bits % SIGN <= INFINITY
+}
+
+// Whether one pattern's float is less than another's. A NaN is compared with nothing: there is no float made of its pattern.
+fn is_less(a: u32, b: u32) -> bool
+    ensures { λ r. ⌜ r ≡ lessThan a b ⌝ }
+{
+    if is_number(a) {
+        if is_number(b) {
+            return f32::from_bits(a) < f32::from_bits(b);
+        }
+    }
+    false
+}
+
+// Whether a pattern's float is at least zero.
+fn is_at_least_zero(bits: u32) -> bool
+    ensures { λ r. ⌜ r ≡ notBelowZero bits ⌝ }
+{
+    if is_number(bits) {
+        return f32::from_bits(bits) >= 0.0;
+    }
+    false
+}
+
+// The larger of two channels by their patterns: `a`, bit for bit, where `b < a`, otherwise `b`. A NaN's payload is copied too.
+fn larger_bits(a: u32, b: u32) -> u32
+    ensures { λ r. ⌜ r ≡ maximumBits a b ⌝ }
+{
+    if is_less(b, a) { a } else { b }
+}
+
+// One of two channels by their patterns: `a`, bit for bit, where the third is at least zero, otherwise `b`.
+fn chosen_bits(a: u32, b: u32, third: u32) -> u32
+    ensures { λ r. ⌜ r ≡ choiceBits a b third ⌝ }
+{
+    if is_at_least_zero(third) { a } else { b }
+}
+
+// The maximum of two registers of bit patterns, channel by channel.
+pub fn maximum_bits(a: &[u32; CHANNELS], b: &[u32; CHANNELS]) -> [u32; CHANNELS]
+    ensures { λ r. ⌜ r ≡ eachBits2 maximumBits (now (a .entry)) (now (b .entry)) ⌝ }
+{
+    [
+        larger_bits(a[0], b[0]),
+        larger_bits(a[1], b[1]),
+        larger_bits(a[2], b[2]),
+        larger_bits(a[3], b[3]),
+    ]
+}
+
+// The choice between two registers of bit patterns by a third one, channel by channel.
+pub fn choice_bits(
+    a: &[u32; CHANNELS],
+    b: &[u32; CHANNELS],
+    third: &[u32; CHANNELS],
+) -> [u32; CHANNELS]
+    ensures { λ r. ⌜ r ≡ eachBits3 choiceBits (now (a .entry)) (now (b .entry)) (now (third .entry)) ⌝ }
+{
+    [
+        chosen_bits(a[0], b[0], third[0]),
+        chosen_bits(a[1], b[1], third[1]),
+        chosen_bits(a[2], b[2], third[2]),
+        chosen_bits(a[3], b[3], third[3]),
+    ]
 }

@@ -1,0 +1,33 @@
+-- Request 7: the first cause that a run meets, and partial mode beside full mode over a group's cells. Assumes nothing.
+use mathlib.Core.Path.{_≡_}
+use mathlib.Core.Bool.{Bool, false}
+use mathlib.Core.List.{List, _∷_}
+use Prim.Native.Nat.{ℕ, _≤_}
+use lib.ListN.{set}
+use Rattle.group.specs.Modes.{Full}
+use Rattle.group.specs.Group.{Group, Steps, Program, ended, groupStep}
+use Rattle.group.specs.Causes.{Cause}
+
+-- a run of full mode comes to a step with a cause, before the program's end, and no step before it has one
+pub data FirstMet (program : Program) (booleans : ℕ) : List ℕ → Group → ℕ → Type 0 where
+  here :
+      (alu predicate : ℕ) (masks : List ℕ) (g : Group) (n : ℕ) → ended program g ≡ false → Cause program g alu predicate booleans n →
+      FirstMet program booleans (alu ∷ (predicate ∷ masks)) g n
+  later :
+      (alu predicate : ℕ) (masks : List ℕ) (g g' : Group) (jump : Bool) (n : ℕ) → ended program g ≡ false →
+      ((m : ℕ) → Cause program g alu predicate booleans m → ⊥) → groupStep Full program alu predicate booleans g ≡ Steps jump g' →
+      FirstMet program booleans masks g' n → FirstMet program booleans (alu ∷ (predicate ∷ masks)) g n
+
+-- the same cells in full mode: cell 12 is 0
+abbrev pub inFull : List ℕ → List ℕ
+inFull cells = set cells 12 0
+
+-- a call on cells in partial mode, with its status, and the same call on the same cells in full mode
+pub record Beside (Caused : ℕ → Type 0) (status status' : ℕ) (cells cells' room room' : List ℕ) : Type 0 where
+  -- "whatever partial mode accepts, full mode answers identically, the mode aside"
+  pub accepted : status ≡ 0 → status' ≡ 0
+  pub cells-same : status ≡ 0 → cells' ≡ inFull cells
+  pub room-same : status ≡ 0 → room' ≡ room
+  -- "Partial mode refuses what full mode accepts for the three causes above and no other"
+  pub caused : status' ≡ 0 → (n : ℕ) → 1 ≤ n → status ≡ n → Caused n
+  pub causes : status' ≡ 0 → (n : ℕ) → Caused n → status ≡ n

@@ -1,0 +1,4 @@
+pub mod Adding
+pub mod Calls
+pub mod Growing
+pub mod Judging

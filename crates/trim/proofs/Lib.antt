@@ -1,0 +1,7 @@
+pub mod Alike
+pub mod Cells
+pub mod Kept
+pub mod Laws
+pub mod Parts
+pub mod Scores
+pub mod Years

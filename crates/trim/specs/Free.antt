@@ -1,0 +1,93 @@
+-- A replay with room for any number of midnights: document 02's, "at most 400 come in all" left out. It is what a replay that is trimmed
+-- from time to time is held against over the years. Assumes nothing.
+use mathlib.Core.Path.{_≡_}
+use mathlib.Core.Bool.{true}
+use mathlib.Core.List.{List, [], _∷_, _++_}
+use Prim.Native.Nat.{ℕ, _+_, _*_, _≤_, _<_}
+use lib.Dec.{eqb, ltb}
+use lib.ListN.{length}
+use Rattle.laws.specs.Choice.{pick}
+use Rattle.session.specs.Feed.{nothing, first}
+use Rattle.replay.specs.State.{Replay, noRecord, newReplay, mostMidnights, marksLength}
+use Rattle.replay.specs.Step.{refused, Stepped, opening, stopping, taking, kindStep, withByte, numberFrom, afterWord}
+use Rattle.replay.specs.Report.{markAt}
+use Rattle.log.specs.Feed.{Fed, ended, proceed, replayOf}
+use Rattle.trim.specs.Trim.{cutBefore, trimmed}
+
+-- one that has read nothing
+abbrev pub newFree : ℕ → Replay
+newFree edition =
+    record {
+      session = newReplay edition .session;
+      opened = noRecord;
+      stoppedBy = 0;
+      refused = record { number = 0; midnights = 0 };
+      midnights = 0;
+      lastDay = 0;
+      marks = [];
+    }
+
+-- the marks are as many as the midnights
+abbrev pub freeAfter : Replay → ℕ → Replay
+freeAfter r day =
+    record {
+      session = r .session;
+      opened = noRecord;
+      stoppedBy = r .stoppedBy;
+      refused = r .refused;
+      midnights = r .midnights + 1;
+      lastDay = day;
+      marks = r .marks ++ (r .session .party .tally .runs ∷ r .session .party .tally .claims ∷ []);
+    }
+
+unfoldable pub freeMidnight : Replay → ℕ → Stepped
+freeMidnight r day = pick (pick (eqb (r .midnights) 0) true (eqb day (r .lastDay + 1))) (taking (freeAfter r day)) (stopping r 19)
+
+-- all else is as it was
+unfoldable pub freeRecord : ℕ → Replay → ℕ → Stepped
+freeRecord kind r number = pick (eqb kind 1) (taking (afterWord r number)) (freeMidnight r number)
+
+unfoldable pub freeOpen : Replay → ℕ → Stepped
+freeOpen r b =
+    let o = r .opened in
+    pick (ltb (o .count) 4) (taking (opening (withByte o b) r))
+    (freeRecord (o .kind) r (numberFrom (o .low) (o .second) (o .third) b))
+
+unfoldable pub freeByte : Replay → ℕ → Stepped
+freeByte r b =
+    pick (eqb (r .stoppedBy) 0) (pick (eqb (r .opened .count) 0) (kindStep r b) (freeOpen r b))
+    (record { reply = refused (r .stoppedBy); replay = r })
+
+unfoldable pub freeOf : Replay → List ℕ → Fed
+freeOf r [] = ended nothing r
+freeOf r (b ∷ bs) = proceed (freeByte r b .reply) (freeByte r b .replay) (freeOf (freeByte r b .replay) bs)
+
+-- `q`, with room for 400 midnights, is the free replay `r` without its first `cut` midnights
+pub record Follows (cut : ℕ) (r q : Replay) : Type 0 where
+  pub session : r .session ≡ q .session
+  pub opened : r .opened ≡ q .opened
+  pub stopped-by : r .stoppedBy ≡ q .stoppedBy
+  pub refused : cutBefore cut (r .refused) ≡ q .refused
+  pub midnights : r .midnights ≡ cut + q .midnights
+  pub some : 0 < cut → 0 < q .midnights
+  pub most : q .midnights ≤ mostMidnights
+  pub last-day : r .lastDay ≡ q .lastDay
+  pub days-number : q .midnights ≤ q .lastDay + 1
+  pub long-room : length (r .marks) ≡ 2 * r .midnights
+  pub room : length (q .marks) ≡ marksLength
+  pub marks : (k : ℕ) → k < q .midnights → markAt (r .marks) (cut + k) ≡ markAt (q .marks) k
+
+pub data Behind (r q : Replay) : Type 0 where
+  by : (cut : ℕ) → Follows cut r q → Behind r q
+
+-- answers to a piece: the same; or the one with room for 400 is full
+pub data Keeps (cut : ℕ) (f g : Fed) : Type 0 where
+  same : f .taken ≡ g .taken → f .refusal ≡ g .refusal → Follows cut (f .replay) (g .replay) → Keeps cut f g
+  full : g .refusal ≡ first 19 → g .replay .midnights ≡ mostMidnights → g .taken < f .taken → Keeps cut f g
+
+-- pieces that were taken whole, and trims between them, in any order: all the bytes, and the replay that they leave
+pub data Years (q0 : Replay) : List ℕ → Replay → Type 0 where
+  begun : Years q0 [] q0
+  fed : (bytes : List ℕ) (q : Replay) → Years q0 bytes q → (p : List ℕ) → replayOf q p .refusal ≡ nothing →
+      Years q0 (bytes ++ p) (replayOf q p .replay)
+  trim : (bytes : List ℕ) (q : Replay) → Years q0 bytes q → Years q0 bytes (trimmed q)
