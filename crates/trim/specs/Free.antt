@@ -1,12 +1,12 @@
 -- A replay with room for any number of midnights: document 02's, "at most 400 come in all" left out. It is what a replay that is trimmed
 -- from time to time is held against over the years. Assumes nothing.
 use mathlib.Core.Path.{_≡_}
-use mathlib.Core.Bool.{true}
+use mathlib.Core.Bool.{Bool, true}
 use mathlib.Core.List.{List, [], _∷_, _++_}
 use Prim.Native.Nat.{ℕ, _+_, _*_, _≤_, _<_}
 use lib.Dec.{eqb, ltb}
 use lib.ListN.{length}
-use Rattle.laws.specs.Choice.{pick}
+use Rattle.laws.specs.Choice.{_and_, pick}
 use Rattle.session.specs.Feed.{nothing, first}
 use Rattle.replay.specs.State.{Replay, noRecord, newReplay, mostMidnights, marksLength}
 use Rattle.replay.specs.Step.{refused, Stepped, opening, stopping, taking, kindStep, withByte, numberFrom, afterWord}
@@ -28,8 +28,8 @@ newFree edition =
     }
 
 -- the marks are as many as the midnights
-abbrev pub freeAfter : Replay → ℕ → Replay
-freeAfter r day =
+abbrev pub roomyAfter : Replay → ℕ → Replay
+roomyAfter r day =
     record {
       session = r .session;
       opened = noRecord;
@@ -40,27 +40,40 @@ freeAfter r day =
       marks = r .marks ++ (r .session .party .tally .runs ∷ r .session .party .tally .claims ∷ []);
     }
 
-unfoldable pub freeMidnight : Replay → ℕ → Stepped
-freeMidnight r day = pick (pick (eqb (r .midnights) 0) true (eqb day (r .lastDay + 1))) (taking (freeAfter r day)) (stopping r 19)
+-- "The first midnight may name any day; each later one is one more than the last", where `room`, asked how many have come, says yes
+unfoldable pub roomyMidnight : (ℕ → Bool) → Replay → ℕ → Stepped
+roomyMidnight room r day =
+    pick (room (r .midnights) and pick (eqb (r .midnights) 0) true (eqb day (r .lastDay + 1))) (taking (roomyAfter r day)) (stopping r 19)
 
 -- all else is as it was
-unfoldable pub freeRecord : ℕ → Replay → ℕ → Stepped
-freeRecord kind r number = pick (eqb kind 1) (taking (afterWord r number)) (freeMidnight r number)
+unfoldable pub roomyRecord : (ℕ → Bool) → ℕ → Replay → ℕ → Stepped
+roomyRecord room kind r number = pick (eqb kind 1) (taking (afterWord r number)) (roomyMidnight room r number)
 
-unfoldable pub freeOpen : Replay → ℕ → Stepped
-freeOpen r b =
+unfoldable pub roomyOpen : (ℕ → Bool) → Replay → ℕ → Stepped
+roomyOpen room r b =
     let o = r .opened in
     pick (ltb (o .count) 4) (taking (opening (withByte o b) r))
-    (freeRecord (o .kind) r (numberFrom (o .low) (o .second) (o .third) b))
+    (roomyRecord room (o .kind) r (numberFrom (o .low) (o .second) (o .third) b))
 
-unfoldable pub freeByte : Replay → ℕ → Stepped
-freeByte r b =
-    pick (eqb (r .stoppedBy) 0) (pick (eqb (r .opened .count) 0) (kindStep r b) (freeOpen r b))
+unfoldable pub roomyByte : (ℕ → Bool) → Replay → ℕ → Stepped
+roomyByte room r b =
+    pick (eqb (r .stoppedBy) 0) (pick (eqb (r .opened .count) 0) (kindStep r b) (roomyOpen room r b))
     (record { reply = refused (r .stoppedBy); replay = r })
 
-unfoldable pub freeOf : Replay → List ℕ → Fed
-freeOf r [] = ended nothing r
-freeOf r (b ∷ bs) = proceed (freeByte r b .reply) (freeByte r b .replay) (freeOf (freeByte r b .replay) bs)
+unfoldable pub roomyOf : (ℕ → Bool) → Replay → List ℕ → Fed
+roomyOf room r [] = ended nothing r
+roomyOf room r (b ∷ bs) = proceed (roomyByte room r b .reply) (roomyByte room r b .replay) (roomyOf room (roomyByte room r b .replay) bs)
+
+-- room for so many midnights in all, and for any number
+abbrev pub fewerThan : ℕ → ℕ → Bool
+fewerThan most midnights = ltb midnights most
+
+abbrev pub anyNumber : ℕ → Bool
+anyNumber midnights = true
+
+-- "at most 400 come in all" left out
+abbrev pub freeOf : Replay → List ℕ → Fed
+freeOf = roomyOf anyNumber
 
 -- `q`, with room for 400 midnights, is the free replay `r` without its first `cut` midnights
 pub record Follows (cut : ℕ) (r q : Replay) : Type 0 where
