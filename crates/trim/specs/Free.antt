@@ -3,16 +3,19 @@
 use mathlib.Core.Path.{_≡_}
 use mathlib.Core.Bool.{Bool, true}
 use mathlib.Core.List.{List, [], _∷_, _++_}
-use Prim.Native.Nat.{ℕ, _+_, _*_, _≤_, _<_}
+use Prim.Native.Nat.{ℕ, _+_, _-_, _*_, _≤_, _<_}
 use lib.Dec.{eqb, ltb}
 use lib.ListN.{length}
 use Rattle.laws.specs.Choice.{_and_, pick}
 use Rattle.session.specs.Feed.{nothing, first}
 use Rattle.replay.specs.State.{Replay, noRecord, newReplay, mostMidnights, marksLength}
 use Rattle.replay.specs.Step.{refused, Stepped, opening, stopping, taking, kindStep, withByte, numberFrom, afterWord}
-use Rattle.replay.specs.Report.{markAt}
+use Rattle.replay.specs.Report.{markAt, partAt, dayAt, firstDay}
 use Rattle.log.specs.Feed.{Fed, ended, proceed, replayOf}
+use Rattle.score.specs.Lease.{Lease}
+use Rattle.score.specs.Score.{scoreOf}
 use Rattle.trim.specs.Trim.{cutBefore, trimmed}
+use Rattle.trim.specs.Laws.{NotFull}
 
 -- one that has read nothing
 abbrev pub newFree : ℕ → Replay
@@ -98,9 +101,23 @@ pub data Keeps (cut : ℕ) (f g : Fed) : Type 0 where
   same : f .taken ≡ g .taken → f .refusal ≡ g .refusal → Follows cut (f .replay) (g .replay) → Keeps cut f g
   full : g .refusal ≡ first 19 → g .replay .midnights ≡ mostMidnights → g .taken < f .taken → Keeps cut f g
 
--- pieces that were taken whole, and trims between them, in any order: all the bytes, and the replay that they leave
+-- pieces and trims in any order: all the bytes, and the replay that they leave. A piece may be refused, only not for want of room
 pub data Years (q0 : Replay) : List ℕ → Replay → Type 0 where
   begun : Years q0 [] q0
-  fed : (bytes : List ℕ) (q : Replay) → Years q0 bytes q → (p : List ℕ) → replayOf q p .refusal ≡ nothing →
+  fed : (bytes : List ℕ) (q : Replay) → Years q0 bytes q → (p : List ℕ) → NotFull (replayOf q p) →
       Years q0 (bytes ++ p) (replayOf q p .replay)
   trim : (bytes : List ℕ) (q : Replay) → Years q0 bytes q → Years q0 bytes (trimmed q)
+
+-- what the replay `q`, which has the last midnights of the free replay `r`, has in common with it
+pub record AsFree (r q : Replay) : Type 0 where
+  pub session : q .session ≡ r .session
+  pub opened : q .opened ≡ r .opened
+  pub stopped-by : q .stoppedBy ≡ r .stoppedBy
+  pub refused : q .refused ≡ cutBefore (r .midnights - q .midnights) (r .refused)
+  pub last-day : q .lastDay ≡ r .lastDay
+  pub fewer : q .midnights ≤ r .midnights
+  pub parts : (k : ℕ) → 0 < k → k ≤ q .midnights → partAt q k ≡ partAt r (r .midnights - q .midnights + k)
+  pub days : (k : ℕ) → 0 < k → k ≤ q .midnights → dayAt q k ≡ dayAt r (r .midnights - q .midnights + k)
+  -- part 0 has all that ended before its first midnight
+  pub before : 0 < q .midnights → partAt q 0 ≡ markAt (r .marks) (r .midnights - q .midnights)
+  pub scores : 0 < q .midnights → (l : Lease) → firstDay (q .midnights) (q .lastDay) ≤ l .firstDay → scoreOf l q ≡ scoreOf l r
