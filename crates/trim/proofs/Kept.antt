@@ -49,7 +49,7 @@ last-again r =
       stoppedBy = r .stoppedBy;
       refused = record { number = r .refused .number; midnights = none-less (r .refused .midnights - (r .midnights - 1)) j };
       midnights = 1;
-      lastDay = r .lastDay;
+      lastDay = lastOnly r .lastDay;
       marks = onlyMark (only-mark (markAt (r .marks) (r .midnights - 1)) j);
     }
   where
