@@ -3,7 +3,7 @@
 //! the second program takes all midnights and is never trimmed: whatever it answers the trimmed ones answer, each of
 //! its days from the kept one on is theirs, and so is each score of a lease that begins there or later.
 
-use crate::case::{Agreement, Case};
+use crate::case::{Agreed, Agreement, Case};
 use crate::editions;
 use crate::logs;
 use crate::random::Random;
@@ -73,11 +73,13 @@ fn years(random: &mut Random) -> Vec<u8> {
     for day in first..first + days {
         let most = (left.len() as u32).min(6);
         let (some, rest) = left.split_at(random.between(0, most) as usize);
-        some.iter().for_each(|word| log.extend(records::record(records::WORD, *word)));
+        some.iter()
+            .for_each(|word| log.extend(records::record(records::WORD, *word)));
         log.extend(records::record(records::MIDNIGHT, day));
         left = rest;
     }
-    left.iter().for_each(|word| log.extend(records::record(records::WORD, *word)));
+    left.iter()
+        .for_each(|word| log.extend(records::record(records::WORD, *word)));
     log
 }
 
@@ -94,7 +96,7 @@ impl Three {
 
     /// A piece, which all answer alike; no where the trimmed ones had no room for a midnight
     /// and the other went on, which is the one way to differ.
-    fn feed(&mut self, case: &mut Case, piece: &[u8], log: &[u8]) -> crate::case::Agreed<bool> {
+    fn feed(&mut self, case: &mut Case, piece: &[u8], log: &[u8]) -> Agreed<bool> {
         let fed = self.product.feed(piece);
         let product = Fed {
             taken: fed.taken,
@@ -115,10 +117,12 @@ impl Three {
     /// Trims both, which changes nothing but what is kept of the days; the check takes
     /// what is left, and trimmed again it stays as it is.
     fn trim(&mut self, case: &mut Case, log: &[u8]) -> Agreement {
-        self.forgotten += self.trimmed.days().len().saturating_sub(1);
         let unfinished = self.trimmed.unfinished();
-        self.product.trim();
+        let forgotten = self.trimmed.days().len().saturating_sub(1);
+        let asked = || format!("a trim inside {log:X?}");
+        case.agree(asked, &(self.product.trim() as usize), &forgotten)?;
         self.trimmed.trim();
+        self.forgotten += forgotten;
         case.tally.mark("trims");
         if unfinished > 0 {
             case.tally.mark("trims inside a record");
@@ -126,11 +130,10 @@ impl Three {
         if self.trimmed.session().open().is_some() {
             case.tally.mark("trims inside a command");
         }
-        let asked = || format!("a trim inside {log:X?}");
         let again = Product::from_bytes(&self.product.to_bytes());
         case.agree(asked, &again.as_ref(), &Some(&self.product))?;
         let mut twice = self.product.clone();
-        twice.trim();
+        case.agree(asked, &twice.trim(), &0)?;
         case.agree(asked, &twice, &self.product)?;
         if case.random.once_in(8) {
             self.agree(case, log)?;
@@ -154,10 +157,16 @@ impl Three {
         let days: Vec<Day> = days.collect();
         let due = self.whole.days().iter().skip(self.forgotten).copied();
         case.agree(asked, &days, &due.collect())?;
-        // The host adds what was forgotten, and has the refused word's place in the log.
-        let status = self.product.status();
-        let word = status.refused.map(|word| u32::from(word.refusal));
-        case.agree(asked, &word, &self.whole.refused().map(|word| word.number))?;
+        // The host adds what was forgotten, and has the refused word's place in the log, as long as the word's day
+        // is there.
+        let forgotten = self.forgotten as u64;
+        let word = self.product.status().refused;
+        let record = word.and_then(|word| word.record_after(forgotten));
+        let whole = self.whole.refused();
+        let there = whole.filter(|word| forgotten == 0 || word.midnights > self.forgotten);
+        case.agree(asked, &record, &there.map(|word| word.record))?;
+        let number = word.map(|word| u32::from(word.refusal));
+        case.agree(asked, &number, &whole.map(|word| word.number))?;
         let words = self.product.session().status().taken;
         case.agree(asked, &u64::from(words), &self.whole.session().taken())
     }
@@ -173,7 +182,11 @@ impl Three {
         let expected = lease.month(&self.whole);
         let asked = || format!("{lease:?} and log {log:X?}, trimmed on the way");
         case.agree(asked, &lease.month(&self.trimmed), &expected)?;
-        let Lease { first_day, days, owed } = lease;
+        let Lease {
+            first_day,
+            days,
+            owed,
+        } = lease;
         if let Ok(accepted) = ProductLease::new(first_day, days, owed) {
             let month = self.product.score(&accepted).map(scores::of_product);
             case.agree(asked, &month.map_err(u32::from), &expected)?;

@@ -633,7 +633,10 @@ mod tests {
         let whole = after(&bytes);
         let mut trimmed = whole.clone();
         trimmed.trim();
-        assert_eq!((trimmed.before(), trimmed.days()), (part(1), &[day(7, 2)][..]));
+        assert_eq!(
+            (trimmed.before(), trimmed.days()),
+            (part(1), &[day(7, 2)][..])
+        );
         assert_eq!(trimmed.session(), whole.session());
         let again = trimmed.clone();
         trimmed.trim();
@@ -646,7 +649,10 @@ mod tests {
         assert_eq!(trimmed.feed(&[midnight(8), start()].concat()).refusal, None);
         assert_eq!(trimmed.days(), [day(7, 2), day(8, 1)]);
         trimmed.trim();
-        assert_eq!((trimmed.before(), trimmed.days()), (part(3), &[day(8, 1)][..]));
+        assert_eq!(
+            (trimmed.before(), trimmed.days()),
+            (part(3), &[day(8, 1)][..])
+        );
     }
 
     #[test]
