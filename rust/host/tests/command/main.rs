@@ -8,6 +8,7 @@ mod causes;
 mod common;
 mod desk;
 mod examples;
+mod files;
 mod fleet;
 mod golden;
 mod hostile;
