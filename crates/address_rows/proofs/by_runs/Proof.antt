@@ -61,7 +61,7 @@ one-run-requires-2 c κs =
     let next = at-whole .whole-of .ensures .0 in
     let first = written-long _ _ _ _ _ (omega arith) (at-smaller .smaller .ensures .1) (at-one .one-run .ensures) in
     let long = written-long _ _ _ _ _ (next .0) (next .1 .inside) (at-whole .whole-of .ensures .1) ∙ first in
-    let last = last-run row _ (long-begins (sym first) (next .1)) (omega (arith, first, next .2)) (at-if2 .if2 .taken) in
+    let last = last-run row _ (long-begins (sym first) (next .1)) (omega (arith, first, next .2)) (omega (arith, at-if2 .if2 .taken)) in
     (long-row long row, long-run long last)
 
 same-length : tie.Need-same-length
