@@ -10,7 +10,7 @@ use lib.ListN.{length, getD, length-set, length-append, List·getD-append}
 use lib.Seq.{getD-append-add}
 use borrow.Author.Tests.{eq-eqb, ne-eqb, eqb-true, eqb-false, lt-ltb, le-ltb, ltb-true, ltb-false}
 use Rattle.laws.specs.Choice.{_and_, pick}
-use Rattle.laws.proofs.Choice.{Tested, holds, fails, tested}
+use Rattle.laws.proofs.Choice.{Tested, holds, fails, tested, pick-no, and-right}
 use Rattle.state.specs.State.{Session, Tally}
 use Rattle.session.specs.Step.{stillOpen, completed, refused as denied, stepOf}
 use Rattle.session.specs.Step as stream
@@ -48,25 +48,47 @@ module _ (marks : List ℕ) (m : ℕ) (t : Tally) (size : length marks ≡ 2 * m
         claims = (ap (λ (n : ℕ). getD longer n 0) high ∙ getD-append-add marks (t .runs ∷ t .claims ∷ []) 1 0) j;
       }
 
+-- a later replay: the midnights only grow, and the first day stays
+abbrev pub Later : Replay → Replay → Type 0
+Later q u = 0 < q .midnights → (q .midnights ≤ u .midnights) × (u .lastDay + q .midnights ≡ q .lastDay + u .midnights)
+
+same-later : (q : Replay) → Later q q
+same-later q h = (omega arith, refl)
+
+midnight-later : (q : Replay) (day : ℕ) → mayBegin (q .midnights) (q .lastDay) day ≡ true → Later q (afterMidnight q day)
+unfolding afterMidnight mayBegin
+midnight-later q day m h =
+    let next : day ≡ q .lastDay + 1 = eqb-true _ _ (sym (pick-no _ _ (ne-eqb (q .midnights) 0 (λ z. omega arith))) ∙ and-right _ _ m) in
+    (omega arith, omega arith)
+
+later-on : (q u v : Replay) → Later q u → Later u v → Later q v
+later-on q u v a b h =
+    let x = a h in
+    let y = b (omega (arith, x .0)) in
+    (omega (arith, x .0, y .0), omega (arith, x .1, y .1))
+
 module _ (cut : ℕ) where
   abbrev room : ℕ → Bool
   room = fewerThan (cut + 400)
 
   -- a step's answers
-  record Steps (t u : Stepped) : Type 0 where
+  record Steps (q : Replay) (t u : Stepped) : Type 0 where
     reply : t .reply ≡ u .reply
     replay : Follows cut (t .replay) (u .replay)
+    later : Later q (u .replay)
 
   -- the answers to a piece
-  pub record Alike (f g : Fed) : Type 0 where
+  pub record Alike (q : Replay) (f g : Fed) : Type 0 where
     pub taken : f .taken ≡ g .taken
     pub refusal : f .refusal ≡ g .refusal
     pub replay : Follows cut (f .replay) (g .replay)
+    pub later : Later q (g .replay)
 
-  either-way : (b c : Bool) → b ≡ c → (t u v w : Stepped) → (c ≡ true → Steps t v) → Steps u w → Steps (pick b t u) (pick c v w)
-  either-way b c e t u v w x y = subst (λ (d : Bool). Steps (pick d t u) (pick c v w)) (sym e) (go c x)
+  either-way : (q : Replay) (b c : Bool) → b ≡ c → (t u v w : Stepped) → (c ≡ true → Steps q t v) → Steps q u w →
+      Steps q (pick b t u) (pick c v w)
+  either-way q b c e t u v w x y = subst (λ (d : Bool). Steps q (pick d t u) (pick c v w)) (sym e) (go c x)
     where
-      go : (d : Bool) → (d ≡ true → Steps t v) → Steps (pick d t u) (pick d v w)
+      go : (d : Bool) → (d ≡ true → Steps q t v) → Steps q (pick d t u) (pick d v w)
       go true z = unfold pick in z refl
       go false z = unfold pick in y
 
@@ -107,13 +129,13 @@ module _ (cut : ℕ) where
           marks = e .marks;
         }
 
-    by-opening : (o p : OpenRecord) → o ≡ p → Steps (taking (opening o r)) (taking (opening p q))
-    by-opening o p k = record { reply = refl; replay = within _ _ o p _ _ _ _ (e .session) k (e .stopped-by) (e .refused) }
+    by-opening : (o p : OpenRecord) → o ≡ p → Steps q (taking (opening o r)) (taking (opening p q))
+    by-opening o p k = record { reply = refl; replay = within _ _ o p _ _ _ _ (e .session) k (e .stopped-by) (e .refused); later = same-later q }
 
-    by-stopping : (n : ℕ) → Steps (stopping r n) (stopping q n)
-    by-stopping n = record { reply = refl; replay = within _ _ _ _ n n _ _ (e .session) refl refl (e .refused) }
+    by-stopping : (n : ℕ) → Steps q (stopping r n) (stopping q n)
+    by-stopping n = record { reply = refl; replay = within _ _ _ _ n n _ _ (e .session) refl refl (e .refused); later = same-later q }
 
-    by-word : (w : ℕ) → Steps (taking (afterWord r w)) (taking (afterWord q w))
+    by-word : (w : ℕ) → Steps q (taking (afterWord r w)) (taking (afterWord q w))
     unfolding afterWord
     by-word w =
         record {
@@ -122,6 +144,7 @@ module _ (cut : ℕ) where
               within _ _ _ _ _ _ _ _ (ap (λ (s : Session). stepOf s w .session) (e .session)) refl (e .stopped-by)
               (noted-reply (stepOf (r .session) w .reply) (r .midnights) (q .midnights) (r .refused) (omega (arith, e .midnights)) ∙
               ap₂ (λ (s : Session) (f : WordRefused). notedReply (stepOf s w .reply) (q .midnights) f) (e .session) (e .refused));
+          later = same-later q;
         }
 
     abbrev now : Tally
@@ -191,14 +214,15 @@ module _ (cut : ℕ) where
             clash : q .midnights ≡ 0 → 0 < q .midnights → ⊥
             clash x y = omega arith
 
-    by-midnight : (d : ℕ) → Steps (roomyMidnight room r d) (midnightStep q d)
+    by-midnight : (d : ℕ) → Steps q (roomyMidnight room r d) (midnightStep q d)
     unfolding roomyMidnight midnightStep
     by-midnight d =
-        either-way _ _ may-same _ _ _ _
+        either-way q _ _ may-same _ _ _ _
         (λ m.
         record {
           reply = refl;
           replay = after-midnight d (few (q .midnights) (q .lastDay) d m) (late (enough (q .midnights) (q .lastDay) d m (e .days-number)));
+          later = midnight-later q d m;
         })
         (by-stopping 19)
       where
@@ -208,47 +232,54 @@ module _ (cut : ℕ) where
         late : q .midnights + 1 ≤ d + 1 → q .midnights ≤ d
         late h = omega arith
 
-    by-record : (kind number : ℕ) → Steps (roomyRecord room kind r number) (recordStep kind q number)
+    by-record : (kind number : ℕ) → Steps q (roomyRecord room kind r number) (recordStep kind q number)
     unfolding roomyRecord recordStep
-    by-record kind number = either-way (eqb kind 1) (eqb kind 1) refl _ _ _ _ (λ z. by-word number) (by-midnight number)
+    by-record kind number = either-way q (eqb kind 1) (eqb kind 1) refl _ _ _ _ (λ z. by-word number) (by-midnight number)
 
-    by-kind : (b : ℕ) → Steps (kindStep r b) (kindStep q b)
+    by-kind : (b : ℕ) → Steps q (kindStep r b) (kindStep q b)
     unfolding kindStep
-    by-kind b = either-way (isKind b) (isKind b) refl _ _ _ _ (λ z. by-opening (ofKind b) (ofKind b) refl) (by-stopping 18)
+    by-kind b = either-way q (isKind b) (isKind b) refl _ _ _ _ (λ z. by-opening (ofKind b) (ofKind b) refl) (by-stopping 18)
 
-    by-open : (b : ℕ) → Steps (roomyOpen room r b) (openStep q b)
+    by-open : (b : ℕ) → Steps q (roomyOpen room r b) (openStep q b)
     unfolding roomyOpen openStep
     by-open b =
-        either-way _ _ (ap (λ (o : OpenRecord). ltb (o .count) 4) (e .opened)) _ _ _ _
+        either-way q _ _ (ap (λ (o : OpenRecord). ltb (o .count) 4) (e .opened)) _ _ _ _
         (λ z. by-opening _ _ (ap (λ (o : OpenRecord). withByte o b) (e .opened)))
         (subst
         (λ (o : OpenRecord).
-        Steps (roomyRecord room (r .opened .kind) r (numberFrom (r .opened .low) (r .opened .second) (r .opened .third) b))
+        Steps q (roomyRecord room (r .opened .kind) r (numberFrom (r .opened .low) (r .opened .second) (r .opened .third) b))
         (recordStep (o .kind) q (numberFrom (o .low) (o .second) (o .third) b)))
         (e .opened)
         (by-record (r .opened .kind) (numberFrom (r .opened .low) (r .opened .second) (r .opened .third) b)))
 
-    by-byte : (b : ℕ) → Steps (roomyByte room r b) (byteStep q b)
+    by-byte : (b : ℕ) → Steps q (roomyByte room r b) (byteStep q b)
     unfolding roomyByte byteStep
     by-byte b =
-        either-way _ _ (ap (λ (n : ℕ). eqb n 0) (e .stopped-by)) _ _ _ _
-        (λ z. either-way _ _ (ap (λ (o : OpenRecord). eqb (o .count) 0) (e .opened)) _ _ _ _ (λ y. by-kind b) (by-open b))
-        (record { reply = ap refused (e .stopped-by); replay = e })
+        either-way q _ _ (ap (λ (n : ℕ). eqb n 0) (e .stopped-by)) _ _ _ _
+        (λ z. either-way q _ _ (ap (λ (o : OpenRecord). eqb (o .count) 0) (e .opened)) _ _ _ _ (λ y. by-kind b) (by-open b))
+        (record { reply = ap refused (e .stopped-by); replay = e; later = same-later q })
 
   -- a byte, then the rest
-  go-on : (t u : Stepped) (f g : Fed) → Steps t u → Alike f g → Alike (proceed (t .reply) (t .replay) f) (proceed (u .reply) (u .replay) g)
-  go-on t u f g s rest =
-      subst (λ (x : Reply). Alike (proceed (t .reply) (t .replay) f) (proceed x (u .replay) g)) (s .reply) (by-reply (t .reply))
+  go-on : (q : Replay) (t u : Stepped) (f g : Fed) → Steps q t u → Alike (u .replay) f g →
+      Alike q (proceed (t .reply) (t .replay) f) (proceed (u .reply) (u .replay) g)
+  go-on q t u f g s rest =
+      subst (λ (x : Reply). Alike q (proceed (t .reply) (t .replay) f) (proceed x (u .replay) g)) (s .reply) (by-reply (t .reply))
     where
-      by-reply : (x : Reply) → Alike (proceed x (t .replay) f) (proceed x (u .replay) g)
+      by-reply : (x : Reply) → Alike q (proceed x (t .replay) f) (proceed x (u .replay) g)
       by-reply taken =
-          unfold proceed in record { taken = ap (λ (n : ℕ). 1 + n) (rest .taken); refusal = rest .refusal; replay = rest .replay }
-      by-reply (refused n) = unfold proceed in record { taken = refl; refusal = refl; replay = s .replay }
+          unfold proceed in
+          record {
+            taken = ap (λ (n : ℕ). 1 + n) (rest .taken);
+            refusal = rest .refusal;
+            replay = rest .replay;
+            later = later-on q (u .replay) (g .replay) (s .later) (rest .later);
+          }
+      by-reply (refused n) = unfold proceed in record { taken = refl; refusal = refl; replay = s .replay; later = s .later }
 
-  pub pieces-alike : (bytes : List ℕ) (r q : Replay) → Follows cut r q → Alike (roomyOf room r bytes) (replayOf q bytes)
+  pub pieces-alike : (bytes : List ℕ) (r q : Replay) → Follows cut r q → Alike q (roomyOf room r bytes) (replayOf q bytes)
   unfolding roomyOf replayOf
-  pieces-alike [] r q e = record { taken = refl; refusal = refl; replay = e }
+  pieces-alike [] r q e = record { taken = refl; refusal = refl; replay = e; later = same-later q }
   pieces-alike (b ∷ bs) r q e =
       let s = by-byte r q e b in
-      go-on (roomyByte room r b) (byteStep q b) (roomyOf room (roomyByte room r b .replay) bs) (replayOf (byteStep q b .replay) bs) s
+      go-on q (roomyByte room r b) (byteStep q b) (roomyOf room (roomyByte room r b .replay) bs) (replayOf (byteStep q b .replay) bs) s
       (pieces-alike bs (roomyByte room r b .replay) (byteStep q b .replay) (s .replay))

@@ -2,20 +2,16 @@
 -- changes nothing of what trimming later leaves; and the trimmed one may be handed in. Assumes nothing.
 use mathlib.Core.Path.{_≡_, refl, sym, ap, _∙_, subst}
 use mathlib.Core.Bool.{Bool, true}
-use mathlib.Core.List.{List, [], _∷_}
+use mathlib.Core.List.{List}
 use Prim.Native.Nat.{ℕ, _+_, _-_, _*_, _<_, _≤_}
 use native.Mathlib.Omega.{arith}
-use lib.Dec.{eqb}
 use lib.ListN.{length, getD, take, drop, take-append-drop, List·getD-append}
 use lib.Seq.{length-take-le}
-use borrow.Author.Tests.{ne-eqb, eqb-true, lt-ltb, ltb-true, ltb-false}
-use Rattle.laws.proofs.Choice.{pick-no, by-pick, and-right}
+use borrow.Author.Tests.{lt-ltb, ltb-true, ltb-false}
 use Rattle.replay.specs.State.{Replay}
-use Rattle.replay.specs.Step.{Reply, taken, refused, Stepped, kindStep, afterWord, mayBegin, afterMidnight, midnightStep}
 use Rattle.replay.specs.Report.{markAt, partAt}
 use Rattle.replay.specs.Cells.{replayIn, ReplayValid, ReplayGiven}
-use Rattle.log.specs.Bytes.{recordStep, openStep, byteStep}
-use Rattle.log.specs.Feed.{Fed, proceed, replayOf}
+use Rattle.log.specs.Feed.{Fed, replayOf}
 use Rattle.log.proofs.Handed.{held-given}
 use Rattle.judges.specs.Judged.{Judges}
 use Rattle.trim.specs.Trim.{cutBefore, onlyMark, lastOnly, trimmed}
@@ -41,46 +37,6 @@ shared w =
       first-day = w .first-day;
       marks = w .marks;
     }
-
--- a later replay: the midnights only grow, and the first day stays
-abbrev Later : Replay → Replay → Type 0
-Later r u = 0 < r .midnights → (r .midnights ≤ u .midnights) × (u .lastDay + r .midnights ≡ r .lastDay + u .midnights)
-
-midnight-later : (r : Replay) (day : ℕ) → mayBegin (r .midnights) (r .lastDay) day ≡ true → Later r (afterMidnight r day)
-unfolding afterMidnight mayBegin
-midnight-later r day m h =
-    let next : day ≡ r .lastDay + 1 = eqb-true _ _ (sym (pick-no _ _ (ne-eqb (r .midnights) 0 (λ z. omega arith))) ∙ and-right _ _ m) in
-    (omega arith, omega arith)
-
-same-later : (r : Replay) → Later r r
-same-later r h = (omega arith, refl)
-
-byte-later : (r : Replay) (b : ℕ) → Later r (byteStep r b .replay)
-unfolding byteStep kindStep openStep recordStep afterWord midnightStep
-byte-later r b =
-    by-pick (λ (t : Stepped). Later r (t .replay)) _ _ _
-    (λ a.
-    by-pick (λ (t : Stepped). Later r (t .replay)) _ _ _
-    (λ c. by-pick (λ (t : Stepped). Later r (t .replay)) _ _ _ (λ d. same-later r) (λ d. same-later r))
-    (λ c.
-    by-pick (λ (t : Stepped). Later r (t .replay)) _ _ _ (λ d. same-later r)
-    (λ d.
-    by-pick (λ (t : Stepped). Later r (t .replay)) _ _ _ (λ e. same-later r)
-    (λ e. by-pick (λ (t : Stepped). Later r (t .replay)) _ _ _ (λ m. midnight-later r _ m) (λ m. same-later r)))))
-    (λ a. same-later r)
-
-bytes-later : (bytes : List ℕ) (r : Replay) → Later r (replayOf r bytes .replay)
-unfolding replayOf proceed
-bytes-later [] r = same-later r
-bytes-later (b ∷ bs) r = go (byteStep r b .reply) (bytes-later bs (byteStep r b .replay))
-  where
-    go : (y : Reply) → Later (byteStep r b .replay) (replayOf (byteStep r b .replay) bs .replay) →
-        Later r (proceed y (byteStep r b .replay) (replayOf (byteStep r b .replay) bs) .replay)
-    go taken rest h =
-        let a = byte-later r b h in
-        let c = rest (omega (arith, a .0)) in
-        (omega (arith, a .0, c .0), omega (arith, a .1, c .1))
-    go (refused n) rest h = byte-later r b h
 
 -- a valid replay follows the one that has its midnights and any room
 module _ (r : Replay) (v : ReplayValid r) where
@@ -167,10 +123,10 @@ module _ (r : Replay) (v : ReplayValid r) (some : 0 < r .midnights) (bytes : Lis
   abbrev more : ℕ
   more = r .midnights - 1
 
-  by-all : Alike 0 (roomyOf (fewerThan (0 + 400)) (unbounded r v) bytes) long
+  by-all : Alike 0 r (roomyOf (fewerThan (0 + 400)) (unbounded r v) bytes) long
   by-all = pieces-alike 0 bytes (unbounded r v) r (follows-all r v)
 
-  by-last : Alike more (roomyOf (fewerThan (more + 400)) (unbounded r v) bytes) short
+  by-last : Alike more (trimmed r) (roomyOf (fewerThan (more + 400)) (unbounded r v) bytes) short
   by-last =
       pieces-alike more bytes (unbounded r v) (trimmed r)
       (subst (Follows more (unbounded r v)) (sym (trimmed-is r some))
@@ -178,15 +134,11 @@ module _ (r : Replay) (v : ReplayValid r) (some : 0 < r .midnights) (bytes : Lis
       (last-follows (follows-all r v) some)))
 
   first-stays : (0 < short .replay .midnights) × (short .replay .lastDay + 1 ≡ r .lastDay + short .replay .midnights)
-  first-stays = go (trimmed r) (trimmed-is r some) (bytes-later bytes (trimmed r))
-    where
-      go : (q : Replay) → q ≡ lastOnly r → Later q (replayOf q bytes .replay) →
-          (0 < replayOf q bytes .replay .midnights) × (replayOf q bytes .replay .lastDay + 1 ≡ r .lastDay + replayOf q bytes .replay .midnights)
-      go q e a =
-          let one : q .midnights ≡ 1 = ap (λ (x : Replay). x .midnights) e in
-          let day : q .lastDay ≡ r .lastDay = ap (λ (x : Replay). x .lastDay) e in
-          let b = a (omega arith) in
-          (omega (arith, b .0), omega (arith, b .1))
+  first-stays =
+      let one : trimmed r .midnights ≡ 1 = ap (λ (x : Replay). x .midnights) (trimmed-is r some) in
+      let day : trimmed r .lastDay ≡ r .lastDay = ap (λ (x : Replay). x .lastDay) (trimmed-is r some) in
+      let later = by-last .later (omega arith) in
+      (omega (arith, later .0), omega (arith, later .1))
 
   larger : (m : ℕ) → fewerThan (0 + 400) m ≡ true → fewerThan (more + 400) m ≡ true
   larger m h = lt-ltb m (more + 400) (omega (arith, ltb-true m (0 + 400) h))

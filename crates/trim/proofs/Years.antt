@@ -28,7 +28,7 @@ module _ (cut : ℕ) (bytes : List ℕ) (r q : Replay) (e : Follows cut r q) whe
   abbrev small : ℕ → Bool
   small = fewerThan (cut + 400)
 
-  alike : Alike cut (roomyOf small r bytes) (replayOf q bytes)
+  alike : Alike cut q (roomyOf small r bytes) (replayOf q bytes)
   alike = pieces-alike cut bytes r q e
 
   pub pieces-keep : Keeps cut (freeOf r bytes) (replayOf q bytes)
