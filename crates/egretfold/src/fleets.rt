@@ -5,7 +5,7 @@ ghost use lib.ListN.{length};
 ghost use Rattle.refusal.specs.Crossing.{Crosses, Shows};
 ghost use Rattle.fleet.specs.Fleet.{reportTold};
 ghost use Rattle.score.specs.Answers.{leaseLine};
-ghost use Rattle.growing.specs.Cells.{AddCrosses, BothAsked, JoinCrosses, SumsGiven, addMonthTold, begunTold, sumsIn, toldNumbers};
+ghost use Rattle.growing.specs.Cells.{AddCrosses, SumsGiven, addMonthTold, begunTold, joinTold, sumsIn, toldNumbers};
 
 // What was served and owed in all, the silent days, and the station with the smallest served part; 3, 11 or 22, then the first
 // station's 21, 18 or 19.
@@ -67,8 +67,8 @@ pub extern "C" fn egretfold_fleet_join(
     sums: &mut [u64; growing::SUMS],
     other: &[u64; growing::SUMS],
 ) -> u32
-    requires { ⌜ BothAsked (now sums) (now other) ⌝ }
-    ensures { λ r. ⌜ JoinCrosses r (now (sums .entry)) (now (other .entry)) (now (sums .exit)) ⌝ }
+    requires { ⌜ SumsGiven (now sums) × SumsGiven (now other) ⌝ }
+    ensures { λ r. ⌜ Crosses (joinTold (sumsIn (now (sums .entry))) (sumsIn (now (other .entry)))) r (now (sums .entry)) (now (sums .exit)) ⌝ }
 {
     growing::join(sums, other)
 }

@@ -11,13 +11,14 @@ use refusal::Refusal;
 use state::edition;
 use state::own;
 ghost use mathlib.Core.Path.{_≡_};
-ghost use lib.ListN.{length};
+ghost use lib.ListN.{length, getD};
 ghost use Rattle.refusal.specs.Crossing.{Crosses, Shows};
 ghost use Rattle.state.specs.Start.{isEdition};
 ghost use Rattle.score.specs.Answers.{leaseLine};
 ghost use Rattle.judges.specs.Judged.{Judges};
-ghost use Rattle.growing.specs.Sums.{isMonth, isPlaced, joinedFleet, withMonth};
-ghost use Rattle.growing.specs.Cells.{AddCrosses, BothAsked, JoinAsked, JoinCrosses, MonthAsked, SumsGiven, addMonthTold, begunTold, fleetIn, sumsCells, sumsIn, toldNumbers};
+ghost use Rattle.fleet.specs.Join.{joined};
+ghost use Rattle.growing.specs.Sums.{isMonth, isPlaced, withMonth};
+ghost use Rattle.growing.specs.Cells.{AddCrosses, JoinAsked, PutAsked, SumsGiven, addMonthTold, begunTold, joinTold, sumsCells, sumsIn, toldNumbers, totalsIn};
 
 pub const SUMS: usize = 8;
 
@@ -34,8 +35,8 @@ const MOST_MONTH: u64 = 3100000000;
 const MOST_DAYS: u64 = 31;
 
 // What the stations so far come to.
-fn fleet_in(sums: &[u64; SUMS]) -> Fleet
-    ensures { λ r. ⌜ r ≡ fleetIn (now (sums .entry)) ⌝ }
+fn totals_in(sums: &[u64; SUMS]) -> Fleet
+    ensures { λ r. ⌜ r ≡ totalsIn (now (sums .entry)) ⌝ }
 {
     Fleet {
         served: sums[2],
@@ -78,12 +79,20 @@ pub fn begin(sums: &mut [u64; SUMS], edition: u32) -> u32
 
 // One station more, by its month's numbers.
 fn put_month(sums: &mut [u64; SUMS], served: u64, owed: u64, silent: u64)
-    requires { ⌜ MonthAsked (now sums) served owed silent ⌝ }
+    requires { ⌜ PutAsked (now sums) served owed silent ⌝ }
     ensures { λ _. ⌜ now (sums .exit) ≡ sumsCells (withMonth (sumsIn (now (sums .entry))) served owed silent) ⌝ }
 {
+    let edition = sums[0];
     let count = sums[1];
-    let fleet = parts::add(fleet_in(sums), count, served, owed, silent);
-    put(sums, sums[0], count + 1, fleet);
+    let fleet = parts::add(totals_in(sums), count, served, owed, silent);
+    put(sums, edition, count + 1, fleet);
+}
+
+// The edition of a replay's session.
+fn edition_in(own: &[u32; state::OWN_CELLS]) -> u32
+    ensures { λ r. ⌜ r ≡ getD (now (own .entry)) 18 0 ⌝ }
+{
+    own[own::EDITION]
 }
 
 // Adds the station of a replay, under its lease line: 3 where the replay's session isn't of the report's edition, 22 for one more than
@@ -101,7 +110,8 @@ pub fn add(
     requires { ⌜ SumsGiven (now sums) ⌝ }
     ensures { λ r. ⌜ AddCrosses (leaseLine «first_day» days owed) (now (log .entry)) (now (marks .entry)) (now (own .entry)) (now (tallies .entry)) r (now (sums .entry)) (now (sums .exit)) ⌝ }
 {
-    if sums[0] != own[own::EDITION] as u64 {
+    let born = edition_in(own);
+    if sums[0] != born as u64 {
         return refusal::number(Refusal::Malformed);
     }
     if sums[1] >= MOST_STATIONS {
@@ -140,9 +150,9 @@ pub fn add_month(sums: &mut [u64; SUMS], served: u64, owed: u64, silent: u64) ->
 
 // Two fleets, the second of which is numbered on from the `count` stations of the first. The second's smallest part is a part like
 // another: it has to be smaller to be named.
-fn joined(first: Fleet, count: u64, second: Fleet) -> Fleet
+fn join_fleets(first: Fleet, count: u64, second: Fleet) -> Fleet
     requires { ⌜ JoinAsked first count second ⌝ }
-    ensures { λ r. ⌜ r ≡ joinedFleet count first second ⌝ }
+    ensures { λ r. ⌜ r ≡ joined count first second ⌝ }
 {
     Fleet {
         served: first.served + second.served,
@@ -159,18 +169,20 @@ fn joined(first: Fleet, count: u64, second: Fleet) -> Fleet
 
 // Puts another report's stations behind these: 3 where it is of another edition, 22 where they are more than 2^32 together.
 pub fn join(sums: &mut [u64; SUMS], other: &[u64; SUMS]) -> u32
-    requires { ⌜ BothAsked (now sums) (now other) ⌝ }
-    ensures { λ r. ⌜ JoinCrosses r (now (sums .entry)) (now (other .entry)) (now (sums .exit)) ⌝ }
+    requires { ⌜ SumsGiven (now sums) × SumsGiven (now other) ⌝ }
+    ensures { λ r. ⌜ Crosses (joinTold (sumsIn (now (sums .entry))) (sumsIn (now (other .entry)))) r (now (sums .entry)) (now (sums .exit)) ⌝ }
 {
-    if sums[0] != other[0] {
+    let edition = sums[0];
+    if edition != other[0] {
         return refusal::number(Refusal::Malformed);
     }
-    let count = sums[1] + other[1];
+    let before = sums[1];
+    let count = before + other[1];
     if count > MOST_STATIONS {
         return refusal::number(Refusal::TooManyLogs);
     }
-    let fleet = joined(fleet_in(sums), sums[1], fleet_in(other));
-    put(sums, sums[0], count, fleet);
+    let fleet = join_fleets(totals_in(sums), before, totals_in(other));
+    put(sums, edition, count, fleet);
     0
 }
 
