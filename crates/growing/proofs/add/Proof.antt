@@ -19,7 +19,10 @@ number-requires : tie.Need-number-requires
 number-requires c κs = search needs
 
 returns : tie.Need-returns
-returns c = other-edition (leaseLine _ _ _) _ _ _ _ _ (λ e. c .before .if1 .taken (e ∙ sym (c .before .before .before .edition-in .ensures))) (c .number .ensures)
+returns c =
+    let at-if = c .before in
+    other-edition (leaseLine _ _ _) _ _ _ _ _ (λ e. at-if .if1 .taken (e ∙ sym (at-if .before .before .edition-in .ensures)))
+    (c .number .ensures)
 
 element-copy-out-if2 : tie.Need-element-copy-out-if2
 element-copy-out-if2 c = search needs
@@ -28,19 +31,49 @@ number-requires-2 : tie.Need-number-requires-2
 number-requires-2 c κs = search needs
 
 returns-2 : tie.Need-returns-2
-returns-2 c = no-more (leaseLine _ _ _) _ _ _ _ _ (c .before .before .before .if1 .left ∙ c .before .before .before .before .before .edition-in .ensures) (c .before .if2 .taken) (c .number2 .ensures)
+returns-2 c =
+    let at-if = c .before .before .before in
+    no-more (leaseLine _ _ _) _ _ _ _ _ (at-if .if1 .left ∙ at-if .before .before .edition-in .ensures) (c .before .if2 .taken)
+    (c .number2 .ensures)
 
 summed-requires : tie.Need-summed-requires
 summed-requires c κs = search needs
 
 returns-3 : tie.Need-returns-3
-returns-3 c = refused-as (leaseLine _ _ _) _ _ _ _ _ (c .before .before .before .before .before .if1 .left ∙ c .before .before .before .before .before .before .before .edition-in .ensures) (c .before .before .before .if2 .left) (c .before .before .summed .ensures) (c .if3 .taken)
+returns-3 c =
+    let at-summed = c .before .before in
+    let at-if = at-summed .before .before .before in
+    refused-as (leaseLine _ _ _) _ _ _ _ _ (at-if .if1 .left ∙ at-if .before .before .edition-in .ensures) (at-summed .before .if2 .left)
+    (at-summed .summed .ensures) (c .if3 .taken)
 
 put-month-requires : tie.Need-put-month-requires
-put-month-requires c κs = may-put (leaseLine _ _ _) _ _ _ _ _ (c .before .before .before .before .before .before .if1 .left ∙ c .before .before .before .before .before .before .before .before .edition-in .ensures) (c .before .before .before .before .if2 .left) (c .before .before .before .summed .ensures) (c .before .before .before .before .before .before .before .before .before .pre)
+put-month-requires c κs =
+    let at-summed = c .before .before .before in
+    let at-if = at-summed .before .before .before in
+    let at-start = at-if .before .before .before in
+    may-put (leaseLine _ _ _) _ _ (at-start .args .own .now) _ _ (at-if .if1 .left ∙ at-if .before .before .edition-in .ensures)
+    (at-summed .before .if2 .left) (at-summed .summed .ensures) (at-start .pre)
 
 returns-4 : tie.Need-returns-4
-returns-4 c = added-as (leaseLine _ _ _) _ _ _ _ _ (c .before .before .before .before .before .before .before .if1 .left ∙ c .before .before .before .before .before .before .before .before .before .edition-in .ensures) (c .before .before .before .before .before .if2 .left) (c .before .before .before .before .summed .ensures) (c .before .before .if3 .left) (c .put-month .ensures)
+returns-4 c =
+    let at-summed = c .before .before .before .before in
+    let at-if = at-summed .before .before .before in
+    added-as (leaseLine _ _ _) _ _ _ _ _ (at-if .if1 .left ∙ at-if .before .before .edition-in .ensures) (at-summed .before .if2 .left)
+    (at-summed .summed .ensures) (c .before .before .if3 .left) (c .put-month .ensures)
 
 pub add-spec : {M : Type 1} → statement M
-add-spec = tie.close (tie.spec edition-in-requires element-copy-out-if1 cast-if1 number-requires returns element-copy-out-if2 number-requires-2 returns-2 summed-requires returns-3 put-month-requires returns-4)
+add-spec =
+    tie.close
+    (tie.spec
+    edition-in-requires
+    element-copy-out-if1
+    cast-if1
+    number-requires
+    returns
+    element-copy-out-if2
+    number-requires-2
+    returns-2
+    summed-requires
+    returns-3
+    put-month-requires
+    returns-4)

@@ -30,4 +30,14 @@ returns-3 : tie.Need-returns-3
 returns-3 c = no-month _ _ _ _ (c .before .before .before .if1 .left) (sym (c .before .before .is-month .ensures) ∙ c .before .if2 .left) (c .number2 .ensures)
 
 pub add-month-spec : {M : Type 1} → statement M
-add-month-spec = tie.close (tie.spec element-copy-out-if1 number-requires returns is-month-requires put-month-requires returns-2 number-requires-2 returns-3)
+add-month-spec =
+    tie.close
+    (tie.spec
+    element-copy-out-if1
+    number-requires
+    returns
+    is-month-requires
+    put-month-requires
+    returns-2
+    number-requires-2
+    returns-3)

@@ -76,4 +76,29 @@ returns-2 : tie.Need-returns-2
 returns-2 c = kept-judged _ (c .before .before .before .before .before .before .before .before .before .before .before .before .before .before .before .before .before .before .before .before .pre) (c .before .before .before .before .before .before .before .before .before .before .before .before .before .before .before .before .before .before .if1 .left) (c .both6 .ensures) (c .before .before .before .both3 .ensures ∙ ap₂ _and_ (c .before .before .before .before .before .before .before .before .before .before .before .before .before .before .before .before .is-edition .ensures) (c .before .before .before .before .before .before .before .before .before .before .before .before .before .is-placed .ensures)) (c .before .both5 .ensures) (c .before .before .both4 .ensures ∙ ap₂ _and_ (c .before .before .before .before .before .before .before .before .both .ensures) (c .before .before .before .before .before .both2 .ensures))
 
 pub is-kept-spec : {M : Type 1} → statement M
-is-kept-spec = tie.close (tie.spec element-copy-out-count returns element-copy-out-is-edition is-edition-requires element-copy-out-is-placed element-copy-out-is-placed-2 is-placed-requires element-copy-out-both element-copy-out-both-2 element-copy-out-both-3 element-copy-out-both-4 both-requires element-copy-out-both-5 mul-both element-copy-out-both-6 both-requires-2 element-copy-out-silent mul-silent both-requires-3 both-requires-4 both-requires-5 both-requires-6 returns-2)
+is-kept-spec =
+    tie.close
+    (tie.spec
+    element-copy-out-count
+    returns
+    element-copy-out-is-edition
+    is-edition-requires
+    element-copy-out-is-placed
+    element-copy-out-is-placed-2
+    is-placed-requires
+    element-copy-out-both
+    element-copy-out-both-2
+    element-copy-out-both-3
+    element-copy-out-both-4
+    both-requires
+    element-copy-out-both-5
+    mul-both
+    element-copy-out-both-6
+    both-requires-2
+    element-copy-out-silent
+    mul-silent
+    both-requires-3
+    both-requires-4
+    both-requires-5
+    both-requires-6
+    returns-2)

@@ -26,4 +26,13 @@ returns : tie.Need-returns
 returns c = put-as _ _ _ _ (c .before .before .before .before .before .before .before .pre) (c .before .before .before .totals-in .ensures) (c .before .before .add .ensures) (c .put .ensures)
 
 pub put-month-spec : {M : Type 1} → statement M
-put-month-spec = tie.close (tie.spec element-copy-out-edition element-copy-out-count totals-in-requires add-requires add-put put-requires returns)
+put-month-spec =
+    tie.close
+    (tie.spec
+    element-copy-out-edition
+    element-copy-out-count
+    totals-in-requires
+    add-requires
+    add-put
+    put-requires
+    returns)

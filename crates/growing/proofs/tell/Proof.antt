@@ -18,7 +18,8 @@ element-copy-out-t15 : tie.Need-element-copy-out-t15
 element-copy-out-t15 c = search needs
 
 returns : tie.Need-returns
-returns c = none-told _ (c .before .before .before .before .if1 .taken) refl
+returns c =
+    let at-if = c .before .before .before .before in none-told (at-if .before .before .args .sums .now) (at-if .if1 .taken) refl
 
 element-copy-out-t5 : tie.Need-element-copy-out-t5
 element-copy-out-t5 c = search needs
@@ -33,7 +34,20 @@ element-copy-out-t26 : tie.Need-element-copy-out-t26
 element-copy-out-t26 c = search needs
 
 returns-2 : tie.Need-returns-2
-returns-2 c = named-told _ (c .before .before .before .before .before .if1 .left) refl
+returns-2 c =
+    let at-if = c .before .before .before .before .before in named-told (at-if .before .before .args .sums .now) (at-if .if1 .left) refl
 
 pub tell-spec : {M : Type 1} → statement M
-tell-spec = tie.close (tie.spec element-copy-out-if1 element-copy-out-t9 element-copy-out-t12 element-copy-out-t15 returns element-copy-out-t5 element-copy-out-t20 element-copy-out-t23 element-copy-out-t26 returns-2)
+tell-spec =
+    tie.close
+    (tie.spec
+    element-copy-out-if1
+    element-copy-out-t9
+    element-copy-out-t12
+    element-copy-out-t15
+    returns
+    element-copy-out-t5
+    element-copy-out-t20
+    element-copy-out-t23
+    element-copy-out-t26
+    returns-2)
