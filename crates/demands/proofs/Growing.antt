@@ -11,7 +11,7 @@ use Rattle.laws.specs.Choice.{pick}
 use Rattle.laws.specs.Below.{sum}
 use Rattle.laws.proofs.Choice.{pick-no}
 use Rattle.refusal.specs.Crossing.{Crosses, Shows}
-use Rattle.state.specs.State.{Session, newSession, Birth}
+use Rattle.state.specs.State.{Session, Birth}
 use Rattle.state.specs.Start.{isEdition}
 use Rattle.session.specs.Feed.{uncut}
 use Rattle.replay.specs.State.{Replay, newReplay}
@@ -21,7 +21,7 @@ use Rattle.log.proofs.Words.{one-session}
 use Rattle.log_rooms.specs.Pieces.{Arrays, replayAt, BeginsAt, Pieces}
 use Rattle.log_rooms.proofs.Cut.{from-begin}
 use Rattle.score.specs.Lease.{Lease}
-use Rattle.score.specs.Score.{Score, scored, refused, scoreOf}
+use Rattle.score.specs.Score.{Month, Score, scored, refused, scoreOf}
 use Rattle.score_rooms.specs.Rooms.{MonthCrosses}
 use Rattle.fleet.specs.Fleet.{
   Station,
@@ -58,7 +58,6 @@ use Rattle.session.proofs.Tallies.{born}
 
 -- a replay that was begun and fed with a log, cut anywhere
 new-edition : (edition : ℕ) → newReplay edition .session .party .birth .edition ≡ edition
-unfolding newReplay newSession
 new-edition edition = refl
 
 pub from-log : (edition : ℕ) → isEdition edition ≡ true → (a0 a : Arrays) (b : ℕ) → BeginsAt edition b a0 a →
@@ -124,10 +123,29 @@ module _ (n : ℕ) (f : ℕ → Station) where
 pub tell-report : (edition : ℕ) (logs numbers : List ℕ) (r : ℕ) (room room' : List ℕ) →
     Crosses (reportTold edition logs numbers (length room)) r room room' → r ≡ 0 → (sums : List ℕ) →
     Grown edition (stationAt edition logs numbers) (stationsIn numbers) sums → (s : ℕ) (told : List ℕ) →
-    Shows (toldNumbers (sumsIn sums)) s told → told ≡ room' ++ getD told 4 0 ∷ []
+    Shows (toldNumbers (sumsIn sums)) s told → told ≡ room' ++ (getD told 4 0 ∷ [])
 tell-report edition logs numbers r room room' c z sums g s told shows =
     tell-grown (stationsIn numbers) (stationAt edition logs numbers) edition sums g s told shows .numbers ∙
-    sym (ap (λ (x : List ℕ). x ++ getD told 4 0 ∷ []) (report-summed edition logs numbers r room room' c z .numbers))
+    sym (ap (λ (x : List ℕ). x ++ (getD told 4 0 ∷ [])) (report-summed edition logs numbers r room room' c z .numbers))
+
+-- what a score's own clauses say
+scored-fine : (m : Month) → isRefused (scored m) ≡ false
+unfolding isRefused
+scored-fine m = refl
+
+refused-so : (n : ℕ) → isRefused (refused n) ≡ true
+unfolding isRefused
+refused-so n = refl
+
+refused-by : (n : ℕ) → refusalIn (refused n) ≡ n
+unfolding refusalIn
+refused-by n = refl
+
+scored-numbers : (a : Sums) (l : Lease) (m : Month) →
+    addMonthTold a (m .totals .served) (m .totals .owed) (silentIn (l .days) (l .owed) (m .served)) ≡
+    addMonthTold a (servedIn (scored m)) (owedIn (scored m)) (silentDays l (scored m))
+unfolding servedIn owedIn silentDays
+scored-numbers a l m = refl
 
 -- a month's rooms have the numbers that add its replay
 pub month-rooms : (a : Sums) (l : Lease) (q : Replay) → a .edition ≡ editionIn q →
@@ -142,13 +160,12 @@ month-rooms a l q e r claimed served month claimed' served' month' c z = go (sco
         (λ i.
         addMonthTold a (getD (k .month-room .room i) 0 0) (getD (k .month-room .room i) 1 0)
         (silentIn (l .days) (l .owed) (k .served-room .room i))) ∙
-        (unfold servedIn owedIn silentDays in
-        ap (λ (s : Score). addMonthTold a (servedIn s) (owedIn s) (silentDays l s)) (sym is)) ∙
-        month-as-replay a l q e (ap isRefused is ∙ unfold isRefused in refl)
+        scored-numbers a l m ∙ ap (λ (s : Score). addMonthTold a (servedIn s) (owedIn s) (silentDays l s)) (sym is) ∙
+        month-as-replay a l q e (ap isRefused is ∙ scored-fine m)
     go (refused number) is k =
         absurd
-        (yes-no (ap isRefused is ∙ unfold isRefused in refl)
-        (zero-fine l q (ap refusalIn is ∙ unfold refusalIn in (sym (k .month-room .status) ∙ z))))
+        (yes-no (ap isRefused is ∙ refused-so number)
+        (zero-fine l q (ap refusalIn is ∙ refused-by number ∙ sym (k .month-room .status) ∙ z)))
 
 -- numbers that a host has are such as the calls ask for, and the check takes them
 pub fleet-given : {sums : List ℕ} → states.Fleet sums → SumsGiven sums

@@ -68,7 +68,7 @@ stays (gives v) c h = absurd (none (c .status) h)
 stays (refuses n) c h = c .room
 
 -- a refused score's number isn't 0
-some-number : (l : Lease) (q : Replay) → isRefused (scoreOf l q) ≡ true → 0 < refusalIn (scoreOf l q)
+pub some-number : (l : Lease) (q : Replay) → isRefused (scoreOf l q) ≡ true → 0 < refusalIn (scoreOf l q)
 some-number l q e = go (tested (ltb 0 (refusalIn (scoreOf l q))))
   where
     go : Tested (ltb 0 (refusalIn (scoreOf l q))) → 0 < refusalIn (scoreOf l q)
