@@ -138,7 +138,8 @@ pub fn add_month(sums: &mut [u64; SUMS], served: u64, owed: u64, silent: u64) ->
     requires { ⌜ SumsGiven (now sums) ⌝ }
     ensures { λ r. ⌜ Crosses (addMonthTold (sumsIn (now (sums .entry))) served owed silent) r (now (sums .entry)) (now (sums .exit)) ⌝ }
 {
-    if sums[1] >= MOST_STATIONS {
+    let count = sums[1];
+    if count >= MOST_STATIONS {
         return refusal::number(Refusal::TooManyLogs);
     }
     if is_month(served, owed, silent) {

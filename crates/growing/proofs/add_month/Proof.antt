@@ -5,8 +5,8 @@ use borrow.Author.Needs.{needs}
 use Rattle.growing.proofs.add_month.Statement.{statement}
 use Rattle.growing.proofs.add_month.Tie as tie
 
-element-copy-out-if1 : tie.Need-element-copy-out-if1
-element-copy-out-if1 c = search needs
+element-copy-out-count : tie.Need-element-copy-out-count
+element-copy-out-count c = search needs
 
 number-requires : tie.Need-number-requires
 number-requires c κs = search needs
@@ -33,7 +33,7 @@ pub add-month-spec : {M : Type 1} → statement M
 add-month-spec =
     tie.close
     (tie.spec
-    element-copy-out-if1
+    element-copy-out-count
     number-requires
     returns
     is-month-requires
