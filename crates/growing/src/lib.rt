@@ -130,7 +130,10 @@ pub fn add(
 fn is_month(served: u64, owed: u64, silent: u64) -> bool
     ensures { λ r. ⌜ r ≡ isMonth served owed silent ⌝ }
 {
-    both(owed <= MOST_MONTH, both(served <= owed, silent <= MOST_DAYS))
+    both(
+        owed <= MOST_MONTH,
+        both(served <= owed, silent <= MOST_DAYS),
+    )
 }
 
 // Adds a station by its month's numbers: 22 for one more than 2^32, then 21 where no month has such numbers.

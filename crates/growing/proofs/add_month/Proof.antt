@@ -18,16 +18,28 @@ is-month-requires : tie.Need-is-month-requires
 is-month-requires c κs = search needs
 
 put-month-requires : tie.Need-put-month-requires
-put-month-requires c κs = record { given = c .before .before .before .before .before .pre; room = c .before .before .before .if1 .left; month = sym (c .before .before .is-month .ensures) ∙ c .before .if2 .taken }
+put-month-requires c κs =
+    let at-month = c .before .before in
+    let at-room = at-month .before in
+    record {
+      given = at-room .before .before .pre;
+      room = at-room .if1 .left;
+      month = sym (at-month .is-month .ensures) ∙ c .before .if2 .taken;
+    }
 
 returns-2 : tie.Need-returns-2
-returns-2 c = month-put _ _ _ _ (c .before .before .before .before .if1 .left) (sym (c .before .before .before .is-month .ensures) ∙ c .before .before .if2 .taken) (c .put-month .ensures)
+returns-2 c =
+    let at-month = c .before .before .before in
+    month-put _ _ _ _ (at-month .before .if1 .left) (sym (at-month .is-month .ensures) ∙ c .before .before .if2 .taken)
+    (c .put-month .ensures)
 
 number-requires-2 : tie.Need-number-requires-2
 number-requires-2 c κs = search needs
 
 returns-3 : tie.Need-returns-3
-returns-3 c = no-month _ _ _ _ (c .before .before .before .if1 .left) (sym (c .before .before .is-month .ensures) ∙ c .before .if2 .left) (c .number2 .ensures)
+returns-3 c =
+    let at-month = c .before .before in
+    no-month _ _ _ _ (at-month .before .if1 .left) (sym (at-month .is-month .ensures) ∙ c .before .if2 .left) (c .number2 .ensures)
 
 pub add-month-spec : {M : Type 1} → statement M
 add-month-spec =

@@ -15,7 +15,9 @@ put-requires : tie.Need-put-requires
 put-requires c κs = search needs
 
 returns : tie.Need-returns
-returns c = begun-as _ _ (sym (c .before .before .before .before .is-known .ensures) ∙ c .before .before .before .if1 .taken) (c .before .none .ensures) (c .put .ensures)
+returns c =
+    let at-if = c .before .before .before in
+    begun-as _ _ (sym (at-if .before .is-known .ensures) ∙ at-if .if1 .taken) (c .before .none .ensures) (c .put .ensures)
 
 number-requires : tie.Need-number-requires
 number-requires c κs = search needs

@@ -73,7 +73,16 @@ both-requires-6 : tie.Need-both-requires-6
 both-requires-6 c κs = search needs
 
 returns-2 : tie.Need-returns-2
-returns-2 c = kept-judged _ (c .before .before .before .before .before .before .before .before .before .before .before .before .before .before .before .before .before .before .before .before .pre) (c .before .before .before .before .before .before .before .before .before .before .before .before .before .before .before .before .before .before .if1 .left) (c .both6 .ensures) (c .before .before .before .both3 .ensures ∙ ap₂ _and_ (c .before .before .before .before .before .before .before .before .before .before .before .before .before .before .before .before .is-edition .ensures) (c .before .before .before .before .before .before .before .before .before .before .before .before .before .is-placed .ensures)) (c .before .both5 .ensures) (c .before .before .both4 .ensures ∙ ap₂ _and_ (c .before .before .before .before .before .before .before .before .both .ensures) (c .before .before .before .before .before .both2 .ensures))
+returns-2 c =
+    let at-owed = c .before .before .before .before .before in
+    let at-served = at-owed .before .before .before in
+    let at-placed = at-served .before .before .before .before .before in
+    let at-known = at-placed .before .before .before in
+    let at-if = at-known .before .before in
+    kept-judged _ (at-if .before .before .pre) (at-if .if1 .left) (c .both6 .ensures)
+    (c .before .before .before .both3 .ensures ∙ ap₂ _and_ (at-known .is-edition .ensures) (at-placed .is-placed .ensures))
+    (c .before .both5 .ensures)
+    (c .before .before .both4 .ensures ∙ ap₂ _and_ (at-served .both .ensures) (at-owed .both2 .ensures))
 
 pub is-kept-spec : {M : Type 1} → statement M
 is-kept-spec =

@@ -23,7 +23,10 @@ put-requires : tie.Need-put-requires
 put-requires c κs = search needs
 
 returns : tie.Need-returns
-returns c = put-as _ _ _ _ (c .before .before .before .before .before .before .before .pre) (c .before .before .before .totals-in .ensures) (c .before .before .add .ensures) (c .put .ensures)
+returns c =
+    let at-totals = c .before .before .before in
+    put-as _ _ _ _ (at-totals .before .before .before .before .pre) (at-totals .totals-in .ensures) (c .before .before .add .ensures)
+    (c .put .ensures)
 
 pub put-month-spec : {M : Type 1} → statement M
 put-month-spec =
