@@ -228,18 +228,20 @@ use Rattle.demands.proofs.States.{
   replay-goes-on,
   pair-goes-on,
 }
-use Rattle.fleet.specs.Fleet.{Station, stationsIn, stationAt, addUp, fleetTold, fleetIn, reportTold}
+use Rattle.fleet.specs.Fleet.{Station, silentIn, refusalIn, stationsIn, stationAt, addUp, fleetTold, fleetIn, reportTold}
 use Rattle.fleet.specs.Answers.{fleetNumbers}
 use Rattle.fleet.specs.Join.{sumsOf, fleetSums, behind, joined as joinedFleet}
 use Rattle.fleet.proofs.Join.{told-joined, sums-joined}
-use Rattle.growing.specs.Sums.{toldUp}
-use Rattle.growing.specs.Cells.{SumsGiven}
-use Rattle.growing.specs.Calls.{Grown, IsReport}
-use Rattle.growing.proofs.Growing.{grown-told}
-use Rattle.growing.proofs.Calls.{is-report, grown-given}
+use Rattle.refusal.specs.Crossing.{Shows}
+use Rattle.replay.specs.Cells.{replayIn}
+use Rattle.growing.specs.Sums.{Sums, mostStations}
+use Rattle.growing.specs.Cells.{SumsGiven, sumsIn, stationOf, editionIn, addTold, AddCrosses, addMonthTold, joinTold, toldNumbers}
+use Rattle.growing.specs.Calls.{Grown}
+use Rattle.growing.proofs.Calls.{add-answers, first-refusal as next-refusal, group-refusal, join-answers, grown-given}
 use Rattle.fleet.proofs.Behind.{behind-told}
-use Rattle.demands.specs.Fleets.{fleetAsks, FleetSummed, FleetRefused}
-use Rattle.demands.proofs.Fleets.{report-called, report-left, report-first, report-summed, report-grown}
+use Rattle.demands.specs.Fleets.{fleetAsks, FleetSummed, FleetRefused, GrownTold, OfLog}
+use Rattle.demands.proofs.Fleets.{report-called, report-left, report-first, report-summed}
+use Rattle.demands.proofs.Growing.{from-log, tell-grown, tell-report, month-rooms, fleet-taken}
 
 -- DEMAND 1. "Every entry answers, and bad input gets the refusal number in document 01. A refused call or word changes no byte of lent
 -- memory and no setting, except that a refused command word stops the session and drops the unfinished command. Words taken before it
@@ -1231,26 +1233,77 @@ pub fleet-sums-joined :
     (n m : ℕ) (stations : ℕ → Station) → sumsOf (n + m) stations ≡ joinedFleet n (sumsOf n stations) (sumsOf m (behind n stations))
 fleet-sums-joined = sums-joined
 
--- A report that grows: stations that are added one by one, by calls of egretfold_fleet_add, tell what the report of them all tells, refusals
--- first, however many they are.
-pub fleet-grown : (stations : ℕ → Station) (n : ℕ) → toldUp stations n ≡ fleetTold n stations
-fleet-grown = grown-told
+-- A FLEET'S REPORT THAT GROWS, the project's own promise for fleets of any size. `Grown edition stations n sums`: the eight numbers of a report
+-- that was begun under an edition, after calls that added the stations 0 to n - 1, one by one (egretfold_fleet_add), by their months' numbers
+-- (egretfold_fleet_add_month), or in groups put behind each other (egretfold_fleet_join); calls that were refused may stand between them.
 
--- The numbers in the arrays after these calls are that report's four, beside how many stations were added, and what the station named is
--- served and owes: it owes 0 where none owes, so that 64, the report's number for none, is told from a station of that number.
-pub fleet-grown-calls : (stations : ℕ → Station) (n : ℕ) (sums : List ℕ) → Grown stations n sums → IsReport stations n sums
-fleet-grown-calls = is-report
+-- What egretfold_fleet_tell then tells is request 14's report of all these stations, however many they are: exact sums, all silent days, the
+-- station with the smallest served part, the lower number where two are the same; and a fifth number, 1 beside a station and 0 beside the 64
+-- that stands for none, so that none never looks like station 64.
+pub fleet-grown :
+    (n : ℕ) (stations : ℕ → Station) (edition : ℕ) (sums : List ℕ) → Grown edition stations n sums → (r : ℕ) (room : List ℕ) →
+    Shows (toldNumbers (sumsIn sums)) r room → GrownTold n stations room
+fleet-grown = tell-grown
 
--- So where the stations are those of a call of egretfold_fleet_report that returned 0, its room has these four numbers.
+-- So where the stations are those of a call of egretfold_fleet_report that returned 0, the first four numbers are its room's.
 pub fleet-grown-report :
     (edition : ℕ) (logs numbers : List ℕ) (r : ℕ) (room room' : List ℕ) →
     Crosses (reportTold edition logs numbers (length room)) r room room' → r ≡ 0 → (sums : List ℕ) →
-    Grown (stationAt edition logs numbers) (stationsIn numbers) sums →
-    room' ≡ getD sums 1 0 ∷ getD sums 2 0 ∷ getD sums 3 0 ∷ getD sums 4 0 ∷ []
-fleet-grown-report = report-grown
+    Grown edition (stationAt edition logs numbers) (stationsIn numbers) sums → (s : ℕ) (told : List ℕ) →
+    Shows (toldNumbers (sumsIn sums)) s told → told ≡ room' ++ (getD told 4 0 ∷ [])
+fleet-grown-report = tell-report
 
--- At each of these calls the numbers are such as the next one asks for; there is room for 4,294,967,296 stations.
-pub fleet-grown-given : (stations : ℕ → Station) (n : ℕ) (sums : List ℕ) → Grown stations n sums → SumsGiven sums
+-- The next station, a replay of the report's edition, is answered with the refusal of its own score, and with 0 where it has none.
+pub fleet-grown-next :
+    (edition : ℕ) (stations : ℕ → Station) (k : ℕ) (sums : List ℕ) → Grown edition stations k sums → k < mostStations →
+    (l : Lease) (log marks own tallies shared : List ℕ) → stations k ≡ stationOf l (replayIn log marks own tallies shared) →
+    editionIn (replayIn log marks own tallies shared) ≡ edition → (r : ℕ) (sums' : List ℕ) →
+    AddCrosses l log marks own tallies r sums sums' → r ≡ refusalIn (stations k .score)
+fleet-grown-next = add-answers
+
+-- So the first station that isn't taken is the one that the report of them all is refused for, with the same number.
+pub fleet-grown-refused :
+    (edition : ℕ) (stations : ℕ → Station) (k : ℕ) (sums : List ℕ) → Grown edition stations k sums → k < mostStations →
+    (l : Lease) (log marks own tallies shared : List ℕ) → stations k ≡ stationOf l (replayIn log marks own tallies shared) →
+    editionIn (replayIn log marks own tallies shared) ≡ edition → (r : ℕ) (sums' : List ℕ) →
+    AddCrosses l log marks own tallies r sums sums' → (n : ℕ) → k < n → 0 < r → fleetTold n stations ≡ refuses r
+fleet-grown-refused = next-refusal
+
+-- The same in groups: the groups before were taken whole, and it is the first that isn't taken in the next one.
+pub fleet-grown-group-refused :
+    (edition : ℕ) (stations : ℕ → Station) (n : ℕ) (before : List ℕ) → Grown edition stations n before →
+    (k : ℕ) (sums : List ℕ) → Grown edition (behind n stations) k sums → k < mostStations →
+    (l : Lease) (log marks own tallies shared : List ℕ) → stations (n + k) ≡ stationOf l (replayIn log marks own tallies shared) →
+    editionIn (replayIn log marks own tallies shared) ≡ edition → (r : ℕ) (sums' : List ℕ) →
+    AddCrosses l log marks own tallies r sums sums' → (m : ℕ) → k < m → 0 < r → fleetTold (n + m) stations ≡ refuses r
+fleet-grown-group-refused = group-refusal
+
+-- Two reports of one edition are joined, unless they have over 4,294,967,296 stations together.
+pub fleet-grown-joined :
+    (edition : ℕ) (f g : ℕ → Station) (n m : ℕ) (sums other : List ℕ) → Grown edition f n sums → Grown edition g m other →
+    n + m ≤ mostStations → (r : ℕ) (sums' : List ℕ) → Crosses (joinTold (sumsIn sums) (sumsIn other)) r sums sums' → r ≡ 0
+fleet-grown-joined = join-answers
+
+-- A replay that was begun under an edition and fed with a log, cut anywhere, is of that edition, and is the station that egretfold_fleet_report
+-- reckons of the log's bytes (`stationAt`).
+pub fleet-grown-log :
+    (edition : ℕ) → isEdition edition ≡ true → (a₀ a : Arrays) (b : ℕ) → BeginsAt edition b a₀ a →
+    (ps : List (List ℕ)) (status taken : ℕ) (a' : Arrays) → Pieces a ps status taken a' → OfLog edition (uncut ps) (replayAt a')
+fleet-grown-log = from-log
+
+-- The numbers that egretfold_score_month left, with the days of its room that owe and are served 0, add the month just as its replay does.
+pub fleet-grown-month :
+    (a : Sums) (l : Lease) (q : Replay) → a .edition ≡ editionIn q → (r : ℕ) (claimed served month claimed' served' month' : List ℕ) →
+    MonthCrosses (scoreOf l q) r claimed served month claimed' served' month' → r ≡ 0 →
+    addMonthTold a (getD month' 0 0) (getD month' 1 0) (silentIn (l .days) (l .owed) served') ≡ addTold a (editionIn q) (stationOf l q)
+fleet-grown-month = month-rooms
+
+-- At each of these calls the numbers are such as the next one asks for, and egretfold_fleet_check takes them (`states.Fleet` has a constructor
+-- for each call): no sum passes 64 bits, since 31 * 100,000,000 * 4,294,967,296 < 2^64.
+pub fleet-grown-taken : {sums : List ℕ} → states.Fleet sums → {yes : Bool} → Judges yes (SumsGiven sums) → yes ≡ true
+fleet-grown-taken = fleet-taken
+
+pub fleet-grown-given : (edition : ℕ) (stations : ℕ → Station) (n : ℕ) (sums : List ℕ) → Grown edition stations n sums → SumsGiven sums
 fleet-grown-given = grown-given
 
 -- STATES THAT WERE KEPT ELSEWHERE, the project's own promise: "A state may be copied and kept (on disk, say) as it is". `Judges yes fact` is

@@ -5,6 +5,7 @@ pub mod Editions
 pub mod Elements
 pub mod Fleets
 pub mod Flow
+pub mod Growing
 pub mod Lives
 pub mod Numbers
 pub mod Owning
