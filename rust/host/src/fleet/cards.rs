@@ -62,10 +62,10 @@ pub fn folder(folder: &Path) -> Outcome {
 pub fn write(fleet: &Fleet, folder: &Path) -> Outcome {
     let mut failed = Vec::new();
     let mut names = Vec::new();
-    for card in &fleet.cards {
-        let name = folder.join(name(station(card)));
+    for card in fleet.cards() {
+        let name = folder.join(name(station(&card)));
         let written =
-            Replaced::new(&name, Kind::Svg).and_then(|place| place.write(&picture::svg(card)));
+            Replaced::new(&name, Kind::Svg).and_then(|place| place.write(&picture::svg(&card)));
         if let Err(Failure::Wrong(text)) = written {
             failed.push(text);
         }

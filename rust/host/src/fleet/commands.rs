@@ -11,7 +11,12 @@ pub fn tell(rows: &[Row], out: &mut dyn Write) -> Outcome {
     for row in rows {
         let asked = &row.asked;
         let line = &asked.line;
-        let mut words: Vec<String> = vec!["egretfold".into(), "score".into(), "--json".into()];
+        let mut words: Vec<String> = vec![
+            "egretfold".into(),
+            "score".into(),
+            "--json".into(),
+            "--engine".into(),
+        ];
         let mut put =
             |option: &str, value: String| words.push(format!("{option}={}", quoted(&value)));
         put("--edition", asked.edition.to_string());

@@ -1,0 +1,162 @@
+//! A card as a fleet keeps it, so small that many thousands fit: of a day nothing but what
+//! it claimed and was served and whether the log has it, since all else is the lease's.
+
+use crate::score::asked::{Card, LeaseLine, Unscored};
+use crate::score::checks::Check;
+use crate::score::civil::Date;
+use crate::score::issue::Issue;
+use crate::score::month::{Day, Score, Served};
+use boundary::{Edition, Lease, Month, Verdict};
+use serde_json::Value;
+
+pub enum Kept {
+    Scored(Box<Scored>),
+    Unscored(Box<Unscored>),
+}
+
+/// What a month comes to.
+pub struct Total {
+    pub served: u64,
+    pub owed: u64,
+    pub verdict: Verdict,
+}
+
+/// A card that has a score.
+pub struct Scored {
+    edition: Edition,
+    lease: Lease,
+    from: Option<Date>,
+    inputs: Vec<String>,
+    pub digest: Option<String>,
+    pub total: Total,
+    /// Of each day of the lease; a day owes, and so is served, no more than 32 bits hold.
+    claimed: Box<[u64]>,
+    served: Box<[u32]>,
+    /// A bit for each day of the lease that the log has.
+    in_log: u32,
+    pub checks: Vec<Check>,
+    issue: Issue,
+}
+
+impl Kept {
+    pub fn of(card: Card) -> Kept {
+        match card {
+            Card::Scored(score) => Kept::Scored(Box::new(Scored::of(score))),
+            // What is told of its log is for `score` alone.
+            Card::Unscored(unscored) => Kept::Unscored(Box::new(Unscored {
+                log: Value::Null,
+                ..unscored
+            })),
+        }
+    }
+
+    pub fn card(&self) -> Card {
+        match self {
+            Kept::Scored(scored) => Card::Scored(scored.score()),
+            Kept::Unscored(unscored) => Card::Unscored((**unscored).clone()),
+        }
+    }
+
+    pub fn scored(&self) -> Option<&Scored> {
+        match self {
+            Kept::Scored(scored) => Some(scored),
+            Kept::Unscored(_) => None,
+        }
+    }
+
+    /// Whether its log couldn't be read, so that another try may score it.
+    pub fn is_unread(&self) -> bool {
+        matches!(self, Kept::Unscored(unscored) if !unscored.refused)
+    }
+
+    pub fn issue(&self) -> &Issue {
+        match self {
+            Kept::Scored(scored) => &scored.issue,
+            Kept::Unscored(unscored) => &unscored.issue,
+        }
+    }
+
+    /// The number of its edition.
+    pub fn edition(&self) -> u32 {
+        match self {
+            Kept::Scored(scored) => scored.edition.number(),
+            Kept::Unscored(unscored) => unscored.edition,
+        }
+    }
+
+    /// The lease line with its first date.
+    pub fn lease(&self) -> (LeaseLine, Option<Date>) {
+        match self {
+            Kept::Scored(scored) => (LeaseLine::of(&scored.lease), scored.from),
+            Kept::Unscored(unscored) => (unscored.line, unscored.from),
+        }
+    }
+
+    /// The station's name; a score by itself may have none.
+    pub fn station(&self) -> &str {
+        self.issue().station.as_deref().unwrap_or("-")
+    }
+}
+
+impl Scored {
+    fn of(score: Score) -> Scored {
+        let in_log = score.days.iter().rev().map(|day| u32::from(day.in_log));
+        Scored {
+            edition: score.edition,
+            lease: score.lease,
+            from: score.dates().map(|(first, _)| first),
+            claimed: score.days.iter().map(|day| day.claimed).collect(),
+            served: score.days.iter().map(|day| day.served as u32).collect(),
+            in_log: in_log.fold(0, |bits, bit| bits << 1 | bit),
+            inputs: score.inputs,
+            digest: score.digest,
+            total: Total {
+                served: score.month.served,
+                owed: score.month.owed,
+                verdict: score.month.verdict,
+            },
+            checks: score.checks,
+            issue: score.issue,
+        }
+    }
+
+    /// The days, in their order.
+    fn days(&self) -> impl Iterator<Item = Day> + '_ {
+        let dates = self.from.and_then(|from| from.run(self.lease.days()));
+        let numbers = self.claimed.iter().zip(self.served.iter());
+        (0..)
+            .zip(numbers)
+            .map(move |(place, (claimed, served))| Day {
+                number: self.lease.first_day() + place,
+                date: dates.as_ref().map(|dates| dates[place as usize]),
+                claimed: *claimed,
+                served: u64::from(*served),
+                owed: u64::from(self.lease.owed()),
+                in_log: self.in_log >> place & 1 == 1,
+            })
+    }
+
+    /// How many days were served so.
+    pub fn count(&self, kind: Served) -> usize {
+        self.days().filter(|day| day.kind() == kind).count()
+    }
+
+    fn score(&self) -> Score {
+        Score {
+            edition: self.edition,
+            lease: self.lease,
+            inputs: self.inputs.clone(),
+            digest: self.digest.clone(),
+            log: Value::Null,
+            month: Month {
+                days: self.days().map(|day| day.scored()).collect(),
+                served: self.total.served,
+                owed: self.total.owed,
+                verdict: self.total.verdict,
+            },
+            days: self.days().collect(),
+            checks: self.checks.clone(),
+            issue: self.issue.clone(),
+        }
+    }
+}
