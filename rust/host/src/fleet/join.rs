@@ -40,7 +40,10 @@ pub fn missing(cards: Vec<Kept>, rows: Vec<Row>) -> Outcome<Vec<Row>> {
             .as_ref()
             .filter(|card| card.edition() != row.asked.edition)
         {
-            return Err(mixed(row.station(), row.asked.edition, other));
+            let (name, by, due) = (row.station(), other.edition(), row.asked.edition);
+            return Err(Failure::Wrong(format!(
+                "station {name} is scored by edition {by}, and edition {due} is asked for"
+            )));
         }
         if card.map_or(true, |card| card.is_unread()) {
             missing.push(row);

@@ -160,3 +160,45 @@ impl Scored {
         }
     }
 }
+
+#[cfg(test)]
+mod tests {
+    use super::*;
+    use crate::input::source::Source;
+    use crate::replay::log::Log;
+    use crate::score::{asked, rows};
+
+    const LOG: &[u8] = include_bytes!("../../../../samples/station-14.log");
+
+    fn told(card: &Card) -> String {
+        let mut out = Vec::new();
+        assert!(rows::json(card, &mut out).is_ok());
+        String::from_utf8_lossy(&out).into_owned()
+    }
+
+    fn score(first_day: u32, from: Option<Date>) -> Score {
+        let mut log = Log::with_digest(Edition::First);
+        assert!(log.read(vec![Source::of_bytes("a log", LOG)]).is_ok());
+        let lease = Lease::new(first_day, 30, 14_000_000).expect("a lease");
+        let dates = asked::dates(from, &lease).expect("dates");
+        let month = log.replay.score(&lease).expect("a month");
+        let issue = Issue::of(&Some("14".to_string()), &None, Date::today());
+        Score::new(lease, dates, month, &log, issue)
+    }
+
+    /// With dates and without, days that the log has and days that it hasn't: a card that
+    /// was kept tells what it told before, but for the log.
+    #[test]
+    fn a_card_comes_back_as_it_was() {
+        for (first_day, from) in [(101, "2026-04-01"), (95, ""), (119, "2026-12-19")] {
+            let from = Date::parse(from).ok();
+            let mut due = score(first_day, from);
+            due.log = Value::Null;
+            let is = Kept::of(Card::Scored(score(first_day, from))).card();
+            assert_eq!(is.score().map(|score| &score.month), Some(&due.month));
+            assert_eq!(told(&is), told(&Card::Scored(due)));
+            assert!(told(&is).contains("\"in_log\":true"));
+            assert_eq!(told(&is).contains("\"in_log\":false"), first_day != 101);
+        }
+    }
+}
