@@ -346,6 +346,31 @@ fn fleets() {
     refusals(&tally, &[slices, stations].concat());
 }
 
+#[test]
+fn growing() {
+    let tally = agree(Kind::Growing, 0..20_000);
+    editions(&tally, 0);
+    assert!(tally.accepted >= 300_000, "accepted: {}", tally.accepted);
+    marks(&tally, &[("reports joined of groups", 10_000)]);
+    marks(&tally, &[("reports of more than 64 stations", 500)]);
+    marks(&tally, &[("reports that name station 64", 50)]);
+    marks(
+        &tally,
+        &[("reports that name station 64 or a later one", 200)],
+    );
+    marks(
+        &tally,
+        &[("reports of more than 64 stations that owe nothing", 50)],
+    );
+    marks(&tally, &[("reports of 2^32 stations", 500)]);
+    marks(&tally, &[("reports that request 14's tells too", 3_000)]);
+    let stations = [(18, 3_000), (19, 3_000), (21, 10_000)];
+    refusals(
+        &tally,
+        &[&[(3, 10_000), (22, 3_000)][..], &stations].concat(),
+    );
+}
+
 fn lessees(numbers: Range<u64>) {
     let tally = agree(Kind::Lessees, numbers);
     editions(&tally, 0);

@@ -21,7 +21,9 @@ type Read<T> = Result<T, String>;
 /// The cards that these files tell, in their order.
 pub fn read(files: &[PathBuf]) -> Outcome<Vec<Kept>> {
     let mut cards = Vec::new();
-    for mut source in Source::open_all(files)? {
+    for file in files {
+        // One at a time: there may be a file a station.
+        let mut source = Source::open(Some(file))?;
         let bytes = source.all(LONGEST)?;
         let wrong =
             |line: usize, cause| Failure::Wrong(format!("{}: line {line}: {cause}", source.name));
