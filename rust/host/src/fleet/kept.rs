@@ -1,6 +1,7 @@
 //! A card as a fleet keeps it, so small that many thousands fit: of a day nothing but what
-//! it claimed and was served and whether the log has it, since all else is the lease's.
+//! it claimed and whether the log has it, since all else of it is the lease's.
 
+use crate::common::digest::{self, Finished};
 use crate::score::asked::{Card, LeaseLine, Unscored};
 use crate::score::checks::Check;
 use crate::score::civil::Date;
@@ -27,11 +28,11 @@ pub struct Scored {
     lease: Lease,
     from: Option<Date>,
     inputs: Vec<String>,
-    pub digest: Option<String>,
+    /// Smaller than in hex.
+    pub digest: Option<Finished>,
     pub total: Total,
-    /// Of each day of the lease; a day owes, and so is served, no more than 32 bits hold.
+    /// Of each day of the lease.
     claimed: Box<[u64]>,
-    served: Box<[u32]>,
     /// A bit for each day of the lease that the log has.
     in_log: u32,
     pub checks: Vec<Check>,
@@ -76,6 +77,13 @@ impl Kept {
         }
     }
 
+    pub fn set_issue(&mut self, issue: Issue) {
+        match self {
+            Kept::Scored(scored) => scored.issue = issue,
+            Kept::Unscored(unscored) => unscored.issue = issue,
+        }
+    }
+
     /// The number of its edition.
     pub fn edition(&self) -> u32 {
         match self {
@@ -106,10 +114,9 @@ impl Scored {
             lease: score.lease,
             from: score.dates().map(|(first, _)| first),
             claimed: score.days.iter().map(|day| day.claimed).collect(),
-            served: score.days.iter().map(|day| day.served as u32).collect(),
             in_log: in_log.fold(0, |bits, bit| bits << 1 | bit),
             inputs: score.inputs,
-            digest: score.digest,
+            digest: score.digest.as_deref().and_then(digest::of_hex),
             total: Total {
                 served: score.month.served,
                 owed: score.month.owed,
@@ -122,18 +129,18 @@ impl Scored {
 
     /// The days, in their order.
     fn days(&self) -> impl Iterator<Item = Day> + '_ {
+        let owed = u64::from(self.lease.owed());
         let dates = self.from.and_then(|from| from.run(self.lease.days()));
-        let numbers = self.claimed.iter().zip(self.served.iter());
-        (0..)
-            .zip(numbers)
-            .map(move |(place, (claimed, served))| Day {
-                number: self.lease.first_day() + place,
-                date: dates.as_ref().map(|dates| dates[place as usize]),
-                claimed: *claimed,
-                served: u64::from(*served),
-                owed: u64::from(self.lease.owed()),
-                in_log: self.in_log >> place & 1 == 1,
-            })
+        let claimed = (0..).zip(self.claimed.iter().copied());
+        claimed.map(move |(place, claimed)| Day {
+            number: self.lease.first_day() + place,
+            date: dates.as_ref().map(|dates| dates[place as usize]),
+            claimed,
+            // A day is served what it claimed, up to what it owes.
+            served: claimed.min(owed),
+            owed,
+            in_log: self.in_log >> place & 1 == 1,
+        })
     }
 
     /// How many days were served so.
@@ -146,7 +153,7 @@ impl Scored {
             edition: self.edition,
             lease: self.lease,
             inputs: self.inputs.clone(),
-            digest: self.digest.clone(),
+            digest: self.digest.map(digest::hex),
             log: Value::Null,
             month: Month {
                 days: self.days().map(|day| day.scored()).collect(),

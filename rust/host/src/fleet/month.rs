@@ -1,6 +1,6 @@
 //! A fleet's month: its stations' cards with what they come to together.
 
-use crate::common::digest::{self, Digest};
+use crate::common::digest::Digest;
 use crate::common::edition;
 use crate::common::failure::{Failure, Outcome};
 use crate::common::text;
@@ -195,8 +195,8 @@ fn worst(one: &Kept, other: &Kept) -> Ordering {
 /// Logs of two stations that are the same bytes: one of them is in the wrong place. Empty
 /// ones are told as empty.
 fn tell_same_logs(kept: &mut [Kept]) {
-    let empty = digest::hex(Digest::new().finished());
-    let digest = |place: usize| kept[place].scored()?.digest.as_deref();
+    let empty = Digest::new().finished();
+    let digest = |place: usize| kept[place].scored()?.digest;
     let has_bytes = |place: &usize| digest(*place).map_or(false, |digest| digest != empty);
     let mut places: Vec<usize> = (0..kept.len()).filter(has_bytes).collect();
     places.sort_by_key(|place| digest(*place));

@@ -1,5 +1,6 @@
 //! The lines of `score --json`, read back: a fleet that was scored elsewhere, joined.
 
+use crate::common::digest;
 use crate::common::failure::{Failure, Outcome};
 use crate::fleet::kept::Kept;
 use crate::input::source::Source;
@@ -121,7 +122,7 @@ fn scored(
         edition,
         lease,
         inputs: texts(&summary["log"], "inputs")?,
-        digest: optional(summary, "sha256")?,
+        digest: optional(summary, "sha256")?.map(digested).transpose()?,
         log: summary["log"].clone(),
         month: month(summary, &read)?,
         days: read,
@@ -177,6 +178,14 @@ fn check(value: &Value) -> Read<Check> {
         text: text(value, "text")?,
         explains: optional(value, "explains")?,
     })
+}
+
+/// What is a SHA-256 in hex.
+fn digested(text: String) -> Read<String> {
+    match digest::of_hex(&text) {
+        Some(_) => Ok(text),
+        None => Err(missing("sha256")),
+    }
 }
 
 fn missing(key: &str) -> String {

@@ -27,7 +27,7 @@ impl Group {
     }
 
     /// Puts a station behind these, whose log is read for it.
-    fn read(mut self, edition: Edition, row: &Row) -> Answer<Group> {
+    fn read(mut self, edition: Edition, row: Row) -> Answer<Group> {
         let read = row
             .dates()
             .and_then(|dates| Ok((dates, row.asked.log(edition)?)));
@@ -41,7 +41,10 @@ impl Group {
             }
             Err(failure) => row.asked.unread(failure),
         };
-        self.cards.push(Kept::of(card));
+        let mut card = Kept::of(card);
+        // The row's own, so that its names aren't kept twice.
+        card.set_issue(row.asked.issue);
+        self.cards.push(card);
         progress::station_done();
         Ok(self)
     }
@@ -70,10 +73,8 @@ impl Group {
 pub fn read(edition: Edition, rows: Vec<Row>) -> Outcome<Group> {
     progress::begin_together(bytes(&rows), rows.len());
     let begin = || Ok(Group::new(edition));
-    // In boxes, so that a row's memory is given back as soon as its card is there.
-    let rows: Vec<Box<Row>> = rows.into_iter().map(Box::new).collect();
     let groups = rows.into_par_iter().fold(begin, |group, row| {
-        group.and_then(|group| group.read(edition, &row))
+        group.and_then(|group| group.read(edition, row))
     });
     let group = groups.reduce(begin, |one, other| one?.join(other?));
     progress::end_together();
