@@ -2,7 +2,7 @@
 //! made apart from it, on millions of made-up inputs: good ones, ones at the
 //! edges of the rules, damaged ones and noise.
 //!
-//! There are fifteen kinds of cases, one module each:
+//! There are sixteen kinds of cases, one module each:
 //!
 //! * [`addresses`]: layouts judged, pairs translated, addresses located back;
 //! * [`memory`]: elements read and written in lent memory, superfine reads;
@@ -18,7 +18,8 @@
 //! * [`pictures`]: rectangles painted into memory and copied out of it;
 //! * [`fleets`]: the logs and lease lines of up to 64 stations in one report;
 //! * [`growing`]: that report over any number of stations, added and joined;
-//! * [`states`]: states kept as bytes at random places, and gone on with.
+//! * [`states`]: states kept as bytes at random places, and gone on with;
+//! * [`trims`]: logs of days and of years whose replays are trimmed on the way.
 //!
 //! Every case is made from its kind, a seed and its number alone, so that any
 //! case can be run again by itself. The tests run fixed cases; the program
@@ -56,6 +57,7 @@ pub mod states;
 pub mod streams;
 pub mod surveys;
 pub mod tally;
+pub mod trims;
 pub mod turns;
 pub mod words;
 pub mod writer;
@@ -85,10 +87,11 @@ pub enum Kind {
     Fleets,
     States,
     Growing,
+    Trims,
 }
 
 impl Kind {
-    pub const ALL: [Kind; 15] = [
+    pub const ALL: [Kind; 16] = [
         Kind::Addresses,
         Kind::Memory,
         Kind::Streams,
@@ -104,6 +107,7 @@ impl Kind {
         Kind::Fleets,
         Kind::States,
         Kind::Growing,
+        Kind::Trims,
     ];
 
     pub fn name(self) -> &'static str {
@@ -123,6 +127,7 @@ impl Kind {
             Kind::Fleets => "fleets",
             Kind::States => "states",
             Kind::Growing => "growing",
+            Kind::Trims => "trims",
         }
     }
 
@@ -147,6 +152,7 @@ impl Kind {
             Kind::Fleets => fleets::run(case),
             Kind::States => states::run(case),
             Kind::Growing => growing::run(case),
+            Kind::Trims => trims::run(case),
         }
     }
 }

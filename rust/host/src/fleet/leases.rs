@@ -205,8 +205,8 @@ impl Leases {
                 .iter()
                 .map(|value| spelled(&String::from_utf8_lossy(value)));
             let like = like
-                .filter(|other| !is_known(other) && is_like(other, name))
-                .last();
+                .rev()
+                .find(|other| !is_known(other) && is_like(other, name));
             match (place, like) {
                 (None, Some(like)) => {
                     let cause = format!("there is none; {like:?} may be it");
@@ -363,7 +363,7 @@ impl Reading<'_> {
         };
         let lease = self.lease(&asked)?;
         let line = self.line;
-        (self.faults.len() == before).then(|| Row { line, asked, lease })
+        (self.faults.len() == before).then_some(Row { line, asked, lease })
     }
 
     fn files(&mut self, folder: &Path) -> Option<Vec<PathBuf>> {

@@ -22,8 +22,10 @@ pub mod text;
 
 use crate::common::digits::Digits;
 use crate::common::edition::{self, EditionOption};
-use crate::common::failure::Outcome;
+use crate::common::failure::{Failure, Outcome};
+use crate::common::files::Files;
 use crate::common::replaced::{Goes, Kind};
+use crate::fleet::kept::Kept;
 use crate::fleet::leases::{Leases, Row};
 use crate::fleet::month::{Fleet, Sort};
 use crate::score::civil::Date;
@@ -91,7 +93,21 @@ pub struct Options {
     edition: EditionOption,
 }
 
-pub fn run(options: &Options, out: &mut dyn Write) -> Outcome {
+impl Options {
+    /// Names the files of the line but for those that the lease file names.
+    pub fn name(&self, files: &mut Files) {
+        files.reads("LEASES.csv", self.leases.as_deref());
+        for scores in self.from_scores.iter().flatten() {
+            files.reads("--from-scores", Some(scores));
+        }
+        for scores in self.missing.iter().flatten() {
+            files.reads("--missing", Some(scores));
+        }
+        files.writes("--html", self.html.as_deref());
+    }
+}
+
+pub fn run(options: &Options, files: &mut Files, out: &mut dyn Write) -> Outcome {
     let edition = options.edition.accepted().map_err(edition::refused)?;
     let form = (options.json || options.csv).then_some("--json and --csv");
     let html = Goes::asked(options.html.as_deref(), Kind::Html, form)?;
@@ -100,36 +116,55 @@ pub fn run(options: &Options, out: &mut dyn Write) -> Outcome {
         Some(file) => Some(options.rows(file, (edition, date))?),
         None => None,
     };
+    name_rows(rows.as_deref().unwrap_or_default(), options, files)?;
     if options.commands {
         let rows = rows.unwrap_or_default();
         let rows = match &options.missing {
-            Some(files) => join::missing(scores::read(files)?, rows)?,
+            Some(scored) => join::missing(scores::read(scored)?, rows)?,
             None => rows,
         };
         return commands::tell(&rows, out);
     }
+    let joined = match &options.from_scores {
+        Some(scored) => Some(join::joined(scores::read(scored)?, rows.as_deref())?),
+        None => None,
+    };
     if let Some(folder) = &options.cards {
+        if let (Some(joined), None) = (&joined, &rows) {
+            cards::name(folder, joined.cards.iter().map(Kept::station), files)?;
+        }
         cards::folder(folder)?;
     }
-    let group = match (&options.from_scores, rows) {
-        (Some(files), rows) => join::joined(scores::read(files)?, rows.as_deref())?,
-        (None, rows) => stations::read(edition, rows.unwrap_or_default())?,
+    let group = match joined {
+        Some(joined) => joined,
+        None => stations::read(edition, rows.unwrap_or_default())?,
     };
     let fleet = Fleet::new(group, options.sort, date);
-    let drawn = match &options.cards {
-        Some(folder) => cards::write(&fleet, folder),
-        None => Ok(()),
-    };
-    let written = html.write(|| page::html(&fleet), out);
-    match (options.json, options.csv) {
-        _ if html.is_standard() => {}
-        (true, _) => rows::json(&fleet, out)?,
-        (_, true) => rows::csv(&fleet, out)?,
-        _ => text::tell(&fleet, Digits::plain(options.plain), out)?,
+    if let Some(folder) = &options.cards {
+        cards::write(&fleet, folder, files);
     }
-    drawn?;
-    written?;
-    fleet.outcome()
+    let told = html.write(|| page::html(&fleet), files, out);
+    let told = told.and_then(|()| match (options.json, options.csv) {
+        _ if html.is_standard() => Ok(()),
+        (true, _) => rows::json(&fleet, out),
+        (_, true) => rows::csv(&fleet, out),
+        _ => text::tell(&fleet, Digits::plain(options.plain), out),
+    });
+    Failure::both(fleet.outcome(), told)
+}
+
+/// Names the files that the lease file tells of: the stations' cards, and their logs, which are read where there are no scores, and
+/// also by who runs the lines of --commands.
+fn name_rows(rows: &[Row], options: &Options, files: &mut Files) -> Outcome {
+    if let Some(folder) = &options.cards {
+        cards::name(folder, rows.iter().map(Row::station), files)?;
+    }
+    for row in rows {
+        for file in &row.asked.files {
+            files.reads_last(|| format!("the log of station {}", row.station()), file);
+        }
+    }
+    files.are_apart()
 }
 
 impl Options {
