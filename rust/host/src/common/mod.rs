@@ -13,5 +13,6 @@ pub mod names;
 pub mod output;
 pub mod replaced;
 pub mod settings;
+pub mod sheet;
 pub mod text;
 pub mod visible;

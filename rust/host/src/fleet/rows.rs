@@ -2,6 +2,7 @@
 //! values.
 
 use crate::common::failure::Outcome;
+use crate::common::sheet;
 use crate::fleet::month::{station, Fleet};
 use crate::score::asked::Card;
 use crate::score::checks::Check;
@@ -86,7 +87,10 @@ pub fn csv(fleet: &Fleet, out: &mut dyn Write) -> Outcome {
     rows.extend(fleet.told().map(|(_, card)| row(card)));
     let mut writer = Writer::from_writer(Vec::new());
     for row in rows {
-        writer.write_record(row).map_err(std::io::Error::from)?;
+        let cells = row.iter().map(|text| sheet::written(text).into_owned());
+        writer
+            .write_record(cells.map(String::into_bytes))
+            .map_err(std::io::Error::from)?;
     }
     // Writing to memory can't fail.
     let bytes = writer.into_inner().unwrap_or_default();

@@ -11,6 +11,9 @@ use std::io::Write;
 /// A row's columns but the last, which is as long as it is.
 const COLUMNS: usize = 7;
 
+/// A column is no wider; a longer name moves its own row alone.
+const WIDEST: usize = 60;
+
 struct Row {
     columns: [String; COLUMNS],
     behind: String,
@@ -127,7 +130,7 @@ fn table(fleet: &Fleet, digits: Digits) -> Vec<String> {
         rows.iter()
             .map(move |row| row.columns[place].chars().count())
     };
-    let width = |place: usize| letters(place).max().unwrap_or(0);
+    let width = |place: usize| letters(place).max().unwrap_or(0).min(WIDEST);
     let [a, b, c, d, e, f, g] = [0, 1, 2, 3, 4, 5, 6].map(width);
     let line = |row: &Row| {
         let [station, lessee, served, owed, part, silent, full] = &row.columns;
