@@ -203,8 +203,8 @@ impl Leases {
                 .iter()
                 .map(|value| spelled(&String::from_utf8_lossy(value)));
             let like = like
-                .filter(|other| !is_known(other) && is_like(other, name))
-                .last();
+                .rev()
+                .find(|other| !is_known(other) && is_like(other, name));
             match (place, like) {
                 (None, Some(like)) => {
                     let cause = format!("there is none; {like:?} may be it");
@@ -362,7 +362,7 @@ impl Reading<'_> {
         };
         let (lease, dates) = self.lease(&asked)?;
         let line = self.line;
-        (self.faults.len() == before).then(|| Row {
+        (self.faults.len() == before).then_some(Row {
             line,
             asked,
             lease,

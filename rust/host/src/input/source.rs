@@ -10,9 +10,7 @@ use crate::input::packed::{self, Counted};
 use crate::input::progress::Bar;
 use std::fs::{self, File};
 use std::io::{self, Read, Write};
-use std::os::unix::fs::MetadataExt;
 use std::path::{Path, PathBuf};
-use std::sync::{Mutex, PoisonError};
 
 /// Bytes that are read at once: a whole number of words.
 pub const PIECE: usize = 1 << 16;
@@ -41,15 +39,6 @@ pub struct Source {
     bar: Bar,
 }
 
-/// The files that are read, by device and number.
-static READ: Mutex<Vec<(u64, u64)>> = Mutex::new(Vec::new());
-
-/// Whether this is a file that is read, by whatever name.
-pub fn is_read(path: &Path) -> bool {
-    let read = READ.lock().unwrap_or_else(PoisonError::into_inner);
-    fs::metadata(path).map_or(false, |about| read.contains(&(about.dev(), about.ino())))
-}
-
 /// What standard input is called.
 pub const STANDARD: &str = "standard input";
 
@@ -74,8 +63,6 @@ impl Source {
             let what = if empty { "an empty folder" } else { "a folder" };
             return Err(Failure::Wrong(format!("{name}: is {what}")));
         }
-        let mut read = READ.lock().unwrap_or_else(PoisonError::into_inner);
-        read.push((about.dev(), about.ino()));
         let length = Some(about.len());
         Ok(match about.is_file() {
             true => Source::new(name, Box::new(Later::new(path, &about)), length),
@@ -96,7 +83,7 @@ impl Source {
     }
 
     /// The input's bytes as they stand: memory may begin as gzip's files do.
-    pub fn as_it_stands(self) -> Source {
+    pub fn without_unpacking(self) -> Source {
         Source {
             fresh: false,
             ..self

@@ -10,6 +10,7 @@ mod desk;
 mod engines;
 mod entries;
 mod examples;
+mod files;
 mod fleet;
 mod golden;
 mod hostile;
