@@ -9,6 +9,7 @@ mod cards;
 mod cells;
 mod commands;
 mod files;
+mod held;
 mod leases;
 pub mod month;
 pub mod page;
@@ -17,6 +18,7 @@ mod rows;
 mod scores;
 mod stations;
 pub mod text;
+mod workers;
 
 use crate::common::digits::Digits;
 use crate::common::edition::{self, EditionOption};
@@ -60,6 +62,9 @@ pub struct Options {
     /// due, else the fleet is who stands there
     #[arg(long, value_name = "FILE", num_args = 1.., conflicts_with = "number")]
     from_scores: Option<Vec<PathBuf>>,
+    /// With --from-scores and a lease file: hold each score's digest against its log, where that can be read here
+    #[arg(long, requires = "from_scores", requires = "leases")]
+    check_logs: bool,
     /// Print the line of score --json for each station, and read no log
     #[arg(long, conflicts_with_all = ["from_scores", "json", "csv", "plain", "html", "cards"])]
     commands: bool,
@@ -115,6 +120,11 @@ pub fn run(options: &Options, files: &mut Files, out: &mut dyn Write) -> Outcome
     }
     let scored = options.from_scores.as_deref().map(scores::read);
     let scored = scored.transpose()?;
+    let stations = scored.as_ref().map(Vec::len);
+    let stations = stations.max(rows.as_ref().map(Vec::len)).unwrap_or(0);
+    if options.html.is_some() {
+        page::holds(stations)?;
+    }
     if let Some(folder) = &options.cards {
         if let (Some(scored), None) = (&scored, &rows) {
             cards::name(folder, scored.iter().map(station), files)?;
@@ -122,7 +132,7 @@ pub fn run(options: &Options, files: &mut Files, out: &mut dyn Write) -> Outcome
         cards::folder(folder)?;
     }
     let (cards, four) = match (scored, &rows) {
-        (Some(scored), rows) => joined(scored, rows.as_deref())?,
+        (Some(scored), rows) => joined(scored, rows.as_deref(), options.check_logs)?,
         (None, rows) => stations::read(edition, rows.as_deref().unwrap_or_default())?,
     };
     let fleet = Fleet::new(cards, four, options.sort, date);
@@ -188,7 +198,7 @@ fn edition_of(cards: &[Card]) -> Outcome<Edition> {
 
 /// The cards that were scored elsewhere, in the lease file's order where there is one,
 /// and their four numbers by their months.
-fn joined(cards: Vec<Card>, rows: Option<&[Row]>) -> Outcome<(Vec<Card>, Four)> {
+fn joined(cards: Vec<Card>, rows: Option<&[Row]>, logs: bool) -> Outcome<(Vec<Card>, Four)> {
     let edition = edition_of(&cards)?;
     let mut told: HashMap<String, Card> = HashMap::new();
     let mut order = Vec::new();
@@ -204,7 +214,7 @@ fn joined(cards: Vec<Card>, rows: Option<&[Row]>) -> Outcome<(Vec<Card>, Four)> 
         Some(rows) => {
             let due: Outcome<Vec<Card>> = rows
                 .iter()
-                .map(|row| due(row, edition, &mut told))
+                .map(|row| due(row, edition, logs, &mut told))
                 .collect();
             let due = due?;
             if let Some(name) = order.iter().find(|name| told.contains_key(*name)) {
@@ -225,7 +235,7 @@ fn joined(cards: Vec<Card>, rows: Option<&[Row]>) -> Outcome<(Vec<Card>, Four)> 
 }
 
 /// The card of a row, which must be of its lease line.
-fn due(row: &Row, edition: Edition, told: &mut HashMap<String, Card>) -> Outcome<Card> {
+fn due(row: &Row, edition: Edition, logs: bool, told: &mut HashMap<String, Card>) -> Outcome<Card> {
     let Asked {
         line, from, issue, ..
     } = &row.asked;
@@ -238,6 +248,11 @@ fn due(row: &Row, edition: Edition, told: &mut HashMap<String, Card>) -> Outcome
                 && card.from() == *from
                 && card.issue().lessee == issue.lessee =>
         {
+            held::files(row, card.inputs())?;
+            match card.score() {
+                Some(score) if logs => held::digest(row, score.digest.as_deref())?,
+                _ => {}
+            }
             Ok(card)
         }
         Some(_) => {

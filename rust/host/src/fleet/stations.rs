@@ -4,10 +4,10 @@ use crate::common::failure::{Failure, Outcome};
 use crate::explain::cause;
 use crate::fleet::leases::Row;
 use crate::fleet::report::{Four, Group};
+use crate::fleet::workers;
 use crate::input::progress;
 use crate::score::asked::Card;
 use boundary::{Answer, Edition, Refusal, MOST_STATIONS};
-use rayon::prelude::*;
 use std::fs;
 
 /// Bytes of logs that a worker keeps for the report: some months of a station, and some
@@ -21,11 +21,11 @@ const PARTS: usize = 4;
 /// those that have a score.
 pub fn read(edition: Edition, rows: &[Row]) -> Outcome<(Vec<Card>, Four)> {
     progress::begin_together(bytes(rows), rows.len());
-    let parts = PARTS * rayon::current_num_threads();
+    let parts = PARTS * workers::count();
     let size = ((rows.len() + parts - 1) / parts).clamp(1, MOST_STATIONS);
     let places: Vec<(usize, &Row)> = rows.iter().enumerate().collect();
-    let parts = places.par_chunks(size).map(|rows| part(edition, rows));
-    let read: Vec<(Vec<Card>, Answer<Four>)> = parts.collect();
+    let parts = places.chunks(size).collect();
+    let read = workers::map(parts, |rows| part(edition, rows));
     progress::end_together();
     let mut cards = Vec::new();
     let mut told = Four::default();

@@ -123,6 +123,14 @@ impl Card {
         }
     }
 
+    /// The log's inputs by their names.
+    pub fn inputs(&self) -> &[String] {
+        match self {
+            Card::Scored(score) => &score.inputs,
+            Card::Unscored(unscored) => &unscored.inputs,
+        }
+    }
+
     pub fn score(&self) -> Option<&Score> {
         match self {
             Card::Scored(score) => Some(score),
@@ -141,7 +149,7 @@ impl Card {
 
 impl Asked {
     /// The files by their names, with nothing that a terminal would obey.
-    fn names(&self) -> Vec<String> {
+    pub fn names(&self) -> Vec<String> {
         let name = |file: &Path| match source::is_standard(Some(file)) {
             true => source::STANDARD.to_string(),
             false => visible::line(&file.display().to_string()),

@@ -246,3 +246,38 @@ fn pipes_and_devices_in_a_folder_are_told_and_passed_over() {
     let passed = "logs/day-0.log is no file and is passed over\nlogs/day-2.log is no file and is passed over\n";
     assert_eq!(complained(&output), passed.repeat(2));
 }
+
+/// A user who may have no process more, so that no thread can be started.
+#[test]
+fn a_fleet_is_scored_without_a_thread_to_be_had() {
+    let folder = Folder::new("load-threads");
+    let rows: String = (0..9)
+        .map(|station| format!("{station},a.log,101,3,1728\n"))
+        .collect();
+    folder.write("leases.csv", format!("{HEADER}{rows}").as_bytes());
+    folder.write("a.log", &sample("three-days.log"));
+    let due = sh(&folder, "RAYON_NUM_THREADS=1 $E fleet leases.csv");
+    let is_root = told(&sh(&folder, "id -u")) == "0\n";
+    let whose = if is_root {
+        "setpriv --reuid=65534 --regid=65534 --clear-groups"
+    } else {
+        ""
+    };
+    // A copy, since that user may not come to where it was built.
+    let line = format!("cp $E egretfold && RAYON_NUM_THREADS=8 {whose} prlimit --nproc=0 ./egretfold fleet leases.csv");
+    let output = sh(&folder, &line);
+    assert_eq!(told(&output), told(&due), "{}", complained(&output));
+    assert_eq!(complained(&output), "");
+    for threads in ["0", "3", "1000000", "-1", "x"] {
+        let output = sh(
+            &folder,
+            &format!("RAYON_NUM_THREADS={threads} $E fleet leases.csv"),
+        );
+        assert_eq!(
+            told(&output),
+            told(&due),
+            "{threads}: {}",
+            complained(&output)
+        );
+    }
+}

@@ -14,6 +14,7 @@ mod files;
 mod fleet;
 mod golden;
 mod hostile;
+mod joined;
 mod load;
 mod pictures;
 mod program;
