@@ -213,8 +213,10 @@ use Rattle.trim.specs.Trim.{trimmed}
 use Rattle.trim.specs.Laws.{NotFull}
 use Rattle.trim.proofs.Kept.{trimmed-again}
 use Rattle.trim.proofs.Laws.{trim-takes, trim-any-time}
-use Rattle.trim.specs.Free.{newFree, freeOf, Years}
-use Rattle.trim.proofs.Years.{years-follow, years-scores, new-follows}
+use Rattle.trim.specs.Free.{newFree, freeOf, Keeps, AsFree}
+use Rattle.trim.proofs.Years.{free-is}
+use Rattle.demands.specs.Years.{LogCalls, unlimited, AnswersAs}
+use Rattle.demands.proofs.Years.{years-as-free, years-answered, years-scored, years-judged}
 use Rattle.demands.proofs.States.{
   session-judged,
   session-taken,
@@ -1316,15 +1318,38 @@ pub trim-goes-on :
     SameAfter (replayAt a .midnights) (replayAt a .lastDay) status taken e status' taken' e'
 trim-goes-on h some c = trimmed-goes-on (replay-given h) some c
 
--- Over the years, without that "unless": a replay that is begun, fed and trimmed, in any order and for as long as its pieces are taken whole, is held
--- against one with room for any number of midnights (`freeOf`: document 02's replay, "at most 400 come in all" left out). That one takes the
--- same bytes, and its score by every lease line from the first day that the trimmed one has, and its parts, are those of the trimmed one.
-pub trim-years :
-    (edition : ℕ) (bytes : List ℕ) (q : Replay) → Years (newReplay edition) bytes q → 0 < q .midnights → (l : Lease) →
-    firstDay (q .midnights) (q .lastDay) ≤ l .firstDay → scoreOf l (freeOf (newFree edition) bytes .replay) ≡ scoreOf l q
-trim-years edition bytes q y some l h =
-    years-scores (freeOf (newFree edition) bytes .replay) q
-    (years-follow (newFree edition) (newReplay edition) (new-follows edition) bytes q y .1) some l h
+-- Over the years, without that "unless": a host begins a replay, feeds it pieces by egretfold_log_feed and bytes by egretfold_log_byte, and trims
+-- it, in any order and any number of times (`LogCalls`); calls may be refused, only not with 19 while there are 400 midnights. What it has then is
+-- held against document 02's replay of all those bytes with "at most 400 come in all" left out (`unlimited`): the session, the open record, the
+-- stop, the last day and the first refused word's number are the same, and so are each part and its day, from the first midnight that was kept on,
+-- and the score by each lease line that begins on that midnight's day or later.
+pub trim-years : {edition : ℕ} {bytes : List ℕ} {a : Arrays} → LogCalls edition bytes a → AsFree (unlimited edition bytes) (replayAt a)
+trim-years = years-as-free
+
+-- What the next piece is answered, the last and refused one too, is what that replay answers: the same status, the same bytes taken.
+pub trim-years-answers :
+    {edition : ℕ} {bytes : List ℕ} {a : Arrays} → LogCalls edition bytes a → (p : List ℕ) → Bytes8 p → (status taken : ℕ) (a' : Arrays) →
+    FedAt (replayOf (replayAt a) p) status taken a' → HadRoom status a' → AnswersAs (freeOf (unlimited edition bytes) p) status taken
+trim-years-answers = years-answered
+
+-- What egretfold_score_month writes and returns for such a lease line is that replay's month.
+pub trim-years-month :
+    {edition : ℕ} {bytes : List ℕ} {a : Arrays} → LogCalls edition bytes a → (l : Lease) → 0 < replayAt a .midnights →
+    firstDay (replayAt a .midnights) (replayAt a .lastDay) ≤ l .firstDay →
+    {r : ℕ} {claimed served month claimed' served' month' : List ℕ} →
+    ScoreCrosses l (a .log) (a .marks) (a .tallies) r claimed served month claimed' served' month' →
+    MonthCrosses (scoreOf l (unlimited edition bytes)) r claimed served month claimed' served' month'
+trim-years-month = years-scored
+
+-- And egretfold_log_check takes what the calls leave.
+pub trim-years-taken :
+    {edition : ℕ} {bytes : List ℕ} {a : Arrays} → LogCalls edition bytes a → {yes : Bool} → Judges yes (GivenAt a) → yes ≡ true
+trim-years-taken = years-judged
+
+-- Never trimmed, a replay is that one up to its 401st midnight.
+pub trim-years-free :
+    (edition : ℕ) (bytes : List ℕ) → Keeps 0 (freeOf (newFree edition) bytes) (replayOf (newReplay edition) bytes)
+trim-years-free = free-is
 
 -- And in any case: what the untrimmed replay takes, the trimmed one takes.
 pub trim-takes-all :

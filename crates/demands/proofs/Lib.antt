@@ -17,3 +17,4 @@ pub mod States
 pub mod Surveys
 pub mod Trims
 pub mod Windows
+pub mod Years

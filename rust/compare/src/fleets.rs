@@ -263,10 +263,13 @@ fn spoiled(case: &mut Case, edition: Edition, stations: &[Given]) -> Agreement {
                 numbers.truncate(random.below(numbers.len() as u32 + 1) as usize);
             }
             3 => numbers.push(random.long()),
-            4 => match random.coin() {
-                true => logs.push(0),
-                false => drop(logs.pop()),
-            },
+            4 => {
+                if random.coin() {
+                    logs.push(0)
+                } else {
+                    drop(logs.pop())
+                }
+            }
             _ => wrapped(random, &mut numbers),
         }
     }

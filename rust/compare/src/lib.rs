@@ -48,6 +48,7 @@ pub mod pictures;
 pub mod programs;
 pub mod random;
 pub mod records;
+pub mod reduced;
 pub mod scores;
 pub mod settings;
 pub mod starts;
@@ -181,15 +182,8 @@ pub fn run_case(
     tally: &mut Tally,
     aloud: bool,
 ) -> Result<(), Box<Failure>> {
-    let mut case = Case {
-        random: Random::of_case(kind as u64, seed, number),
-        tally,
-        aloud,
-    };
-    case.tally.cases += 1;
-    // A program that panics is told from one that answers, with the same report.
-    let ended = catch_unwind(AssertUnwindSafe(|| kind.run(&mut case)));
-    let agreement = ended.unwrap_or_else(|panic| Err(Box::new(panicked(&*panic))));
+    let random = Random::of_case(kind as u64, seed, number);
+    let (_, agreement) = run_with(kind, random, tally, aloud);
     agreement.map_err(|difference| {
         Box::new(Failure {
             kind,
@@ -200,6 +194,23 @@ pub fn run_case(
     })
 }
 
+/// Runs the case that these numbers make: how many of them it drew, and what came of it.
+pub fn run_with(kind: Kind, random: Random, tally: &mut Tally, aloud: bool) -> (usize, Agreement) {
+    let mut case = Case {
+        random,
+        tally,
+        aloud,
+    };
+    case.tally.cases += 1;
+    // A program that panics is told from one that answers, with the same report.
+    let ended = catch_unwind(AssertUnwindSafe(|| kind.run(&mut case)));
+    let agreement = ended.unwrap_or_else(|panic| Err(Box::new(panicked(&*panic))));
+    (case.random.drawn(), agreement)
+}
+
+/// What is told as asked where a program panicked.
+pub const PANICKED: &str = "a call that did not come back";
+
 fn panicked(panic: &(dyn Any + Send)) -> Difference {
     let text = panic
         .downcast_ref::<String>()
@@ -207,7 +218,7 @@ fn panicked(panic: &(dyn Any + Send)) -> Difference {
         .or_else(|| panic.downcast_ref::<&str>().map(|text| text.to_string()))
         .unwrap_or_default();
     Difference {
-        asked: "a call that did not come back".to_string(),
+        asked: PANICKED.to_string(),
         product: format!("panic: {text}"),
         expected: "an answer".to_string(),
     }
