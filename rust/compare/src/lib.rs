@@ -2,7 +2,7 @@
 //! made apart from it, on millions of made-up inputs: good ones, ones at the
 //! edges of the rules, damaged ones and noise.
 //!
-//! There are fifteen kinds of cases, one module each:
+//! There are sixteen kinds of cases, one module each:
 //!
 //! * [`addresses`]: layouts judged, pairs translated, addresses located back;
 //! * [`memory`]: elements read and written in lent memory, superfine reads;
@@ -17,6 +17,7 @@
 //! * [`surveys`]: conditional tests and surveys of domains;
 //! * [`pictures`]: rectangles painted into memory and copied out of it;
 //! * [`fleets`]: the logs and lease lines of up to 64 stations in one report;
+//! * [`growing`]: that report over any number of stations, added and joined;
 //! * [`states`]: states kept as bytes at random places, and gone on with;
 //! * [`trims`]: logs of days and of years whose replays are trimmed on the way.
 //!
@@ -34,6 +35,7 @@ pub mod fleets;
 pub mod floats;
 pub mod flow;
 pub mod groups;
+pub mod growing;
 pub mod kills;
 pub mod layouts;
 pub mod lessees;
@@ -85,11 +87,12 @@ pub enum Kind {
     Pictures,
     Fleets,
     States,
+    Growing,
     Trims,
 }
 
 impl Kind {
-    pub const ALL: [Kind; 15] = [
+    pub const ALL: [Kind; 16] = [
         Kind::Addresses,
         Kind::Memory,
         Kind::Streams,
@@ -104,6 +107,7 @@ impl Kind {
         Kind::Pictures,
         Kind::Fleets,
         Kind::States,
+        Kind::Growing,
         Kind::Trims,
     ];
 
@@ -123,6 +127,7 @@ impl Kind {
             Kind::Pictures => "pictures",
             Kind::Fleets => "fleets",
             Kind::States => "states",
+            Kind::Growing => "growing",
             Kind::Trims => "trims",
         }
     }
@@ -147,6 +152,7 @@ impl Kind {
             Kind::Pictures => pictures::run(case),
             Kind::Fleets => fleets::run(case),
             Kind::States => states::run(case),
+            Kind::Growing => growing::run(case),
             Kind::Trims => trims::run(case),
         }
     }

@@ -11,7 +11,7 @@ usage: ./compare [--seconds S] [--seed N] [--kind KIND] [--case M | --draws LIST
   --seed N      the seed of the cases (default 1)
   --kind KIND   only this kind: addresses, memory, streams, writer, flow, logs,
                 scores, modes, kills, lessees, surveys, pictures,
-                fleets, states or trims
+                fleets, states, growing or trims
   --case M      only case M of the kind, and print both answers of every
                 comparison; needs --kind
   --draws LIST  only the case that these drawn numbers make, hex, parted by

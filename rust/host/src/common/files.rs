@@ -81,6 +81,21 @@ impl Files {
         }
     }
 
+    /// A file that is read, where all that is written has been named: it is compared, and not remembered, since a fleet has
+    /// many.
+    pub fn reads_last(&mut self, what: impl Fn() -> String, name: &Path) {
+        let other = Id::of(name).and_then(|id| self.uses.get(&id));
+        if let Some(other) = other.filter(|other| other.written) {
+            let told = told(&what(), name);
+            let read = Use {
+                told,
+                written: false,
+            };
+            let odds = at_odds(&read, other);
+            self.at_odds.get_or_insert(odds);
+        }
+    }
+
     pub fn reads_standard(&mut self) {
         let id = Id::standard(io::stdin());
         self.uses(id, "standard input".to_string(), false);

@@ -80,9 +80,9 @@ pub fn folder(folder: &Path) -> Outcome {
 /// there.
 pub fn write(fleet: &Fleet, folder: &Path, files: &mut Files) {
     let mut names = HashSet::new();
-    for card in &fleet.cards {
-        let name = folder.join(name_of(station(card)));
-        Replaced::at(&name, Kind::Svg).write(picture::svg(card), files);
+    for card in fleet.cards() {
+        let name = folder.join(name_of(station(&card)));
+        Replaced::at(&name, Kind::Svg).write(picture::svg(&card), files);
         names.insert(name);
     }
     for other in others(folder, &names) {

@@ -1,7 +1,7 @@
 //! Scores that came from elsewhere, held against what is known here: the row's files, their
 //! digests where that is asked for, and themselves.
 
-use crate::common::digest::{self, Digest};
+use crate::common::digest::{self, Digest, Finished};
 use crate::common::failure::{Failure, Outcome};
 use crate::fleet::leases::Row;
 use crate::input::source::{Source, PIECE};
@@ -31,7 +31,7 @@ pub fn files(row: &Row, inputs: &[String]) -> Outcome {
 }
 
 /// The log's bytes, where they can be read here, are those that were scored.
-pub fn digest(row: &Row, scored: Option<&str>) -> Outcome {
+pub fn digest(row: &Row, scored: Option<Finished>) -> Outcome {
     let station = row.station();
     let (read, scored) = match (sha256(row), scored) {
         (Ok(read), Some(scored)) => (read, scored),
@@ -49,15 +49,18 @@ pub fn digest(row: &Row, scored: Option<&str>) -> Outcome {
         }
         (Err(failure), _) => return Err(failure),
     };
+    let told = digest::hex;
     match read == scored {
         true => Ok(()),
         false => Err(Failure::Wrong(format!(
-            "station {station} is scored of other bytes than its log has: SHA-256 {scored}, where {read} is due"
+            "station {station} is scored of other bytes than its log has: SHA-256 {}, where {} is due",
+            told(scored),
+            told(read)
         ))),
     }
 }
 
-fn sha256(row: &Row) -> Outcome<String> {
+fn sha256(row: &Row) -> Outcome<Finished> {
     let mut digest = Digest::new();
     let mut piece = vec![0; PIECE];
     for mut source in Source::open_all(&row.asked.files)? {
@@ -68,7 +71,7 @@ fn sha256(row: &Row) -> Outcome<String> {
             }
         }
     }
-    Ok(digest::hex(digest.finished()))
+    Ok(digest.finished())
 }
 
 /// Days, and the checks that are told of them, say one thing: a day claims only where the log

@@ -57,12 +57,17 @@ pub struct Row {
     pub line: u64,
     pub asked: Asked,
     pub lease: Lease,
-    pub dates: Vec<Option<Date>>,
 }
 
 impl Row {
     pub fn station(&self) -> &str {
         self.asked.issue.station.as_deref().unwrap_or_default()
+    }
+
+    /// A date for each day of the lease, or none for all of them; that they can be had is
+    /// judged as the row is read.
+    pub fn dates(&self) -> Outcome<Vec<Option<Date>>> {
+        self.asked.dates(&self.lease).map_err(Failure::Wrong)
     }
 }
 
@@ -360,14 +365,9 @@ impl Reading<'_> {
             files: files.unwrap_or_default(),
             issue: Issue::of(&station, &lessee, issued),
         };
-        let (lease, dates) = self.lease(&asked)?;
+        let lease = self.lease(&asked)?;
         let line = self.line;
-        (self.faults.len() == before).then_some(Row {
-            line,
-            asked,
-            lease,
-            dates,
-        })
+        (self.faults.len() == before).then_some(Row { line, asked, lease })
     }
 
     fn files(&mut self, folder: &Path) -> Option<Vec<PathBuf>> {
@@ -392,8 +392,8 @@ impl Reading<'_> {
         }
     }
 
-    /// The lease line judged, and its dates.
-    fn lease(&mut self, asked: &Asked) -> Option<(Lease, Vec<Option<Date>>)> {
+    /// The lease line judged, with its dates.
+    fn lease(&mut self, asked: &Asked) -> Option<Lease> {
         let lease = match asked.lease() {
             Ok(lease) => lease,
             Err(refused) => {
@@ -402,7 +402,7 @@ impl Reading<'_> {
             }
         };
         match asked.dates(&lease) {
-            Ok(dates) => Some((lease, dates)),
+            Ok(_) => Some(lease),
             Err(cause) => self.wrong(FIRST_DATE, cause),
         }
     }

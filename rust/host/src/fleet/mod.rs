@@ -1,19 +1,21 @@
 //! `egretfold fleet`: a month of many stations, scored against their lease lines.
 //!
 //! The lease file is read by `leases`, with `cells` and `files`; the logs are read side by
-//! side by `stations`, and what they come to is asked by `report`. `scores` joins what was
-//! scored elsewhere, for which `commands` gives the lines. A `month` is told as `text`,
-//! as `rows`, as a `page` and as a folder of `cards`.
+//! side by `stations`, and added to the product's report. `commands` gives the lines for
+//! scoring elsewhere, `scores` reads what they print, and `join` holds it against the lease
+//! file. A `month` of cards, each `kept` small, is told as `text`, as `rows`, as a `page` and
+//! as a folder of `cards`.
 
 mod cards;
 mod cells;
 mod commands;
 mod files;
 mod held;
+mod join;
+mod kept;
 mod leases;
 pub mod month;
 pub mod page;
-pub mod report;
 mod rows;
 mod scores;
 mod stations;
@@ -25,15 +27,13 @@ use crate::common::edition::{self, EditionOption};
 use crate::common::failure::{Failure, Outcome};
 use crate::common::files::Files;
 use crate::common::replaced::{Goes, Kind};
+use crate::fleet::kept::Kept;
 use crate::fleet::leases::{Leases, Row};
-use crate::fleet::month::{station, Fleet, Sort};
-use crate::fleet::report::Four;
-use crate::score::asked::{Asked, Card};
+use crate::fleet::month::{Fleet, Sort};
 use crate::score::civil::Date;
 use crate::score::issue;
 use boundary::Edition;
 use clap::Args;
-use std::collections::HashMap;
 use std::io::Write;
 use std::path::{Path, PathBuf};
 
@@ -68,6 +68,10 @@ pub struct Options {
     /// Print the line of score --json for each station, and read no log
     #[arg(long, conflicts_with_all = ["from_scores", "json", "csv", "plain", "html", "cards"])]
     commands: bool,
+    /// Print the lines of those stations alone that have no score in these files, or one that says that the log couldn't
+    /// be read
+    #[arg(long, value_name = "FILE", num_args = 1.., requires = "commands")]
+    missing: Option<Vec<PathBuf>>,
     /// The order of the stations
     #[arg(long, value_enum, default_value_t = Sort::Worst)]
     sort: Sort,
@@ -101,6 +105,9 @@ impl Options {
         for scores in self.from_scores.iter().flatten() {
             files.reads("--from-scores", Some(scores));
         }
+        for scores in self.missing.iter().flatten() {
+            files.reads("--missing", Some(scores));
+        }
         files.writes("--html", self.html.as_deref());
     }
 }
@@ -115,27 +122,38 @@ pub fn run(options: &Options, files: &mut Files, out: &mut dyn Write) -> Outcome
         None => None,
     };
     name_rows(rows.as_deref().unwrap_or_default(), options, files)?;
-    if let (true, Some(rows)) = (options.commands, &rows) {
-        return commands::tell(rows, out);
+    if options.commands {
+        let rows = rows.unwrap_or_default();
+        let rows = match &options.missing {
+            Some(scored) => join::missing(scores::read(scored)?, rows)?,
+            None => rows,
+        };
+        return commands::tell(&rows, out);
     }
-    let scored = options.from_scores.as_deref().map(scores::read);
-    let scored = scored.transpose()?;
-    let stations = scored.as_ref().map(Vec::len);
+    let joined = match &options.from_scores {
+        Some(scored) => Some(join::joined(
+            scores::read(scored)?,
+            rows.as_deref(),
+            options.check_logs,
+        )?),
+        None => None,
+    };
+    let stations = joined.as_ref().map(|joined| joined.cards.len());
     let stations = stations.max(rows.as_ref().map(Vec::len)).unwrap_or(0);
     if options.html.is_some() {
         page::holds(stations)?;
     }
     if let Some(folder) = &options.cards {
-        if let (Some(scored), None) = (&scored, &rows) {
-            cards::name(folder, scored.iter().map(station), files)?;
+        if let (Some(joined), None) = (&joined, &rows) {
+            cards::name(folder, joined.cards.iter().map(Kept::station), files)?;
         }
         cards::folder(folder)?;
     }
-    let (cards, four) = match (scored, &rows) {
-        (Some(scored), rows) => joined(scored, rows.as_deref(), options.check_logs)?,
-        (None, rows) => stations::read(edition, rows.as_deref().unwrap_or_default())?,
+    let group = match joined {
+        Some(joined) => joined,
+        None => stations::read(edition, rows.unwrap_or_default())?,
     };
-    let fleet = Fleet::new(cards, four, options.sort, date);
+    let fleet = Fleet::new(group, options.sort, date);
     if let Some(folder) = &options.cards {
         cards::write(&fleet, folder, files);
     }
@@ -149,19 +167,18 @@ pub fn run(options: &Options, files: &mut Files, out: &mut dyn Write) -> Outcome
     Failure::both(fleet.outcome(), told)
 }
 
-/// Names the files that the lease file tells of: what is read of them where there are no scores, and also by who runs the
-/// lines of --commands; and their cards.
+/// Names the files that the lease file tells of: the stations' cards, and their logs, which are read where there are no scores, and
+/// also by who runs the lines of --commands.
 fn name_rows(rows: &[Row], options: &Options, files: &mut Files) -> Outcome {
+    if let Some(folder) = &options.cards {
+        cards::name(folder, rows.iter().map(Row::station), files)?;
+    }
     for row in rows {
-        let what = format!("the log of station {}", row.station());
         for file in &row.asked.files {
-            files.reads(&what, Some(file));
+            files.reads_last(|| format!("the log of station {}", row.station()), file);
         }
     }
-    match &options.cards {
-        Some(folder) => cards::name(folder, rows.iter().map(Row::station), files),
-        None => files.are_apart(),
-    }
+    files.are_apart()
 }
 
 impl Options {
@@ -177,89 +194,5 @@ impl Options {
             leases.add_faults(faults);
         }
         leases.rows()
-    }
-}
-
-/// The edition by which all of them were scored.
-fn edition_of(cards: &[Card]) -> Outcome<Edition> {
-    let first = match cards.first() {
-        Some(first) => first,
-        None => return Err(Failure::wrong("there is no score in what is joined")),
-    };
-    let number = first.edition();
-    if let Some(other) = cards.iter().find(|card| card.edition() != number) {
-        let (one, other, by) = (station(first), station(other), other.edition());
-        return Err(Failure::Wrong(format!(
-            "station {one} is scored by edition {number} and station {other} by edition {by}"
-        )));
-    }
-    Edition::of(number).map_err(|_| Failure::Wrong(format!("there is no edition {number}")))
-}
-
-/// The cards that were scored elsewhere, in the lease file's order where there is one,
-/// and their four numbers by their months.
-fn joined(cards: Vec<Card>, rows: Option<&[Row]>, logs: bool) -> Outcome<(Vec<Card>, Four)> {
-    let edition = edition_of(&cards)?;
-    let mut told: HashMap<String, Card> = HashMap::new();
-    let mut order = Vec::new();
-    for card in cards {
-        let name = station(&card).to_string();
-        order.push(name.clone());
-        if told.insert(name.clone(), card).is_some() {
-            return Err(Failure::Wrong(format!("station {name} is scored twice")));
-        }
-    }
-    let cards: Vec<Card> = match rows {
-        None => order.iter().filter_map(|name| told.remove(name)).collect(),
-        Some(rows) => {
-            let due: Outcome<Vec<Card>> = rows
-                .iter()
-                .map(|row| due(row, edition, logs, &mut told))
-                .collect();
-            let due = due?;
-            if let Some(name) = order.iter().find(|name| told.contains_key(*name)) {
-                let stranger = format!("station {name} is scored and has no row in the lease file");
-                return Err(Failure::Wrong(stranger));
-            }
-            due
-        }
-    };
-    let four = cards
-        .iter()
-        .enumerate()
-        .fold(Four::default(), |four, (place, card)| {
-            let own = card.score().map(|score| Four::of_month(place, score));
-            four.join(own.unwrap_or_default())
-        });
-    Ok((cards, four))
-}
-
-/// The card of a row, which must be of its lease line.
-fn due(row: &Row, edition: Edition, logs: bool, told: &mut HashMap<String, Card>) -> Outcome<Card> {
-    let Asked {
-        line, from, issue, ..
-    } = &row.asked;
-    match told.remove(row.station()) {
-        None => Ok(row
-            .asked
-            .missing(edition, "no score of it is among those that are joined")),
-        Some(card)
-            if card.line() == *line
-                && card.from() == *from
-                && card.issue().lessee == issue.lessee =>
-        {
-            held::files(row, card.inputs())?;
-            match card.score() {
-                Some(score) if logs => held::digest(row, score.digest.as_deref())?,
-                _ => {}
-            }
-            Ok(card)
-        }
-        Some(_) => {
-            let (name, line) = (row.station(), row.line);
-            let cause =
-                format!("station {name} is scored for another lease than that of line {line}");
-            Err(Failure::Wrong(cause))
-        }
     }
 }

@@ -1,15 +1,17 @@
 //! The lines of `score --json`, read back: a fleet that was scored elsewhere, joined.
 
+use crate::common::digest;
 use crate::common::failure::{Failure, Outcome};
 use crate::common::visible;
 use crate::fleet::held;
+use crate::fleet::kept::Kept;
 use crate::input::source::Source;
 use crate::score::asked::{accepted, dates, Card, LeaseLine, Unscored};
 use crate::score::checks::Check;
 use crate::score::civil::Date;
 use crate::score::issue::Issue;
 use crate::score::month::{verdict_name, Day, Score};
-use boundary::{Edition, Month, ScoredDay, Verdict};
+use boundary::{Edition, Month, Verdict};
 use serde_json::Value;
 use std::path::PathBuf;
 
@@ -20,9 +22,11 @@ const LONGEST: usize = 1 << 29;
 type Read<T> = Result<T, String>;
 
 /// The cards that these files tell, in their order.
-pub fn read(files: &[PathBuf]) -> Outcome<Vec<Card>> {
+pub fn read(files: &[PathBuf]) -> Outcome<Vec<Kept>> {
     let mut cards = Vec::new();
-    for mut source in Source::open_all(files)? {
+    for file in files {
+        // One at a time: there may be a file a station.
+        let mut source = Source::open(Some(file))?;
         let bytes = source.all(LONGEST)?;
         let wrong =
             |line: usize, cause| Failure::Wrong(format!("{}: line {line}: {cause}", source.name));
@@ -38,14 +42,14 @@ pub fn read(files: &[PathBuf]) -> Outcome<Vec<Card>> {
             match value.get("summary") {
                 Some(summary) => {
                     let card = card(summary, &days).map_err(|cause| wrong(line, cause))?;
-                    cards.push(card);
+                    cards.push(Kept::of(card));
                     days.clear();
                 }
                 None => days.push(value),
             }
         }
         if !days.is_empty() {
-            let cause = "the days are not followed by their summary: the lines are cut";
+            let cause = "the days are not followed by their summary: the lines are cut; take them away, and score the station again";
             return Err(wrong(last, cause.to_string()));
         }
     }
@@ -65,7 +69,7 @@ fn card(summary: &Value, days: &[Value]) -> Read<Card> {
         station: optional(summary, "station")?,
         lessee: optional(summary, "lessee")?,
         date: Date::parse(&text(summary, "issued")?)?,
-        version: text(summary, "version")?,
+        version: text(summary, "version")?.into(),
     };
     match summary.get("unscored") {
         Some(told) => unscored(summary, told, line, from, issue),
@@ -122,7 +126,7 @@ fn scored(
         edition,
         lease,
         inputs: texts(&summary["log"], "inputs")?,
-        digest: optional(summary, "sha256")?,
+        digest: optional(summary, "sha256")?.map(digested).transpose()?,
         log: summary["log"].clone(),
         month: month(summary, &read)?,
         days: read,
@@ -165,13 +169,8 @@ fn month(summary: &Value, days: &[Day]) -> Read<Month> {
     if told != (served, owed) || text(summary, "verdict")? != verdict_name(verdict) {
         return Err("the month isn't what its days come to".to_string());
     }
-    let scored = |day: &Day| ScoredDay {
-        number: day.number,
-        claimed: day.claimed,
-        served: day.served,
-    };
     Ok(Month {
-        days: days.iter().map(scored).collect(),
+        days: days.iter().map(Day::scored).collect(),
         served,
         owed,
         verdict,
@@ -184,6 +183,14 @@ fn check(value: &Value) -> Read<Check> {
         text: text(value, "text")?,
         explains: optional(value, "explains")?,
     })
+}
+
+/// What is a SHA-256 in hex.
+fn digested(text: String) -> Read<String> {
+    match digest::of_hex(&text) {
+        Some(_) => Ok(text),
+        None => Err(missing("sha256")),
+    }
 }
 
 fn missing(key: &str) -> String {

@@ -63,7 +63,7 @@ pub fn run(options: &Options, files: &mut Files, out: &mut dyn Write) -> Outcome
     let edition = options.edition.accepted().map_err(edition::refused)?;
     let saved = options.state.place()?;
     let mut log = options.state.begin(edition)?;
-    let ended = log.read(Source::open_all(&options.files)?, &mut |_| {});
+    let ended = log.read(Source::open_all(&options.files)?);
     if log.is_again() {
         return ended;
     }

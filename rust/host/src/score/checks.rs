@@ -8,6 +8,7 @@ use crate::score::month::Day;
 use boundary::{headers, Lease};
 use serde_json::{json, Value};
 
+#[derive(Clone)]
 pub struct Check {
     /// For programs.
     pub key: String,

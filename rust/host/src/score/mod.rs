@@ -39,7 +39,8 @@ than 0 and is served in full, \"nothing owed\" where days owe 0, else short. A d
 served nothing of what it owes.
 With --edition 2 a pair counts the unmasked channels of each output, where edition 1 counts an
 output that isn't silent once.
-Exit status: 0 full or nothing owed, 3 short, 1 refused, 2 a wrong command line or file.
+Exit status: 0 full or nothing owed, 3 short, 1 refused, 2 a wrong command line or file. With --engine it is 0 in all
+of these cases, once the line that says which is printed.
 Where there is no score, a card asked for with --svg or --html says so, in place of an earlier one.
 --save keeps the state at the log's end in a file, and --resume goes on from it: so a month whose set-up lies in the
 month before is scored from its own files.
@@ -85,6 +86,9 @@ pub struct Options {
     /// for standard output, in place of the text
     #[arg(long, value_name = "FILE")]
     html: Option<PathBuf>,
+    /// End with 0 once the month's line is printed, whatever it says: for engines, to which another status is a failure
+    #[arg(long, requires = "json")]
+    engine: bool,
     #[command(flatten)]
     state: StateOptions,
     #[command(flatten)]
@@ -159,9 +163,13 @@ pub fn run(options: &Options, files: &mut Files, out: &mut dyn Write) -> Outcome
         true => told,
         false => told.and_then(|()| show_as_asked(options, &card, out)),
     };
+    let ended = match options.engine {
+        true => Ok(()),
+        false => card.outcome(),
+    };
     let outcome = match (saved, log) {
-        (Some(saved), Some(log)) => saved.save(&log, card.outcome(), files),
-        _ => card.outcome(),
+        (Some(saved), Some(log)) => saved.save(&log, ended, files),
+        _ => ended,
     };
     Failure::both(outcome, told)
 }
@@ -184,7 +192,7 @@ fn card(options: &Options, asked: &Asked) -> Outcome<(Card, Option<Log>)> {
         }
     };
     let dates = asked.dates(&lease).map_err(wrong_from)?;
-    Ok(match asked.log(edition, &mut |_| {}) {
+    Ok(match asked.log(edition) {
         Ok(log) => (asked.card(lease, dates, &log), Some(log)),
         Err(failure) => (asked.unread(failure), None),
     })
@@ -207,7 +215,7 @@ fn wrong_from(text: String) -> Failure {
 pub fn show(source: Source, line: LeaseLine, from: Date, out: &mut dyn Write) -> Outcome<Verdict> {
     let lease = accepted(line).map_err(Failure::wrong)?;
     let mut log = Log::new(Edition::First);
-    log.read(vec![source], &mut |_| {})?;
+    log.read(vec![source])?;
     let dates = dates(Some(from), &lease).map_err(wrong_from)?;
     let score = Score::new(lease, dates, month_of(&log, &lease)?, &log, Issue::nobody());
     card::text(&score, Digits::Grouped, out)?;

@@ -126,7 +126,6 @@ fn text_of_scores_is_filtered_as_all_text_is() {
     let change = |scores: &mut Vec<Value>| {
         let summary = &mut scores[5]["summary"];
         summary["version"] = json!(hostile);
-        summary["sha256"] = json!(hostile);
         summary["checks"][0]["text"] = json!(hostile);
         summary["checks"][0]["explains"] = json!(format!("a\nb{hostile}"));
         let other = &mut scores[9]["summary"];

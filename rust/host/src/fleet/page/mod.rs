@@ -56,7 +56,8 @@ pub fn of_one(card: &Card) -> String {
 
 /// The page of a fleet.
 pub fn html(fleet: &Fleet) -> String {
-    let cards: Vec<Placed> = fleet.told().collect();
+    let cards: Vec<(usize, Card)> = fleet.told().collect();
+    let cards: Vec<Placed> = cards.iter().map(|(place, card)| (*place, card)).collect();
     let told = [
         fleet.heading(),
         text::four(fleet, Digits::Grouped),
@@ -81,7 +82,7 @@ pub fn html(fleet: &Fleet) -> String {
 
 /// The month, where all stations have the same.
 fn title(fleet: &Fleet) -> String {
-    let mut titles = fleet.cards.iter().map(picture::title_of);
+    let mut titles = fleet.cards().map(|card| picture::title_of(&card));
     let first = titles.next().unwrap_or_default();
     match titles.all(|title| title == first) {
         true => format!("Fleet, {first}"),
