@@ -41,7 +41,7 @@ mod score;
 mod survey;
 
 use clap::{CommandFactory, Parser, Subcommand};
-use common::failure::Outcome;
+use common::failure::{Failure, Outcome};
 use common::files::Files;
 use common::interrupt;
 use common::output::{self, Output};
@@ -132,12 +132,16 @@ fn main() -> ExitCode {
 /// wrote, and its exit status.
 fn tell(told: &clap::Error) -> u8 {
     let text = visible::lines(&told.to_string());
-    // Where it can't be written, the status alone must do.
-    let _ = match told.use_stderr() {
-        true => write!(io::stderr(), "{text}"),
-        false => write!(io::stdout(), "{text}"),
-    };
-    u8::from(told.use_stderr()) * WRONG
+    if told.use_stderr() {
+        // Where it can't be written, the status alone must do.
+        let _ = write!(io::stderr(), "{text}");
+        return WRONG;
+    }
+    let mut out = io::stdout();
+    match write!(out, "{text}").and_then(|()| out.flush()) {
+        Err(error) if error.kind() != io::ErrorKind::BrokenPipe => Failure::from(error).tell(),
+        _ => 0,
+    }
 }
 
 /// The exit status of a wrong line.

@@ -14,5 +14,6 @@ pub mod names;
 pub mod output;
 pub mod replaced;
 pub mod settings;
+pub mod sheet;
 pub mod text;
 pub mod visible;

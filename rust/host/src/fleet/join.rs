@@ -1,6 +1,7 @@
 //! A fleet that was scored elsewhere: the cards that came, held against the lease file.
 
 use crate::common::failure::{Failure, Outcome};
+use crate::fleet::held;
 use crate::fleet::kept::Kept;
 use crate::fleet::leases::Row;
 use crate::fleet::stations::{refused, Group};
@@ -10,7 +11,7 @@ use std::collections::HashMap;
 
 /// The cards that came, in the lease file's order where there is one, and the report of
 /// their months.
-pub fn joined(cards: Vec<Kept>, rows: Option<&[Row]>) -> Outcome<Group> {
+pub fn joined(cards: Vec<Kept>, rows: Option<&[Row]>, logs: bool) -> Outcome<Group> {
     let first = cards
         .first()
         .ok_or_else(|| Failure::wrong("there is no score in what is joined"))?;
@@ -18,6 +19,7 @@ pub fn joined(cards: Vec<Kept>, rows: Option<&[Row]>) -> Outcome<Group> {
     let edition = Edition::of(edition)
         .map_err(|_| Failure::Wrong(format!("there is no edition {edition}")))?;
     let mut told = Told::of(cards)?;
+    told.logs = logs;
     let cards = match rows {
         None => told.in_their_order(),
         Some(rows) => told.in_order_of(rows, edition)?,
@@ -58,6 +60,8 @@ struct Told {
     cards: HashMap<String, Kept>,
     /// The names as they came.
     order: Vec<String>,
+    /// Whether their digests are held against the logs.
+    logs: bool,
 }
 
 impl Told {
@@ -67,6 +71,7 @@ impl Told {
         let mut told = Told {
             cards: HashMap::new(),
             order: Vec::new(),
+            logs: false,
         };
         let first = cards
             .first()
@@ -119,7 +124,15 @@ impl Told {
                     format!("station {name} is scored for another lease than that of line {line}");
                 Err(Failure::Wrong(cause))
             }
-            card => Ok(card),
+            Some(card) => {
+                held::files(row, card.inputs())?;
+                match card.scored() {
+                    Some(scored) if self.logs => held::digest(row, scored.digest)?,
+                    _ => {}
+                }
+                Ok(Some(card))
+            }
+            None => Ok(None),
         }
     }
 

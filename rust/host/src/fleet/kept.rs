@@ -58,6 +58,14 @@ impl Kept {
         }
     }
 
+    /// The log's inputs by their names.
+    pub fn inputs(&self) -> &[String] {
+        match self {
+            Kept::Scored(scored) => &scored.inputs,
+            Kept::Unscored(unscored) => &unscored.inputs,
+        }
+    }
+
     pub fn scored(&self) -> Option<&Scored> {
         match self {
             Kept::Scored(scored) => Some(scored),

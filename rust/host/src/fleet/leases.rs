@@ -2,6 +2,7 @@
 //! is told at once.
 
 use crate::common::failure::{Failure, Outcome};
+use crate::common::sheet;
 use crate::common::text;
 use crate::common::visible;
 use crate::fleet::{cells, files};
@@ -11,6 +12,8 @@ use crate::score::civil::Date;
 use crate::score::issue::Issue;
 use boundary::{Edition, Lease};
 use csv::{ByteRecord, ReaderBuilder};
+use std::collections::HashMap;
+use std::io::{self, Write};
 use std::path::{Path, PathBuf};
 
 /// More than any fleet's: this is no lease file.
@@ -227,10 +230,11 @@ impl Leases {
 
     /// No station has two rows.
     fn told_twice(&mut self) {
-        for (place, row) in self.rows.iter().enumerate() {
-            let same = |other: &&Row| other.station() == row.station();
-            if let Some(earlier) = self.rows[..place].iter().find(same) {
-                let cause = format!("{:?} stands in line {} too", row.station(), earlier.line);
+        let mut lines: HashMap<&str, u64> = HashMap::new();
+        for row in &self.rows {
+            let first = *lines.entry(row.station()).or_insert(row.line);
+            if first != row.line {
+                let cause = format!("{:?} stands in line {first} too", row.station());
                 self.faults.push(fault(row.line, "station", cause));
             }
         }
@@ -308,7 +312,7 @@ impl Reading<'_> {
     fn value(&mut self, column: usize) -> Option<String> {
         let value = self.record.get(self.header.places[column]?)?;
         match std::str::from_utf8(value) {
-            Ok(text) => Some(text.trim().to_string()).filter(|text| !text.is_empty()),
+            Ok(text) => Some(sheet::read(text.trim()).to_string()).filter(|text| !text.is_empty()),
             Err(_) => self.wrong(column, "isn't UTF-8; save the file as CSV in UTF-8"),
         }
     }
@@ -368,10 +372,16 @@ impl Reading<'_> {
 
     fn files(&mut self, folder: &Path) -> Option<Vec<PathBuf>> {
         let text = self.needed(LOG)?;
-        match files::named(&text, folder) {
-            Ok(files) => Some(files),
-            Err(cause) => self.wrong(LOG, cause),
+        let named = match files::named(&text, folder) {
+            Ok(named) => named,
+            Err(cause) => return self.wrong(LOG, cause),
+        };
+        for path in &named.passed {
+            let path = visible::line(&path.display().to_string());
+            // Where standard error is closed, the files must do.
+            let _ = writeln!(io::stderr(), "{path} is no file and is passed over");
         }
+        Some(named.files)
     }
 
     fn date(&mut self) -> Option<Date> {

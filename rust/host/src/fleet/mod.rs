@@ -10,6 +10,7 @@ mod cards;
 mod cells;
 mod commands;
 mod files;
+mod held;
 mod join;
 mod kept;
 mod leases;
@@ -19,6 +20,7 @@ mod rows;
 mod scores;
 mod stations;
 pub mod text;
+mod workers;
 
 use crate::common::digits::Digits;
 use crate::common::edition::{self, EditionOption};
@@ -60,6 +62,9 @@ pub struct Options {
     /// due, else the fleet is who stands there
     #[arg(long, value_name = "FILE", num_args = 1.., conflicts_with = "number")]
     from_scores: Option<Vec<PathBuf>>,
+    /// With --from-scores and a lease file: hold each score's digest against its log, where that can be read here
+    #[arg(long, requires = "from_scores", requires = "leases")]
+    check_logs: bool,
     /// Print the line of score --json for each station, and read no log
     #[arg(long, conflicts_with_all = ["from_scores", "json", "csv", "plain", "html", "cards"])]
     commands: bool,
@@ -126,9 +131,18 @@ pub fn run(options: &Options, files: &mut Files, out: &mut dyn Write) -> Outcome
         return commands::tell(&rows, out);
     }
     let joined = match &options.from_scores {
-        Some(scored) => Some(join::joined(scores::read(scored)?, rows.as_deref())?),
+        Some(scored) => Some(join::joined(
+            scores::read(scored)?,
+            rows.as_deref(),
+            options.check_logs,
+        )?),
         None => None,
     };
+    let stations = joined.as_ref().map(|joined| joined.cards.len());
+    let stations = stations.max(rows.as_ref().map(Vec::len)).unwrap_or(0);
+    if options.html.is_some() {
+        page::holds(stations)?;
+    }
     if let Some(folder) = &options.cards {
         if let (Some(joined), None) = (&joined, &rows) {
             cards::name(folder, joined.cards.iter().map(Kept::station), files)?;

@@ -2,6 +2,7 @@
 //! values.
 
 use crate::common::failure::Outcome;
+use crate::common::sheet;
 use crate::fleet::month::{station, Fleet};
 use crate::score::asked::Card;
 use crate::score::checks::Check;
@@ -86,7 +87,10 @@ pub fn csv(fleet: &Fleet, out: &mut dyn Write) -> Outcome {
     let mut writer = Writer::from_writer(out);
     writer.write_record(head).map_err(io::Error::from)?;
     for (_, card) in fleet.told() {
-        writer.write_record(row(&card)).map_err(io::Error::from)?;
+        let row = row(&card);
+        let cells = row.iter().map(|text| sheet::written(text));
+        let cells = cells.map(|cell| cell.into_owned().into_bytes());
+        writer.write_record(cells).map_err(io::Error::from)?;
     }
     writer.flush()?;
     Ok(())

@@ -2,6 +2,8 @@
 
 use crate::common::digest;
 use crate::common::failure::{Failure, Outcome};
+use crate::common::visible;
+use crate::fleet::held;
 use crate::fleet::kept::Kept;
 use crate::input::source::Source;
 use crate::score::asked::{accepted, dates, Card, LeaseLine, Unscored};
@@ -89,7 +91,7 @@ fn unscored(
         inputs: texts(summary, "inputs")?,
         issue,
         refused: text(told, "name")? == "REFUSED",
-        why: text(told, "why")?,
+        why: visible::lines(told["why"].as_str().ok_or_else(|| missing("why"))?),
         refusal: summary["refusal"].clone(),
         log: summary["log"].clone(),
     };
@@ -116,6 +118,8 @@ fn scored(
         read.push(day(value, &line, place, date)?);
     }
     let checks: Read<Vec<Check>> = list(summary, "checks")?.iter().map(check).collect();
+    let checks = checks?;
+    held::agree(&read, &checks)?;
     let edition = short(summary, "edition")?;
     let edition = Edition::of(edition).map_err(|_| format!("there is no edition {edition}"))?;
     let score = Score {
@@ -126,7 +130,7 @@ fn scored(
         log: summary["log"].clone(),
         month: month(summary, &read)?,
         days: read,
-        checks: checks?,
+        checks,
         issue,
     };
     Ok(Card::Scored(score))
@@ -144,7 +148,8 @@ fn day(value: &Value, line: &LeaseLine, place: u32, date: Option<Date>) -> Read<
     };
     let dated = optional(value, "date")? == date.map(|date| date.to_string());
     let number = line.first_day + place;
-    let capped = day.served == day.claimed.min(day.owed);
+    let capped =
+        day.served == day.claimed.min(day.owed) && value["dark"].as_bool() == Some(day.is_dark());
     match day.number == number && dated && day.owed == u64::from(line.owed) && capped {
         true => Ok(day),
         false => Err(format!("the line of day {number} isn't this lease's")),
@@ -201,15 +206,16 @@ fn short(value: &Value, key: &str) -> Read<u32> {
     u32::try_from(number).map_err(|_| missing(key))
 }
 
+/// Text as every other is: with nothing that a terminal would obey.
 fn text(value: &Value, key: &str) -> Read<String> {
-    let text = value[key].as_str().map(String::from);
+    let text = value[key].as_str().map(visible::line);
     text.ok_or_else(|| missing(key))
 }
 
 fn optional(value: &Value, key: &str) -> Read<Option<String>> {
     match &value[key] {
         Value::Null => Ok(None),
-        Value::String(text) => Ok(Some(text.clone())),
+        Value::String(text) => Ok(Some(visible::line(text))),
         _ => Err(missing(key)),
     }
 }
@@ -220,7 +226,7 @@ fn list<'a>(value: &'a Value, key: &str) -> Read<&'a Vec<Value>> {
 
 fn texts(value: &Value, key: &str) -> Read<Vec<String>> {
     let list = list(value, key)?.iter();
-    let text = |value: &Value| value.as_str().map(String::from);
+    let text = |value: &Value| value.as_str().map(visible::line);
     list.map(|value| text(value).ok_or_else(|| missing(key)))
         .collect()
 }

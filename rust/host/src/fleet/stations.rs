@@ -5,12 +5,15 @@ use crate::common::failure::{Failure, Outcome};
 use crate::explain::cause;
 use crate::fleet::kept::{Kept, Total};
 use crate::fleet::leases::Row;
+use crate::fleet::workers;
 use crate::input::progress;
 use crate::score::asked::Card;
 use crate::score::month::Served;
 use boundary::{Answer, Edition, Refusal};
-use rayon::prelude::*;
 use std::fs;
+
+/// So many parts a worker, so that none waits long for the last.
+const PARTS: usize = 16;
 
 /// Stations that stand one behind the other, and the report of those that have a score.
 pub struct Group {
@@ -73,12 +76,24 @@ impl Group {
 pub fn read(edition: Edition, rows: Vec<Row>) -> Outcome<Group> {
     progress::begin_together(bytes(&rows), rows.len());
     let begin = || Ok(Group::new(edition));
-    let groups = rows.into_par_iter().fold(begin, |group, row| {
-        group.and_then(|group| group.read(edition, row))
+    let groups = workers::map(parts(rows), |rows| {
+        let each = |group: Answer<Group>, row| group?.read(edition, row);
+        rows.into_iter().fold(begin(), each)
     });
-    let group = groups.reduce(begin, |one, other| one?.join(other?));
+    let group = groups
+        .into_iter()
+        .fold(begin(), |one, other| one?.join(other?));
     progress::end_together();
     group.map_err(refused)
+}
+
+/// The rows in their order, some parts a worker.
+fn parts(rows: Vec<Row>) -> Vec<Vec<Row>> {
+    let size = rows.len() / (PARTS * workers::count()) + 1;
+    let mut rows = rows.into_iter();
+    let part = || Some(rows.by_ref().take(size).collect::<Vec<Row>>());
+    let parts = std::iter::from_fn(part);
+    parts.take_while(|part| !part.is_empty()).collect()
 }
 
 /// Of months that have a score, so it would be the product's fault, or of more stations

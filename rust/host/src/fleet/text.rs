@@ -12,6 +12,9 @@ use std::io::Write;
 /// A row's columns but the last, which is as long as it is.
 const COLUMNS: usize = 7;
 
+/// A column is no wider; a longer name moves its own row alone.
+const WIDEST: usize = 60;
+
 struct Row {
     columns: [String; COLUMNS],
     behind: String,
@@ -122,7 +125,7 @@ fn table(fleet: &Fleet, digits: Digits, out: &mut dyn Write) -> Outcome {
     let mut widths = [0; COLUMNS];
     for row in all() {
         for (width, column) in widths.iter_mut().zip(&row.columns) {
-            *width = column.chars().count().max(*width);
+            *width = column.chars().count().max(*width).min(WIDEST);
         }
     }
     let [a, b, c, d, e, f, g] = widths;

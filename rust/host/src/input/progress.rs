@@ -55,6 +55,11 @@ impl Bar {
         }
     }
 
+    /// The file's length, where it is known.
+    pub fn length(&self) -> Option<u64> {
+        self.length
+    }
+
     /// So many bytes are read.
     pub fn at(&mut self, bytes: u64) {
         let more = bytes - self.at;

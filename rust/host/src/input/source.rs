@@ -5,6 +5,7 @@
 
 use crate::common::failure::{Failure, Outcome};
 use crate::common::visible;
+use crate::input::later::Later;
 use crate::input::packed::{self, Counted};
 use crate::input::progress::Bar;
 use std::fs::{self, File};
@@ -13,6 +14,9 @@ use std::path::{Path, PathBuf};
 
 /// Bytes that are read at once: a whole number of words.
 pub const PIECE: usize = 1 << 16;
+
+/// Bytes of memory that are read: twice the largest window.
+const MOST_MEMORY: u64 = 1 << 30;
 
 /// So many bytes of an input's begin are kept, to tell what it looks like.
 const BEGIN: usize = 512;
@@ -59,7 +63,12 @@ impl Source {
             let what = if empty { "an empty folder" } else { "a folder" };
             return Err(Failure::Wrong(format!("{name}: is {what}")));
         }
-        Ok(Source::new(name, Box::new(file), Some(about.len())))
+        let length = Some(about.len());
+        Ok(match about.is_file() {
+            true => Source::new(name, Box::new(Later::new(path, &about)), length),
+            // A pipe can't be opened twice.
+            false => Source::new(name, Box::new(file), length),
+        })
     }
 
     fn standard() -> Source {
@@ -81,7 +90,7 @@ impl Source {
         }
     }
 
-    /// All of these files; standard input where none is named. All are opened first,
+    /// All of these files; standard input where none is named. All are asked for first,
     /// so that none is read where one is missing.
     pub fn open_all(files: &[PathBuf]) -> Outcome<Vec<Source>> {
         match files {
@@ -158,6 +167,21 @@ impl Source {
         match all.len() > most {
             true => Err(self.wrong(format!("is longer than {most} bytes"))),
             false => Ok(all),
+        }
+    }
+
+    /// A dump of memory from this address on. Memory that ends above 2^32 isn't read to its
+    /// end.
+    pub fn memory(&mut self, at: u32) -> Outcome<Vec<u8>> {
+        let most = MOST_MEMORY.min((1 << 32) - u64::from(at));
+        let longer = format!("is longer than {MOST_MEMORY} bytes, the most memory that is read");
+        if most == MOST_MEMORY && self.bar.length().map_or(false, |length| length > most) {
+            return Err(self.wrong(longer));
+        }
+        let dump = self.up_to(most)?;
+        match dump.len() as u64 > MOST_MEMORY {
+            true => Err(self.wrong(longer)),
+            false => Ok(dump),
         }
     }
 

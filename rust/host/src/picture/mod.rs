@@ -209,8 +209,7 @@ fn moved(options: &Options) -> Result<Moved, Trouble> {
             rows,
         },
         name,
-        // Memory that ends above 2^32 isn't read to its end.
-        dump: source.up_to((1 << 32) - u64::from(at))?,
+        dump: source.memory(at)?,
         at,
     })
 }

@@ -180,9 +180,14 @@ impl Resumed {
     /// What is said where all that came before comes again.
     pub fn complaint(&self, input: &str) -> String {
         let (name, bytes) = (&self.name, text::count(self.bytes, "byte"));
+        // Behind a midnight no log goes on with the same bytes.
+        let twice = match self.day {
+            None => "; where the same bytes came a second time, give both logs without --resume",
+            Some(_) => "",
+        };
         format!(
             "{input}: begins with the {bytes} that were taken before {name} was saved\n  \
-             give only what came behind them, or all of it without --resume"
+             give only what came behind them, or all of it without --resume{twice}"
         )
     }
 

@@ -152,7 +152,7 @@ impl Card {
 
 impl Asked {
     /// The files by their names, with nothing that a terminal would obey.
-    fn names(&self) -> Vec<String> {
+    pub fn names(&self) -> Vec<String> {
         let name = |file: &Path| match source::is_standard(Some(file)) {
             true => source::STANDARD.to_string(),
             false => visible::line(&file.display().to_string()),

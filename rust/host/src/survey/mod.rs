@@ -110,7 +110,7 @@ pub fn run(options: &Options, files: &mut Files, out: &mut dyn Write) -> Outcome
         ))
     })?;
     // Memory that ends above 2^32 isn't read to its end.
-    let dump = memory.up_to((1 << 32) - u64::from(options.at))?;
+    let dump = memory.memory(options.at)?;
     let asked = Asked {
         session,
         buffer: session.format(headers::SET_COND_OUT_FMT, 0).ok().flatten(),

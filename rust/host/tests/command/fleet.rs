@@ -835,8 +835,8 @@ fn scores_that_are_not_whole_are_told() {
         ),
         (
             parts[0].replacen(
-                "\"claimed\":0,\"served\":0",
-                "\"claimed\":1,\"served\":1",
+                "\"claimed\":0,\"served\":0,\"owed\":14000000,\"dark\":true",
+                "\"claimed\":1,\"served\":1,\"owed\":14000000,\"dark\":false",
                 1,
             ),
             "",

@@ -6,6 +6,7 @@ mod glance;
 mod stations;
 
 use crate::common::digits::Digits;
+use crate::common::failure::{Failure, Outcome};
 use crate::common::replaced::HTML_BEGIN;
 use crate::fleet::month::{station, Fleet};
 use crate::fleet::text;
@@ -19,6 +20,19 @@ const SCRIPT: &str = include_str!("sort.js");
 
 /// Nothing is fetched, from wherever the file is opened.
 const POLICY: &str = "default-src 'none'; style-src 'unsafe-inline'; script-src 'unsafe-inline'";
+
+/// Stations on a page, which is made whole in memory: some ten thousand bytes each.
+const MOST: usize = 5_000;
+
+/// Whether a page holds so many.
+pub fn holds(stations: usize) -> Outcome {
+    match stations > MOST {
+        true => Err(Failure::Wrong(format!(
+            "--html: a page holds {MOST} stations at most, and these are {stations}; --cards draws any number"
+        ))),
+        false => Ok(()),
+    }
+}
 
 /// A station with its place in the fleet.
 type Placed<'a> = (usize, &'a Card);
