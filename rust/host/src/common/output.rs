@@ -2,8 +2,9 @@
 //! the line.
 
 use crate::common::failure::{Failure, Outcome};
-use crate::common::file::{Place, Ready, Stands, UntilGone, Whole};
+use crate::common::file::{Ready, Stands, UntilGone, Whole};
 use crate::common::files::Files;
+use crate::common::replaced;
 use crate::common::visible::Visible;
 use crate::input::progress;
 use clap::Args;
@@ -48,7 +49,7 @@ enum To {
 impl Output {
     pub fn open(options: &Options) -> Outcome<Output> {
         let place = match &options.output {
-            Some(file) if file != Path::new("-") => Some(Place::of(file)?),
+            Some(file) if file != Path::new("-") => Some(replaced::by_answer(file)?),
             _ => None,
         };
         let to = match place {

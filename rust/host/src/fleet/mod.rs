@@ -117,7 +117,10 @@ pub fn run(options: &Options, files: &mut Files, out: &mut dyn Write) -> Outcome
     let scored = scored.transpose()?;
     if let Some(folder) = &options.cards {
         if let (Some(scored), None) = (&scored, &rows) {
-            cards::name(folder, scored.iter().map(station), files)?;
+            let stations: Vec<&str> = scored.iter().map(station).collect();
+            cards::are_apart(&stations)?;
+            cards::name(folder, stations.into_iter(), files);
+            files.are_apart()?;
         }
         cards::folder(folder)?;
     }
@@ -148,10 +151,10 @@ fn name_rows(rows: &[Row], options: &Options, files: &mut Files) -> Outcome {
             files.reads(&what, Some(file));
         }
     }
-    match &options.cards {
-        Some(folder) => cards::name(folder, rows.iter().map(Row::station), files),
-        None => files.are_apart(),
+    if let Some(folder) = &options.cards {
+        cards::name(folder, rows.iter().map(Row::station), files);
     }
+    files.are_apart()
 }
 
 fn rows(file: &Path, cards: Option<&Path>, (edition, date): (Edition, Date)) -> Outcome<Vec<Row>> {

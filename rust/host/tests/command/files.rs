@@ -134,6 +134,28 @@ fn no_output_is_an_input_or_another_output() {
     }
 }
 
+/// An answer has no mark, so it replaces anything but what no answer can be: a state, and what looks like a log.
+#[test]
+fn an_answer_replaces_no_state_and_no_log() {
+    let folder = folder("answers");
+    let before = all(&folder);
+    for (name, is) in [
+        ("m.state", "is a state file"),
+        ("y.log", "looks like a station's log"),
+        ("link", "looks like a station's log"),
+    ] {
+        let output = shell(&folder, &format!("egretfold decode s.ctm -o {name}"));
+        assert_eq!(output.status.code(), Some(2), "{name}");
+        let due = format!("egretfold: {name}: stands there and {is}; it is left as it is\n");
+        assert_eq!(complained(&output), due);
+        assert!(all(&folder) == before, "{name} was changed");
+    }
+    for name in ["t.txt", "p.ppm", "s.ctm"] {
+        let output = shell(&folder, &format!("egretfold explain 3 -o {name}"));
+        assert_eq!(output.status.code(), Some(0), "{name}");
+    }
+}
+
 /// What was answered before stays, unless what is answered now tells of the refusal.
 #[test]
 fn a_refused_line_leaves_an_earlier_answer() {
