@@ -55,7 +55,8 @@ pub fn session_begin_anew(session: &mut Session, edition: u32) -> u32 {
 }
 
 /// One word. command: 0 where a command is still open, else 1; then the
-/// completed command's header and four parameters. 1 to 9 or 17.
+/// completed command's header and four parameters. 1 to 9 or 17, and 20 where
+/// the arrays are a party's of a pair.
 #[inline]
 pub fn session_word(session: &mut Session, word: u32, command: &mut [u32; 6]) -> u32 {
     let Session {
@@ -295,6 +296,13 @@ pub fn log_part(replay: &Replay, part: u32, counts: &mut [u64; 2]) -> u32 {
     let tallies = &replay.session.tallies;
     // SAFETY: the arrays are a replay's that the library gave out.
     unsafe { raw::egretfold_log_part(&replay.log, &replay.marks, tallies, part, counts) }
+}
+
+/// Forgets all midnights but the last. 0 in any case.
+#[inline]
+pub fn log_trim(replay: &mut Replay) -> u32 {
+    // SAFETY: the arrays are a replay's that the library gave out.
+    unsafe { raw::egretfold_log_trim(&mut replay.log, &mut replay.marks) }
 }
 
 /// Whether the library takes these arrays as a replay's.

@@ -87,11 +87,12 @@ impl Output {
             // The command line or an input was wrong.
             Err(Failure::Wrong(_)) => false,
         };
-        let answer = self.finished(is_answer);
         if failed {
             // Which the outcome tells.
             files.drop_all();
+            return Failure::both(outcome, files.put(Ok(None)));
         }
+        let answer = self.finished(is_answer);
         Failure::both(outcome, files.put(answer))
     }
 

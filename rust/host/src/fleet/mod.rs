@@ -75,8 +75,8 @@ pub struct Options {
     /// Large numbers without commas between their digits
     #[arg(long, conflicts_with_all = ["json", "csv"])]
     plain: bool,
-    /// Write the month as a page for a browser, whole in this file; an earlier page there is replaced, nothing else; -
-    /// for standard output, in place of the text
+    /// Write the month as a page for a browser, whole in this file; an earlier page of ours there is replaced,
+    /// nothing else; - for standard output, in place of the text
     #[arg(long, value_name = "FILE")]
     html: Option<PathBuf>,
     /// Draw each station's card into this folder, in place of its earlier one
@@ -106,7 +106,7 @@ pub fn run(options: &Options, files: &mut Files, out: &mut dyn Write) -> Outcome
     let html = Goes::asked(options.html.as_deref(), Kind::Html, form)?;
     let date = issue::day_of(options.issued);
     let rows = match &options.leases {
-        Some(file) => Some(rows(file, options.cards.as_deref(), (edition, date))?),
+        Some(file) => Some(options.rows(file, (edition, date))?),
         None => None,
     };
     name_rows(rows.as_deref().unwrap_or_default(), options, files)?;
@@ -157,13 +157,20 @@ fn name_rows(rows: &[Row], options: &Options, files: &mut Files) -> Outcome {
     files.are_apart()
 }
 
-fn rows(file: &Path, cards: Option<&Path>, (edition, date): (Edition, Date)) -> Outcome<Vec<Row>> {
-    let mut leases = Leases::read(file, edition, date)?;
-    if let Some(folder) = cards {
-        let faults = cards::faults(folder, &leases.rows);
-        leases.add_faults(faults);
+impl Options {
+    /// The lease file's rows, or all that is wrong with them for what is asked.
+    fn rows(&self, file: &Path, (edition, date): (Edition, Date)) -> Outcome<Vec<Row>> {
+        let mut leases = Leases::read(file, edition, date)?;
+        if let Some(folder) = &self.cards {
+            let faults = cards::faults(folder, &leases.rows);
+            leases.add_faults(faults);
+        }
+        if self.commands {
+            let faults = commands::faults(&leases.rows);
+            leases.add_faults(faults);
+        }
+        leases.rows()
     }
-    leases.rows()
 }
 
 /// The edition by which all of them were scored.
