@@ -2,8 +2,9 @@
 //! the line.
 
 use crate::common::failure::{Failure, Outcome};
-use crate::common::file::{Place, Ready, Stands, UntilGone, Whole};
+use crate::common::file::{Ready, Stands, UntilGone, Whole};
 use crate::common::files::Files;
+use crate::common::replaced;
 use crate::common::visible::Visible;
 use crate::input::progress;
 use clap::Args;
@@ -48,7 +49,7 @@ enum To {
 impl Output {
     pub fn open(options: &Options) -> Outcome<Output> {
         let place = match &options.output {
-            Some(file) if file != Path::new("-") => Some(Place::of(file)?),
+            Some(file) if file != Path::new("-") => Some(replaced::by_answer(file)?),
             _ => None,
         };
         let to = match place {
@@ -86,11 +87,12 @@ impl Output {
             // The command line or an input was wrong.
             Err(Failure::Wrong(_)) => false,
         };
-        let answer = self.finished(is_answer);
         if failed {
             // Which the outcome tells.
             files.drop_all();
+            return Failure::both(outcome, files.put(Ok(None)));
         }
+        let answer = self.finished(is_answer);
         Failure::both(outcome, files.put(answer))
     }
 

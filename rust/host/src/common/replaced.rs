@@ -1,8 +1,10 @@
-//! A picture's, a page's or a state's file: new, or in place of an earlier one of ours.
+//! What may be replaced: by a picture, a page or a state an earlier one of ours, by an answer anything but a state or a
+//! station's log. What the line itself reads is asked about in `files`.
 
 use crate::common::failure::{Failure, Outcome};
 use crate::common::file::{Place, Stands};
 use crate::common::files::Files;
+use crate::input::looks::{self, Looks};
 use crate::replay::kept;
 use std::fs::File;
 use std::io::{self, Read, Write};
@@ -62,6 +64,27 @@ impl Kind {
         File::open(file)?.take(length).read_to_end(&mut begin)?;
         Ok(begin.is_empty() || begin == self.begin().as_bytes())
     }
+}
+
+/// So many first bytes tell what a file looks like.
+const BEGIN: u64 = 512;
+
+/// A place for an answer, which may be new or replace anything but a state and what looks like a station's log: no answer of
+/// ours is one.
+pub fn by_answer(name: &Path) -> Outcome<Place> {
+    let place = Place::of(name)?;
+    if !place.stands.is_file() {
+        return Ok(place);
+    }
+    let mut begin = Vec::new();
+    // One that can't be read is none of ours either, but then nobody could tell.
+    let _ = File::open(name).and_then(|file| file.take(BEGIN).read_to_end(&mut begin));
+    let looks = match looks::of(&begin) {
+        Some(Looks::State) => "is a state file",
+        Some(Looks::Log) => "looks like a station's log",
+        _ => return Ok(place),
+    };
+    Err(place.failed(format!("stands there and {looks}; it is left as it is")))
 }
 
 pub struct Replaced {

@@ -27,41 +27,55 @@ fn name_of(station: &str) -> String {
     format!("{}.svg", name.trim_start_matches('.'))
 }
 
+/// Stations whose cards would have the name of an earlier one's, with that card's name, by their places.
+fn twice<'a>(stations: impl Iterator<Item = &'a str>) -> Vec<(usize, usize, String)> {
+    let mut names: HashMap<String, usize> = HashMap::new();
+    let mut twice = Vec::new();
+    for (place, station) in stations.enumerate() {
+        let name = name_of(station);
+        // Where capital letters are small ones too, as some folders have it.
+        if let Some(earlier) = names.insert(name.to_lowercase(), place) {
+            twice.push((place, earlier, name));
+        }
+    }
+    twice
+}
+
 /// Two stations whose cards would have one name, and cards that can't be put there. They
 /// are told before any log is read.
 pub fn faults(folder: &Path, rows: &[Row]) -> Vec<Fault> {
-    let mut names: HashMap<String, u64> = HashMap::new();
     let mut faults = Vec::new();
+    for (place, earlier, name) in twice(rows.iter().map(Row::station)) {
+        let line = rows[earlier].line;
+        let cause = format!("its card {name} would be that of line {line} too");
+        faults.push(fault(rows[place].line, "station", cause));
+    }
     for row in rows {
-        // Where capital letters are small ones too, as some folders have it.
-        let name = name_of(row.station());
-        if let Some(line) = names.insert(name.to_lowercase(), row.line) {
-            let cause = format!("its card {name} would be that of line {line} too");
-            faults.push(fault(row.line, "station", cause));
-        }
-        if let Err(Failure::Wrong(cause)) = Replaced::new(&folder.join(name), Kind::Svg) {
+        let name = folder.join(name_of(row.station()));
+        if let Err(Failure::Wrong(cause)) = Replaced::new(&name, Kind::Svg) {
             faults.push(fault(row.line, "station", cause));
         }
     }
     faults
 }
 
-/// Names the cards of these stations among the files of the line. Two of one name are told before any is written.
-pub fn name<'a>(
-    folder: &Path,
-    stations: impl Iterator<Item = &'a str>,
-    files: &mut Files,
-) -> Outcome {
-    let mut names: HashMap<String, &str> = HashMap::new();
-    for station in stations {
-        let name = name_of(station);
-        if let Some(other) = names.insert(name.to_lowercase(), station) {
-            let told = format!("the cards of stations {other} and {station} would both be {name}");
-            return Err(Failure::Wrong(told));
+/// The same for stations that have no lease file.
+pub fn are_apart(stations: &[&str]) -> Outcome {
+    match twice(stations.iter().copied()).first() {
+        None => Ok(()),
+        Some((place, earlier, name)) => {
+            let (one, other) = (stations[*earlier], stations[*place]);
+            let told = format!("the cards of stations {one} and {other} would both be {name}");
+            Err(Failure::Wrong(told))
         }
-        files.writes("--cards", Some(&folder.join(name)));
     }
-    files.are_apart()
+}
+
+/// Names the cards of these stations among the files of the line.
+pub fn name<'a>(folder: &Path, stations: impl Iterator<Item = &'a str>, files: &mut Files) {
+    for station in stations {
+        files.writes("--cards", Some(&folder.join(name_of(station))));
+    }
 }
 
 /// Makes sure of the folder.

@@ -84,8 +84,8 @@ pub struct Options {
     /// Large numbers without commas between their digits
     #[arg(long, conflicts_with_all = ["json", "csv"])]
     plain: bool,
-    /// Write the month as a page for a browser, whole in this file; an earlier page there is replaced, nothing else; -
-    /// for standard output, in place of the text
+    /// Write the month as a page for a browser, whole in this file; an earlier page of ours there is replaced,
+    /// nothing else; - for standard output, in place of the text
     #[arg(long, value_name = "FILE")]
     html: Option<PathBuf>,
     /// Draw each station's card into this folder, in place of its earlier one
@@ -145,7 +145,10 @@ pub fn run(options: &Options, files: &mut Files, out: &mut dyn Write) -> Outcome
     }
     if let Some(folder) = &options.cards {
         if let (Some(joined), None) = (&joined, &rows) {
-            cards::name(folder, joined.cards.iter().map(Kept::station), files)?;
+            let stations: Vec<&str> = joined.cards.iter().map(Kept::station).collect();
+            cards::are_apart(&stations)?;
+            cards::name(folder, stations.into_iter(), files);
+            files.are_apart()?;
         }
         cards::folder(folder)?;
     }
@@ -171,7 +174,7 @@ pub fn run(options: &Options, files: &mut Files, out: &mut dyn Write) -> Outcome
 /// also by who runs the lines of --commands.
 fn name_rows(rows: &[Row], options: &Options, files: &mut Files) -> Outcome {
     if let Some(folder) = &options.cards {
-        cards::name(folder, rows.iter().map(Row::station), files)?;
+        cards::name(folder, rows.iter().map(Row::station), files);
     }
     for row in rows {
         for file in &row.asked.files {

@@ -78,12 +78,12 @@ pub struct Options {
     /// Large numbers without commas between their digits
     #[arg(long, conflicts_with_all = ["json", "csv"])]
     plain: bool,
-    /// Draw the month as a calendar to be printed, into this file; an earlier picture there is replaced, nothing else; -
-    /// for standard output, in place of the text
+    /// Draw the month as a calendar to be printed, into this file; an earlier picture of ours there is replaced,
+    /// nothing else; - for standard output, in place of the text
     #[arg(long, value_name = "FILE")]
     svg: Option<PathBuf>,
-    /// Write the month as a page for a browser, whole in this file; an earlier page there is replaced, nothing else; -
-    /// for standard output, in place of the text
+    /// Write the month as a page for a browser, whole in this file; an earlier page of ours there is replaced,
+    /// nothing else; - for standard output, in place of the text
     #[arg(long, value_name = "FILE")]
     html: Option<PathBuf>,
     /// End with 0 once the month's line is printed, whatever it says: for engines, to which another status is a failure

@@ -62,10 +62,10 @@ pub struct Options {
     /// One JSON object a row and for the whole, a line each
     #[arg(long)]
     json: bool,
-    /// Draw the pairs, white where they pass, into this file; an earlier PGM there is replaced, nothing else
+    /// Draw the pairs, white where they pass, into this file; an earlier PGM of ours there is replaced, nothing else
     #[arg(long, value_name = "FILE")]
     pgm: Option<PathBuf>,
-    /// Draw the pairs that pass as SVG into this file; an earlier SVG there is replaced, nothing else
+    /// Draw the pairs that pass as SVG into this file; an earlier SVG of ours there is replaced, nothing else
     #[arg(long, value_name = "FILE")]
     svg: Option<PathBuf>,
 }
@@ -124,7 +124,11 @@ pub fn run(options: &Options, files: &mut Files, out: &mut dyn Write) -> Outcome
         memory: &name,
     };
     let told = answer(&asked, names, json, (&drawings, files), out);
-    told.and(settled.refused.map_or(Ok(()), Err))
+    let refused = settled.refused.map_or(Ok(()), Err);
+    match told {
+        Err(Failure::Wrong(_)) => Failure::both(refused, told),
+        told => told.and(refused),
+    }
 }
 
 /// Makes the survey, tells it and draws it; or tells why it is refused.

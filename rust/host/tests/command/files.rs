@@ -60,6 +60,9 @@ fn folder(name: &str) -> Folder {
     fs::hard_link(folder.0.join("y.log"), folder.0.join("hard")).expect("a link");
     let leases = "station,log,first day,days,owed\n14,y.log,101,30,14000000\n";
     folder.write("leases.csv", leases.as_bytes());
+    // Which doesn't look like a log, so that it is known by the lease file alone.
+    folder.write("packed.csv", leases.replace("y.log", "y.gz").as_bytes());
+    assert!(shell(&folder, "gzip -c y.log >y.gz").status.success());
     let line = format!("egretfold score y.log {APRIL} --station 14 --json >scores");
     assert_eq!(shell(&folder, &line).status.code(), Some(3));
     folder
@@ -88,10 +91,11 @@ const AIMED: &[(&str, &str, &str)] = &[
     ("replay y.log --save ./z -o z", "--save ./z", "--output z"),
     ("score y.log --first-day 101 --days 30 --owed 1 --svg z --html z", "--html z", "--svg z"),
     ("score y.log --first-day 101 --days 30 --owed 1 --svg z -o z", "--svg z", "--output z"),
-    ("fleet leases.csv --commands -o y.log", "--output y.log", "the log of station 14 y.log"),
+    ("fleet packed.csv --commands -o y.gz", "--output y.gz", "the log of station 14 y.gz"),
+    ("fleet packed.csv --commands >>y.gz", "standard output", "the log of station 14 y.gz"),
     ("fleet leases.csv -o leases.csv", "--output leases.csv", "LEASES.csv leases.csv"),
     ("fleet leases.csv --edition 9 -o leases.csv", "--output leases.csv", "LEASES.csv leases.csv"),
-    ("fleet leases.csv --from-scores scores -o y.log", "--output y.log", "the log of station 14 y.log"),
+    ("fleet packed.csv --from-scores scores -o y.gz", "--output y.gz", "the log of station 14 y.gz"),
     ("fleet --from-scores scores -o scores", "--output scores", "--from-scores scores"),
     ("fleet --from-scores scores --html scores", "--html scores", "--from-scores scores"),
     ("fleet leases.csv --cards . --html 14.svg", "--cards ./14.svg", "--html 14.svg"),
@@ -131,6 +135,29 @@ fn no_output_is_an_input_or_another_output() {
         );
         assert!(complaint.contains(" are one file"), "{line}: {complaint}");
         assert!(all(&folder) == before, "{line} changed a file");
+    }
+}
+
+/// An answer has no mark, so it replaces anything but what no answer can be: a state, and what looks like a log.
+#[test]
+fn an_answer_replaces_no_state_and_no_log() {
+    let folder = folder("answers");
+    let before = all(&folder);
+    for (name, is) in [
+        ("m.state", "is a state file"),
+        ("y.log", "looks like a station's log"),
+        ("hard", "looks like a station's log"),
+        ("link", "looks like a station's log"),
+    ] {
+        let output = shell(&folder, &format!("egretfold decode s.ctm -o {name}"));
+        assert_eq!(output.status.code(), Some(2), "{name}");
+        let due = format!("egretfold: {name}: stands there and {is}; it is left as it is\n");
+        assert_eq!(complained(&output), due);
+        assert!(all(&folder) == before, "{name} was changed");
+    }
+    for name in ["t.txt", "p.ppm", "s.ctm"] {
+        let output = shell(&folder, &format!("egretfold explain 3 -o {name}"));
+        assert_eq!(output.status.code(), Some(0), "{name}");
     }
 }
 
