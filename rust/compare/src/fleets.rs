@@ -265,9 +265,9 @@ fn spoiled(case: &mut Case, edition: Edition, stations: &[Given]) -> Agreement {
             3 => numbers.push(random.long()),
             4 => {
                 if random.coin() {
-                    logs.push(0)
+                    logs.push(0);
                 } else {
-                    drop(logs.pop())
+                    logs.pop();
                 }
             }
             _ => wrapped(random, &mut numbers),
