@@ -353,6 +353,7 @@ impl Reading<'_> {
             line,
             from,
             resume: None,
+            saves: false,
             files: files.unwrap_or_default(),
             issue: Issue::of(&station, &lessee, issued),
         };

@@ -41,7 +41,8 @@ output that isn't silent once.
 Exit status: 0 full or nothing owed, 3 short, 1 refused, 2 a wrong command line or file.
 Where there is no score, a card asked for with --svg or --html says so, in place of an earlier one.
 --save keeps the state at the log's end in a file, and --resume goes on from it: so a month whose set-up lies in the
-month before is scored from its own files.
+month before is scored from its own files, for years. A lease may begin on the last day that the state has, not
+earlier: it keeps that one alone.
 
 Examples, from the repository's root:
   egretfold score samples/station-14.log --first-day 101 --days 30 --owed 14000000
@@ -103,6 +104,7 @@ impl Options {
             },
             from: self.from,
             resume: self.state.resume.clone(),
+            saves: self.state.saves(),
             files: self.files.clone(),
             issue: Issue::new(&self.issue),
         }
@@ -156,7 +158,7 @@ pub fn run(options: &Options, out: &mut dyn Write) -> Outcome {
         (outcome, _) => outcome,
     };
     match (saved, log) {
-        (Some(saved), Some(log)) => saved.save(&log, outcome),
+        (Some(saved), Some(log)) => saved.save(&log, &asked.whose(), outcome),
         _ => outcome,
     }
 }
@@ -179,7 +181,7 @@ fn card(options: &Options, asked: &Asked) -> Outcome<(Card, Option<Log>)> {
         }
     };
     let dates = asked.dates(&lease).map_err(wrong_from)?;
-    Ok(match asked.log(edition, &mut |_| {}) {
+    Ok(match asked.log(edition, &lease, &mut |_| {}) {
         Ok(log) => (asked.card(lease, dates, &log), Some(log)),
         Err(failure) => (asked.unread(failure), None),
     })
