@@ -10,9 +10,8 @@
 //!    128       the state, these last bytes, and the cause
 
 use crate::common::digest::LENGTH;
-use crate::replay::kept::{parts, Kept, Piece, Reader, BEGIN};
+use crate::replay::kept::{going_on, parts, Kept, Piece, Reader, BEGIN};
 use crate::replay::wrong::Wrong;
-use boundary::Replay;
 
 const HEAD: usize = 128;
 
@@ -29,7 +28,7 @@ pub fn read(bytes: &[u8]) -> Result<Kept, Wrong> {
     head.digest();
     let lengths = [(); 3].map(|()| head.long());
     let [state, last, cause] = parts(&bytes[HEAD..bytes.len() - LENGTH], lengths)?;
-    let replay = Replay::from_bytes(state).ok_or(Wrong::Judged)?;
+    let replay = going_on(state)?;
     let cause = String::from_utf8(cause.to_vec()).map_err(|_| Wrong::Contradicted)?;
     let record = replay.status().refused.map(|word| word.record);
     if record.is_some() == cause.is_empty() {

@@ -123,10 +123,9 @@ impl Kept {
             FIRST_VERSION => first::read(bytes)?,
             _ => second(bytes)?,
         };
-        match kept.replay.status().stopped {
-            Some(refusal) => Err(Wrong::Stopped(refusal.number())),
-            None if kept.agrees() => Ok(kept),
-            None => Err(Wrong::Contradicted),
+        match kept.agrees() {
+            true => Ok(kept),
+            false => Err(Wrong::Contradicted),
         }
     }
 
@@ -209,7 +208,7 @@ fn second(bytes: &[u8]) -> Result<Kept, Wrong> {
     };
     let lengths = [(); 3].map(|()| head.long());
     let [line, state, last] = parts(&bytes[HEAD..bytes.len() - LENGTH], lengths)?;
-    let replay = Replay::from_bytes(state).ok_or(Wrong::Judged)?;
+    let replay = going_on(state)?;
     let About {
         version,
         station,
@@ -239,6 +238,15 @@ fn second(bytes: &[u8]) -> Result<Kept, Wrong> {
     match about::line(&kept).as_bytes() == line {
         true => Ok(kept),
         false => Err(Wrong::Contradicted),
+    }
+}
+
+/// The replay of these bytes, which takes more.
+pub fn going_on(bytes: &[u8]) -> Result<Replay, Wrong> {
+    let replay = Replay::from_bytes(bytes).ok_or(Wrong::Judged)?;
+    match replay.status().stopped {
+        Some(refusal) => Err(Wrong::Stopped(refusal.number())),
+        None => Ok(replay),
     }
 }
 
