@@ -25,8 +25,8 @@ pub fn report(edition: u32, logs: &[u8], numbers: &[u64], room: &mut [u64]) -> A
         _ => return Err(MALFORMED),
     };
     let stations = numbers.chunks_exact(4);
-    let lengths = stations.clone().map(|station| station[0]);
-    let all = lengths.fold(Some(0u64), |sum, length| sum?.checked_add(length));
+    let mut lengths = stations.clone().map(|station| station[0]);
+    let all = lengths.try_fold(0u64, |sum, length| sum.checked_add(length));
     if numbers.len() % 4 != 0 || room.len() != 4 || all != Some(logs.len() as u64) {
         return Err(ROOM);
     }
@@ -55,7 +55,7 @@ pub fn report(edition: u32, logs: &[u8], numbers: &[u64], room: &mut [u64]) -> A
 }
 
 fn month(edition: Edition, log: &[u8], first: u64, days: u64, owed: u64) -> Answer<Month> {
-    let bounds = 1 <= days && days <= MOST_DAYS && owed <= MOST_OWED;
+    let bounds = (1..=MOST_DAYS).contains(&days) && owed <= MOST_OWED;
     if !bounds || first > u64::from(u32::MAX) || first + days > 1 << 32 {
         return Err(LEASE);
     }

@@ -65,7 +65,7 @@ pub fn write(fleet: &Fleet, folder: &Path) -> Outcome {
     for card in &fleet.cards {
         let name = folder.join(name(station(card)));
         let written =
-            Replaced::new(&name, Kind::Svg).and_then(|place| place.write(&picture::svg(card)));
+            Replaced::new(&name, Kind::Svg).and_then(|place| place.write(picture::svg(card)));
         if let Err(Failure::Wrong(text)) = written {
             failed.push(text);
         }

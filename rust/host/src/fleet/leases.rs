@@ -200,8 +200,8 @@ impl Leases {
                 .iter()
                 .map(|value| spelled(&String::from_utf8_lossy(value)));
             let like = like
-                .filter(|other| !is_known(other) && is_like(other, name))
-                .last();
+                .rev()
+                .find(|other| !is_known(other) && is_like(other, name));
             match (place, like) {
                 (None, Some(like)) => {
                     let cause = format!("there is none; {like:?} may be it");
@@ -359,7 +359,7 @@ impl Reading<'_> {
         };
         let (lease, dates) = self.lease(&asked)?;
         let line = self.line;
-        (self.faults.len() == before).then(|| Row {
+        (self.faults.len() == before).then_some(Row {
             line,
             asked,
             lease,
@@ -369,9 +369,9 @@ impl Reading<'_> {
 
     fn files(&mut self, folder: &Path) -> Option<Vec<PathBuf>> {
         let text = self.needed(LOG)?;
-        match text == "-" {
-            true => self.wrong(LOG, "standard input is no station's log"),
-            false => Some(files::named(&text, folder)),
+        match files::named(&text, folder) {
+            Ok(files) => Some(files),
+            Err(cause) => self.wrong(LOG, cause),
         }
     }
 

@@ -87,7 +87,7 @@ impl Source {
     }
 
     /// The input's bytes as they stand: memory may begin as gzip's files do.
-    pub fn as_it_stands(self) -> Source {
+    pub fn without_unpacking(self) -> Source {
         Source {
             fresh: false,
             ..self

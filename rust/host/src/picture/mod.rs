@@ -189,7 +189,7 @@ fn moved(options: &Options) -> Result<Moved, Trouble> {
         Some(rectangle) => rectangle,
         None => [0, 0, window.step, layout.height],
     };
-    let mut source = Source::open(Some(&options.memory))?.as_it_stands();
+    let mut source = Source::open(Some(&options.memory))?.without_unpacking();
     let name = source.name.clone();
     Ok(Moved {
         layout,
@@ -292,7 +292,7 @@ fn painted(
     moved: &mut Moved,
     picture: &Path,
 ) -> Result<(Form, Vec<u8>), Trouble> {
-    let mut source = Source::open(Some(picture))?.as_it_stands();
+    let mut source = Source::open(Some(picture))?.without_unpacking();
     let name = source.name.clone();
     // More than the largest picture has, with its head.
     let file = source.up_to(1 << 29)?;

@@ -109,7 +109,7 @@ fn refused(log: &Log, days: &[Day], checks: &mut Vec<Check>) {
             "the first start was refused 7 before anything was set: files from the set-up on are missing; \
              the state saved at the end of the month before would do (score --resume)"
                 .to_string(),
-            short.then(|| "the set-up is missing"),
+            short.then_some("the set-up is missing"),
         ));
     }
     let after = text::count(log.words_after(), "word");
@@ -122,7 +122,7 @@ fn refused(log: &Log, days: &[Day], checks: &mut Vec<Check>) {
         format!(
             "{place}: word {refused}; the days go on, {after} after it without effect{what_to_do}"
         ),
-        short.then(|| "a word was refused"),
+        short.then_some("a word was refused"),
     ));
 }
 

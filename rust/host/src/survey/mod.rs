@@ -87,7 +87,7 @@ pub fn run(options: &Options, out: &mut dyn Write) -> Outcome {
         ));
     }
     let drawings = Drawings::asked(options)?;
-    let mut memory = Source::open(Some(&options.memory))?.as_it_stands();
+    let mut memory = Source::open(Some(&options.memory))?.without_unpacking();
     let name = memory.name.clone();
     let (hex, json) = (options.hex, options.json);
     let settled = settled::read(&options.stream, hex, options.words, json, out)?;
@@ -168,7 +168,7 @@ impl Drawings {
 
     fn draw(&self, survey: &Survey) -> Outcome {
         if let Some(file) = &self.pgm {
-            file.write(&survey.pgm())?;
+            file.write(survey.pgm())?;
         }
         if let Some(file) = &self.svg {
             file.write(survey.svg().as_bytes())?;
