@@ -7,6 +7,7 @@ pub mod digits;
 pub mod edition;
 pub mod failure;
 pub mod file;
+pub mod files;
 pub mod interrupt;
 pub mod kinds;
 pub mod names;

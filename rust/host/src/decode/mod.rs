@@ -9,6 +9,7 @@ pub mod walk;
 use crate::common::digits::Digits;
 use crate::common::edition::{self, EditionOption};
 use crate::common::failure::{Failure, Outcome};
+use crate::common::files::Files;
 use crate::decode::json::Json;
 use crate::decode::listing::{Listing, Summary, Terse};
 use crate::decode::parties::PartiesOptions;
@@ -56,6 +57,14 @@ pub struct Options {
     edition: EditionOption,
     #[command(flatten)]
     parties: PartiesOptions,
+}
+
+impl Options {
+    /// Names the files of the line.
+    pub fn name(&self, files: &mut Files) {
+        files.reads_all("FILE", &self.file);
+        self.parties.name(files);
+    }
 }
 
 pub fn run(options: &Options, out: &mut dyn Write) -> Outcome {

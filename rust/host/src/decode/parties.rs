@@ -1,6 +1,7 @@
 //! Two parties' words in one stream: who owns what, and whose each word is.
 
 use crate::common::failure::{Failure, Outcome};
+use crate::common::files::Files;
 use crate::explain::cause;
 use crate::input::lines::Lines;
 use crate::input::numbers;
@@ -36,6 +37,11 @@ fn owners(text: &str) -> Result<Owners, String> {
 }
 
 impl PartiesOptions {
+    /// Names the file.
+    pub fn name(&self, files: &mut Files) {
+        files.reads("--parties", self.parties.as_deref());
+    }
+
     /// A session of the two parties, and whose each word is; none where there is one party.
     pub fn read(&self, edition: Edition) -> Outcome<Option<(Pair, Vec<Party>)>> {
         let (file, owners) = match (&self.parties, self.owners) {

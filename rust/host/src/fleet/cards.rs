@@ -1,12 +1,13 @@
 //! A folder of cards, one a station.
 
 use crate::common::failure::{Failure, Outcome};
+use crate::common::files::Files;
 use crate::common::replaced::{Kind, Replaced};
 use crate::common::visible;
 use crate::fleet::leases::{fault, Fault, Row};
 use crate::fleet::month::{station, Fleet};
 use crate::score::picture;
-use std::collections::HashMap;
+use std::collections::{HashMap, HashSet};
 use std::fs;
 use std::io::{self, Write};
 use std::path::{Path, PathBuf};
@@ -16,7 +17,7 @@ const BY: &str = " by egretfold ";
 
 /// The name of a station's card: letters and digits as they are, anything else that may
 /// not stand in every file's name as a line.
-pub fn name(station: &str) -> String {
+fn name_of(station: &str) -> String {
     let plain = |letter: char| match letter {
         '-' | '_' | '.' => letter,
         _ if letter.is_alphanumeric() => letter,
@@ -33,7 +34,7 @@ pub fn faults(folder: &Path, rows: &[Row]) -> Vec<Fault> {
     let mut faults = Vec::new();
     for row in rows {
         // Where capital letters are small ones too, as some folders have it.
-        let name = name(row.station());
+        let name = name_of(row.station());
         if let Some(line) = names.insert(name.to_lowercase(), row.line) {
             let cause = format!("its card {name} would be that of line {line} too");
             faults.push(fault(row.line, "station", cause));
@@ -43,6 +44,24 @@ pub fn faults(folder: &Path, rows: &[Row]) -> Vec<Fault> {
         }
     }
     faults
+}
+
+/// Names the cards of these stations among the files of the line. Two of one name are told before any is written.
+pub fn name<'a>(
+    folder: &Path,
+    stations: impl Iterator<Item = &'a str>,
+    files: &mut Files,
+) -> Outcome {
+    let mut names: HashMap<String, &str> = HashMap::new();
+    for station in stations {
+        let name = name_of(station);
+        if let Some(other) = names.insert(name.to_lowercase(), station) {
+            let told = format!("the cards of stations {other} and {station} would both be {name}");
+            return Err(Failure::Wrong(told));
+        }
+        files.writes("--cards", Some(&folder.join(name)));
+    }
+    files.are_apart()
 }
 
 /// Makes sure of the folder.
@@ -59,17 +78,12 @@ pub fn folder(folder: &Path) -> Outcome {
 
 /// Writes each station's card, in place of an earlier one, and tells of others that stand
 /// there.
-pub fn write(fleet: &Fleet, folder: &Path) -> Outcome {
-    let mut failed = Vec::new();
-    let mut names = Vec::new();
+pub fn write(fleet: &Fleet, folder: &Path, files: &mut Files) {
+    let mut names = HashSet::new();
     for card in &fleet.cards {
-        let name = folder.join(name(station(card)));
-        let written =
-            Replaced::new(&name, Kind::Svg).and_then(|place| place.write(picture::svg(card)));
-        if let Err(Failure::Wrong(text)) = written {
-            failed.push(text);
-        }
-        names.push(name);
+        let name = folder.join(name_of(station(card)));
+        Replaced::at(&name, Kind::Svg).write(picture::svg(card), files);
+        names.insert(name);
     }
     for other in others(folder, &names) {
         let other = visible::line(&other.display().to_string());
@@ -79,14 +93,10 @@ pub fn write(fleet: &Fleet, folder: &Path) -> Outcome {
             "{other} is an earlier card, of no station of this fleet"
         );
     }
-    match failed.is_empty() {
-        true => Ok(()),
-        false => Err(Failure::Wrong(failed.join("\n  "))),
-    }
 }
 
 /// Cards that stand there and are none of these.
-fn others(folder: &Path, names: &[PathBuf]) -> Vec<PathBuf> {
+fn others(folder: &Path, names: &HashSet<PathBuf>) -> Vec<PathBuf> {
     let entries = fs::read_dir(folder).into_iter().flatten().flatten();
     let entries = entries.map(|entry| folder.join(entry.file_name()));
     let is_svg = |path: &PathBuf| path.extension().map_or(false, |end| end == "svg");
@@ -101,7 +111,7 @@ fn others(folder: &Path, names: &[PathBuf]) -> Vec<PathBuf> {
 
 #[cfg(test)]
 mod tests {
-    use super::name;
+    use super::name_of;
 
     #[test]
     fn a_cards_name_can_stand_in_any_folder() {
@@ -112,7 +122,7 @@ mod tests {
             ("..", ".svg"),
             ("Zürich-1", "Zürich-1.svg"),
         ] {
-            assert_eq!(name(station), due);
+            assert_eq!(name_of(station), due);
         }
     }
 }

@@ -21,6 +21,7 @@ pub mod text;
 use crate::common::digits::Digits;
 use crate::common::edition::{self, EditionOption};
 use crate::common::failure::{Failure, Outcome};
+use crate::common::files::Files;
 use crate::common::replaced::{Goes, Kind};
 use crate::fleet::leases::{Leases, Row};
 use crate::fleet::month::{station, Fleet, Sort};
@@ -88,7 +89,18 @@ pub struct Options {
     edition: EditionOption,
 }
 
-pub fn run(options: &Options, out: &mut dyn Write) -> Outcome {
+impl Options {
+    /// Names the files of the line but for those that the lease file names.
+    pub fn name(&self, files: &mut Files) {
+        files.reads("LEASES.csv", self.leases.as_deref());
+        for scores in self.from_scores.iter().flatten() {
+            files.reads("--from-scores", Some(scores));
+        }
+        files.writes("--html", self.html.as_deref());
+    }
+}
+
+pub fn run(options: &Options, files: &mut Files, out: &mut dyn Write) -> Outcome {
     let edition = options.edition.accepted().map_err(edition::refused)?;
     let form = (options.json || options.csv).then_some("--json and --csv");
     let html = Goes::asked(options.html.as_deref(), Kind::Html, form)?;
@@ -97,31 +109,49 @@ pub fn run(options: &Options, out: &mut dyn Write) -> Outcome {
         Some(file) => Some(options.rows(file, (edition, date))?),
         None => None,
     };
+    name_rows(rows.as_deref().unwrap_or_default(), options, files)?;
     if let (true, Some(rows)) = (options.commands, &rows) {
         return commands::tell(rows, out);
     }
+    let scored = options.from_scores.as_deref().map(scores::read);
+    let scored = scored.transpose()?;
     if let Some(folder) = &options.cards {
+        if let (Some(scored), None) = (&scored, &rows) {
+            cards::name(folder, scored.iter().map(station), files)?;
+        }
         cards::folder(folder)?;
     }
-    let (cards, four) = match (&options.from_scores, &rows) {
-        (Some(files), rows) => joined(scores::read(files)?, rows.as_deref())?,
+    let (cards, four) = match (scored, &rows) {
+        (Some(scored), rows) => joined(scored, rows.as_deref())?,
         (None, rows) => stations::read(edition, rows.as_deref().unwrap_or_default())?,
     };
     let fleet = Fleet::new(cards, four, options.sort, date);
-    let drawn = match &options.cards {
-        Some(folder) => cards::write(&fleet, folder),
-        None => Ok(()),
-    };
-    let written = html.write(|| page::html(&fleet), out);
-    match (options.json, options.csv) {
-        _ if html.is_standard() => {}
-        (true, _) => rows::json(&fleet, out)?,
-        (_, true) => rows::csv(&fleet, out)?,
-        _ => text::tell(&fleet, Digits::plain(options.plain), out)?,
+    if let Some(folder) = &options.cards {
+        cards::write(&fleet, folder, files);
     }
-    drawn?;
-    written?;
-    fleet.outcome()
+    let told = html.write(|| page::html(&fleet), files, out);
+    let told = told.and_then(|()| match (options.json, options.csv) {
+        _ if html.is_standard() => Ok(()),
+        (true, _) => rows::json(&fleet, out),
+        (_, true) => rows::csv(&fleet, out),
+        _ => text::tell(&fleet, Digits::plain(options.plain), out),
+    });
+    Failure::both(fleet.outcome(), told)
+}
+
+/// Names the files that the lease file tells of: what is read of them where there are no scores, and also by who runs the
+/// lines of --commands; and their cards.
+fn name_rows(rows: &[Row], options: &Options, files: &mut Files) -> Outcome {
+    for row in rows {
+        let what = format!("the log of station {}", row.station());
+        for file in &row.asked.files {
+            files.reads(&what, Some(file));
+        }
+    }
+    match &options.cards {
+        Some(folder) => cards::name(folder, rows.iter().map(Row::station), files),
+        None => files.are_apart(),
+    }
 }
 
 impl Options {

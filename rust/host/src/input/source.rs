@@ -9,9 +9,7 @@ use crate::input::packed::{self, Counted};
 use crate::input::progress::Bar;
 use std::fs::{self, File};
 use std::io::{self, Read, Write};
-use std::os::unix::fs::MetadataExt;
 use std::path::{Path, PathBuf};
-use std::sync::{Mutex, PoisonError};
 
 /// Bytes that are read at once: a whole number of words.
 pub const PIECE: usize = 1 << 16;
@@ -35,15 +33,6 @@ pub struct Source {
     /// What the input failed with.
     error: Option<io::Error>,
     bar: Bar,
-}
-
-/// The files that are read, by device and number.
-static READ: Mutex<Vec<(u64, u64)>> = Mutex::new(Vec::new());
-
-/// Whether this is a file that is read, by whatever name.
-pub fn is_read(path: &Path) -> bool {
-    let read = READ.lock().unwrap_or_else(PoisonError::into_inner);
-    fs::metadata(path).map_or(false, |about| read.contains(&(about.dev(), about.ino())))
 }
 
 /// What standard input is called.
@@ -70,8 +59,6 @@ impl Source {
             let what = if empty { "an empty folder" } else { "a folder" };
             return Err(Failure::Wrong(format!("{name}: is {what}")));
         }
-        let mut read = READ.lock().unwrap_or_else(PoisonError::into_inner);
-        read.push((about.dev(), about.ino()));
         Ok(Source::new(name, Box::new(file), Some(about.len())))
     }
 

@@ -3,6 +3,8 @@
 
 use crate::common::digest::{self, Digest, LENGTH};
 use crate::common::failure::{Failure, Outcome};
+use crate::common::file::Ready;
+use crate::common::files::{self, Files};
 use crate::common::replaced::{Kind, Replaced};
 use crate::common::text;
 use crate::common::visible;
@@ -36,6 +38,21 @@ pub struct StateOptions {
 }
 
 impl StateOptions {
+    /// Names both files. A state may be replaced by the one that follows it.
+    pub fn name(&self, files: &mut Files) {
+        let (option, save) = match &self.save_all {
+            Some(save) => ("--save-all", Some(save.as_path())),
+            None => ("--save", self.save.as_deref()),
+        };
+        let resume = self.resume.as_deref();
+        files.writes(option, save);
+        let follows = |resume: &&Path| save.map_or(false, |save| files::is_same(resume, save));
+        match resume {
+            Some(resume) if !follows(&resume) => files.reads("--resume", Some(resume)),
+            _ => {}
+        }
+    }
+
     /// Where the state is to be saved, asked before anything is read.
     pub fn place(&self) -> Outcome<Option<Saved>> {
         match (&self.save, &self.save_all) {
@@ -99,32 +116,35 @@ impl Saved {
         })
     }
 
-    /// Saves the log's state. A replay that is stopped isn't saved: what stands there stays.
-    pub fn write(&self, log: &Log, whose: &Whose) -> Outcome {
-        let nothing = |cause: String| {
-            let name = &self.name;
-            Failure::Wrong(format!("{name}: nothing is saved, {cause}"))
+    /// The state's file, or why there is none: a replay that is stopped isn't saved, and what stands there stays.
+    fn content(&self, log: &Log, whose: &Whose) -> Result<Vec<u8>, String> {
+        let (files, most) = (log.inputs.len(), about::MOST_FILES);
+        let why = match log.kept(whose, self.all_days) {
+            Some(kept) if files <= most => return Ok(kept.to_bytes()),
+            Some(_) => format!("since a state tells of at most {most} files, and these are {files}: save more often, or join some"),
+            None => "since no byte is taken after that".to_string(),
         };
-        let files = log.inputs.len();
-        if files > about::MOST_FILES {
-            let most = about::MOST_FILES;
-            return Err(nothing(format!(
-                "since a state tells of at most {most} files, and these are {files}: save more often, or join some"
-            )));
-        }
-        match log.kept(whose, self.all_days) {
-            Some(kept) => self.file.write(kept.to_bytes()),
-            None => Err(nothing("since no byte is taken after that".to_string())),
+        Err(format!("{}: nothing is saved, {why}", self.name))
+    }
+
+    /// Saves the log's state, and tells how the subcommand ends with it.
+    pub fn save(&self, log: &Log, whose: &Whose, outcome: Outcome, files: &mut Files) -> Outcome {
+        match self.content(log, whose) {
+            Ok(content) => {
+                self.file.write(content, files);
+                outcome
+            }
+            Err(told) => match outcome {
+                Ok(()) | Err(Failure::Short) => Err(Failure::Wrong(told)),
+                Err(failure) => Err(failure.hinted(Some(told))),
+            },
         }
     }
 
-    /// The same, and how the subcommand ends with it.
-    pub fn save(&self, log: &Log, whose: &Whose, outcome: Outcome) -> Outcome {
-        match (outcome, self.write(log, whose)) {
-            (Err(Failure::Short) | Ok(()), Err(failure)) => Err(failure),
-            (Err(failure), Err(Failure::Wrong(text))) => Err(failure.hinted(Some(text))),
-            (outcome, _) => outcome,
-        }
+    /// The same beside its place, to be put there by who has it.
+    pub fn beside(&self, log: &Log, whose: &Whose) -> Outcome<Ready> {
+        let content = self.content(log, whose).map_err(Failure::Wrong)?;
+        self.file.beside(&content)
     }
 }
 

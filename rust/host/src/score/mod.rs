@@ -14,6 +14,7 @@ mod station;
 use crate::common::digits::Digits;
 use crate::common::edition::{self, EditionOption};
 use crate::common::failure::{Failure, Outcome};
+use crate::common::files::Files;
 use crate::common::replaced::{Goes, Kind};
 use crate::fleet::page;
 use crate::input::numbers;
@@ -94,6 +95,14 @@ pub struct Options {
 }
 
 impl Options {
+    /// Names the files of the line.
+    pub fn name(&self, files: &mut Files) {
+        files.reads_all("LOG", &self.files);
+        self.state.name(files);
+        files.writes("--svg", self.svg.as_deref());
+        files.writes("--html", self.html.as_deref());
+    }
+
     fn asked(&self) -> Asked {
         Asked {
             edition: self.edition.number,
@@ -132,10 +141,9 @@ impl Places {
 
     /// Where there is no score they say so, in place of earlier ones, which would no
     /// longer be true.
-    fn write(&self, card: &Card, out: &mut dyn Write) -> Outcome {
-        let svg = self.svg.write(|| picture::svg(card), out);
-        let html = self.html.write(|| page::of_one(card), out);
-        svg.and(html)
+    fn write(&self, card: &Card, files: &mut Files, out: &mut dyn Write) -> Outcome {
+        self.svg.write(|| picture::svg(card), files, out)?;
+        self.html.write(|| page::of_one(card), files, out)
     }
 
     fn take_standard(&self) -> bool {
@@ -143,24 +151,21 @@ impl Places {
     }
 }
 
-pub fn run(options: &Options, out: &mut dyn Write) -> Outcome {
+pub fn run(options: &Options, files: &mut Files, out: &mut dyn Write) -> Outcome {
     let places = Places::asked(options)?;
     let saved = options.state.place()?;
     let asked = options.asked();
     let (card, log) = card(options, &asked)?;
-    let written = places.write(&card, out);
-    if !places.take_standard() {
-        show_as_asked(options, &card, out)?;
-    }
-    let outcome = match (card.outcome(), written) {
-        (Err(Failure::Short) | Ok(()), Err(failure)) => Err(failure),
-        (Err(failure), Err(Failure::Wrong(text))) => Err(failure.hinted(Some(text))),
-        (outcome, _) => outcome,
+    let told = places.write(&card, files, out);
+    let told = match places.take_standard() {
+        true => told,
+        false => told.and_then(|()| show_as_asked(options, &card, out)),
     };
-    match (saved, log) {
-        (Some(saved), Some(log)) => saved.save(&log, &asked.whose(), outcome),
-        _ => outcome,
-    }
+    let outcome = match (saved, log) {
+        (Some(saved), Some(log)) => saved.save(&log, &asked.whose(), card.outcome(), files),
+        _ => card.outcome(),
+    };
+    Failure::both(outcome, told)
 }
 
 /// The card, and the log where it was read. Before any log is opened the edition is judged, before

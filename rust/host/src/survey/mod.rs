@@ -5,6 +5,7 @@ mod forms;
 mod refused;
 
 use crate::common::failure::{Failure, Outcome};
+use crate::common::files::Files;
 use crate::common::replaced::{Kind, Replaced};
 use crate::decode::settled;
 use crate::explain::cause::Refused;
@@ -79,7 +80,17 @@ pub struct Asked<'a> {
     pub at: u32,
 }
 
-pub fn run(options: &Options, out: &mut dyn Write) -> Outcome {
+impl Options {
+    /// Names the files of the line.
+    pub fn name(&self, files: &mut Files) {
+        files.reads("--stream", Some(&self.stream));
+        files.reads("--memory", Some(&self.memory));
+        files.writes("--pgm", self.pgm.as_deref());
+        files.writes("--svg", self.svg.as_deref());
+    }
+}
+
+pub fn run(options: &Options, files: &mut Files, out: &mut dyn Write) -> Outcome {
     let standard = |file: &PathBuf| source::is_standard(Some(file));
     if standard(&options.stream) && standard(&options.memory) {
         return Err(Failure::wrong(
@@ -112,8 +123,8 @@ pub fn run(options: &Options, out: &mut dyn Write) -> Outcome {
         stream: &settled.name,
         memory: &name,
     };
-    answer(&asked, names, json, &drawings, out)?;
-    settled.refused.map_or(Ok(()), Err)
+    let told = answer(&asked, names, json, (&drawings, files), out);
+    told.and(settled.refused.map_or(Ok(()), Err))
 }
 
 /// Makes the survey, tells it and draws it; or tells why it is refused.
@@ -121,7 +132,7 @@ fn answer(
     asked: &Asked,
     names: Names,
     json: bool,
-    drawings: &Drawings,
+    (drawings, files): (&Drawings, &mut Files),
     out: &mut dyn Write,
 ) -> Outcome {
     match made(asked) {
@@ -136,7 +147,8 @@ fn answer(
                 true => survey.json(out)?,
                 false => survey.text(out)?,
             }
-            drawings.draw(&survey)
+            drawings.draw(&survey, files);
+            Ok(())
         }
         Err((refused, hint)) => {
             forms::refused(asked, &names, &refused, json, out)?;
@@ -166,14 +178,13 @@ impl Drawings {
         })
     }
 
-    fn draw(&self, survey: &Survey) -> Outcome {
+    fn draw(&self, survey: &Survey, files: &mut Files) {
         if let Some(file) = &self.pgm {
-            file.write(survey.pgm())?;
+            file.write(survey.pgm(), files);
         }
         if let Some(file) = &self.svg {
-            file.write(survey.svg().as_bytes())?;
+            file.write(survey.svg(), files);
         }
-        Ok(())
     }
 }
 

@@ -396,7 +396,11 @@ fn cards_are_replaced_and_none_is_left_that_is_not_true() {
     let ask = || fleet(&file, &format!("--cards {}", cards.display()));
     fs::create_dir(&cards).expect("a folder");
     for name in ["14.svg", "15-b.svg", "16.svg"] {
-        fs::write(cards.join(name), "<svg of a full month").expect("a card");
+        fs::write(
+            cards.join(name),
+            "<svg data-by=\"egretfold\" of a full month",
+        )
+        .expect("a card");
     }
     fs::write(
         cards.join("99.svg"),
@@ -494,7 +498,9 @@ fn a_page_is_whole_and_well_formed() {
     );
     let file = folder.write("leases.csv", rows.as_bytes());
     let page = folder.0.join("page.html");
-    folder.write("page.html", b"<!DOCTYPE html>\n<p>an earlier month</p>\n");
+    let earlier =
+        "<!DOCTYPE html>\n<html lang=\"en\" data-by=\"egretfold\"><p>an earlier month</p>\n";
+    folder.write("page.html", earlier.as_bytes());
     let output = fleet(&file, &format!("--html {}", page.display()));
     assert_eq!(output.status.code(), Some(1));
     let text = fs::read_to_string(&page).expect("the page");

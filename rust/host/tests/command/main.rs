@@ -9,6 +9,7 @@ mod common;
 mod desk;
 mod engines;
 mod examples;
+mod files;
 mod fleet;
 mod golden;
 mod hostile;

@@ -89,7 +89,6 @@ fn page(class: &str, title: &str, told: &[String], issued: &str, body: &str) -> 
     let told: String = told.collect();
     format!(
         r#"{HTML_BEGIN}
-<html lang="en">
 <head>
 <meta charset="utf-8"/>
 <meta http-equiv="Content-Security-Policy" content="{POLICY}"/>
