@@ -123,7 +123,11 @@ impl Group {
     /// The log at hand has ended; its score, where it has one.
     pub fn end(&mut self, place: usize, score: Option<&Score>) {
         match score {
-            Some(score) if self.too_long => self.join(Ok(Four::of_month(place, score))),
+            // One that goes on from a state is no log by itself.
+            Some(score) if self.too_long || score.began.is_some() => {
+                self.bytes.truncate(self.begin);
+                self.join(Ok(Four::of_month(place, score)));
+            }
             Some(score) => {
                 self.kept.push(Kept {
                     length: self.bytes.len() - self.begin,

@@ -1,9 +1,11 @@
 //! A fleet's logs read side by side, and what comes of them.
 
 use crate::common::failure::{Failure, Outcome};
+use crate::common::file::Ready;
 use crate::explain::cause;
 use crate::fleet::leases::Row;
 use crate::fleet::report::{Four, Group};
+use crate::fleet::states;
 use crate::input::progress;
 use crate::score::asked::Card;
 use boundary::{Answer, Edition, Refusal, MOST_STATIONS};
@@ -19,36 +21,54 @@ const PARTS: usize = 4;
 
 /// Reads and scores each station; its cards in the rows' order, and the four numbers of
 /// those that have a score.
-pub fn read(edition: Edition, rows: &[Row]) -> Outcome<(Vec<Card>, Four)> {
+pub fn read(edition: Edition, rows: &[Row]) -> Outcome<(Vec<Card>, Four, Vec<Outcome<Ready>>)> {
     progress::begin_together(bytes(rows), rows.len());
     let parts = PARTS * rayon::current_num_threads();
     let size = ((rows.len() + parts - 1) / parts).clamp(1, MOST_STATIONS);
     let places: Vec<(usize, &Row)> = rows.iter().enumerate().collect();
     let parts = places.par_chunks(size).map(|rows| part(edition, rows));
-    let read: Vec<(Vec<Card>, Answer<Four>)> = parts.collect();
+    let read: Vec<Part> = parts.collect();
     progress::end_together();
-    let mut cards = Vec::new();
+    let (mut cards, mut states) = (Vec::new(), Vec::new());
     let mut told = Four::default();
-    for (some, four) in read {
-        cards.extend(some);
-        told = told.join(four.map_err(refused)?);
+    for part in read {
+        cards.extend(part.cards);
+        states.extend(part.states);
+        told = told.join(part.four.map_err(refused)?);
     }
-    Ok((cards, told))
+    Ok((cards, told, states))
+}
+
+/// Some stations, with their states where those are saved.
+struct Part {
+    cards: Vec<Card>,
+    four: Answer<Four>,
+    states: Vec<Outcome<Ready>>,
 }
 
 /// Some stations, one after the other.
-fn part(edition: Edition, rows: &[(usize, &Row)]) -> (Vec<Card>, Answer<Four>) {
+fn part(edition: Edition, rows: &[(usize, &Row)]) -> Part {
     let mut group = Group::new(edition, KEPT);
-    let mut cards = Vec::new();
+    let (mut cards, mut states) = (Vec::new(), Vec::new());
     for (place, row) in rows {
         let also = &mut |piece: &[u8]| group.take(piece);
-        let dates = row.dates.clone();
-        let card = row.asked.score(edition, row.lease, dates, also);
+        let card = match row.asked.log(edition, &row.lease, also) {
+            Ok(log) => {
+                let card = row.asked.card(row.lease, row.dates.clone(), &log);
+                states.extend(states::beside(row, &card, &log));
+                card
+            }
+            Err(failure) => row.asked.unread(failure),
+        };
         group.end(*place, card.score());
         cards.push(card);
         progress::station_done();
     }
-    (cards, group.told())
+    Part {
+        cards,
+        four: group.told(),
+        states,
+    }
 }
 
 /// Only of logs that have a score, so it would be the product's fault.

@@ -174,6 +174,12 @@ pub fn begin(resume: Option<&Path>, edition: Edition, whose: &Whose) -> Outcome<
     }
 }
 
+/// The station of the state in this file, where it is one and tells of one.
+pub fn station_of(path: &Path) -> Option<String> {
+    let bytes = read(path).ok()?;
+    Kept::from_bytes(&bytes).ok()?.station
+}
+
 fn load(path: &Path) -> Outcome<(Kept, Resumed)> {
     if source::is_standard(Some(path)) {
         let text = "--resume -: a state is read from a file; standard input is for the log";

@@ -157,6 +157,12 @@ impl Asked {
         all.map(|file| name(file)).collect()
     }
 
+    /// The state's file by its name.
+    pub fn state_name(&self) -> Option<String> {
+        let name = |file: &PathBuf| visible::line(&file.display().to_string());
+        self.resume.as_ref().map(name)
+    }
+
     /// What a state tells of the log besides: the station, and the first day's date.
     pub fn whose(&self) -> Whose {
         Whose {
@@ -190,20 +196,6 @@ impl Asked {
             edition: edition.number(),
             ..Unscored::new(self, failure)
         })
-    }
-
-    /// Reads the log and scores it. Each piece of the log is handed on too.
-    pub fn score(
-        &self,
-        edition: Edition,
-        lease: Lease,
-        dates: Vec<Option<Date>>,
-        also: &mut dyn FnMut(&[u8]),
-    ) -> Card {
-        match self.log(edition, &lease, also) {
-            Ok(log) => self.card(lease, dates, &log),
-            Err(failure) => self.unread(failure),
-        }
     }
 
     /// Reads the log. A score of a part of what was asked for would be no score, nor one of days that a

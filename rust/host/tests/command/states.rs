@@ -798,43 +798,6 @@ fn flipped_bits_are_refused_by_the_command_too() {
     }
 }
 
-/// Killed at any moment, the command leaves the state that stood there or the new one.
-#[test]
-fn killed_while_it_saves_it_leaves_the_old_state_or_the_new_one() {
-    let folder = Folder::new("killed");
-    let old = march();
-    let state = folder.write("state", &old);
-    let line = format!("replay samples/station-14-april.log --resume samples/station-14-march.state --quiet --save {state}");
-    let begun = Instant::now();
-    assert_eq!(egretfold(&line, b"").status.code(), Some(0));
-    let whole = begun.elapsed();
-    let new = fs::read(&state).expect("it is saved");
-    assert_ne!(new, old);
-    let (mut stayed, mut replaced) = (0, 0);
-    for turn in 0..120 {
-        fs::write(&state, &old).expect("the old one stands again");
-        let mut command = Command::new(env!("CARGO_BIN_EXE_egretfold"));
-        command
-            .args(line.split_whitespace())
-            .current_dir(crate::common::root())
-            .stdin(Stdio::null());
-        let mut child = command.spawn().expect("the command runs");
-        // From its begin to some way behind the time that it takes.
-        thread::sleep(whole * turn / 80);
-        let _ = child.kill();
-        child.wait().expect("it has ended");
-        match fs::read(&state).expect("a state stands there") {
-            is if is == old => stayed += 1,
-            is if is == new => replaced += 1,
-            _ => panic!("half a state, killed after {:?}", whole * turn / 80),
-        }
-    }
-    assert!(
-        stayed > 0 && replaced > 0,
-        "{stayed} stayed, {replaced} replaced"
-    );
-}
-
 /// Where the new state can't be written, the old one stays.
 #[test]
 fn a_state_that_cannot_be_written_leaves_the_old_one() {
