@@ -137,7 +137,8 @@ uint32_t egretfold_session_begin(uint32_t own[EGRETFOLD_OWN], uint64_t tallies[E
                                  uint32_t shared[EGRETFOLD_SHARED], uint32_t edition);
 
 /* One word. command: 0 where a command is still open, else 1; then the completed command's header and its four parameters,
- * 0 past its last (and all 0 where a command is open). 1 to 9 or 17; all but 1 stop the session and drop the open command. */
+ * 0 past its last (and all 0 where a command is open). 1 to 9 or 17, and 20 where the
+ * session is a party's of a pair; all but 1 stop the session and drop the open command. */
 uint32_t egretfold_session_word(uint32_t own[EGRETFOLD_OWN], uint64_t tallies[EGRETFOLD_TALLIES],
                                 uint32_t shared[EGRETFOLD_SHARED], uint32_t word, uint32_t command[6]);
 

@@ -55,7 +55,8 @@ pub fn session_begin_anew(session: &mut Session, edition: u32) -> u32 {
 }
 
 /// One word. command: 0 where a command is still open, else 1; then the
-/// completed command's header and four parameters. 1 to 9 or 17.
+/// completed command's header and four parameters. 1 to 9 or 17, and 20 where
+/// the arrays are a party's of a pair.
 #[inline]
 pub fn session_word(session: &mut Session, word: u32, command: &mut [u32; 6]) -> u32 {
     let Session {
