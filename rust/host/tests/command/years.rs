@@ -144,8 +144,12 @@ fn a_fleet_goes_on_for_years() {
             for (key, value) in row(&due).as_object().expect("an object") {
                 assert_eq!(line[key], *value, "{key} of {station} in month {month}");
             }
-            // No day of another month is a warning.
-            assert_eq!(line["checks"], json!([]), "{station} in month {month}");
+            // No day of another month is a warning; that the file's end cuts a command or a record is told.
+            let checks = line["checks"].as_array().expect("a list").iter();
+            let keys = checks.map(|check| check["check"].as_str().expect("a key"));
+            let mut others =
+                keys.filter(|key| !["open_command", "unfinished_record"].contains(key));
+            assert_eq!(others.next(), None, "{station} in month {month}");
             verdicts.push(line["verdict"].clone());
             sum += due.served;
         }
