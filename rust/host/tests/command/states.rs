@@ -10,9 +10,7 @@ use compare::records;
 use serde_json::{json, Value};
 use sha2::{Digest, Sha256};
 use std::fs;
-use std::process::{Command, Output, Stdio};
-use std::thread;
-use std::time::Instant;
+use std::process::{Command, Output};
 
 /// Where a state file tells of its version, its kind and the length of its line, and where that begins.
 const VERSION: usize = 16;

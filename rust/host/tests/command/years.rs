@@ -32,8 +32,8 @@ const FIRST_DAY: u32 = 1_000;
 const STATIONS: [&str; 3] = ["14", "Mole/2", "north"];
 
 /// A station's log, a file a month. Midnights cut starts, and the files' ends cut records: each ends behind its last day,
-/// or some bytes later.
-fn months(station: u64) -> Vec<Vec<u8>> {
+/// or some bytes later, fewer than these.
+fn months(station: u64, later: u32) -> Vec<Vec<u8>> {
     let mut random = Random::of_case(99, station, 0);
     let mut log = words(&SETTINGS);
     let (mut ends, mut rest, mut day) = (Vec::new(), &START[..0], FIRST_DAY);
@@ -52,7 +52,7 @@ fn months(station: u64) -> Vec<Vec<u8>> {
     }
     let mut begin = 0;
     let file = |end: usize| {
-        let end = (end + random.below(8) as usize).min(log.len());
+        let end = (end + random.below(later) as usize).min(log.len());
         let file = log[begin..end].to_vec();
         begin = end;
         file
@@ -108,7 +108,7 @@ fn line_of(file: &[u8]) -> Value {
 #[test]
 fn a_fleet_goes_on_for_years() {
     let folder = Folder::new("fifteen");
-    let logs: Vec<Vec<Vec<u8>>> = (0..3).map(months).collect();
+    let logs: Vec<Vec<Vec<u8>>> = (0..3).map(|station| months(station, 8)).collect();
     let mut whole: Vec<Replay> = (0..3)
         .map(|_| Replay::without_end(1).expect("an edition"))
         .collect();
@@ -144,12 +144,18 @@ fn a_fleet_goes_on_for_years() {
             for (key, value) in row(&due).as_object().expect("an object") {
                 assert_eq!(line[key], *value, "{key} of {station} in month {month}");
             }
-            // No day of another month is a warning; that the file's end cuts a command or a record is told.
+            // No day that a state brings is a warning; what the file's end cuts is told, and the day that it begins there.
+            let next = format!(
+                "the log has 1 day outside the lease: {}",
+                first_day + length
+            );
+            let is_end = |check: &&Value| {
+                let key = check["check"].as_str();
+                matches!(key, Some("open_command" | "unfinished_record")) || check["text"] == next
+            };
             let checks = line["checks"].as_array().expect("a list").iter();
-            let keys = checks.map(|check| check["check"].as_str().expect("a key"));
-            let mut others =
-                keys.filter(|key| !["open_command", "unfinished_record"].contains(key));
-            assert_eq!(others.next(), None, "{station} in month {month}");
+            let other = checks.clone().find(|check| !is_end(check));
+            assert_eq!(other, None, "{station} in month {month}");
             verdicts.push(line["verdict"].clone());
             sum += due.served;
         }
@@ -176,7 +182,7 @@ fn a_fleet_goes_on_for_years() {
 #[test]
 fn a_fleet_goes_on_over_several_machines() {
     let folder = Folder::new("machines");
-    let logs: Vec<Vec<Vec<u8>>> = (0..3).map(months).collect();
+    let logs: Vec<Vec<Vec<u8>>> = (0..3).map(|station| months(station, 8)).collect();
     for (place, log) in logs.iter().enumerate() {
         for (month, log) in log.iter().enumerate().take(2) {
             folder.write(&format!("{place}-{month}.log"), log);
@@ -260,7 +266,7 @@ fn a_fleet_goes_on_over_several_machines() {
 #[test]
 fn a_state_of_another_station_edition_or_day_is_told_in_the_row() {
     let folder = Folder::new("rows");
-    let log = months(0);
+    let log = months(0, 1);
     for (month, log) in log.iter().enumerate().take(3) {
         folder.write(&format!("{month}.log"), log);
     }
@@ -315,7 +321,7 @@ fn a_state_of_another_station_edition_or_day_is_told_in_the_row() {
         "short".to_string(),
         "is the state of station a, and this is station b".to_string(),
         "was saved under edition 2 of the lease rule, and this is edition 1".to_string(),
-        format!("is the state of station a, and this is station a2"),
+        "is the state of station a, and this is station a2".to_string(),
         "was saved under edition 2".to_string(),
         "No such file".to_string(),
     ];
@@ -362,7 +368,7 @@ fn a_state_of_another_station_edition_or_day_is_told_in_the_row() {
 #[test]
 fn states_are_put_over_nothing_foreign() {
     let folder = Folder::new("foreign");
-    let log = months(0);
+    let log = months(0, 1);
     folder.write("0.log", &log[0]);
     folder.write("1.log", &log[1]);
     let states = folder.0.join("states");
@@ -552,7 +558,7 @@ fn killed_while_it_saves_it_leaves_the_old_state_or_the_new_one() {
 fn a_fleet_killed_while_it_saves_leaves_old_states_or_new_ones() {
     let folder = Folder::new("killed-fleet");
     let states = folder.0.join("states");
-    let (first, second) = (months(0), months(1));
+    let (first, second) = (months(0, 1), months(1, 1));
     let (a, b) = (
         folder.write("a.log", &first[0]),
         folder.write("b.log", &second[0]),
