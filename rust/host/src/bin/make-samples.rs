@@ -173,6 +173,45 @@ fn damaged() -> Vec<u8> {
         .concat()
 }
 
+/// A frame in the morning and one in the evening.
+const TWO_FRAMES: usize = 2;
+
+/// Three months of two stations, a file a month, of which each goes on where the one before ended: April, May and June.
+/// Station 21 is set up in April, and from May 10 to 12 it is dark. A midnight cuts a start at April's end, so that the
+/// last frame ends in May. Station 22 is set up in May; from June 20 on its second camera is masked off.
+fn months() -> Vec<(String, Vec<u8>)> {
+    const LENGTHS: [(&str, u32); 3] = [("april", 30), ("may", 31), ("june", 30)];
+    let mut files = Vec::new();
+    for (station, joins) in [(21, 0), (22, 1)] {
+        let mut first = station::FIRST_DAY;
+        let mut rest: &[u32] = &[];
+        for (place, (month, days)) in LENGTHS.iter().enumerate() {
+            let mut log = match place == joins {
+                true => Log::new().words(&CAMERAS),
+                false => Log::new(),
+            };
+            for date in 1..=*days {
+                log = log.midnight(first + date - 1).words(rest);
+                rest = &[];
+                log = match (station, place, date) {
+                    (21, 1, 10..=12) => log.words(&[WAIT_FOR_IDLE, 0]),
+                    (21, 0, 30) => {
+                        rest = &FRAME[1..];
+                        log.frames(TWO_FRAMES).words(&FRAME[..1])
+                    }
+                    (22, 2, 20) => log.words(&SECOND_CAMERA_OFF).frames(TWO_FRAMES),
+                    _ => log.frames(TWO_FRAMES),
+                };
+            }
+            first += days;
+            if place >= joins {
+                files.push((format!("{station}-{month}.log"), log.bytes));
+            }
+        }
+    }
+    files
+}
+
 /// Two cameras: output 0 of FLOAT32_1 and output 1 of FLOAT32_2. The second is
 /// masked off and then set anew over the first one's bytes and too low for the
 /// domain, which a silent output may; last the first is masked off too.
@@ -355,10 +394,15 @@ fn main() -> io::Result<()> {
     for (name, bytes) in files() {
         fs::write(folder.join(name), bytes)?;
     }
-    let folder = folder.join("station-15");
-    fs::create_dir_all(&folder)?;
+    let weeks = folder.join("station-15");
+    fs::create_dir_all(&weeks)?;
     for (week, bytes) in (1..).zip(station_15()) {
-        fs::write(folder.join(format!("week-{week}.log")), bytes)?;
+        fs::write(weeks.join(format!("week-{week}.log")), bytes)?;
+    }
+    let folder = folder.join("months");
+    fs::create_dir_all(&folder)?;
+    for (name, bytes) in months() {
+        fs::write(folder.join(name), bytes)?;
     }
     Ok(())
 }

@@ -197,6 +197,14 @@ pub struct Ready {
 }
 
 impl Ready {
+    /// A file of this content, written beside its place.
+    pub fn written(place: Outcome<Place>, content: &[u8]) -> Outcome<Ready> {
+        let mut file = place?.begin()?;
+        let written = file.write_all(content);
+        written.map_err(|error| file.failed(error))?;
+        file.end()
+    }
+
     /// Puts it there.
     pub fn put(mut self) -> Outcome {
         if let Some(beside) = &self.beside {

@@ -8,7 +8,7 @@ use crate::common::visible;
 use std::collections::{BTreeSet, HashMap};
 use std::ffi::OsString;
 use std::fs::{self, File, Metadata};
-use std::io::{self, Write};
+use std::io;
 use std::os::unix::fs::MetadataExt;
 use std::os::unix::io::AsFd;
 use std::path::{Path, PathBuf};
@@ -65,8 +65,8 @@ pub struct Files {
     /// The first two uses that are at odds.
     at_odds: Option<String>,
     ready: Vec<Ready>,
-    /// The state, which is put last.
-    state: Option<Ready>,
+    /// The states, which are put last.
+    states: Vec<Ready>,
     /// What couldn't be written.
     failed: Vec<String>,
 }
@@ -155,16 +155,22 @@ impl Files {
 
     /// The same for the line's state.
     pub fn write_state(&mut self, place: Outcome<Place>, content: &[u8]) {
-        self.state = self.written(place, content);
+        let ready = self.written(place, content);
+        self.states.extend(ready);
+    }
+
+    /// States that were written beside their places.
+    pub fn states(&mut self, states: Vec<Outcome<Ready>>) {
+        for state in states {
+            match state {
+                Ok(ready) => self.states.push(ready),
+                Err(failure) => self.failed.extend(failure.text()),
+            }
+        }
     }
 
     fn written(&mut self, place: Outcome<Place>, content: &[u8]) -> Option<Ready> {
-        let written = place.and_then(Place::begin).and_then(|mut file| {
-            let written = file.write_all(content);
-            written.map_err(|error| file.failed(error))?;
-            file.end()
-        });
-        match written {
+        match Ready::written(place, content) {
             Ok(ready) => Some(ready),
             Err(failure) => {
                 self.failed.extend(failure.text());
@@ -176,7 +182,7 @@ impl Files {
     /// Puts nothing of it anywhere.
     pub fn drop_all(&mut self) {
         self.ready.clear();
-        self.state = None;
+        self.states.clear();
     }
 
     /// Puts all that was written in its place, with the answer, where it is in a file; nothing where something couldn't be
@@ -190,7 +196,7 @@ impl Files {
             return Err(Failure::Wrong(self.failed.join("\n  ")));
         }
         put(self.ready)?;
-        put(self.state)
+        put(self.states)
     }
 }
 

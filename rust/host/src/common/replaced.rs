@@ -2,7 +2,7 @@
 //! station's log. What the line itself reads is asked about in `files`.
 
 use crate::common::failure::{Failure, Outcome};
-use crate::common::file::{Place, Stands};
+use crate::common::file::{Place, Ready, Stands};
 use crate::common::files::Files;
 use crate::input::looks::{self, Looks};
 use crate::replay::kept;
@@ -122,6 +122,11 @@ impl Replaced {
             }
             Stands::File(_) | Stands::Nothing => Ok(place),
         }
+    }
+
+    /// Writes it beside its place, to be put there by who has it.
+    pub fn beside(&self, content: &[u8]) -> Outcome<Ready> {
+        Ready::written(self.place(), content)
     }
 
     /// Writes it beside its place; a state is put there last.

@@ -15,16 +15,21 @@ use std::path::{Path, PathBuf};
 /// How a card of ours names itself.
 const BY: &str = " by egretfold ";
 
-/// The name of a station's card: letters and digits as they are, anything else that may
-/// not stand in every file's name as a line.
+/// The name of a station's card.
 fn name_of(station: &str) -> String {
+    format!("{}.svg", plain(station))
+}
+
+/// A station's name as files have it: letters and digits as they are, anything else that may
+/// not stand in every file's name as a line.
+pub fn plain(station: &str) -> String {
     let plain = |letter: char| match letter {
         '-' | '_' | '.' => letter,
         _ if letter.is_alphanumeric() => letter,
         _ => '-',
     };
     let name: String = station.chars().map(plain).collect();
-    format!("{}.svg", name.trim_start_matches('.'))
+    name.trim_start_matches('.').to_string()
 }
 
 /// Stations whose cards would have the name of an earlier one's, with that card's name, by their places.

@@ -17,10 +17,13 @@ pub fn faults(rows: &[Row]) -> Vec<Fault> {
 }
 
 fn faults_of(row: &Row) -> Vec<Fault> {
-    let files = row.asked.files.iter();
-    let wrong = files.filter_map(|file| unfit(file)).map(|why| {
+    let logs = row.asked.files.iter().map(|file| ("log", file));
+    let states = row.asked.resume.iter().chain(&row.save);
+    let files = logs.chain(states.map(|file| ("state", file)));
+    let wrong = files.filter_map(|(column, file)| Some((column, unfit(file)?)));
+    let wrong = wrong.map(|(column, why)| {
         let cause = format!("{why}; give it another name, or score without --commands");
-        fault(row.line, "log", cause)
+        fault(row.line, column, cause)
     });
     let mut faults: Vec<Fault> = wrong.collect();
     let length = line(row).len();
@@ -71,6 +74,8 @@ fn line(row: &Row) -> String {
         ("--station", asked.issue.station.clone()),
         ("--lessee", asked.issue.lessee.clone()),
         ("--issued", Some(asked.issue.date.to_string())),
+        ("--resume", asked.resume.as_deref().map(named)),
+        ("--save", row.save.as_deref().map(named)),
     ] {
         if let Some(value) = value {
             put(option, value);

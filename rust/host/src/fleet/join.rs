@@ -115,8 +115,11 @@ impl Told {
             line, from, issue, ..
         } = &row.asked;
         let card = self.cards.remove(row.station());
-        let is_its =
-            |card: &Kept| card.lease() == (*line, *from) && card.issue().lessee == issue.lessee;
+        let is_its = |card: &Kept| {
+            card.lease() == (*line, *from)
+                && card.issue().lessee == issue.lessee
+                && began_as_due(card, row)
+        };
         match card {
             Some(card) if !is_its(&card) => {
                 let (name, line) = (row.station(), row.line);
@@ -146,6 +149,15 @@ impl Told {
             None => Ok(()),
         }
     }
+}
+
+/// Whether a score went on from the state that the row names, or from nothing.
+fn began_as_due(card: &Kept, row: &Row) -> bool {
+    let began = match card.scored() {
+        Some(scored) => scored.began.as_ref(),
+        None => return true,
+    };
+    began.map(|began| &began.state) == row.asked.state_name().as_ref()
 }
 
 fn mixed(one: &str, edition: u32, other: &Kept) -> Failure {

@@ -6,7 +6,7 @@ use crate::score::asked::{Card, LeaseLine, Unscored};
 use crate::score::checks::Check;
 use crate::score::civil::Date;
 use crate::score::issue::Issue;
-use crate::score::month::{Day, Score, Served};
+use crate::score::month::{Began, Day, Score, Served};
 use boundary::{Edition, Lease, Month, Verdict};
 use serde_json::Value;
 
@@ -30,6 +30,7 @@ pub struct Scored {
     inputs: Vec<String>,
     /// Smaller than in hex.
     pub digest: Option<Finished>,
+    pub began: Option<Began>,
     pub total: Total,
     /// Of each day of the lease.
     claimed: Box<[u64]>,
@@ -125,6 +126,7 @@ impl Scored {
             in_log: in_log.fold(0, |bits, bit| bits << 1 | bit),
             inputs: score.inputs,
             digest: score.digest.as_deref().and_then(digest::of_hex),
+            began: score.began,
             total: Total {
                 served: score.month.served,
                 owed: score.month.owed,
@@ -162,6 +164,7 @@ impl Scored {
             lease: self.lease,
             inputs: self.inputs.clone(),
             digest: self.digest.map(digest::hex),
+            began: self.began.clone(),
             log: Value::Null,
             month: Month {
                 days: self.days().map(|day| day.scored()).collect(),

@@ -5,7 +5,7 @@ use crate::common::failure::{Failure, Outcome};
 use crate::common::sheet;
 use crate::common::text;
 use crate::common::visible;
-use crate::fleet::{cells, files};
+use crate::fleet::{cells, files, states};
 use crate::input::source::Source;
 use crate::score::asked::{Asked, LeaseLine};
 use crate::score::civil::Date;
@@ -40,8 +40,9 @@ const FIRST_DAY: usize = 3;
 const DAYS: usize = 4;
 const OWED: usize = 5;
 const FIRST_DATE: usize = 6;
+const STATE: usize = 7;
 
-const COLUMNS: [Column; 7] = [
+const COLUMNS: [Column; 8] = [
     column(&["station"], true),
     column(&["lessee"], false),
     column(&["log", "logs", "log file", "log files"], true),
@@ -49,6 +50,7 @@ const COLUMNS: [Column; 7] = [
     column(&["days"], true),
     column(&["owed", "owed a day"], true),
     column(&["first date", "from"], false),
+    column(&["state"], false),
 ];
 
 /// A station's row.
@@ -56,6 +58,8 @@ pub struct Row {
     /// Where it stands in the file, from 1 on.
     pub line: u64,
     pub asked: Asked,
+    /// Where its state is saved.
+    pub save: Option<PathBuf>,
     pub lease: Lease,
 }
 
@@ -361,13 +365,19 @@ impl Reading<'_> {
             edition: edition.number(),
             line,
             from,
-            resume: None,
+            resume: self.state(folder, station.as_deref()),
+            saves: false,
             files: files.unwrap_or_default(),
             issue: Issue::of(&station, &lessee, issued),
         };
         let lease = self.lease(&asked)?;
         let line = self.line;
-        (self.faults.len() == before).then_some(Row { line, asked, lease })
+        (self.faults.len() == before).then_some(Row {
+            line,
+            asked,
+            save: None,
+            lease,
+        })
     }
 
     fn files(&mut self, folder: &Path) -> Option<Vec<PathBuf>> {
@@ -382,6 +392,18 @@ impl Reading<'_> {
             let _ = writeln!(io::stderr(), "{path} is no file and is passed over");
         }
         Some(named.files)
+    }
+
+    /// The state that it goes on from; none where that is blank.
+    fn state(&mut self, folder: &Path, station: Option<&str>) -> Option<PathBuf> {
+        let text = self.value(STATE)?;
+        match text == "-" {
+            true => self.wrong(STATE, "standard input is no state"),
+            false => Some(states::named(
+                folder.join(text),
+                station.unwrap_or_default(),
+            )),
+        }
     }
 
     fn date(&mut self) -> Option<Date> {

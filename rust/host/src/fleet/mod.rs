@@ -18,6 +18,7 @@ pub mod month;
 pub mod page;
 mod rows;
 mod scores;
+mod states;
 mod stations;
 pub mod text;
 mod workers;
@@ -40,9 +41,11 @@ use std::path::{Path, PathBuf};
 /// Printed behind the help text.
 pub const EXAMPLES: &str = "\
 The lease file has a row a station, as a spreadsheet writes it, below a row of names: station, log,
-first day, days, owed; lessee and first date may stand there too. A log is a file, several parted
+first day, days, owed; lessee, first date and state may stand there too. A log is a file, several parted
 by semicolons, a folder of daily files in name order, or a pattern with * and ?, from the lease
 file's folder on. All that is wrong with the file is told at once, before any log is read.
+A state is a file to go on from, as --save-states saved it, or the folder that it is in; where it is blank the log
+is read from nothing.
 A station whose log is refused or can't be read is told in its row, and the others are scored.
 Exit status: 0 all full or nothing owed, 3 one is short, 1 one has no score, 2 a wrong command line or
 lease file.
@@ -91,6 +94,10 @@ pub struct Options {
     /// Draw each station's card into this folder, in place of its earlier one
     #[arg(long, value_name = "DIR")]
     cards: Option<PathBuf>,
+    /// Save each station's state at its log's end in this folder, by the station's name, for the column state of the next
+    /// month's lease file; an earlier state of the same station there is replaced, nothing else
+    #[arg(long, value_name = "FOLDER", conflicts_with = "from_scores")]
+    save_states: Option<PathBuf>,
     /// The date of issue; today (UTC) where none is given
     #[arg(long, value_name = "YYYY-MM-DD", value_parser = Date::parse)]
     issued: Option<Date>,
@@ -122,6 +129,9 @@ pub fn run(options: &Options, files: &mut Files, out: &mut dyn Write) -> Outcome
         None => None,
     };
     name_rows(rows.as_deref().unwrap_or_default(), options, files)?;
+    if let Some(folder) = &options.save_states {
+        cards::folder(folder)?;
+    }
     if options.commands {
         let rows = rows.unwrap_or_default();
         let rows = match &options.missing {
@@ -152,10 +162,11 @@ pub fn run(options: &Options, files: &mut Files, out: &mut dyn Write) -> Outcome
         }
         cards::folder(folder)?;
     }
-    let group = match joined {
+    let mut group = match joined {
         Some(joined) => joined,
         None => stations::read(edition, rows.unwrap_or_default())?,
     };
+    files.states(std::mem::take(&mut group.states));
     let fleet = Fleet::new(group, options.sort, date);
     if let Some(folder) = &options.cards {
         cards::write(&fleet, folder, files);
@@ -167,7 +178,11 @@ pub fn run(options: &Options, files: &mut Files, out: &mut dyn Write) -> Outcome
         (_, true) => rows::csv(&fleet, out),
         _ => text::tell(&fleet, Digits::plain(options.plain), out),
     });
-    Failure::both(fleet.outcome(), told)
+    let outcome = fleet.outcome().map_err(|failure| {
+        let saved = options.save_states.as_ref();
+        failure.hinted(saved.map(|_| "no state is saved without a score".to_string()))
+    });
+    Failure::both(outcome, told)
 }
 
 /// Names the files that the lease file tells of: the stations' cards, and their logs, which are read where there are no scores, and
@@ -180,6 +195,9 @@ fn name_rows(rows: &[Row], options: &Options, files: &mut Files) -> Outcome {
         for file in &row.asked.files {
             files.reads_last(|| format!("the log of station {}", row.station()), file);
         }
+        let what = format!("the state of station {}", row.station());
+        files.reads(&what, row.asked.resume.as_deref());
+        files.writes(states::OPTION, row.save.as_deref());
     }
     files.are_apart()
 }
@@ -190,6 +208,11 @@ impl Options {
         let mut leases = Leases::read(file, edition, date)?;
         if let Some(folder) = &self.cards {
             let faults = cards::faults(folder, &leases.rows);
+            leases.add_faults(faults);
+        }
+        if let Some(folder) = &self.save_states {
+            states::put(folder, &mut leases.rows);
+            let faults = states::faults(&leases.rows);
             leases.add_faults(faults);
         }
         if self.commands {

@@ -54,6 +54,9 @@ fn put(score: &Score, value: &mut Value) {
     let checks: Vec<Value> = score.checks.iter().map(Check::json).collect();
     let silent = score.days.iter().filter(|day| day.is_dark());
     value["sha256"] = json!(score.digest);
+    if let Some(began) = &score.began {
+        value["began_from"] = began.json();
+    }
     value["checks"] = json!(checks);
     value["served"] = json!(score.month.served);
     value["owed"] = json!(score.month.owed);

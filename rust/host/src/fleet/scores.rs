@@ -10,7 +10,7 @@ use crate::score::asked::{accepted, dates, Card, LeaseLine, Unscored};
 use crate::score::checks::Check;
 use crate::score::civil::Date;
 use crate::score::issue::Issue;
-use crate::score::month::{verdict_name, Day, Score};
+use crate::score::month::{verdict_name, Began, Day, Score};
 use boundary::{Edition, Month, Verdict};
 use serde_json::Value;
 use std::path::PathBuf;
@@ -127,6 +127,7 @@ fn scored(
         lease,
         inputs: texts(&summary["log"], "inputs")?,
         digest: optional(summary, "sha256")?.map(digested).transpose()?,
+        began: began(&summary["began_from"])?,
         log: summary["log"].clone(),
         month: month(summary, &read)?,
         days: read,
@@ -134,6 +135,17 @@ fn scored(
         issue,
     };
     Ok(Card::Scored(score))
+}
+
+/// The state that it began from, if there was one.
+fn began(value: &Value) -> Read<Option<Began>> {
+    match value {
+        Value::Null => Ok(None),
+        value => Ok(Some(Began {
+            state: text(value, "state")?,
+            sha256: text(value, "sha256")?,
+        })),
+    }
 }
 
 /// A day whose numbers are a day's of this lease.

@@ -2,9 +2,11 @@
 //! and its month is added to the product's report as it stands.
 
 use crate::common::failure::{Failure, Outcome};
+use crate::common::file::Ready;
 use crate::explain::cause;
 use crate::fleet::kept::{Kept, Total};
 use crate::fleet::leases::Row;
+use crate::fleet::states;
 use crate::fleet::workers;
 use crate::input::progress;
 use crate::score::asked::Card;
@@ -19,6 +21,8 @@ const PARTS: usize = 16;
 pub struct Group {
     pub cards: Vec<Kept>,
     pub report: boundary::Fleet,
+    /// Their states, where those are saved, each beside its place.
+    pub states: Vec<Outcome<Ready>>,
 }
 
 impl Group {
@@ -26,6 +30,7 @@ impl Group {
         Group {
             cards: Vec::new(),
             report: boundary::Fleet::new(edition),
+            states: Vec::new(),
         }
     }
 
@@ -33,13 +38,14 @@ impl Group {
     fn read(mut self, edition: Edition, row: Row) -> Answer<Group> {
         let read = row
             .dates()
-            .and_then(|dates| Ok((dates, row.asked.log(edition)?)));
+            .and_then(|dates| Ok((dates, row.asked.log(edition, &row.lease)?)));
         let card = match read {
             Ok((dates, log)) => {
                 let card = row.asked.card(row.lease, dates, &log);
                 if let Card::Scored(_) = card {
                     self.report.add(&log.replay, row.lease)?;
                 }
+                self.states.extend(states::beside(&row, &card, &log));
                 card
             }
             Err(failure) => row.asked.unread(failure),
@@ -67,6 +73,7 @@ impl Group {
     fn join(mut self, other: Group) -> Answer<Group> {
         self.report.join(&other.report)?;
         self.cards.extend(other.cards);
+        self.states.extend(other.states);
         Ok(self)
     }
 }

@@ -32,7 +32,7 @@ pub fn table(log: &Log, digits: Digits, out: &mut dyn Write) -> Outcome {
         "{}: {}, {}",
         text::count(log.records(), "record"),
         text::count(log.words(), "word"),
-        text::count(u64::from(log.replay.status().midnights), "midnight"),
+        text::count(log.midnights(), "midnight"),
     )?;
     writeln!(out, "{}", edition::rule(log.edition()))?;
     if let Some(resumed) = &log.resumed {
@@ -166,7 +166,7 @@ pub fn summary(log: &Log) -> Value {
         "taken": log.taken,
         "records": log.records(),
         "words": log.words(),
-        "midnights": status.midnights,
+        "midnights": log.midnights(),
         "first_day": status.days.map(|(first, _)| first),
         "last_day": status.days.map(|(_, last)| last),
         "edition": log.edition().number(),
@@ -179,6 +179,8 @@ pub fn summary(log: &Log) -> Value {
     });
     if let Some(resumed) = &log.resumed {
         summary["resumed_at"] = json!(resumed.bytes);
+        summary["resumed_from"] = json!({"state": resumed.name, "sha256": resumed.sha256()});
+        summary["forgotten_midnights"] = json!(log.forgotten);
     }
     summary
 }

@@ -6,12 +6,22 @@ use crate::common::failure::{Failure, Outcome};
 use crate::explain::cause::{self, Refused};
 use crate::input::looks::{self, Looks};
 use crate::input::source::{Source, PIECE};
-use crate::replay::kept::{Kept, BACK, MOST_MIDNIGHTS, RECORD};
-use crate::replay::resumed::Resumed;
+use crate::replay::kept::{shortened, Kept, Piece, BACK, MOST_MIDNIGHTS, RECORD};
+use crate::replay::resumed::{Resumed, Whose};
 use boundary::{Edition, LogStatus, Replay};
 use std::fmt;
 
 const WORD: u8 = 1;
+
+/// The refusal of words past the 1,000,000,000th of a session.
+const NO_MORE_WORDS: u32 = 17;
+
+/// How the cause of a 401st midnight ends, and what to do about it, and about a word too many.
+const ONE_TOO_MANY: &str = "is one more than the 400 that may come";
+const SAVE_AND_RESUME: &str =
+    "give the files of some months with --save FILE, and the later ones with --resume FILE: a state keeps its last midnight alone, so that 399 more may come";
+pub const POWER_UP: &str =
+    "the card's power-up begins a new session: give the files from there on by themselves, without --resume";
 
 /// Where a byte of the log stands.
 #[derive(Clone, Debug, PartialEq, Eq)]
@@ -32,9 +42,10 @@ pub type RefusedAt = (Place, Refused);
 
 pub struct Log {
     pub replay: Replay,
+    /// Midnights that the state it goes on from has forgotten.
+    pub forgotten: u64,
     /// The inputs by their names, with the byte of the log that each begins at; one
-    /// that isn't reached yet begins at no byte, `u64::MAX`. The first is the state's file, where
-    /// the log goes on from one.
+    /// that isn't reached yet begins at no byte, `u64::MAX`.
     pub inputs: Vec<(String, u64)>,
     /// Bytes read, and of these the ones that were taken.
     pub bytes: u64,
@@ -45,6 +56,8 @@ pub struct Log {
     pub stop: Option<RefusedAt>,
     /// Takes in the bytes read, where their digest is wanted.
     digest: Option<Digest>,
+    /// The inputs read, each by itself, where a state is to tell of them.
+    files: Option<Vec<Piece>>,
     /// What it goes on from.
     pub resumed: Option<Resumed>,
     /// The first bytes of the first input.
@@ -58,12 +71,14 @@ impl Log {
     pub fn new(edition: Edition) -> Log {
         Log {
             replay: Replay::new(edition),
+            forgotten: 0,
             inputs: Vec::new(),
             bytes: 0,
             taken: 0,
             word: None,
             stop: None,
             digest: None,
+            files: None,
             resumed: None,
             begin: Vec::new(),
             tail: Vec::new(),
@@ -78,45 +93,88 @@ impl Log {
         }
     }
 
-    /// A log that goes on from a state, kept in the file of this name.
-    pub fn resumed(kept: Kept, name: String) -> Log {
-        let bytes = kept.digest.length();
+    /// A log that goes on from a state.
+    pub fn resumed(kept: Kept, resumed: Resumed) -> Log {
         let mut log = Log {
-            inputs: vec![(name.clone(), 0)],
-            bytes,
-            taken: bytes,
-            resumed: Some(Resumed::new(name, &kept)),
-            digest: Some(kept.digest),
+            forgotten: kept.forgotten,
+            bytes: kept.consumed,
+            taken: kept.consumed,
+            resumed: Some(resumed),
             tail: kept.last,
-            ..Log::new(kept.replay.session().status().edition)
+            ..Log::with_digest(kept.replay.session().status().edition)
         };
         log.replay = kept.replay;
-        let status = log.replay.status();
-        log.word = status.refused.map(|word| {
-            let day = day_after(&status, word.midnights);
-            let place = log.place(word.record * RECORD, day);
-            (place, cause::refused(word.refusal, kept.cause))
-        });
+        log.word = log
+            .replay
+            .status()
+            .refused
+            .zip(kept.refused)
+            .map(|(word, (record, cause))| {
+                let place = log.place(record * RECORD, log.day_of(record));
+                (place, cause::refused(word.refusal, Some(cause)))
+            });
         log
     }
 
-    /// What is kept of it; none where the replay is stopped, after which no byte can follow, or
-    /// where the digest wasn't wanted.
-    pub fn kept(&self) -> Option<Kept> {
-        let digest = self.digest.clone().filter(|_| self.stop.is_none())?;
+    /// The same where a state is to tell of each input.
+    pub fn to_be_saved(self) -> Log {
+        Log {
+            files: Some(Vec::new()),
+            ..self
+        }
+    }
+
+    /// What is kept of it, all days where they are wanted; none where the replay is stopped, after
+    /// which no byte can follow, or where a state wasn't wanted.
+    pub fn kept(&self, whose: &Whose, all_days: bool) -> Option<Kept> {
+        let month = Piece::of(self.digest.as_ref().filter(|_| self.stop.is_none())?);
+        let mut replay = self.replay.clone();
+        let forgotten = if all_days { 0 } else { replay.trim() };
+        let last = self.replay.status().days.map(|(_, last)| last);
+        let before = self.resumed.as_ref();
+        let station = whose.station.as_deref().map(shortened).map(String::from);
+        let refused = |(place, refused): &RefusedAt| {
+            let cause = shortened(&refused.cause).to_string();
+            (place.record, cause)
+        };
         Some(Kept {
-            replay: self.replay.clone(),
-            digest,
+            forgotten: self.forgotten + u64::from(forgotten),
+            replay,
+            consumed: self.bytes,
+            began: before.map(|resumed| resumed.digest),
+            files: match self.files.as_deref()? {
+                // One by itself is all of it.
+                [] => vec![month.clone()],
+                files => files.to_vec(),
+            },
+            month,
+            version: env!("CARGO_PKG_VERSION").to_string(),
+            station: station.or_else(|| before?.station.clone()),
+            date: last.and_then(|last| whose.date(last).or_else(|| before?.date(last))),
             last: self.tail.clone(),
-            cause: self.word.as_ref().map(|(_, refused)| refused.cause.clone()),
+            refused: self.word.as_ref().map(refused),
         })
+    }
+
+    /// All midnights that came.
+    pub fn midnights(&self) -> u64 {
+        self.forgotten + u64::from(self.replay.status().midnights)
+    }
+
+    /// The day of the first refused word, by its record: what stands before it are the words taken and the
+    /// midnights.
+    fn day_of(&self, record: u64) -> Option<u32> {
+        let (_, last) = self.replay.status().days?;
+        let before = record - u64::from(self.replay.session().status().taken);
+        let behind = u32::try_from(self.midnights().checked_sub(before)?).ok()?;
+        last.checked_sub(behind).filter(|_| before > 0)
     }
 
     pub fn edition(&self) -> Edition {
         self.replay.session().status().edition
     }
 
-    /// The SHA-256 of all bytes read, in hex; of those too that came before the state that it
+    /// The SHA-256 of all bytes read, in hex; without those that came before the state that it
     /// goes on from.
     pub fn digest(&self) -> Option<String> {
         Some(digest::hex(self.digest.as_ref()?.finished()))
@@ -126,19 +184,25 @@ impl Log {
     /// came before that stands. After a stop the rest is only counted.
     pub fn read(&mut self, sources: Vec<Source>) -> Outcome {
         let named = |source: &Source| (source.name.clone(), u64::MAX);
-        let before = self.inputs.len();
         self.inputs.extend(sources.iter().map(named));
         let mut room = vec![0; PIECE];
+        // One by itself is all of it.
+        let each = self.files.is_some() && sources.len() > 1;
         for (place, mut source) in sources.into_iter().enumerate() {
-            self.inputs[before + place].1 = self.bytes;
+            self.inputs[place].1 = self.bytes;
+            let mut own = each.then(Digest::new);
             loop {
                 match source.fill(&mut room)? {
                     0 => break,
                     count => {
                         self.piece(&room[..count]);
-                        self.ask_again(before)?;
+                        own.iter_mut().for_each(|own| own.update(&room[..count]));
+                        self.ask_again()?;
                     }
                 }
+            }
+            if let (Some(own), Some(files)) = (&own, &mut self.files) {
+                files.push(Piece::of(own));
             }
             if place == 0 {
                 self.begin = source.begin().to_vec();
@@ -153,19 +217,31 @@ impl Log {
         self.resumed.as_ref().map_or(false, Resumed::is_again)
     }
 
-    fn ask_again(&self, before: usize) -> Outcome {
-        match &self.resumed {
-            Some(resumed) if resumed.is_again() => {
-                Err(Failure::Wrong(resumed.complaint(&self.inputs[before].0)))
+    fn ask_again(&self) -> Outcome {
+        match (&self.resumed, self.inputs.first()) {
+            (Some(resumed), Some((input, _))) if resumed.is_again() => {
+                Err(Failure::Wrong(resumed.complaint(input)))
             }
             _ => Ok(()),
         }
     }
 
-    /// What to try where this is no log at all, or not the one that goes on.
+    /// What to try where this is no log at all, or not the one that goes on, or longer than one may
+    /// be.
     pub fn hint(&self) -> Option<String> {
-        let goes_on = self.resumed.as_ref().zip(self.stop.as_ref());
-        let goes_on = goes_on.and_then(|(resumed, (_, refused))| resumed.hint(refused.number));
+        let stop = self.stop.as_ref().map(|(_, refused)| refused);
+        let word = self.word.as_ref().map(|(_, refused)| refused);
+        if stop.map_or(false, |refused| refused.cause.ends_with(ONE_TOO_MANY)) {
+            return Some(SAVE_AND_RESUME.to_string());
+        }
+        if stop
+            .or(word)
+            .map_or(false, |refused| refused.number == NO_MORE_WORDS)
+        {
+            return Some(POWER_UP.to_string());
+        }
+        let goes_on = self.resumed.as_ref().zip(stop);
+        let goes_on = goes_on.and_then(|(resumed, refused)| resumed.hint(refused.number));
         goes_on.or_else(|| looks::hint(&self.begin, Looks::Log))
     }
 
@@ -203,7 +279,9 @@ impl Log {
     fn refused_word(&self, mut before: Replay, piece: &[u8]) -> Option<RefusedAt> {
         let status = self.replay.status();
         let word = status.refused?;
-        let byte = word.record * RECORD;
+        // Its day is there, since it came now.
+        let record = word.record + self.forgotten;
+        let byte = record * RECORD;
         // Where its record began in an earlier piece, nothing of this one is before it.
         before.feed(&piece[..byte.saturating_sub(self.bytes) as usize]);
         let session = before.session();
@@ -211,8 +289,11 @@ impl Log {
             .status()
             .open
             .map_or(0, |(_, taken)| 1 + taken as usize);
-        let words = self.near(piece).words(word.record, earlier + 1);
-        let cause = cause::of_word(word.refusal, session.view(), &words);
+        let words = self.near(piece).words(record, earlier + 1);
+        // More midnights than are kept may stand before the command's other words.
+        let whole = words.len() > earlier;
+        let cause = whole.then(|| cause::of_word(word.refusal, session.view(), &words));
+        let cause = cause.flatten();
         let place = self.place(byte, day_after(&status, word.midnights));
         Some((place, cause::refused(word.refusal, cause)))
     }
@@ -238,14 +319,13 @@ impl Log {
     fn place(&self, byte: u64, day: Option<u32>) -> Place {
         let holds = |(_, begin): &&(String, u64)| *begin <= byte;
         let input = self.inputs.iter().rev().find(holds);
-        let before = |resumed: &Resumed| byte < resumed.bytes;
         Place {
             byte,
             record: byte / RECORD,
             day,
-            input: match self.inputs.len() {
-                1 => None,
-                _ if self.resumed.as_ref().map_or(false, before) => None,
+            input: match &self.resumed {
+                Some(resumed) if byte < resumed.bytes => None,
+                None if self.inputs.len() == 1 => None,
                 _ => input.map(|(name, begin)| (name.clone(), byte - begin)),
             },
         }
@@ -258,7 +338,7 @@ impl Log {
 
     /// Words among them, refused ones too.
     pub fn words(&self) -> u64 {
-        self.records() - u64::from(self.replay.status().midnights)
+        self.records() - self.midnights()
     }
 
     /// Words after the refused one.
@@ -274,8 +354,10 @@ impl Log {
 
     /// What to say of a refusal on standard error, with the input's name.
     pub fn complaint(&self, (place, refused): &RefusedAt) -> String {
-        match (&place.input, self.inputs.first()) {
-            (None, Some((name, _))) => format!("{name}: {place}: {refused}"),
+        let input = self.inputs.first().map(|(name, _)| name);
+        let from = self.resumed.as_ref().map(|resumed| &resumed.name);
+        match (&place.input, from.or(input)) {
+            (None, Some(name)) => format!("{name}: {place}: {refused}"),
             _ => format!("{place}: {refused}"),
         }
     }
@@ -307,9 +389,11 @@ fn cause_of_byte(number: u32, status: &LogStatus, record: Option<(u8, u32)>) -> 
     let (kind, day) = record?;
     match (number, status.days) {
         (18, _) => Some(format!("kind byte {kind:02X} is neither 01 nor 02")),
-        (19, Some(_)) if status.midnights == MOST_MIDNIGHTS => Some(format!(
-            "midnight of day {day} is one more than the {MOST_MIDNIGHTS} that may come"
-        )),
+        (19, Some((_, last)))
+            if status.midnights == MOST_MIDNIGHTS && last.checked_add(1) == Some(day) =>
+        {
+            Some(format!("midnight of day {day} {ONE_TOO_MANY}"))
+        }
         (19, Some((_, u32::MAX))) => Some(format!("no day follows {}, not {day}", u32::MAX)),
         (19, Some((_, last))) => Some(format!(
             "midnight of day {day} stands where day {} is due",

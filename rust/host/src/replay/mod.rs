@@ -1,16 +1,19 @@
 //! `egretfold replay`: a station's log, day by day.
 
+mod about;
 pub mod days;
+mod first;
 pub mod kept;
 pub mod log;
 pub mod resumed;
+mod wrong;
 
 use crate::common::digits::Digits;
 use crate::common::edition::{self, EditionOption};
 use crate::common::failure::{Failure, Outcome};
 use crate::common::files::Files;
 use crate::input::source::Source;
-use crate::replay::resumed::StateOptions;
+use crate::replay::resumed::{StateOptions, Whose};
 use clap::Args;
 use std::io::Write;
 use std::path::PathBuf;
@@ -21,7 +24,8 @@ A record is a byte of kind and a number of four bytes, low byte first: kind 1 a 
 word, kind 2 a midnight with the number of the day that begins. Exit status 1 also where
 a word was refused: the days go on, but later words add nothing.
 --save keeps the state at the log's end in a file, also inside a command or a record; --resume goes on
-from it, with the bytes that came behind. A log that is stopped isn't saved.
+from it, with the bytes that came behind. Of the days it keeps the last one alone: what ended before it is one
+row. --save-all keeps them all. A log that is stopped isn't saved.
 
 Examples, from the repository's root:
   egretfold replay samples/three-days.log
@@ -79,7 +83,7 @@ pub fn run(options: &Options, files: &mut Files, out: &mut dyn Write) -> Outcome
         None => Ok(()),
     };
     match saved {
-        Some(saved) => saved.save(&log, outcome, files),
+        Some(saved) => saved.save(&log, &Whose::default(), outcome, files),
         None => outcome,
     }
 }

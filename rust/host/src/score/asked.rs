@@ -6,7 +6,7 @@ use crate::explain::cause::{self, Refused};
 use crate::input::source::{self, Source};
 use crate::replay::days;
 use crate::replay::log::Log;
-use crate::replay::resumed;
+use crate::replay::resumed::{self, Whose};
 use crate::score::civil::Date;
 use crate::score::issue::Issue;
 use crate::score::month::Score;
@@ -40,6 +40,8 @@ pub struct Asked {
     pub from: Option<Date>,
     /// The state's file that the log goes on from.
     pub resume: Option<PathBuf>,
+    /// Whether a state is saved at its end.
+    pub saves: bool,
     pub files: Vec<PathBuf>,
     pub issue: Issue,
 }
@@ -166,6 +168,20 @@ impl Asked {
         all.map(|file| name(file)).collect()
     }
 
+    /// The state's file by its name.
+    pub fn state_name(&self) -> Option<String> {
+        let name = |file: &PathBuf| visible::line(&file.display().to_string());
+        self.resume.as_ref().map(name)
+    }
+
+    /// What a state tells of the log besides: the station, and the first day's date.
+    pub fn whose(&self) -> Whose {
+        Whose {
+            station: self.issue.station.clone(),
+            dated: self.from.map(|from| (self.line.first_day, from)),
+        }
+    }
+
     /// The lease line, or the refusal of it.
     pub fn lease(&self) -> Result<Lease, Refused> {
         accepted(self.line)
@@ -193,9 +209,16 @@ impl Asked {
         })
     }
 
-    /// Reads the log. A score of a part of what was asked for would be no score.
-    pub fn log(&self, edition: Edition) -> Outcome<Log> {
-        let mut log = resumed::begin(self.resume.as_deref(), edition)?;
+    /// Reads the log. A score of a part of what was asked for would be no score, nor one of days that a
+    /// state has forgotten.
+    pub fn log(&self, edition: Edition, lease: &Lease) -> Outcome<Log> {
+        let mut log = resumed::begin(self.resume.as_deref(), edition, &self.whose())?;
+        if let Some(resumed) = &log.resumed {
+            resumed.keeps(lease)?;
+        }
+        if self.saves {
+            log = log.to_be_saved();
+        }
         log.read(Source::open_all(&self.files)?)?;
         Ok(log)
     }

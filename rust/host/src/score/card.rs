@@ -18,6 +18,9 @@ pub fn text(score: &Score, digits: Digits, out: &mut dyn Write) -> Outcome {
     }
     writeln!(out, "{}", lease(score, digits))?;
     writeln!(out, "{}", edition::rule(score.edition))?;
+    for line in score.digests() {
+        writeln!(out, "{line}")?;
+    }
     writeln!(out)?;
     for line in table(score, digits) {
         writeln!(out, "{line}")?;

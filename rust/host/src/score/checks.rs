@@ -3,7 +3,8 @@
 
 use crate::common::text;
 use crate::replay::days;
-use crate::replay::log::Log;
+use crate::replay::log::{Log, POWER_UP};
+use crate::replay::resumed::{Resumed, Whose};
 use crate::score::month::Day;
 use boundary::{headers, Lease};
 use serde_json::{json, Value};
@@ -24,6 +25,7 @@ pub fn all(log: &Log, lease: &Lease, days: &[Day]) -> Vec<Check> {
     covered(log, days, &mut checks);
     refused(log, days, &mut checks);
     outside(log, lease, &mut checks);
+    dated(log, days, &mut checks);
     let mut put = |key, text: Option<String>| {
         checks.extend(text.map(|text| Check::new(key, text, None)));
     };
@@ -112,15 +114,36 @@ fn refused(log: &Log, days: &[Day], checks: &mut Vec<Check>) {
         ));
     }
     let after = text::count(log.words_after(), "word");
+    let what_to_do = match refused.number {
+        NO_MORE_WORDS => format!("; {POWER_UP}"),
+        _ => String::new(),
+    };
     checks.push(Check::new(
         "refused_word",
-        format!("{place}: word {refused}; the days go on, {after} after it without effect"),
+        format!(
+            "{place}: word {refused}; the days go on, {after} after it without effect{what_to_do}"
+        ),
         short.then_some("a word was refused"),
     ));
 }
 
-/// The refusal of a start without what it needs.
+/// The refusal of a start without what it needs, and of words past a session's last.
 const NOT_SET: u32 = 7;
+const NO_MORE_WORDS: u32 = 17;
+
+/// A state and a lease line by which a day has two dates: one of them is another's.
+fn dated(log: &Log, days: &[Day], checks: &mut Vec<Check>) {
+    let first = days.first().and_then(|day| Some((day.number, day.date?)));
+    let whose = Whose {
+        station: None,
+        dated: first,
+    };
+    let other = log
+        .resumed
+        .as_ref()
+        .and_then(|resumed| resumed.other_date(&whose));
+    checks.extend(other.map(|text| Check::new("other_date", text, None)));
+}
 
 /// The session's settings are those that the refused word met.
 fn nothing_is_set(log: &Log) -> bool {
@@ -138,6 +161,13 @@ fn outside(log: &Log, lease: &Lease, checks: &mut Vec<Check>) {
     let (first, last) = match log.replay.status().days {
         Some(ends) => ends,
         None => return,
+    };
+    // Those that a state brings were another month's.
+    let brought = log.resumed.as_ref().and_then(Resumed::last_day);
+    let first = match brought {
+        Some(brought) if brought == last => return,
+        Some(brought) => brought + 1,
+        None => first,
     };
     let before = (lease.first_day() > first).then(|| (first, last.min(lease.first_day() - 1)));
     let after = (lease.last_day() < last).then(|| (first.max(lease.last_day() + 1), last));

@@ -127,6 +127,11 @@ impl Date {
         (dates.len() == count as usize).then_some(dates)
     }
 
+    /// So many days after this one; none past 9999-12-31.
+    pub fn after(self, days: u32) -> Option<Date> {
+        std::iter::successors(Some(self), |date| date.next()).nth(days as usize)
+    }
+
     /// Its place in `WEEKDAYS`. 0001-01-01 was a Monday by this calendar's rules.
     pub fn weekday(self) -> usize {
         let years = self.year - 1;

@@ -43,7 +43,8 @@ Exit status: 0 full or nothing owed, 3 short, 1 refused, 2 a wrong command line 
 of these cases, once the line that says which is printed.
 Where there is no score, a card asked for with --svg or --html says so, in place of an earlier one.
 --save keeps the state at the log's end in a file, and --resume goes on from it: so a month whose set-up lies in the
-month before is scored from its own files.
+month before is scored from its own files, for years. A lease may begin on the last day that the state has, not
+earlier: it keeps that one alone.
 
 Examples, from the repository's root:
   egretfold score samples/station-14.log --first-day 101 --days 30 --owed 14000000
@@ -116,6 +117,7 @@ impl Options {
             },
             from: self.from,
             resume: self.state.resume.clone(),
+            saves: self.state.saves(),
             files: self.files.clone(),
             issue: Issue::new(&self.issue),
         }
@@ -168,7 +170,7 @@ pub fn run(options: &Options, files: &mut Files, out: &mut dyn Write) -> Outcome
         false => card.outcome(),
     };
     let outcome = match (saved, log) {
-        (Some(saved), Some(log)) => saved.save(&log, ended, files),
+        (Some(saved), Some(log)) => saved.save(&log, &asked.whose(), ended, files),
         _ => ended,
     };
     Failure::both(outcome, told)
@@ -192,7 +194,7 @@ fn card(options: &Options, asked: &Asked) -> Outcome<(Card, Option<Log>)> {
         }
     };
     let dates = asked.dates(&lease).map_err(wrong_from)?;
-    Ok(match asked.log(edition) {
+    Ok(match asked.log(edition, &lease) {
         Ok(log) => (asked.card(lease, dates, &log), Some(log)),
         Err(failure) => (asked.unread(failure), None),
     })

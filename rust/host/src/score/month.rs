@@ -8,7 +8,7 @@ use crate::score::checks::{self, Check};
 use crate::score::civil::Date;
 use crate::score::issue::Issue;
 use boundary::{Edition, Lease, Month, ScoredDay, Verdict};
-use serde_json::Value;
+use serde_json::{json, Value};
 
 /// A month, its lease and what is told of the log that it is of.
 pub struct Score {
@@ -19,6 +19,7 @@ pub struct Score {
     pub inputs: Vec<String>,
     /// The SHA-256 of the log's bytes, where it was asked for.
     pub digest: Option<String>,
+    pub began: Option<Began>,
     /// All of the log but its days, for programs.
     pub log: Value,
     pub month: Month,
@@ -26,6 +27,27 @@ pub struct Score {
     /// What to look at before the card is sent.
     pub checks: Vec<Check>,
     pub issue: Issue,
+}
+
+/// The state that a log goes on from, by which its card can be had again.
+#[derive(Clone)]
+pub struct Began {
+    /// The file's name.
+    pub state: String,
+    pub sha256: String,
+}
+
+impl Began {
+    fn of(log: &Log) -> Option<Began> {
+        log.resumed.as_ref().map(|resumed| Began {
+            state: resumed.name.clone(),
+            sha256: resumed.sha256(),
+        })
+    }
+
+    pub fn json(&self) -> Value {
+        json!({"state": self.state, "sha256": self.sha256})
+    }
 }
 
 /// A day of the lease.
@@ -100,6 +122,7 @@ impl Score {
             lease,
             inputs: log.inputs.iter().map(|(name, _)| name.clone()).collect(),
             digest: log.digest(),
+            began: Began::of(log),
             log: days::summary(log),
             month,
             days,
@@ -127,6 +150,17 @@ impl Score {
     /// The log by its inputs' names.
     pub fn log_name(&self) -> String {
         log_name(&self.inputs, |name| name.to_string())
+    }
+
+    /// What a card that goes on from a state tells of both, so that it can be repeated.
+    pub fn digests(&self) -> Vec<String> {
+        match (&self.began, &self.digest) {
+            (Some(Began { state, sha256 }), Some(digest)) => vec![
+                format!("SHA-256 of the log's bytes: {digest}"),
+                format!("SHA-256 of the state that it goes on from, {state}: {sha256}"),
+            ],
+            _ => Vec::new(),
+        }
     }
 
     /// What the month is called, in the request's words.

@@ -47,6 +47,9 @@ fn summary(score: &Score) -> Value {
     });
     score.issue.put(&mut summary);
     summary["sha256"] = json!(score.digest);
+    if let Some(began) = &score.began {
+        summary["began_from"] = began.json();
+    }
     let checks: Vec<Value> = score.checks.iter().map(Check::json).collect();
     summary["checks"] = json!(checks);
     summary["served"] = json!(score.month.served);

@@ -196,7 +196,13 @@ fn a_stop_has_its_cause() {
             "{}",
             told(&output)
         );
-        let complaint = format!("egretfold: standard input: {due}\n");
+        // What to do is known of a midnight too many.
+        let hint = match due.ends_with("may come") {
+            true => "  give the files of some months with --save FILE, and the later ones with --resume FILE: \
+                     a state keeps its last midnight alone, so that 399 more may come\n",
+            false => "",
+        };
+        let complaint = format!("egretfold: standard input: {due}\n{hint}");
         assert_eq!(complained(&output), complaint);
     }
 }

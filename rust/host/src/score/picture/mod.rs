@@ -90,12 +90,9 @@ fn calendar(score: &Score) -> Framed {
         cell::draw(&mut drawing, day, (x, y), place == 0);
     }
     legend(&mut drawing, score, below + 22);
-    foot::issue(
-        &mut drawing,
-        &score.issue,
-        score.digest.as_deref(),
-        below + 22,
-    );
+    foot::issue(&mut drawing, &score.issue, below + 22);
+    let digest = score.digest.as_deref();
+    foot::digests(&mut drawing, digest, score.began.as_ref(), below + 22);
     foot::sign(&mut drawing, below + 22);
     Framed {
         title: title(score),

@@ -35,7 +35,7 @@ pub fn drawn(unscored: &Unscored) -> Framed {
     drawing.rect((RIGHT - width, 30), (width, 46), &look);
     drawing.text((RIGHT - width / 2, 62), unscored.name(), &style);
     notice.draw(&mut drawing, 150);
-    foot::issue(&mut drawing, &unscored.issue, None, below + 16);
+    foot::issue(&mut drawing, &unscored.issue, below + 16);
     Framed {
         title,
         told: format!("{}: {told}", unscored.name()),
