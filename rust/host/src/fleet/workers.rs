@@ -40,7 +40,7 @@ pub fn map<T: Send, R: Send>(items: Vec<T>, work: impl Fn(T) -> R + Sync) -> Vec
     thread::scope(|scope| {
         for _ in 1..count().min(items.len()) {
             // The others do its work.
-            if Builder::new().spawn_scoped(scope, &go).is_err() {
+            if Builder::new().spawn_scoped(scope, go).is_err() {
                 break;
             }
         }

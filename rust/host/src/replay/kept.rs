@@ -365,7 +365,7 @@ mod tests {
 
     /// The state after so many bytes of a log, which may be given in two pieces with a state in between.
     fn kept(edition: Edition, bytes: usize, all_days: bool) -> Kept {
-        let mut log = Log::with_digest(edition).to_be_saved();
+        let mut log = Log::with_digest(edition).for_a_state();
         let read = log.read(vec![Source::of_bytes("a log", &LOG[..bytes])]);
         assert!(read.is_ok());
         let whose = Whose {
@@ -530,7 +530,7 @@ mod tests {
         let march = include_bytes!("../../../../samples/station-14-march.log");
         assert_eq!((kept.forgotten, kept.midnights()), (0, 31));
         assert_eq!(kept.month.digest, of_all(march));
-        assert_eq!(kept.files, [kept.month.clone()]);
+        assert_eq!(kept.files, std::slice::from_ref(&kept.month));
         assert_eq!(
             (kept.began, kept.station.clone(), kept.date),
             (None, None, None)

@@ -117,7 +117,7 @@ impl Log {
     }
 
     /// The same where a state is to tell of each input.
-    pub fn to_be_saved(self) -> Log {
+    pub fn for_a_state(self) -> Log {
         Log {
             files: Some(Vec::new()),
             ..self

@@ -73,7 +73,7 @@ impl StateOptions {
             (resume, false) => begin(resume.as_deref(), edition, &Whose::default()),
             (resume, true) => {
                 let log = begin(resume.as_deref(), edition, &Whose::default())?;
-                Ok(log.to_be_saved())
+                Ok(log.for_a_state())
             }
         }
     }

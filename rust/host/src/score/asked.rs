@@ -217,7 +217,7 @@ impl Asked {
             resumed.keeps(lease)?;
         }
         if self.saves {
-            log = log.to_be_saved();
+            log = log.for_a_state();
         }
         log.read(Source::open_all(&self.files)?)?;
         Ok(log)

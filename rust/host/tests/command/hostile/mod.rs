@@ -23,9 +23,11 @@ use std::sync::Mutex;
 use std::thread;
 use std::time::{Duration, Instant};
 
-/// The kinds of case: a name, so many of them in a round, and what makes a case, runs it and panics where something doesn't
-/// hold. A kind more is a line more.
-const KINDS: &[(&str, u64, fn(&mut Scene))] = &[
+/// A kind of case: its name, so many of them in a round, and what makes a case, runs it and panics where something doesn't hold.
+type Kind = (&'static str, u64, fn(&mut Scene));
+
+/// A kind more is a line more.
+const KINDS: &[Kind] = &[
     ("lines", 16, lines::drive),
     ("outputs aimed at inputs", 6, aimed::drive),
     ("kills", 1, jobs::killed),
