@@ -164,8 +164,7 @@ impl Asked {
             [] => &standard,
             files => files,
         };
-        let all = self.resume.iter().chain(files);
-        all.map(|file| name(file)).collect()
+        files.iter().map(|file| name(file)).collect()
     }
 
     /// The state's file by its name.
