@@ -5,7 +5,7 @@
 use super::{ended, hold_end, Scene};
 use crate::common::sample;
 use std::collections::BTreeMap;
-use std::ffi::OsStr;
+use std::ffi::{OsStr, OsString};
 use std::fs;
 use std::os::unix::process::ExitStatusExt;
 use std::path::Path;
@@ -94,6 +94,8 @@ fn all(folder: &Path) -> BTreeMap<String, Vec<u8>> {
 
 /// A job that was run once: the files before, those after it, and what it writes.
 struct Job {
+    /// By which it is run, each time: a card names its build.
+    program: OsString,
     line: &'static str,
     names: &'static [&'static str],
     old: BTreeMap<String, Vec<u8>>,
@@ -104,17 +106,18 @@ struct Job {
 impl Job {
     fn of(scene: &mut Scene) -> Job {
         let (line, names) = scene.random.one_of(&JOBS);
-        let folder = scene.folder;
+        let (program, folder) = (scene.program(), scene.folder);
         prepare(folder);
         earlier(folder, names);
         let old = all(folder);
-        let end = ended(command(&scene.program(), line, folder));
+        let end = ended(command(&program, line, folder));
         let new = all(folder);
         for name in names {
             assert!(new[*name] != old[*name], "{name} isn't written");
         }
         earlier(folder, names);
         Job {
+            program,
             line,
             names,
             old,
@@ -165,7 +168,7 @@ pub fn killed(scene: &mut Scene) {
     let (signal, number) = scene.random.one_of(&SIGNALS);
     scene.is_about(&(job.line, signal));
     let folder = scene.folder;
-    let mut child = command(&scene.program(), job.line, folder)
+    let mut child = command(&job.program, job.line, folder)
         .stdout(Stdio::null())
         .stderr(Stdio::null())
         .spawn()
@@ -186,14 +189,13 @@ pub fn killed(scene: &mut Scene) {
         job.hold_nothing_left(folder);
     }
     // What is left doesn't block the next.
-    let end = ended(command(&scene.program(), job.line, folder));
+    let end = ended(command(&job.program, job.line, folder));
     assert_eq!(end.status.code(), job.end.status.code());
     assert!(job.hold_whole(folder), "the next run doesn't put all");
 }
 
 pub fn full(scene: &mut Scene) {
     let job = Job::of(scene);
-    let program = scene.program();
     let folder = scene.folder;
     let blocks = scene.random.one_of(&[0, 0, 1, 2, 4, 8, 16, 24, 32, 64]);
     let line = match scene.random.once_in(3) {
@@ -217,7 +219,7 @@ pub fn full(scene: &mut Scene) {
     };
     shell
         .args(["-c", &limited, "sh"])
-        .arg(program)
+        .arg(&job.program)
         .args(line.split_whitespace());
     let output = shell.output().expect("the shell runs");
     hold_end(&output);
