@@ -124,9 +124,10 @@ use Rattle.group.specs.Group.{
 }
 use Rattle.group.specs.Cells as cells
 use Rattle.group.specs.Cells.{activeMask}
-use Rattle.group.specs.Causes.{Cause}
+use Rattle.group.specs.Causes.{Cause, FirstMet}
 use Rattle.group.proofs.State.{old-answers}
-use Rattle.group.proofs.Modes.{step-shared, step-cause, cause-refuses, run-shared}
+use Rattle.group.proofs.Firsts.{run-shared, run-first-cause, first-cause-refuses, one-number}
+use Rattle.group.proofs.Modes.{step-shared, step-cause, cause-refuses}
 use Rattle.group_rooms.specs.Rooms.{BeginCrosses as GroupBegins, StepCrosses, RunCrosses}
 use Rattle.loops.specs.Loops.{Opened, Looping, Repeating, turnOf, shownAL}
 use Rattle.registers.specs.Registers.{float, lessThanZero, atLeastZero, maximumOf, choiceOf, killedBy, registerAt}
@@ -163,7 +164,7 @@ use Rattle.demands.specs.Flow.{Agree, AllAgree, Made, Ran, Refused}
 use Rattle.demands.specs.Flow as flow
 use Rattle.demands.specs.Painting.{Painting, Painted}
 use Rattle.demands.specs.Rectangles.{RectanglePainted, RectangleRead}
-use Rattle.demands.specs.Partial.{FirstMet, inFull, Beside}
+use Rattle.demands.specs.Partial.{inFull, Beside}
 use Rattle.demands.specs.Pieces.{Handed, WordRefused, InTurn, AsOne}
 use Rattle.demands.specs.Refused.{FirstRefused, Reported}
 use Rattle.demands.specs.Windows.{Fits, PairOutside, ByteShared}
@@ -176,7 +177,7 @@ use Rattle.demands.proofs.Flow.{step-made, step-refused, run-walks, sam
 use Rattle.demands.proofs.Owning.{log-number}
 use Rattle.demands.proofs.Painting.{every-order}
 use Rattle.demands.proofs.Rectangles.{rectangle-painted, rectangle-read}
-use Rattle.demands.proofs.Partial.{run-first-cause, first-cause-refuses, one-number, full-given, full-mode, full-group, step-beside, run-beside}
+use Rattle.demands.proofs.Partial.{full-given, full-mode, full-group, step-beside, run-beside}
 use Rattle.demands.proofs.Pieces.{handed-reached, handed-given, word-refused, as-one}
 use Rattle.demands.proofs.Refused.{refused-place}
 use Rattle.demands.proofs.Windows.{passes, gets-eight, gets-nine}
