@@ -218,13 +218,28 @@ uint32_t egretfold_log_byte(uint32_t log[EGRETFOLD_LOG], uint64_t marks[EGRETFOL
  * midnights came before that word; how many midnights came; the first day and the last one (0 before the first midnight);
  * and how many bytes of an unfinished record stand, 0 to 4. Returns 0.
  * The first refused word stands in the record whose number, counted from 0, is the words that the session has taken plus
- * the midnights before that word. */
+ * the midnights before that word, plus those that egretfold_log_trim has forgotten. */
 uint32_t egretfold_log_status(const uint32_t log[EGRETFOLD_LOG], uint32_t status[7]);
 
 /* counts: runs and claimed elements of a part of the log. Part 0 is what ended before the first midnight, part k the k-th
  * day; 0 and 0 past the last day. Returns 0. */
 uint32_t egretfold_log_part(const uint32_t log[EGRETFOLD_LOG], const uint64_t marks[EGRETFOLD_MARKS],
                             const uint64_t tallies[EGRETFOLD_TALLIES], uint32_t part, uint64_t counts[2]);
+
+/* Forgets all midnights but the last one, the kept day's, so that 399 more may come: a replay that is trimmed each month goes on for
+ * years. Kept: the kept day's number and what the tallies were when it began, the session, an unfinished record, what stopped the
+ * replay, and the first refused word. All from the kept day on is then answered as if nothing were forgotten: bytes and their refusals,
+ * parts, scores; only the 401st midnight is counted anew. Part 0 is now what ended before the kept day, part 1 the kept day. Without a
+ * midnight nothing changes. It may be called at any time, also inside a record; what a 401st midnight has stopped stays stopped.
+ * What the caller owes:
+ * - Ask egretfold_log_status, and for the days that are still wanted egretfold_log_part or egretfold_score_month, before.
+ * - A lease line that begins before the kept day isn't refused, but finds its forgotten days at 0. Don't score it: the kept day is the
+ *   first day that egretfold_log_status tells.
+ * - The first refused word's midnights are counted from the kept day on: 1 on that day, 0 before it. Keep count of the forgotten midnights
+ *   (at each call those that had come, less 1). The word's record number is then the words taken, plus the midnights before, plus the
+ *   forgotten ones; 0 midnights before with some forgotten say that the number can no longer be told.
+ * Returns 0. */
+uint32_t egretfold_log_trim(uint32_t log[EGRETFOLD_LOG], uint64_t marks[EGRETFOLD_MARKS]);
 
 /* ---- A station's monthly score, by its lease line and the replay of its log ----
  *

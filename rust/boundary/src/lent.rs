@@ -297,6 +297,13 @@ pub fn log_part(replay: &Replay, part: u32, counts: &mut [u64; 2]) -> u32 {
     unsafe { raw::egretfold_log_part(&replay.log, &replay.marks, tallies, part, counts) }
 }
 
+/// Forgets all midnights but the last. 0 in any case.
+#[inline]
+pub fn log_trim(replay: &mut Replay) -> u32 {
+    // SAFETY: the arrays are a replay's that the library gave out.
+    unsafe { raw::egretfold_log_trim(&mut replay.log, &mut replay.marks) }
+}
+
 /// Whether the library takes these arrays as a replay's.
 #[inline]
 pub fn log_check(

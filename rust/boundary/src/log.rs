@@ -27,10 +27,21 @@ pub struct BytesFed {
 #[derive(Clone, Copy, Debug, PartialEq, Eq)]
 pub struct RefusedWord {
     pub refusal: Refusal,
-    /// How many midnights came before it.
+    /// How many midnights came before it; of a trimmed replay, from the kept day on.
     pub midnights: u32,
-    /// The number of its record, from 0 on.
+    /// The number of its record, from 0 on, where no midnight was forgotten:
+    /// otherwise [`RefusedWord::record_after`] has it.
     pub record: u64,
+}
+
+impl RefusedWord {
+    /// The number of its record, from 0 on, where [`Replay::trim`] has forgotten so many
+    /// midnights in all; none where the word came before the kept day, so that nothing
+    /// tells any more how many of them came before it.
+    pub fn record_after(&self, forgotten: u64) -> Option<u64> {
+        let known = forgotten == 0 || self.midnights > 0;
+        known.then_some(self.record + forgotten)
+    }
 }
 
 /// Where a replay stands.
@@ -137,6 +148,45 @@ impl Replay {
             number: first + place,
             part: self.part(place + 1),
         })
+    }
+
+    /// Forgets all midnights but the last one, the kept day's, so that 399 more may
+    /// come: a replay that is trimmed each month goes on for years. Returns how many
+    /// midnights it forgot.
+    ///
+    /// Kept are that day's number and the tallies when it began, the session, an
+    /// unfinished record, what stopped the replay, and the first refused word. All from
+    /// the kept day on is answered as if nothing were forgotten, but that the 401st
+    /// midnight is counted anew. [`Replay::before`] is now what ended before the kept
+    /// day. Without a midnight nothing changes.
+    ///
+    /// What a caller owes:
+    ///
+    /// * Ask for the status, and for the days that are still wanted, before.
+    /// * A lease line that begins before the kept day, the first of
+    ///   [`LogStatus::days`], isn't refused but finds its forgotten days at 0. Don't
+    ///   score it.
+    /// * The first refused word's midnights count from the kept day on. Add up what
+    ///   this function returns and ask [`RefusedWord::record_after`] for the record.
+    ///
+    /// ```
+    /// use boundary::{Edition, Replay};
+    ///
+    /// // Midnights of the days 100 and 101, and a word that is no header.
+    /// let mut replay = Replay::new(Edition::First);
+    /// replay.feed(&[2, 100, 0, 0, 0, 2, 101, 0, 0, 0, 1, 0, 0, 0, 0]);
+    /// let forgotten = u64::from(replay.trim());
+    /// assert_eq!(forgotten, 1);
+    /// let status = replay.status();
+    /// assert_eq!((status.midnights, status.days), (1, Some((101, 101))));
+    /// let word = status.refused.expect("a refused word");
+    /// assert_eq!(word.record_after(forgotten), Some(2));
+    /// ```
+    #[must_use = "a refused word's record number needs the forgotten midnights"]
+    pub fn trim(&mut self) -> u32 {
+        let came = self.status().midnights;
+        lent::log_trim(self);
+        came.saturating_sub(1)
     }
 
     /// The session that gets the words, to be asked about its settings and tallies.

@@ -108,6 +108,8 @@ extern "C" {
         counts: &mut [u64; 2],
     ) -> u32;
 
+    pub fn egretfold_log_trim(log: &mut [u32; LOG], marks: &mut [u64; MARKS]) -> u32;
+
     pub fn egretfold_score_lease(edition: u32, first_day: u32, days: u32, owed: u32) -> u32;
 
     pub fn egretfold_score_month(

@@ -304,3 +304,205 @@ fn the_room_of_a_refused_piece_is_written() {
     assert_eq!(lent::log_feed(&mut replay, &[], &mut taken), 0);
     assert_eq!(taken, [0]);
 }
+
+/// Three days, and six more with a start on every second one; the sixth is open.
+fn nine_days() -> Vec<u8> {
+    let later = (103..109).flat_map(|day| {
+        let starts = if day % 2 == 0 { 2 } else { 0 };
+        [midnight(day), words(&[START_PROGRAM, 0].repeat(starts))].concat()
+    });
+    three_days().into_iter().chain(later).collect()
+}
+
+/// A replay of these bytes, all taken.
+fn replayed(bytes: &[u8]) -> Replay {
+    let mut replay = Replay::new(Edition::First);
+    assert_eq!(replay.feed(bytes), fed(bytes.len(), None));
+    replay
+}
+
+/// The scores of all leases of up to five days that begin on this day or up to three days later.
+fn scores(replay: &Replay, from: u32) -> Vec<boundary::Answer<boundary::Month>> {
+    let leases = (from..from + 4).flat_map(|first| (1..=5).map(move |days| (first, days)));
+    leases
+        .map(|(first, days)| {
+            let lease = Lease::new(first, days, 3_000).expect("a lease line");
+            replay.score(&lease)
+        })
+        .collect()
+}
+
+/// What a trimmed replay shares with the one that forgot nothing.
+fn assert_same_from_kept_day(trimmed: &Replay, whole: &Replay, forgotten: u32, what: &str) {
+    assert_eq!(trimmed.session(), whole.session(), "{what}");
+    let kept = whole.days().skip(forgotten as usize);
+    assert_eq!(days(trimmed), kept.collect::<Vec<Day>>(), "{what}");
+    let (ours, all) = (trimmed.status(), whole.status());
+    assert_eq!(ours.midnights + forgotten, all.midnights, "{what}");
+    assert_eq!(
+        (ours.stopped, ours.unfinished),
+        (all.stopped, all.unfinished),
+        "{what}"
+    );
+    let last = |status: &LogStatus| status.days.map(|(_, last)| last);
+    assert_eq!(last(&ours), last(&all), "{what}");
+    let from = ours.days.map_or(0, |(first, _)| first);
+    assert_eq!(scores(trimmed, from), scores(whole, from), "{what}");
+}
+
+#[test]
+fn a_trimmed_replay_goes_on_as_the_untrimmed_one() {
+    let endings = [vec![], vec![1, 7], vec![3], midnight(108), words(&[7])];
+    for ending in endings {
+        let bytes = [nine_days(), ending].concat();
+        for cut in 0..=bytes.len() {
+            let mut whole = Replay::new(Edition::First);
+            whole.feed(&bytes[..cut]);
+            let mut trimmed = whole.clone();
+            let forgotten = trimmed.trim();
+            let midnights = whole.status().midnights;
+            assert_eq!(forgotten, midnights.saturating_sub(1), "cut at {cut}");
+            assert_same_from_kept_day(&trimmed, &whole, forgotten, &format!("cut at {cut}"));
+            let answer = whole.feed(&bytes[cut..]);
+            assert_eq!(trimmed.feed(&bytes[cut..]), answer, "cut at {cut}");
+            assert_same_from_kept_day(&trimmed, &whole, forgotten, &format!("after {cut}"));
+        }
+    }
+}
+
+#[test]
+fn what_ended_before_the_kept_day_is_one_part() {
+    let mut replay = replayed(&nine_days());
+    let before = replay.before().runs + replay.days().take(8).map(|d| d.part.runs).sum::<u64>();
+    assert_eq!(replay.trim(), 8);
+    assert_eq!(
+        (replay.before(), days(&replay)),
+        (part(before), vec![day(108, 2)])
+    );
+    assert_eq!(before + 2, replay.session().runs());
+}
+
+#[test]
+fn trimmed_twice_is_trimmed_and_the_check_takes_it() {
+    let bytes = [nine_days(), vec![1, 7]].concat();
+    for cut in 0..=bytes.len() {
+        let mut replay = replayed(&bytes[..cut]);
+        let untrimmed = replay.clone();
+        if replay.trim() == 0 {
+            assert_eq!(replay, untrimmed, "nothing to forget at {cut}");
+        }
+        let mut again = Replay::from_bytes(&replay.to_bytes()).expect("a replay's bytes");
+        assert_eq!(again.trim(), 0, "cut at {cut}");
+        assert_eq!(again, replay, "cut at {cut}");
+        // It doesn't matter when: trimmed here and at the end is trimmed at the end alone.
+        let mut whole = replayed(&bytes);
+        for (late, rest) in [(&mut again, &bytes[cut..]), (&mut whole, &[])] {
+            assert_eq!(late.feed(rest), fed(rest.len(), None));
+            assert!(late.trim() <= 8);
+        }
+        assert_eq!(again, whole, "cut at {cut}");
+    }
+}
+
+#[test]
+fn two_thousand_midnights_come_where_every_31st_is_trimmed() {
+    let mut replay = replayed(&words(&SETTINGS));
+    let mut forgotten = 0;
+    for number in 0..2_000 {
+        let starts = [START_PROGRAM, 0].repeat(number as usize % 3);
+        let bytes = [midnight(number), words(&starts)].concat();
+        assert_eq!(replay.feed(&bytes), fed(bytes.len(), None), "day {number}");
+        if number % 31 == 30 {
+            let first = number - 30;
+            let lease = Lease::new(first, 31, 1_728).expect("a lease line");
+            let month = replay.score(&lease).expect("a log that isn't stopped");
+            let claimed = |k: u32| u64::from((first + k) % 3) * 1_728;
+            assert!((0..31).all(|k| month.days[k as usize].claimed == claimed(k)));
+            forgotten += replay.trim();
+            assert!(Replay::from_bytes(&replay.to_bytes()).is_some());
+        }
+    }
+    // The last trim was on day 1,983.
+    assert_eq!(
+        (forgotten, replay.status().days),
+        (1_983, Some((1_983, 1_999)))
+    );
+    assert_eq!(
+        replay.session().runs(),
+        (0..2_000).map(|n| n % 3).sum::<u64>()
+    );
+}
+
+#[test]
+fn nineteen_after_a_trim_for_a_day_that_is_not_the_next() {
+    let whole = replayed(&nine_days());
+    for number in [0, 1, 100, 107, 108, 110, u32::MAX] {
+        let mut replay = whole.clone();
+        assert_eq!(replay.trim(), 8);
+        let piece = [midnight(number), midnight(109)].concat();
+        assert_eq!(replay.feed(&piece), fed(4, Some(Refusal::MidnightDay)));
+        let status = replay.status();
+        assert_eq!((status.midnights, status.days), (1, Some((108, 108))));
+        // A trim doesn't set it going again.
+        assert_eq!(replay.trim(), 0);
+        assert_eq!(
+            replay.feed(&midnight(109)),
+            fed(0, Some(Refusal::MidnightDay))
+        );
+    }
+}
+
+#[test]
+fn a_trim_makes_room_for_399_midnights_and_no_more() {
+    let all: Vec<u8> = (0..400).flat_map(midnight).collect();
+    let more: Vec<u8> = (400..800).flat_map(midnight).collect();
+    let mut full = replayed(&all);
+    let mut trimmed = full.clone();
+    assert_eq!(full.feed(&more), fed(4, Some(Refusal::MidnightDay)));
+    assert_eq!(trimmed.trim(), 399);
+    assert_eq!(trimmed.feed(&more), fed(1_999, Some(Refusal::MidnightDay)));
+    assert_eq!(trimmed.status().days, Some((399, 798)));
+    // One that the 401st midnight has stopped stays stopped.
+    assert_eq!(full.trim(), 399);
+    assert_eq!(full.status().stopped, Some(Refusal::MidnightDay));
+}
+
+/// The record number of a refused word: told after a trim where the word came on the
+/// kept day or later, and never told wrong.
+#[test]
+fn a_refused_words_record_after_a_trim() {
+    let bytes = nine_days();
+    for place in (0..=bytes.len()).step_by(5) {
+        let (first, second) = bytes.split_at(place);
+        let refused = [first, &words(&[u32::MAX]), second].concat();
+        let whole = replayed(&refused).status().refused.expect("a refused word");
+        assert_eq!(whole.record_after(0), Some(whole.record));
+        for cut in (0..=refused.len()).step_by(5) {
+            let mut replay = replayed(&refused[..cut]);
+            let forgotten = u64::from(replay.trim());
+            assert_eq!(replay.feed(&refused[cut..]).refusal, None);
+            let word = replay.status().refused.expect("a refused word");
+            assert_eq!(word.refusal, whole.refusal);
+            let known = forgotten == 0 || u64::from(whole.midnights) > forgotten;
+            let record = known.then_some(whole.record);
+            assert_eq!(
+                word.record_after(forgotten),
+                record,
+                "word {place}, cut {cut}"
+            );
+        }
+    }
+}
+
+/// Why a caller must not score such a line: its forgotten days look like days without
+/// a midnight.
+#[test]
+fn a_lease_from_before_the_kept_day_finds_nothing_there() {
+    let mut replay = replayed(&three_days());
+    assert_eq!(replay.trim(), 2);
+    assert_eq!(replay.feed(&words(&[START_PROGRAM, 0])), fed(10, None));
+    let lease = Lease::new(100, 3, 1_728).expect("a lease line");
+    let month = replay.score(&lease).expect("a log that isn't stopped");
+    let claimed: Vec<u64> = month.days.iter().map(|d| d.claimed).collect();
+    assert_eq!(claimed, [0, 0, 1_728]);
+}
