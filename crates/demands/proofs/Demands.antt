@@ -130,9 +130,9 @@ use Rattle.group.proofs.Firsts.{run-shared, run-first-cause, first-cause-refuse
 use Rattle.group.proofs.Modes.{step-shared, step-cause, cause-refuses}
 use Rattle.group_rooms.specs.Rooms.{BeginCrosses as GroupBegins, StepCrosses, RunCrosses}
 use Rattle.loops.specs.Loops.{Opened, Looping, Repeating, turnOf, shownAL}
-use Rattle.registers.specs.Registers.{float, lessThanZero, atLeastZero, maximumOf, choiceOf, killedBy, registerAt}
-use Rattle.registers.specs.Pattern.{belowZero, notBelowZero, lessThan, maximumBits, choiceBits, noNumber, killedByBits}
-use Rattle.registers.proofs.Copying.{maximum-copies, choice-copies}
+use Rattle.registers.specs.Registers.{channelCount, float, lessThanZero, atLeastZero, maximumOf, choiceOf, eachOf2, eachOf3, killedBy, maskedAt}
+use Rattle.registers.specs.Pattern.{belowZero, notBelowZero, lessThan, noNumber, killedByBits}
+use Rattle.registers.proofs.Copying.{maximum-channel, choice-channel}
 use Rattle.registers.proofs.Order.{less-than}
 use Rattle.registers.proofs.Patterns.{below-zero, at-least-zero, less-than-zero-cases, maximum-pattern, choice-pattern, killed-pattern}
 use Rattle.kill.specs.Kill as killing
@@ -204,9 +204,10 @@ use Rattle.state.specs.Cells.{Sized, ownLength}
 use Rattle.log_rooms.specs.Pieces.{firstOfTwo}
 use Rattle.judges.specs.Judged.{Judges, sessionBy}
 use Rattle.demands.specs.Pieces.{firstOf}
-use Rattle.demands.specs.States.{PairArrays, PairGivenAt, PairFedAt, GoesOn, SamePiece}
+use Rattle.demands.specs.Pairs.{PairArrays, PairGivenAt, PairFedAt, sessionAt}
+use Rattle.demands.specs.States.{GoesOn, SamePiece}
 use Rattle.demands.specs.States as states
-use Rattle.demands.specs.Lives.{sessionAt, Life, LookAlike, SameTo, AsOneCall, SameWord}
+use Rattle.demands.specs.Lives.{Life, LookAlike, SameTo, AsOneCall, SameWord}
 use Rattle.demands.proofs.Lives.{life-isolated, word-isolated, life-given, life-as-one}
 use Rattle.demands.specs.Trims.{TrimmedAt, SameAfter, HadRoom}
 use Rattle.demands.proofs.Trims.{trimmed-goes-on, trimmed-view}
@@ -1067,26 +1068,31 @@ pub float-cases :
     (lessThanZero (float 0x80000001) ≡ true)
 float-cases = less-than-zero-cases
 
--- So who is killed is known by the bits of the registers alone; and the maximum and the choice are the floats of the operands' own bits.
+-- So who is killed is known by the bits of the registers alone.
 pub kill-by-bits :
     (mask : ℕ) (bits : List ℕ) (i : ℕ) → ((k : ℕ) → getD bits k noNumber < 2 ^ 32) →
-    killedBy mask (registerAt (map float bits) i) ≡ killedByBits mask bits i
+    killedBy (maskedAt (map float bits) i mask) ≡ killedByBits mask bits i
 kill-by-bits = killed-pattern
 
-pub maximum-by-bits : (a b : ℕ) → maximumOf (float a) (float b) ≡ float (maximumBits a b)
+-- "Also give, channel by channel, the maximum and the choice .., copying bits exactly; maximum of A and B is A if B < A, otherwise B.": a call of
+-- egretfold_register_maximum leaves in each channel of its room one of the operands' patterns as it stands, whatever they are, a NaN's payload
+-- too; so does one of egretfold_register_choice, the first operand's where the third is at least zero, else the second's.
+pub maximum-copied :
+    (a b room : List ℕ) → room ≡ eachOf2 maximumOf a b → (c : ℕ) → c < channelCount →
+    getD room c 0 ≡ pick (lt (float (getD b c 0)) (float (getD a c 0))) (getD a c 0) (getD b c 0)
+maximum-copied = maximum-channel
+
+pub choice-copied :
+    (a b third room : List ℕ) → room ≡ eachOf3 choiceOf a b third → (c : ℕ) → c < channelCount →
+    getD room c 0 ≡ pick (atLeastZero (float (getD third c 0))) (getD a c 0) (getD b c 0)
+choice-copied = choice-channel
+
+-- Which of them it is goes by the bits alone.
+pub maximum-by-bits : (a b : ℕ) → maximumOf a b ≡ pick (lessThan b a) a b
 maximum-by-bits = maximum-pattern
 
-pub choice-by-bits : (a b third : ℕ) → third < 2 ^ 32 → choiceOf (float a) (float b) (float third) ≡ float (choiceBits a b third)
+pub choice-by-bits : (a b third : ℕ) → third < 2 ^ 32 → choiceOf a b third ≡ pick (notBelowZero third) a b
 choice-by-bits = choice-pattern
-
--- "copying bits exactly": the maximum and the choice over bit patterns (registers::maximum_bits and choice_bits, whose contracts are
--- `eachBits2 maximumBits` and `eachBits3 choiceBits`) are, for every pattern, one of the operands as it stands, a NaN's payload too:
--- "maximum of A and B is A if B < A, otherwise B", and the first operand where the third is at least zero, else the second.
-pub maximum-copied : (a b : ℕ) → maximumBits a b ≡ pick (lt (float b) (float a)) a b
-maximum-copied = maximum-copies
-
-pub choice-copied : (a b third : ℕ) → third < 2 ^ 32 → choiceBits a b third ≡ pick (atLeastZero (float third)) a b
-choice-copied = choice-copies
 
 -- REQUEST 12, "Conditional output tests"
 

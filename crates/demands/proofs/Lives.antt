@@ -23,7 +23,7 @@ use Rattle.session.specs.Feed.{First, nothing, first, Fed, feedOf, firstStatus}
 use Rattle.session_rooms.specs.Rooms.{replyTold, WordCrosses, FeedCrosses}
 use Rattle.lessees.specs.Sight.{seen, seenShared}
 use Rattle.lessees.specs.Pair.{Pair, Sent, side, putBack, Part, silence, noted, PairFed, notedFor, pairStep, pieceOf, joinedPart, joinedPair, wordsFor, toldFor, sentAll, PairValid}
-use Rattle.lessees.specs.Rooms.{sentOf, groupsOf, partCells, earlierNumber, PairHeld, PairGiven, PairLeft}
+use Rattle.lessees.specs.Rooms.{sentOf, groupsOf, partCells, earlierNumber, PairHeld, PairGiven, PairLeft, PairUntouched}
 use Rattle.lessees.specs.Life as records
 use Rattle.lessees.proofs.Cut.{cut}
 use Rattle.lessees.proofs.Runs.{ranFor, ran}
@@ -31,13 +31,8 @@ use Rattle.lessees.proofs.Taking.{BothTold, piece-told, piece-valid}
 use Rattle.lessees.proofs.Folding.{earlier-number, pair-view, pair-given}
 use Rattle.lessees.proofs.Life.{same-piece}
 use Rattle.lessees.proofs.Steps.{seen-step}
-use Rattle.demands.specs.States.{PairArrays, PairGivenAt, PairFedAt}
+use Rattle.demands.specs.Pairs.{PairArrays, PairGivenAt, PairFedAt, pairAt, ownAt, talliesAt, sessionAt, withParty}
 use Rattle.demands.specs.Lives.{
-  pairAt,
-  ownAt,
-  talliesAt,
-  sessionAt,
-  withParty,
   untold,
   pieceTold,
   toldTo,
@@ -55,7 +50,21 @@ use Rattle.demands.specs.Lives.{
   AsOneCall,
   SameWord,
 }
-use Rattle.demands.proofs.States.{untouched-same}
+
+-- a call that is refused leaves the arrays as they were
+module _ {a a' : PairArrays} (e : PairUntouched (a .own0) (a .tallies0) (a .own1) (a .tallies1) (a .shared) (a' .own0) (a' .tallies0) (a' .own1)
+    (a' .tallies1) (a' .shared))
+  where
+    pub untouched-same : a' ≡ a
+    untouched-same =
+        λ i.
+        record {
+          own0 = e .own0-cells i;
+          tallies0 = e .tally0-cells i;
+          own1 = e .own1-cells i;
+          tallies1 = e .tally1-cells i;
+          shared = e .shared-cells i;
+        }
 
 abbrev HeldAt : Pair → PairArrays → Type 0
 HeldAt q a = PairHeld q (a .own0) (a .tallies0) (a .own1) (a .tallies1) (a .shared)

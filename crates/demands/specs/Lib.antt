@@ -6,6 +6,7 @@ pub mod Fleets
 pub mod Flow
 pub mod Lives
 pub mod Painting
+pub mod Pairs
 pub mod Partial
 pub mod Pieces
 pub mod Rectangles

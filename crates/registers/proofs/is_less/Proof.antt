@@ -1,8 +1,7 @@
 -- `registers::is_less` meets its contract: two numbers compare as their floats do, and a NaN is less than nothing. Assumes nothing.
-use mathlib.Core.Path.{sym, _∙_}
+use mathlib.Core.Path.{refl, sym, _∙_}
 use borrow.Author.Needs.{needs}
 use Rattle.registers.proofs.Copying.{number-defined, not-less-left, not-less-right}
-use Rattle.registers.proofs.Order.{less-than}
 use Rattle.registers.proofs.is_less.Statement.{statement}
 use Rattle.registers.proofs.is_less.Tie as tie
 
@@ -20,7 +19,7 @@ float-from-bits-result-2 : tie.Need-float-from-bits-result-2
 float-from-bits-result-2 c = number-defined _ (sym (c .before .is-number2 .ensures) ∙ c .if2 .taken)
 
 returns : tie.Need-returns
-returns c = less-than _ _
+returns c = refl
 
 -- one of them isn't
 returns-2 : tie.Need-returns-2
