@@ -5,7 +5,7 @@
 use mathlib.Core.Path.{_≡_, refl, _∙_}
 use mathlib.Core.Bool.{Bool, true, false}
 use mathlib.Core.List.{List, [], _∷_, _++_, map, List·Permᴰ}
-use Prim.Native.Nat.{ℕ, suc, _+_, _-_, _*_, _%_, _^_, _<_, _≤_}
+use Prim.Native.Nat.{ℕ, suc, _+_, _-_, _*_, _/_, _%_, _^_, _<_, _≤_}
 use lib.Count.{ones, trailingZeros}
 use lib.Ieee.{Float, lt}
 use lib.ListN.{length, take, drop, getD, replicate}
@@ -20,13 +20,14 @@ use Rattle.layout.specs.Layout.{wellFormed, unitOf, rowStep, tileRows, spanOf, 
 use Rattle.layout.specs.declared.Layout.{Layout}
 use Rattle.layout.proofs.Window.{form-size}
 use Rattle.address.specs.Offset.{blockWidth, blockHeight, codeOf, insideOf, tiledOffset, linearOffset, offsetOf}
-use Rattle.address.specs.Address.{stepOf as rowStepOf, ifAccepted, inside, addressOf, breaks, runOf, translateOf, locateOf}
+use Rattle.address.specs.Address.{stepOf as rowStepOf, layoutOf, ifAccepted, inside, addressOf, breaks, runOf, translateOf, locateOf}
 use Rattle.address.specs.Inverse.{Accepted, Inside, Inverse}
 use Rattle.address.specs.Formula.{printedAddress, guideAddress}
 use Rattle.address.specs.Run.{Longest, runNumber}
 use Rattle.address.proofs.Formula.{printed, address-printed, address-guide}
 use Rattle.address.proofs.Inverse.{inverse}
 use Rattle.address.proofs.Runs.{longest, run-number, run-back as leads-back}
+use Rattle.places.specs.Places.{places}
 use Rattle.memory.specs.Bytes.{Touched}
 use Rattle.memory.specs.Elements.{readOf, writeOf}
 use Rattle.memory.specs.Reads.{ReadBack}
@@ -157,6 +158,7 @@ use Rattle.log_rooms.specs.Pieces.{Arrays, replayAt, GivenAt, BeginsAt, FedAt, 
 use Rattle.log_rooms.proofs.Cut.{any-pieces, pieces-given}
 use Rattle.score_rooms.specs.Rooms.{lineTold, MonthCrosses, ScoreCrosses}
 use Rattle.score_rooms.proofs.FromLog.{score-from-log}
+use Rattle.demands.specs.Addresses.{Nobodys, LeadsBack, LeadsThere}
 use Rattle.demands.specs.Calls.{Call, Untouched}
 use Rattle.demands.specs.Cases.{Agree as Cases, cases}
 use Rattle.demands.specs.Days.{added, replayed, AtMidnight, withDay, begun, bytesBefore}
@@ -167,7 +169,8 @@ use Rattle.demands.specs.Rectangles.{RectanglePainted, RectangleRead}
 use Rattle.demands.specs.Partial.{inFull, Beside}
 use Rattle.demands.specs.Pieces.{Handed, WordRefused, InTurn, AsOne}
 use Rattle.demands.specs.Refused.{FirstRefused, Reported}
-use Rattle.demands.specs.Windows.{Fits, PairOutside, ByteShared}
+use Rattle.demands.specs.Windows.{InOrder}
+use Rattle.demands.proofs.Addresses.{accepted-when, when-accepted, there-back, back-there, nobody-refused, refused-nobody}
 use Rattle.demands.proofs.Calls.{refused-call}
 use Rattle.demands.proofs.Days.{part-0, before-midnight, day-words, days-stand}
 use Rattle.demands.proofs.Elements.{write-done}
@@ -180,7 +183,7 @@ use Rattle.demands.proofs.Rectangles.{rectangle-painted, rectangle-read
 use Rattle.demands.proofs.Partial.{full-given, full-mode, full-group, step-beside, run-beside}
 use Rattle.demands.proofs.Pieces.{handed-reached, handed-given, word-refused, as-one}
 use Rattle.demands.proofs.Refused.{refused-place}
-use Rattle.demands.proofs.Windows.{passes, gets-eight, gets-nine}
+use Rattle.demands.proofs.Windows.{in-order-told}
 use Rattle.refusal.specs.Crossing.{Crosses}
 use Rattle.state.specs.State.{Shared}
 use Rattle.state.specs.Cells.{sharedOf}
@@ -209,7 +212,9 @@ use Rattle.demands.specs.States.{GoesOn, SamePiece}
 use Rattle.demands.specs.States as states
 use Rattle.demands.specs.Lives.{Life, LookAlike, SameTo, AsOneCall, SameWord}
 use Rattle.demands.proofs.Lives.{life-isolated, word-isolated, life-given, life-as-one}
+use Rattle.demands.specs.Tables.{placeByTable}
 use Rattle.demands.specs.Trims.{TrimmedAt, SameAfter, HadRoom}
+use Rattle.demands.proofs.Tables.{table-length, table-agrees, table-address}
 use Rattle.demands.proofs.Trims.{trimmed-goes-on, trimmed-view}
 use Rattle.trim.specs.Trim.{trimmed}
 use Rattle.trim.specs.Laws.{NotFull}
@@ -375,6 +380,38 @@ demand3-address l accepted = address-printed l (form-size (l .base .0) (l .pitch
 pub demand3 : (l : Layout) → Accepted l → Inverse l
 demand3 = inverse
 
+-- The same over calls. "A layout .. is accepted when it gets neither 3 nor 6": just where egretfold_layout answers 0.
+pub demand3-accepted :
+    (base pitch height size : ℕ) (tiled : Bool) {r : ℕ} {room room' : List ℕ} → Crosses (judgeOf base pitch height size tiled) r room room' →
+    r ≡ 0 → Accepted (layoutOf base pitch height size tiled)
+demand3-accepted = accepted-when
+
+pub demand3-accepts :
+    (base pitch height size : ℕ) (tiled : Bool) {r : ℕ} {room room' : List ℕ} → Crosses (judgeOf base pitch height size tiled) r room room' →
+    Accepted (layoutOf base pitch height size tiled) → r ≡ 0
+demand3-accepts = when-accepted
+
+-- Where egretfold_translate answers 0 with an address, egretfold_locate of each of the element's bytes answers 0 with that pair and the byte's place.
+pub demand3-back :
+    (l : Layout) (x y r : ℕ) (room room' : List ℕ) → Crosses (translateOf l x y) r room room' → r ≡ 0 → (place : ℕ) → place < l .size →
+    (r' : ℕ) (back back' : List ℕ) → Crosses (locateOf l (getD room' 0 0 + place)) r' back back' → LeadsBack x y place r' back'
+demand3-back = there-back
+
+-- Where egretfold_locate answers 0 with a pair and a place, egretfold_translate of that pair answers 0, and the byte is at that place of the element.
+pub demand3-there :
+    (l : Layout) (a r : ℕ) (back back' : List ℕ) → Crosses (locateOf l a) r back back' → r ≡ 0 → (r' : ℕ) (room room' : List ℕ) →
+    Crosses (translateOf l (getD back' 0 0) (getD back' 1 0)) r' room room' → LeadsThere (l .size) a back' r' room'
+demand3-there = back-there
+
+-- And egretfold_locate of an accepted layout answers 12 exactly where no pair owns the byte.
+pub demand3-nobodys :
+    (l : Layout) → Accepted l → (a r : ℕ) (back back' : List ℕ) → Crosses (locateOf l a) r back back' → Nobodys l a → r ≡ 12
+demand3-nobodys = nobody-refused
+
+pub demand3-refused :
+    (l : Layout) → Accepted l → (a r : ℕ) (back back' : List ℕ) → Crosses (locateOf l a) r back back' → r ≡ 12 → Nobodys l a
+demand3-refused = refused-nobody
+
 -- ELEMENTS AND WINDOWS
 
 -- A write that answers 0 touches only the part of memory that holds the element: its bytes are those given, and every byte that the pair
@@ -397,16 +434,11 @@ pub superfine-reads :
     (joined (readOf (formatLayout base format height) (x + 1) (y + 1) at m) (readOf (formatLayout base format height) x y at m)))
 superfine-reads = four-reads
 
--- A start that the settings don't refuse: every pair of the domain is inside each window that counts, and no byte lies in two spans that
--- count. 8 comes with a pair of the domain that is outside such a window, 9 with a byte that two such spans share.
-pub start-fits : (s : Session) → Reached s → (v : List ℕ) → startRuleOf command.Start s ≡ gives v → Fits s
-start-fits = passes
-
-pub start-outside : (s : Session) → Reached s → startRuleOf command.Start s ≡ refuses 8 → PairOutside s
-start-outside = gets-eight
-
-pub start-shared : (s : Session) → Reached s → startRuleOf command.Start s ≡ refuses 9 → ByteShared s
-start-shared = gets-nine
+-- "7 start without a domain, an instruction format or any output set"; 8 a pair of the domain that is outside a window that counts; 9 a byte that two
+-- spans that count share: a start gets each of them exactly where it is due and none before it is, and else every pair of the domain is
+-- inside each window that counts, and no byte lies in two of their spans.
+pub start-order : (s : Session) → Reached s → InOrder s (startRuleOf command.Start s)
+start-order = in-order-told
 
 -- FLOW
 
@@ -1235,6 +1267,19 @@ fleet-joined-calls = behind-told
 pub fleet-sums-joined :
     (n m : ℕ) (stations : ℕ → Station) → sumsOf (n + m) stations ≡ joinedFleet n (sumsOf n stations) (sumsOf m (behind n stations))
 fleet-sums-joined = sums-joined
+
+-- "Inside, one-byte tiled layouts shall read a fixed table of 2,048 places within a tile, corrected for x6 and y5, and must agree with the bit
+-- rule at every pair.": so it does, and the address of every pair of such a layout is that by the table.
+pub places-length : length places ≡ 2048
+places-length = table-length
+
+pub places-agree : (x y : ℕ) → placeByTable x y ≡ insideOf 1 x y
+places-agree = table-agrees
+
+pub places-address :
+    (l : Layout) → l .size ≡ 1 → l .tiled ≡ true → (x y : ℕ) →
+    addressOf l x y ≡ l .base .0 + (2048 * (y / 32 * (rowStepOf l / 64) + x / 64) + placeByTable x y)
+places-address = table-address
 
 -- A report that grows: stations that are added one by one, by calls of egretfold_fleet_add, tell what the report of them all tells, refusals
 -- first, however many they are.
