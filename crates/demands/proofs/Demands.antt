@@ -149,6 +149,7 @@ use Rattle.flow.specs.Plain.{AllPlain, plainRun, loopsAfter}
 use Rattle.flow.proofs.Plain.{old-run, plain-run-loops}
 use Rattle.flow.proofs.Counting.{mask-count, mask-first, mask-none}
 use Rattle.flow.specs.Cases.{oneWord, c9, c10, c11, c12}
+use Rattle.command_rooms.specs.Rooms.{CommandCrosses}
 use Rattle.element_rooms.specs.Rooms.{WriteCrosses}
 use Rattle.picture_rooms.specs.Rooms.{copyOf, PaintCrosses}
 use Rattle.session_rooms.specs.Rooms.{WordCrosses, FeedCrosses}
@@ -170,6 +171,7 @@ use Rattle.demands.specs.Partial.{inFull, Beside}
 use Rattle.demands.specs.Pieces.{Handed, WordRefused, InTurn, AsOne}
 use Rattle.demands.specs.Refused.{FirstRefused, Reported}
 use Rattle.demands.specs.Windows.{InOrder}
+use Rattle.demands.specs.Writing.{Spelled, Writes}
 use Rattle.demands.proofs.Addresses.{accepted-when, when-accepted, there-back, back-there, nobody-refused, refused-nobody}
 use Rattle.demands.proofs.Calls.{refused-call}
 use Rattle.demands.proofs.Days.{part-0, before-midnight, day-words, days-stand}
@@ -184,6 +186,7 @@ use Rattle.demands.proofs.Partial.{full-given, full-mode, full-group, s
 use Rattle.demands.proofs.Pieces.{handed-reached, handed-given, word-refused, as-one}
 use Rattle.demands.proofs.Refused.{refused-place}
 use Rattle.demands.proofs.Windows.{in-order-told}
+use Rattle.demands.proofs.Writing.{spelled-back}
 use Rattle.refusal.specs.Crossing.{Crosses}
 use Rattle.state.specs.State.{Shared}
 use Rattle.state.specs.Cells.{sharedOf}
@@ -324,6 +327,16 @@ pub demand2-writer :
     (s : Session) → Reached s → (ws room : List ℕ) → mostWords ≤ length room →
     allByWriter (feedOf s ws .commands) room ≡ written (feedOf s ws .commands)
 demand2-writer = by-writer
+
+-- The same over calls: words that egretfold_session_word takes one by one, until one of them completes a command. The header and the fields
+-- that its six numbers then have, handed to egretfold_command_write with room for five words, give back these words, behind those that an
+-- open command held before.
+pub demand2-write-calls :
+    {own tallies shared ws end : List ℕ} → Given own tallies shared → Spelled own tallies shared ws end →
+    (r : ℕ) (room room' number number' : List ℕ) → mostWords ≤ length room →
+    CommandCrosses (getD end 1 0) (drop 2 end) r room room' number number' →
+    Writes (heldOf (partyOf own tallies .opened) ++ ws) r room room' number'
+demand2-write-calls = spelled-back
 
 -- These words, read again by a session between two commands that has the settings they first met and room for them, give the same
 -- commands and settings, add the same to the tallies, and leave the session between two commands.

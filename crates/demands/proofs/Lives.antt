@@ -17,7 +17,6 @@ use Rattle.state.specs.Valid.{Valid}
 use Rattle.state.specs.Asked.{Held}
 use Rattle.state.proofs.Cells.{own-canon, tally-canon, shared-canon}
 use Rattle.session.specs.Step.{Reply, Stepped, stillOpen, completed, refused, stepOf}
-use Rattle.session.specs.Refusals.{low, full, foreign, RefusedTo, unchanged, stopping}
 use Rattle.session.proofs.Refusals.{refused-word}
 use Rattle.session.specs.Feed.{First, nothing, first, Fed, feedOf, firstStatus}
 use Rattle.session_rooms.specs.Rooms.{replyTold, WordCrosses, FeedCrosses}
@@ -31,6 +30,7 @@ use Rattle.lessees.proofs.Taking.{BothTold, piece-told, piece-valid}
 use Rattle.lessees.proofs.Folding.{earlier-number, pair-view, pair-given}
 use Rattle.lessees.proofs.Life.{same-piece}
 use Rattle.lessees.proofs.Steps.{seen-step}
+use Rattle.demands.proofs.Numbers.{refused-least}
 use Rattle.demands.specs.Pairs.{PairArrays, PairGivenAt, PairFedAt, pairAt, ownAt, talliesAt, sessionAt, withParty}
 use Rattle.demands.specs.Lives.{
   untold,
@@ -356,12 +356,6 @@ life-isolated p {a} {a'} g g' alike {ws} {ws'} {told} {told'} {b} {b'} life life
     }
 
 -- word by word: the same word of the party is answered the same
-refused-least : {s u : Session} {n : ℕ} → RefusedTo s n u → 0 < n
-refused-least (unchanged e) = omega arith
-refused-least (stopping (low a b)) = omega arith
-refused-least (stopping full) = omega arith
-refused-least (stopping foreign) = omega arith
-
 same-answer : (x y : Reply) → x ≡ y → ((n : ℕ) → y ≡ refused n → 0 < n) → {r r' : ℕ} {c c₁ c' c₁' : List ℕ} →
     Crosses (replyTold x) r c c₁ → Crosses (replyTold y) r' c' c₁' → SameWord r r' c₁ c₁'
 same-answer x y e h {r} {r'} {c} {c₁} {c'} {c₁'} k k' =
