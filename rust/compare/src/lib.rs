@@ -2,7 +2,7 @@
 //! made apart from it, on millions of made-up inputs: good ones, ones at the
 //! edges of the rules, damaged ones and noise.
 //!
-//! There are fourteen kinds of cases, one module each:
+//! There are fifteen kinds of cases, one module each:
 //!
 //! * [`addresses`]: layouts judged, pairs translated, addresses located back;
 //! * [`memory`]: elements read and written in lent memory, superfine reads;
@@ -17,7 +17,8 @@
 //! * [`surveys`]: conditional tests and surveys of domains;
 //! * [`pictures`]: rectangles painted into memory and copied out of it;
 //! * [`fleets`]: the logs and lease lines of up to 64 stations in one report;
-//! * [`states`]: states kept as bytes at random places, and gone on with.
+//! * [`states`]: states kept as bytes at random places, and gone on with;
+//! * [`trims`]: logs of days and of years whose replays are trimmed on the way.
 //!
 //! Every case is made from its kind, a seed and its number alone, so that any
 //! case can be run again by itself. The tests run fixed cases; the program
@@ -54,6 +55,7 @@ pub mod states;
 pub mod streams;
 pub mod surveys;
 pub mod tally;
+pub mod trims;
 pub mod turns;
 pub mod words;
 pub mod writer;
@@ -82,10 +84,11 @@ pub enum Kind {
     Pictures,
     Fleets,
     States,
+    Trims,
 }
 
 impl Kind {
-    pub const ALL: [Kind; 14] = [
+    pub const ALL: [Kind; 15] = [
         Kind::Addresses,
         Kind::Memory,
         Kind::Streams,
@@ -100,6 +103,7 @@ impl Kind {
         Kind::Pictures,
         Kind::Fleets,
         Kind::States,
+        Kind::Trims,
     ];
 
     pub fn name(self) -> &'static str {
@@ -118,6 +122,7 @@ impl Kind {
             Kind::Pictures => "pictures",
             Kind::Fleets => "fleets",
             Kind::States => "states",
+            Kind::Trims => "trims",
         }
     }
 
@@ -141,6 +146,7 @@ impl Kind {
             Kind::Pictures => pictures::run(case),
             Kind::Fleets => fleets::run(case),
             Kind::States => states::run(case),
+            Kind::Trims => trims::run(case),
         }
     }
 }

@@ -11,7 +11,7 @@ usage: ./compare [--seconds S] [--seed N] [--kind KIND] [--case M]
   --seed N      the seed of the cases (default 1)
   --kind KIND   only this kind: addresses, memory, streams, writer, flow, logs,
                 scores, modes, kills, lessees, surveys, pictures,
-                fleets or states
+                fleets, states or trims
   --case M      only case M of the kind, and print both answers of every
                 comparison; needs --kind
   --help        this text

@@ -56,7 +56,7 @@ fn fed_in_pieces(random: &mut Random, edition: Edition, log: &[u8]) -> Product {
 }
 
 /// A lease line of any kind: about one in four has a number out of its bounds.
-fn lease(random: &mut Random, log: &Second) -> Lease {
+pub fn lease(random: &mut Random, log: &Second) -> Lease {
     if random.once_in(4) {
         if let Some(lease) = served_days(random, log) {
             return lease;
@@ -161,7 +161,7 @@ fn judged(edition: Edition, lease: &Lease) -> Result<(), u32> {
     }
 }
 
-fn of_product(month: ProductMonth) -> Month {
+pub fn of_product(month: ProductMonth) -> Month {
     let day = |day: &boundary::ScoredDay| ScoredDay {
         number: day.number,
         claimed: day.claimed,

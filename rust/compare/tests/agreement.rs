@@ -563,3 +563,22 @@ fn states() {
     marks(&tally, &[("replays kept stopped", 1_000)]);
     marks(&tally, &[("replays kept with a refused word", 1_000)]);
 }
+
+#[test]
+fn trims() {
+    let tally = agree(Kind::Trims, 0..10_000);
+    editions(&tally, 0);
+    assert!(tally.accepted >= 5_000, "accepted: {}", tally.accepted);
+    marks(&tally, &[("trims", 300_000)]);
+    marks(&tally, &[("trims inside a command", 100_000)]);
+    marks(&tally, &[("trims inside a record", 100_000)]);
+    marks(&tally, &[("midnights forgotten", 500_000)]);
+    marks(&tally, &[("logs of more than 400 midnights", 500)]);
+    marks(&tally, &[("logs stopped at their 401st midnight", 20)]);
+    marks(&tally, &[("leases scored", 20_000)]);
+    marks(&tally, &[("leases served from the kept day on", 1_500)]);
+    let words = [(2, 1_000), (3, 1_500), (4, 200), (5, 50), (6, 50)];
+    let starts = [(7, 100), (8, 300), (9, 100)];
+    let stops = [(18, 800), (19, 1_500)];
+    refusals(&tally, &[&words[..], &starts, &stops].concat());
+}

@@ -64,6 +64,8 @@ pub struct Replay {
     refused: Option<RefusedWord>,
     before: Part,
     days: Vec<Day>,
+    /// How many midnights may come.
+    most: usize,
 }
 
 /// The four bytes behind the kind byte, low byte first.
@@ -93,6 +95,38 @@ impl Replay {
             refused: None,
             before: Part::default(),
             days: Vec::new(),
+            most: MOST_MIDNIGHTS,
+        }
+    }
+
+    /// One that takes as many midnights as there are numbers of days: what replays that
+    /// are trimmed on the way are held against, over years.
+    pub fn without_end(edition: u32) -> Answer<Replay> {
+        Ok(Replay {
+            most: usize::MAX,
+            ..Replay::new_in(edition)?
+        })
+    }
+
+    /// Keeps, of the midnights, the last one alone: its number, and the tallies there, so
+    /// that all that ended before it is given apart. The session, the open record, the
+    /// stop and the first refused word stay; of the midnights before that word as many
+    /// are left as the replay still has there.
+    pub fn trim(&mut self) {
+        let last = match self.days.pop() {
+            Some(last) => last,
+            None => return,
+        };
+        let forgotten = std::mem::replace(&mut self.days, vec![last]);
+        for day in &forgotten {
+            self.before.runs += day.part.runs;
+            self.before.claims += day.part.claims;
+        }
+        self.records -= forgotten.len() as u64;
+        if let Some(word) = &mut self.refused {
+            let gone = word.midnights.min(forgotten.len());
+            word.midnights -= gone;
+            word.record -= gone as u64;
         }
     }
 
@@ -135,7 +169,7 @@ impl Replay {
         match self.days.last() {
             None => true,
             Some(last) => {
-                u64::from(day) == u64::from(last.number) + 1 && self.days.len() < MOST_MIDNIGHTS
+                u64::from(day) == u64::from(last.number) + 1 && self.days.len() < self.most
             }
         }
     }
@@ -589,6 +623,81 @@ mod tests {
             assert_eq!(replay.session(), before.session());
             assert_eq!(replay.session().open(), Some((START_PROGRAM, 0)));
             assert!(!replay.session().stopped());
+        }
+    }
+
+    /// What a trimmed replay has of this one: of its midnights the last alone.
+    #[test]
+    fn a_trimmed_replay_keeps_its_last_midnight() {
+        let bytes = [settings(), start(), midnights(5..8), start(), start()].concat();
+        let whole = after(&bytes);
+        let mut trimmed = whole.clone();
+        trimmed.trim();
+        assert_eq!(
+            (trimmed.before(), trimmed.days()),
+            (part(1), &[day(7, 2)][..])
+        );
+        assert_eq!(trimmed.session(), whole.session());
+        let again = trimmed.clone();
+        trimmed.trim();
+        assert_eq!(trimmed, again);
+        // 8 is still the one day that may begin.
+        for wrong in [5, 6, 7, 9] {
+            let mut replay = trimmed.clone();
+            assert_eq!(replay.feed(&midnight(wrong)), fed(4, Some(19)));
+        }
+        assert_eq!(trimmed.feed(&[midnight(8), start()].concat()).refusal, None);
+        assert_eq!(trimmed.days(), [day(7, 2), day(8, 1)]);
+        trimmed.trim();
+        assert_eq!(
+            (trimmed.before(), trimmed.days()),
+            (part(3), &[day(8, 1)][..])
+        );
+    }
+
+    #[test]
+    fn without_a_midnight_a_trim_changes_nothing() {
+        for length in 0..=settings().len() {
+            let mut replay = after(&settings()[..length]);
+            replay.trim();
+            assert_eq!(replay, after(&settings()[..length]));
+        }
+    }
+
+    /// Trimmed behind each midnight it takes as many as come, and each later day is that
+    /// of the one without an end.
+    #[test]
+    fn years_of_midnights_come_where_it_is_trimmed() {
+        let (mut trimmed, mut whole) = (after(&settings()), Replay::without_end(1).unwrap());
+        whole.feed(&settings());
+        for number in 0..1_000 {
+            let piece = [midnight(number), start().repeat(number as usize % 3)].concat();
+            assert_eq!(trimmed.feed(&piece), whole.feed(&piece));
+            assert_eq!(trimmed.days().last(), whole.days().last());
+            trimmed.trim();
+        }
+        assert_eq!(whole.days().len(), 1_000);
+        assert_eq!(trimmed.before().runs, 999);
+        assert_eq!(whole.feed(&midnight(7)), fed(4, Some(19)));
+        assert_eq!(trimmed.feed(&midnight(7)), fed(4, Some(19)));
+    }
+
+    /// "midnights - (m - 1), floored at 0": m the midnights of which one is kept.
+    #[test]
+    fn the_first_refused_word_keeps_its_place_among_what_is_left() {
+        let refused = words(&[SET_OUT_FMT, 4]);
+        for (before, behind, left) in [(0, 3, 0), (2, 1, 0), (2, 0, 1), (3, 0, 1), (1, 0, 1)] {
+            let bytes = [
+                settings(),
+                midnights(0..before),
+                refused.clone(),
+                midnights(before..before + behind),
+            ];
+            let mut replay = after(&bytes.concat());
+            replay.trim();
+            let found = replay.refused().expect("a word was refused");
+            assert_eq!(found.midnights, left, "{before} and {behind}");
+            assert_eq!(found.record, replay.session().taken() + left as u64);
         }
     }
 

@@ -2,37 +2,81 @@
 //! machines.
 
 use crate::common::failure::Outcome;
-use crate::fleet::leases::Row;
+use crate::common::visible;
+use crate::fleet::leases::{fault, Fault, Row};
 use std::io::Write;
 use std::path::Path;
+
+/// The most bytes of a line: GNU parallel takes half of what the system gives an argument,
+/// 65,536 bytes, less its own and the environment's.
+const LONGEST: usize = 60_000;
+
+/// Rows whose line no engine would run as it stands. They are told before any line is.
+pub fn faults(rows: &[Row]) -> Vec<Fault> {
+    rows.iter().flat_map(faults_of).collect()
+}
+
+fn faults_of(row: &Row) -> Vec<Fault> {
+    let files = row.asked.files.iter();
+    let wrong = files.filter_map(|file| unfit(file)).map(|why| {
+        let cause = format!("{why}; give it another name, or score without --commands");
+        fault(row.line, "log", cause)
+    });
+    let mut faults: Vec<Fault> = wrong.collect();
+    let length = line(row).len();
+    if faults.is_empty() && length > LONGEST {
+        let files = row.asked.files.len();
+        let cause = format!(
+            "the line of its {files} files has {length} bytes, and engines take {LONGEST}; \
+             put files together, or score without --commands"
+        );
+        faults.push(fault(row.line, "log", cause));
+    }
+    faults
+}
+
+/// Why a name can't stand in a line, if it can't: the lines are text, and what a terminal
+/// obeys is never written into text as it is.
+fn unfit(file: &Path) -> Option<String> {
+    match file.to_str() {
+        None => Some(format!("{file:?} isn't UTF-8")),
+        Some(name) if visible::line(name) != name => Some(format!(
+            "{file:?} has a line end or another control character"
+        )),
+        Some(_) => None,
+    }
+}
 
 /// A line a station, in the lease file's order.
 pub fn tell(rows: &[Row], out: &mut dyn Write) -> Outcome {
     for row in rows {
-        let asked = &row.asked;
-        let line = &asked.line;
-        let mut words: Vec<String> = vec!["egretfold".into(), "score".into(), "--json".into()];
-        let mut put =
-            |option: &str, value: String| words.push(format!("{option}={}", quoted(&value)));
-        put("--edition", asked.edition.to_string());
-        put("--first-day", line.first_day.to_string());
-        put("--days", line.days.to_string());
-        put("--owed", line.owed.to_string());
-        for (option, value) in [
-            ("--from", asked.from.map(|date| date.to_string())),
-            ("--station", asked.issue.station.clone()),
-            ("--lessee", asked.issue.lessee.clone()),
-            ("--issued", Some(asked.issue.date.to_string())),
-        ] {
-            if let Some(value) = value {
-                put(option, value);
-            }
-        }
-        words.push("--".into());
-        words.extend(asked.files.iter().map(|file| quoted(&named(file))));
-        writeln!(out, "{}", words.join(" "))?;
+        writeln!(out, "{}", line(row))?;
     }
     Ok(())
+}
+
+fn line(row: &Row) -> String {
+    let asked = &row.asked;
+    let line = &asked.line;
+    let mut words: Vec<String> = vec!["egretfold".into(), "score".into(), "--json".into()];
+    let mut put = |option: &str, value: String| words.push(format!("{option}={}", quoted(&value)));
+    put("--edition", asked.edition.to_string());
+    put("--first-day", line.first_day.to_string());
+    put("--days", line.days.to_string());
+    put("--owed", line.owed.to_string());
+    for (option, value) in [
+        ("--from", asked.from.map(|date| date.to_string())),
+        ("--station", asked.issue.station.clone()),
+        ("--lessee", asked.issue.lessee.clone()),
+        ("--issued", Some(asked.issue.date.to_string())),
+    ] {
+        if let Some(value) = value {
+            put(option, value);
+        }
+    }
+    words.push("--".into());
+    words.extend(asked.files.iter().map(|file| quoted(&named(file))));
+    words.join(" ")
 }
 
 fn named(file: &Path) -> String {

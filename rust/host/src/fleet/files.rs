@@ -1,6 +1,7 @@
 //! The files of a log as a lease file names them: one, a list, a folder of daily files
 //! in name order, or a pattern.
 
+use crate::input::source;
 use std::cmp::Ordering;
 use std::fs;
 use std::path::{Component, Path, PathBuf};
@@ -8,17 +9,30 @@ use std::path::{Component, Path, PathBuf};
 /// What parts the names of a list.
 const GAPS: [char; 3] = [';', '\n', '\r'];
 
-/// The files that the text names, from this folder on. A name that is a file's is that
-/// file, whatever letters it has; where nothing is found the name stays as it is, so that
-/// it is missed by that name.
-pub fn named(text: &str, folder: &Path) -> Vec<PathBuf> {
+/// The files that the text names, from this folder on, or what is wrong with it. A name
+/// that is a file's is that file, whatever letters it has; where nothing is found the name
+/// stays as it is, so that it is missed by that name.
+pub fn named(text: &str, folder: &Path) -> Result<Vec<PathBuf>, String> {
     let whole = folder.join(text);
-    if whole.exists() {
-        return one(&whole);
+    if !is_dash(text) && whole.exists() {
+        return Ok(one(&whole));
     }
     let names = text.split(GAPS).map(str::trim);
-    let names = names.filter(|name| !name.is_empty());
-    names.flat_map(|name| one(&folder.join(name))).collect()
+    let names: Vec<&str> = names.filter(|name| !name.is_empty()).collect();
+    match names.as_slice() {
+        [] => Err(format!("{text:?} names no file")),
+        names if names.iter().any(|name| is_dash(name)) => {
+            Err("standard input is no station's log; a file by that name is ./-".to_string())
+        }
+        names => Ok(names
+            .iter()
+            .flat_map(|name| one(&folder.join(name)))
+            .collect()),
+    }
+}
+
+fn is_dash(name: &str) -> bool {
+    source::is_standard(Some(Path::new(name)))
 }
 
 fn one(path: &Path) -> Vec<PathBuf> {
@@ -115,9 +129,16 @@ fn matching(path: &Path) -> Vec<PathBuf> {
         };
     }
     found.retain(|path| path.is_file());
-    // Found in this very folder.
-    let here = |path: PathBuf| path.strip_prefix("./").map_or(path.clone(), PathBuf::from);
     found.into_iter().map(here).collect()
+}
+
+/// Found in this very folder, of which the name says nothing, unless it would be standard
+/// input's.
+fn here(path: PathBuf) -> PathBuf {
+    match path.strip_prefix("./") {
+        Ok(name) if !source::is_standard(Some(name)) => name.to_path_buf(),
+        _ => path,
+    }
 }
 
 fn matches(name: &str, pattern: &str) -> bool {

@@ -368,9 +368,9 @@ impl Reading<'_> {
 
     fn files(&mut self, folder: &Path) -> Option<Vec<PathBuf>> {
         let text = self.needed(LOG)?;
-        match text == "-" {
-            true => self.wrong(LOG, "standard input is no station's log"),
-            false => Some(files::named(&text, folder)),
+        match files::named(&text, folder) {
+            Ok(files) => Some(files),
+            Err(cause) => self.wrong(LOG, cause),
         }
     }
 

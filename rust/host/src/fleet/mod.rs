@@ -94,7 +94,7 @@ pub fn run(options: &Options, out: &mut dyn Write) -> Outcome {
     let html = Goes::asked(options.html.as_deref(), Kind::Html, form)?;
     let date = issue::day_of(options.issued);
     let rows = match &options.leases {
-        Some(file) => Some(rows(file, options.cards.as_deref(), (edition, date))?),
+        Some(file) => Some(options.rows(file, (edition, date))?),
         None => None,
     };
     if let (true, Some(rows)) = (options.commands, &rows) {
@@ -124,13 +124,20 @@ pub fn run(options: &Options, out: &mut dyn Write) -> Outcome {
     fleet.outcome()
 }
 
-fn rows(file: &Path, cards: Option<&Path>, (edition, date): (Edition, Date)) -> Outcome<Vec<Row>> {
-    let mut leases = Leases::read(file, edition, date)?;
-    if let Some(folder) = cards {
-        let faults = cards::faults(folder, &leases.rows);
-        leases.add_faults(faults);
+impl Options {
+    /// The lease file's rows, or all that is wrong with them for what is asked.
+    fn rows(&self, file: &Path, (edition, date): (Edition, Date)) -> Outcome<Vec<Row>> {
+        let mut leases = Leases::read(file, edition, date)?;
+        if let Some(folder) = &self.cards {
+            let faults = cards::faults(folder, &leases.rows);
+            leases.add_faults(faults);
+        }
+        if self.commands {
+            let faults = commands::faults(&leases.rows);
+            leases.add_faults(faults);
+        }
+        leases.rows()
     }
-    leases.rows()
 }
 
 /// The edition by which all of them were scored.

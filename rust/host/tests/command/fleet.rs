@@ -72,7 +72,7 @@ fn all_faults_are_told_at_once_and_no_log_is_read() {
         \x20 line 5, lease line: refused 21, 32 days are over 31\n\
         \x20 line 6: the row has 5 values and the header 7\n\
         \x20 line 7, lease line: refused 21, 2 days from day 4294967295 on end at day 4294967296, which is over 4294967295\n\
-        \x20 line 8, log: standard input is no station's log\n\
+        \x20 line 8, log: standard input is no station's log; a file by that name is ./-\n\
         \x20 line 8, first day: -1 is below 0, the least\n\
         \x20 line 9, first date: 9999-12-02: 31 days from there go past 9999-12-31, the last date\n"
     );

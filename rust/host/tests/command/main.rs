@@ -7,6 +7,7 @@ mod card;
 mod causes;
 mod common;
 mod desk;
+mod engines;
 mod examples;
 mod fleet;
 mod golden;
