@@ -8,7 +8,6 @@ use native.Mathlib.Omega.{arith}
 use lib.Dec.{leb, ltb}
 use lib.ListN.{getD}
 use borrow.Author.Tests.{ltb-true}
-use Rattle.laws.specs.Choice.{_and_, pick}
 use Rattle.laws.proofs.Choice.{Tested, holds, fails, tested, pick-yes, pick-no, and-left, and-right}
 use Rattle.refusal.specs.Told.{Told, gives, refuses}
 use Rattle.refusal.specs.Crossing.{Crosses, statusOf, roomOf}

@@ -8,25 +8,24 @@ use native.Mathlib.Omega.{arith}
 use lib.Dec.{eqb}
 use lib.ListN.{length, length-append, getD, take, drop}
 use borrow.Author.Tests.{ne-eqb}
-use Rattle.laws.specs.Choice.{pick}
 use Rattle.laws.proofs.Choice.{pick-yes, pick-no}
 use Rattle.refusal.specs.Crossing.{Crosses, statusOf, roomOf}
-use Rattle.state.specs.State.{Party, Shared, Session}
-use Rattle.state.specs.Cells.{partyOf, sharedOf, sessionOf, partyCells, tallyCells, sharedCells}
+use Rattle.state.specs.State.{Session}
+use Rattle.state.specs.Cells.{partyOf, sharedOf, partyCells, tallyCells}
 use Rattle.state.specs.Valid.{Valid}
 use Rattle.state.specs.Asked.{Held}
 use Rattle.state.proofs.Cells.{own-canon, tally-canon, shared-canon}
 use Rattle.session.specs.Step.{Reply, Stepped, stillOpen, completed, refused, stepOf}
 use Rattle.session.proofs.Refusals.{refused-word}
-use Rattle.session.specs.Feed.{First, nothing, first, Fed, feedOf, firstStatus}
+use Rattle.session.specs.Feed.{first, Fed, feedOf, firstStatus}
 use Rattle.session_rooms.specs.Rooms.{replyTold, WordCrosses, FeedCrosses}
 use Rattle.lessees.specs.Sight.{seen, seenShared}
 use Rattle.lessees.specs.Pair.{Pair, Sent, side, putBack, Part, silence, noted, PairFed, notedFor, pairStep, pieceOf, joinedPart, joinedPair, wordsFor, toldFor, sentAll, PairValid}
-use Rattle.lessees.specs.Rooms.{sentOf, groupsOf, partCells, earlierNumber, PairHeld, PairGiven, PairLeft, PairUntouched}
+use Rattle.lessees.specs.Rooms.{sentOf, groupsOf, partCells, earlierNumber, PairHeld, PairLeft, PairUntouched}
 use Rattle.lessees.specs.Life as records
 use Rattle.lessees.proofs.Cut.{cut}
 use Rattle.lessees.proofs.Runs.{ranFor, ran}
-use Rattle.lessees.proofs.Taking.{BothTold, piece-told, piece-valid}
+use Rattle.lessees.proofs.Taking.{piece-told, piece-valid}
 use Rattle.lessees.proofs.Folding.{earlier-number, pair-view, pair-given}
 use Rattle.lessees.proofs.Life.{same-piece}
 use Rattle.lessees.proofs.Steps.{seen-step}

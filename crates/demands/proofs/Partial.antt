@@ -1,23 +1,18 @@
 -- Request 7 over a group's cells: both modes over the same cells but for the mode's. Assumes nothing.
 use mathlib.Core.Path.{_≡_, refl, sym, ap, _∙_, subst}
-use mathlib.Core.Bool.{Bool, true, false}
-use mathlib.Core.List.{List, [], _∷_}
-use Prim.Native.Nat.{ℕ, suc, _+_, _<_, _≤_}
+use mathlib.Core.List.{List}
+use Prim.Native.Nat.{ℕ, _≤_}
 use native.Mathlib.Omega.{arith}
-use lib.ListN.{set, getD}
-use Rattle.laws.specs.Choice.{pick}
-use Rattle.laws.proofs.Choice.{Tested, holds, fails, tested, pick-yes, pick-no, by-pick}
-use Rattle.refusal.specs.Told.{Told, gives, refuses}
-use Rattle.refusal.specs.Crossing.{Crosses, statusOf, roomOf}
-use Rattle.group.specs.Modes.{Mode, Full, Partial, limitOf}
-use Rattle.group.specs.Group.{Group, Outcome, Steps, Fails, Program, Run, Makes, Breaks, onceMore, goOn, stepTold, runTold, ended, groupStep, groupSteps, groupRun}
+use Rattle.refusal.specs.Crossing.{statusOf, roomOf}
+use Rattle.group.specs.Modes.{Mode, Full, Partial}
+use Rattle.group.specs.Group.{Group, Outcome, Steps, Fails, Program, Run, Makes, Breaks, stepTold, runTold, groupStep, groupRun}
 use Rattle.group.specs.Cells.{modeIn, groupOf, cellsOf, Sound, GroupGiven, stepLeaves, runLeaves}
 use Rattle.group.specs.Causes.{Cause, FirstMet}
 use Rattle.group.proofs.Modes.{step-shared, step-cause, cause-refuses}
 use Rattle.group.proofs.Firsts.{no-step, no-run, same-why, run-shared, run-first-cause, first-cause-refuses}
-use Rattle.group.proofs.State.{SoundAfter, sound-mode, group-back, given-of, mode-kept, step-sound}
+use Rattle.group.proofs.State.{sound-mode, group-back, given-of, mode-kept}
 use Rattle.group_rooms.specs.Rooms.{StepCrosses, RunCrosses}
-use Rattle.demands.proofs.Numbers.{Nonzero, step-number, run-number}
+use Rattle.demands.proofs.Numbers.{step-number, run-number}
 use Rattle.demands.specs.Partial.{inFull, Beside}
 
 -- cells in full mode

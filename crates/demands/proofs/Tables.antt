@@ -5,7 +5,6 @@ use mathlib.Core.Bool.{Bool, true}
 use Prim.Native.Nat.{ℕ, zero, suc, _+_, _*_, _/_}
 use lib.ListN.{length}
 use Rattle.laws.specs.Choice.{pick, placeOf}
-use Rattle.laws.proofs.Choice.{pick-yes}
 use Rattle.layout.specs.Sizes.{widthOf, heightOf}
 use Rattle.layout.specs.declared.Layout.{Layout}
 use Rattle.address.specs.Offset.{insideOf, tiledOffset, offsetOf}

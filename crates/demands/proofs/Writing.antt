@@ -1,17 +1,15 @@
 -- Demand 2 over calls: the six numbers with which egretfold_session_word tells of a command, handed to egretfold_command_write, give back the words
 -- that the command came from. Assumes nothing.
 use mathlib.Core.Path.{_≡_, refl, sym, ap, ap₂, _∙_, subst}
-use mathlib.Core.Bool.{Bool, true, false}
 use mathlib.Core.List.{List, [], _∷_, _++_, append-nil, append-assoc}
-use Prim.Native.Nat.{ℕ, _<_, _≤_}
+use Prim.Native.Nat.{ℕ, _≤_}
 use native.Mathlib.Omega.{arith}
 use lib.ListN.{length, getD, take, drop}
 use lib.Seq.{take-append-seam, drop-append-seam}
 use Rattle.refusal.specs.Told.{Told, gives, refuses}
 use Rattle.refusal.specs.Crossing.{Crosses, statusOf, roomOf}
-use Rattle.command.specs.Table.{headerOf, lineWith}
-use Rattle.command.specs.Commands.{lineOf, fieldsOf, wordsOf, commandOf}
-use Rattle.command.specs.Known.{onLine, ifKnown}
+use Rattle.command.specs.Table.{headerOf}
+use Rattle.command.specs.Commands.{lineOf, fieldsOf, wordsOf}
 use Rattle.command.specs.declared.commands.Command.{Command}
 use Rattle.command.proofs.Headers.{count-most}
 use Rattle.command.proofs.Known.{on-line}
@@ -35,7 +33,7 @@ use Rattle.session.proofs.ReadAgain.{each-writable}
 use Rattle.session.proofs.Refusals.{refused-word}
 use Rattle.session.proofs.Ways.{Way, wasStopped, stops, opens, fills, ends, way}
 use Rattle.session.proofs.WriteBack.{none-held, taken}
-use Rattle.session_rooms.specs.Rooms.{replyTold, WordCrosses}
+use Rattle.session_rooms.specs.Rooms.{replyTold}
 use Rattle.demands.proofs.Numbers.{refused-least}
 use Rattle.demands.specs.Writing.{Spelled, last, before, Writes}
 

@@ -5,7 +5,6 @@
 ghost use mathlib.Core.Path.{_≡_};
 ghost use Prim.Native.Nat.{_+_, _*_, _≤_, _/_};
 ghost use lib.Dec.{eqb};
-ghost use lib.Ieee.{lt};
 ghost use lib.ListN.{length};
 ghost use Rattle.laws.specs.Choice.{_and_};
 ghost use Rattle.laws.specs.Masks.{digit};
@@ -89,40 +88,26 @@ fn is_number(bits: u32) -> bool
     bits % SIGN <= INFINITY
 }
 
-// Whether one pattern's float is less than another's. A NaN is compared with nothing: there is no float made of its pattern.
-fn is_less(a: u32, b: u32) -> bool
-    ensures { λ r. ⌜ r ≡ lt (float a) (float b) ⌝ }
+// The float of a bit pattern. `f32::from_bits` is defined at a number's pattern alone; a NaN's float is any NaN, since floats are only compared.
+// Without a branch between the channels all four are compared at once.
+fn float_of(bits: u32) -> f32
+    ensures { λ r. ⌜ r ≡ float bits ⌝ }
 {
-    if is_number(a) {
-        if is_number(b) {
-            return f32::from_bits(a) < f32::from_bits(b);
-        }
-    }
-    false
-}
-
-// Whether a pattern's float is at least zero.
-fn is_at_least_zero(bits: u32) -> bool
-    ensures { λ r. ⌜ r ≡ atLeastZero (float bits) ⌝ }
-{
-    if is_number(bits) {
-        return f32::from_bits(bits) >= 0.0;
-    }
-    false
+    if is_number(bits) { f32::from_bits(bits) } else { 0.0 / 0.0 }
 }
 
 // The larger of two channels by their patterns: `a`, bit for bit, where `b < a`, otherwise `b`. A NaN's payload is copied too.
 fn larger(a: u32, b: u32) -> u32
     ensures { λ r. ⌜ r ≡ maximumOf a b ⌝ }
 {
-    if is_less(b, a) { a } else { b }
+    if float_of(b) < float_of(a) { a } else { b }
 }
 
 // One of two channels by their patterns: `a`, bit for bit, where the third is at least zero, otherwise `b`.
 fn chosen(a: u32, b: u32, third: u32) -> u32
     ensures { λ r. ⌜ r ≡ choiceOf a b third ⌝ }
 {
-    if is_at_least_zero(third) { a } else { b }
+    if float_of(third) >= 0.0 { a } else { b }
 }
 
 // The maximum of two registers of bit patterns, channel by channel.
