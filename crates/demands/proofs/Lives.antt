@@ -29,7 +29,7 @@ use Rattle.lessees.proofs.Taking.{piece-told, piece-valid}
 use Rattle.lessees.proofs.Folding.{earlier-number, pair-view, pair-given}
 use Rattle.lessees.proofs.Life.{same-piece}
 use Rattle.lessees.proofs.Steps.{seen-step}
-use Rattle.demands.proofs.Numbers.{refused-least}
+use Rattle.demands.proofs.Numbers.{word-least}
 use Rattle.demands.specs.Pairs.{PairArrays, PairGivenAt, PairFedAt, pairAt, ownAt, talliesAt, sessionAt, withParty}
 use Rattle.demands.specs.Lives.{
   untold,
@@ -388,4 +388,4 @@ word-isolated p {a} {a'} g g' alike w r r' own tallies shared command command₁
     (ap (λ (t : Stepped). t .reply) (sym (seen-step (sessionAt p a) w (side-valid p a g))) ∙
     ap (λ (s : Session). stepOf s w .reply) (seen-at p a a' alike) ∙
     ap (λ (t : Stepped). t .reply) (seen-step (sessionAt p a') w (side-valid p a' g')))
-    (λ n e. refused-least (refused-word (sessionAt p a') w n e)) (k .answer) (k' .answer)
+    (λ n e. word-least (refused-word (sessionAt p a') w n e)) (k .answer) (k' .answer)

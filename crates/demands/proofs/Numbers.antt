@@ -66,11 +66,11 @@ use Rattle.demands.proofs.Fleets.{first-number}
 use Rattle.demands.proofs.Flow.{step-refused, run-walks}
 
 -- nor has one of a word
-pub refused-least : {s u : Session} {n : ℕ} → RefusedTo s n u → 1 ≤ n
-refused-least (unchanged e) = omega arith
-refused-least (stopping (low a b)) = omega arith
-refused-least (stopping full) = omega arith
-refused-least (stopping foreign) = omega arith
+pub word-least : {s u : Session} {n : ℕ} → RefusedTo s n u → 1 ≤ n
+word-least (unchanged e) = omega arith
+word-least (stopping (low a b)) = omega arith
+word-least (stopping full) = omega arith
+word-least (stopping foreign) = omega arith
 
 abbrev pub Nonzero : Told → Type 0
 Nonzero t = (n : ℕ) → t ≡ refuses n → 1 ≤ n

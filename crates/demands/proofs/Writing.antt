@@ -34,14 +34,14 @@ use Rattle.session.proofs.Refusals.{refused-word}
 use Rattle.session.proofs.Ways.{Way, wasStopped, stops, opens, fills, ends, way}
 use Rattle.session.proofs.WriteBack.{none-held, taken}
 use Rattle.session_rooms.specs.Rooms.{replyTold}
-use Rattle.demands.proofs.Numbers.{refused-least}
+use Rattle.demands.proofs.Numbers.{word-least}
 use Rattle.demands.specs.Writing.{Spelled, last, before, Writes}
 
 -- what a word's answer with status 0 says of the reply
 module _ (s : Session) (w : ℕ) {r : ℕ} {room room' : List ℕ} (c : Crosses (replyTold (stepOf s w .reply)) r room room') (z : r ≡ 0) where
   no-refusal : (n : ℕ) → stepOf s w .reply ≡ refused n → ⊥
   no-refusal n e =
-      let k : 1 ≤ n = refused-least (refused-word s w n e) in
+      let k : 1 ≤ n = word-least (refused-word s w n e) in
       omega (arith, k, z, c .status, ap (λ (y : Reply). statusOf (replyTold y)) e)
 
   shows : (y : Reply) → stepOf s w .reply ≡ y → room' ≡ roomOf (replyTold y) room
