@@ -93,7 +93,11 @@ fn is_number(bits: u32) -> bool
 fn float_of(bits: u32) -> f32
     ensures { λ r. ⌜ r ≡ float bits ⌝ }
 {
-    if is_number(bits) { f32::from_bits(bits) } else { 0.0 / 0.0 }
+    if is_number(bits) {
+        f32::from_bits(bits)
+    } else {
+        0.0 / 0.0
+    }
 }
 
 // The larger of two channels by their patterns: `a`, bit for bit, where `b < a`, otherwise `b`. A NaN's payload is copied too.
@@ -123,11 +127,7 @@ pub fn maximum(a: &[u32; CHANNELS], b: &[u32; CHANNELS]) -> [u32; CHANNELS]
 }
 
 // The choice between two registers of bit patterns by a third one, channel by channel.
-pub fn choice(
-    a: &[u32; CHANNELS],
-    b: &[u32; CHANNELS],
-    third: &[u32; CHANNELS],
-) -> [u32; CHANNELS]
+pub fn choice(a: &[u32; CHANNELS], b: &[u32; CHANNELS], third: &[u32; CHANNELS]) -> [u32; CHANNELS]
     ensures { λ r. ⌜ r ≡ eachOf3 choiceOf (now (a .entry)) (now (b .entry)) (now (third .entry)) ⌝ }
 {
     [
