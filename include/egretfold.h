@@ -35,9 +35,10 @@
  * What the caller owes: pointers to arrays of the lengths shown, no two of them overlapping where one is written (a session's
  * three arrays, a pair's five, a replay's five, rooms and memory are apart), and states as these functions left them: a
  * session's arrays from egretfold_session_begin on, a pair's from an egretfold_pair_begin that returned 0 on, a replay's from
- * egretfold_log_begin on, a group's cells from an egretfold_group_begin that returned 0 on. A state may be copied and kept (on
- * disk, say) as it is; where it comes back from elsewhere, egretfold_session_check, egretfold_pair_check, egretfold_log_check and
- * egretfold_group_check tell whether it is one. A pointer that comes with a length of 0 is not read, but is not null. */
+ * egretfold_log_begin on, a group's cells from an egretfold_group_begin that returned 0 on, a growing report's numbers from an
+ * egretfold_fleet_begin that returned 0 on. A state may be copied and kept (on disk, say) as it is; where it comes back from
+ * elsewhere, egretfold_session_check, egretfold_pair_check, egretfold_log_check, egretfold_group_check and egretfold_fleet_check
+ * tell whether it is one. A pointer that comes with a length of 0 is not read, but is not null. */
 #ifndef EGRETFOLD_H
 #define EGRETFOLD_H
 
@@ -73,6 +74,17 @@ enum { EGRETFOLD_CHANNELS = 4 };
 
 /* The most days of a lease line. */
 enum { EGRETFOLD_DAYS = 31 };
+
+/* A growing fleet report's numbers:
+ *   0  the edition
+ *   1  how many stations were added
+ *   2  what was served in all
+ *   3  what was owed in all
+ *   4  the silent days
+ *   5  the station with the smallest served part, 64 where none owes anything
+ *   6  what that station was served, 0 where there is none
+ *   7  what that station owed, 0 where there is none */
+enum { EGRETFOLD_SUMS = 8 };
 
 /* The refusals of the table above, by name. */
 enum {
@@ -137,7 +149,8 @@ uint32_t egretfold_session_begin(uint32_t own[EGRETFOLD_OWN], uint64_t tallies[E
                                  uint32_t shared[EGRETFOLD_SHARED], uint32_t edition);
 
 /* One word. command: 0 where a command is still open, else 1; then the completed command's header and its four parameters,
- * 0 past its last (and all 0 where a command is open). 1 to 9 or 17; all but 1 stop the session and drop the open command. */
+ * 0 past its last (and all 0 where a command is open). 1 to 9 or 17, and 20 where the
+ * session is a party's of a pair; all but 1 stop the session and drop the open command. */
 uint32_t egretfold_session_word(uint32_t own[EGRETFOLD_OWN], uint64_t tallies[EGRETFOLD_TALLIES],
                                 uint32_t shared[EGRETFOLD_SHARED], uint32_t word, uint32_t command[6]);
 
@@ -268,6 +281,38 @@ uint32_t egretfold_score_month(const uint32_t log[EGRETFOLD_LOG], const uint64_t
  * room_length isn't 4 or the logs' lengths don't add up to length; 22 for more than 64 stations; then the first station's 21, 18 or 19. */
 uint32_t egretfold_fleet_report(uint32_t edition, const uint8_t *logs, size_t length, const uint64_t *numbers, size_t count,
                                 uint64_t *room, size_t room_length);
+
+/* ---- A fleet's report that grows, over any number of stations ----
+ *
+ * Stations are added one after another and numbered from 0 in that order, or another report's stations are put behind them. The sums
+ * are exact: a station owes at most 31 * 100,000,000 elements, and 2^32 stations together less than 2^64. No log is kept, so that a
+ * report is eight numbers whatever its stations are. Of up to 64 stations it tells what egretfold_fleet_report tells of their logs. */
+
+/* A report of no station, of edition 1 or 2. 3 for another. */
+uint32_t egretfold_fleet_begin(uint64_t sums[EGRETFOLD_SUMS], uint32_t edition);
+
+/* Adds a station's month: the replay of its log, and its lease line. 3 where the replay isn't of the report's edition, 22 for more
+ * than 2^32 stations, then 21 for the lease line, then 18 or 19 where it stopped the replay. */
+uint32_t egretfold_fleet_add(uint64_t sums[EGRETFOLD_SUMS], const uint32_t log[EGRETFOLD_LOG], const uint64_t marks[EGRETFOLD_MARKS],
+                             const uint32_t own[EGRETFOLD_OWN], const uint64_t tallies[EGRETFOLD_TALLIES], uint32_t first_day,
+                             uint32_t days, uint32_t owed);
+
+/* Adds a station's month by its numbers, of the report's edition: what was served and owed in all, as egretfold_score_month left them
+ * in month, and the silent days, which owe more than 0 and are served 0. 22 for more than 2^32 stations, then 21 where no month has
+ * such numbers: owed above 3,100,000,000, served above owed, or silent above 31. */
+uint32_t egretfold_fleet_add_month(uint64_t sums[EGRETFOLD_SUMS], uint64_t served, uint64_t owed, uint64_t silent);
+
+/* Puts the other report's stations behind these, numbered on from them; the other isn't changed. 3 where it is of another edition, 22
+ * for more than 2^32 stations together. Groups of a fleet that are joined in their order come to what their stations come to when
+ * they are added one by one. */
+uint32_t egretfold_fleet_join(uint64_t sums[EGRETFOLD_SUMS], const uint64_t other[EGRETFOLD_SUMS]);
+
+/* room: the four numbers of egretfold_fleet_report, and 1 where a station is named, 0 where none owes anything: the fourth number is 64
+ * then, and where the fifth is 1 it is station 64. Returns 0. */
+uint32_t egretfold_fleet_tell(const uint64_t sums[EGRETFOLD_SUMS], uint64_t room[5]);
+
+/* Whether the numbers are a growing report's, such as the functions above leave them: a true is just what they require of sums. */
+bool egretfold_fleet_check(const uint64_t sums[EGRETFOLD_SUMS]);
 
 /* ---- Commands by themselves ---- */
 

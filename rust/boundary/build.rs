@@ -34,9 +34,10 @@ fn main() {
 /// The kit that proved the archive, by the record that tools/prepare puts beside it
 /// and `./install` beside this crate's folder; empty where there is none.
 fn kit(folder: &Path) -> String {
-    let record = match is_installed() {
-        true => manifest_folder().join("../../kit.txt"),
-        false => folder.join("kit.txt"),
+    let record = if is_installed() {
+        manifest_folder().join("../../kit.txt")
+    } else {
+        folder.join("kit.txt")
     };
     println!("cargo:rerun-if-changed={}", record.display());
     let text = fs::read_to_string(record).unwrap_or_default();

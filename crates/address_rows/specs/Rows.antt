@@ -2,10 +2,11 @@
 use mathlib.Core.Path.{_≡_}
 use mathlib.Core.Bool.{Bool, true}
 use mathlib.Core.List.{List, [], _∷_}
-use Prim.Native.Nat.{ℕ, zero, suc, _+_, _*_, _/_, _<_, _≤_, _^_}
+use Prim.Native.Nat.{ℕ, zero, suc, _+_, _-_, _*_, _/_, _%_, _<_, _≤_, _^_}
 use Rattle.layout.specs.Sizes.{isSize}
 use Rattle.address.specs.Offset.{offsetOf}
-use Rattle.address.specs.Run.{runNumber}
+use Rattle.address.specs.Run.{runUnit, runNumber}
+use Rattle.memory.specs.Elements.{overwritten}
 
 -- the values f i, f (i + 1), and so on, `n` of them
 abbrev pub listed : (ℕ → ℕ) → ℕ → ℕ → List ℕ
@@ -29,3 +30,18 @@ pub record RowAsked (base s : ℕ) (tiled : Bool) (stride x y count : ℕ) : Typ
       (c j : ℕ) → c < stride / s → j < runNumber tiled s (stride / s) c →
       offsetOf tiled s (stride / s) (c + j) y ≡ offsetOf tiled s (stride / s) c y + j * s
   pub below : (c : ℕ) → c < stride / s → base + offsetOf tiled s (stride / s) c y + s ≤ 2 ^ 32
+
+-- the places from `i` up to `end` of a row's `count`, all in the run of the first of them
+pub record RunAsked (tiled : Bool) (s e x count i end : ℕ) : Type 0 where
+  pub some : i < end
+  pub inside : end ≤ count
+  pub within : end - i ≤ runNumber tiled s e (x + i)
+
+-- a room in which the places from `i` up to `end` have their values
+abbrev pub written : (ℕ → ℕ) → ℕ → ℕ → List ℕ → List ℕ
+written f i end room = overwritten i (listed f i (end - i)) room
+
+-- in tiles, a place at which a whole run begins, or the row's end
+pub record RunBegins (s x count i : ℕ) : Type 0 where
+  pub inside : i ≤ count
+  pub begins : i < count → (x + i) % runUnit s ≡ 0

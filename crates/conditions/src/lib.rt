@@ -135,8 +135,8 @@ pub fn bit_at(low: u16, top: u16, outside: bool, memory: &[u8], at: usize) -> u1
     in_span(low, top, outside, word_at(memory, at)) as u16
 }
 
-// The bytes of `n` numbers that follow each other into the room, and how many pass.
-pub fn stretch(
+// The bytes of `n` numbers that follow each other into the room, and how many pass, one after another.
+fn each_bit(
     low: u16,
     top: u16,
     outside: bool,
@@ -159,6 +159,29 @@ pub fn stretch(
         i += 1;
     }
     passed
+}
+
+// The bytes of `n` numbers that follow each other into the room, and how many pass.
+pub fn stretch(
+    low: u16,
+    top: u16,
+    outside: bool,
+    memory: &[u8],
+    at: usize,
+    room: &mut [u8],
+    line: usize,
+    n: usize,
+) -> u16
+    requires { ⌜ StretchAsked at line n (length (now memory)) (length (now room)) ⌝ }
+    ensures count { λ r. ⌜ r ≡ sum n (λ i. spanBit low top outside (now (memory .entry)) (at + 2 * i)) ⌝ }
+    ensures bytes { λ _. ⌜ now (room .exit) ≡ written line (λ i. spanBit low top outside (now (memory .entry)) (at + 2 * i)) n (now (room .entry)) ⌝ }
+{
+    // which side of the span passes is a constant in each of the two loops that this becomes
+    if outside {
+        each_bit(low, top, true, memory, at, room, line, n)
+    } else {
+        each_bit(low, top, false, memory, at, room, line, n)
+    }
 }
 
 // The same for four numbers, without a loop.

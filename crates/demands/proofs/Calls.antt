@@ -58,7 +58,13 @@ use Rattle.demands.proofs.Numbers.{
   row-number,
   pair-number,
   groups-number,
+  begun-number,
+  add-number,
+  add-month-number,
+  join-number,
 }
+use Rattle.replay.specs.Cells.{replayIn}
+use Rattle.growing.specs.Cells.{sumsIn}
 use Rattle.demands.specs.Calls.{
   Call,
   layout,
@@ -82,6 +88,10 @@ use Rattle.demands.specs.Calls.{
   test,
   survey,
   fleetReport,
+  fleetBegin,
+  fleetAdd,
+  fleetAddMonth,
+  fleetJoin,
   pairBegin,
   pairFeed,
   paint,
@@ -260,6 +270,11 @@ refused-call (survey s v i0 j0 i1 j1 first m r a b p q c) n e =
           (room (c .answer) n e);
     }
 refused-call (fleetReport edition logs numbers r a b c) n e = one-room c n e (report-number edition logs numbers (length a))
+refused-call (fleetBegin edition r a b c) n e = one-room c n e (begun-number edition)
+refused-call (fleetAdd l log marks own tallies shared r a b c) n e =
+    one-room (c .told shared) n e (add-number (sumsIn a) _ l (replayIn log marks own tallies shared))
+refused-call (fleetAddMonth served owed silent r a b c) n e = one-room c n e (add-month-number (sumsIn a) served owed silent)
+refused-call (fleetJoin other r a b c) n e = one-room c n e (join-number (sumsIn a) (sumsIn other))
 refused-call (pairBegin inputs outputs edition r a b c d f a' b' c' d' f' k) n e =
     let same = k .untouched (denied (pairs.mayBegin inputs outputs edition) [] 3 n e) in
     record {

@@ -223,8 +223,10 @@ use Rattle.trim.specs.Trim.{trimmed}
 use Rattle.trim.specs.Laws.{NotFull}
 use Rattle.trim.proofs.Kept.{trimmed-again}
 use Rattle.trim.proofs.Laws.{trim-takes, trim-any-time}
-use Rattle.trim.specs.Free.{newFree, freeOf, Years}
-use Rattle.trim.proofs.Years.{years-follow, years-scores, new-follows}
+use Rattle.trim.specs.Free.{newFree, freeOf, Keeps, AsFree}
+use Rattle.trim.proofs.Years.{free-is}
+use Rattle.demands.specs.Years.{LogCalls, unlimited, AnswersAs}
+use Rattle.demands.proofs.Years.{years-as-free, years-answered, years-scored, years-judged}
 use Rattle.demands.proofs.States.{
   session-judged,
   session-taken,
@@ -236,18 +238,20 @@ use Rattle.demands.proofs.States.{
   replay-goes-on,
   pair-goes-on,
 }
-use Rattle.fleet.specs.Fleet.{Station, stationsIn, stationAt, addUp, fleetTold, fleetIn, reportTold}
+use Rattle.fleet.specs.Fleet.{Station, silentIn, refusalIn, stationsIn, stationAt, addUp, fleetTold, fleetIn, reportTold}
 use Rattle.fleet.specs.Answers.{fleetNumbers}
 use Rattle.fleet.specs.Join.{sumsOf, fleetSums, behind, joined as joinedFleet}
 use Rattle.fleet.proofs.Join.{told-joined, sums-joined}
-use Rattle.growing.specs.Sums.{toldUp}
-use Rattle.growing.specs.Cells.{SumsGiven}
-use Rattle.growing.specs.Calls.{Grown, IsReport}
-use Rattle.growing.proofs.Growing.{grown-told}
-use Rattle.growing.proofs.Calls.{is-report, grown-given}
+use Rattle.refusal.specs.Crossing.{Shows}
+use Rattle.replay.specs.Cells.{replayIn}
+use Rattle.growing.specs.Sums.{Sums, mostStations}
+use Rattle.growing.specs.Cells.{SumsGiven, sumsIn, stationOf, editionIn, addTold, AddCrosses, addMonthTold, joinTold, toldNumbers}
+use Rattle.growing.specs.Calls.{Grown}
+use Rattle.growing.proofs.Calls.{add-answers, first-refusal as next-refusal, group-refusal, join-answers, grown-given}
 use Rattle.fleet.proofs.Behind.{behind-told}
-use Rattle.demands.specs.Fleets.{fleetAsks, FleetSummed, FleetRefused}
-use Rattle.demands.proofs.Fleets.{report-called, report-left, report-first, report-summed, report-grown}
+use Rattle.demands.specs.Fleets.{fleetAsks, FleetSummed, FleetRefused, GrownTold, OfLog}
+use Rattle.demands.proofs.Fleets.{report-called, report-left, report-first, report-summed}
+use Rattle.demands.proofs.Growing.{from-log, tell-grown, tell-report, month-rooms, fleet-taken}
 
 -- DEMAND 1. "Every entry answers, and bad input gets the refusal number in document 01. A refused call or word changes no byte of lent
 -- memory and no setting, except that a refused command word stops the session and drops the unfinished command. Words taken before it
@@ -1294,26 +1298,77 @@ pub places-address :
     addressOf l x y ≡ l .base .0 + (2048 * (y / 32 * (rowStepOf l / 64) + x / 64) + placeByTable x y)
 places-address = table-address
 
--- A report that grows: stations that are added one by one, by calls of egretfold_fleet_add, tell what the report of them all tells, refusals
--- first, however many they are.
-pub fleet-grown : (stations : ℕ → Station) (n : ℕ) → toldUp stations n ≡ fleetTold n stations
-fleet-grown = grown-told
+-- A FLEET'S REPORT THAT GROWS, the project's own promise for fleets of any size. `Grown edition stations n sums`: the eight numbers of a report
+-- that was begun under an edition, after calls that added the stations 0 to n - 1, one by one (egretfold_fleet_add), by their months' numbers
+-- (egretfold_fleet_add_month), or in groups put behind each other (egretfold_fleet_join); calls that were refused may stand between them.
 
--- The numbers in the arrays after these calls are that report's four, beside how many stations were added, and what the station named is
--- served and owes: it owes 0 where none owes, so that 64, the report's number for none, is told from a station of that number.
-pub fleet-grown-calls : (stations : ℕ → Station) (n : ℕ) (sums : List ℕ) → Grown stations n sums → IsReport stations n sums
-fleet-grown-calls = is-report
+-- What egretfold_fleet_tell then tells is request 14's report of all these stations, however many they are: exact sums, all silent days, the
+-- station with the smallest served part, the lower number where two are the same; and a fifth number, 1 beside a station and 0 beside the 64
+-- that stands for none, so that none never looks like station 64.
+pub fleet-grown :
+    (n : ℕ) (stations : ℕ → Station) (edition : ℕ) (sums : List ℕ) → Grown edition stations n sums → (r : ℕ) (room : List ℕ) →
+    Shows (toldNumbers (sumsIn sums)) r room → GrownTold n stations room
+fleet-grown = tell-grown
 
--- So where the stations are those of a call of egretfold_fleet_report that returned 0, its room has these four numbers.
+-- So where the stations are those of a call of egretfold_fleet_report that returned 0, the first four numbers are its room's.
 pub fleet-grown-report :
     (edition : ℕ) (logs numbers : List ℕ) (r : ℕ) (room room' : List ℕ) →
     Crosses (reportTold edition logs numbers (length room)) r room room' → r ≡ 0 → (sums : List ℕ) →
-    Grown (stationAt edition logs numbers) (stationsIn numbers) sums →
-    room' ≡ getD sums 1 0 ∷ getD sums 2 0 ∷ getD sums 3 0 ∷ getD sums 4 0 ∷ []
-fleet-grown-report = report-grown
+    Grown edition (stationAt edition logs numbers) (stationsIn numbers) sums → (s : ℕ) (told : List ℕ) →
+    Shows (toldNumbers (sumsIn sums)) s told → told ≡ room' ++ (getD told 4 0 ∷ [])
+fleet-grown-report = tell-report
 
--- At each of these calls the numbers are such as the next one asks for; there is room for 4,294,967,296 stations.
-pub fleet-grown-given : (stations : ℕ → Station) (n : ℕ) (sums : List ℕ) → Grown stations n sums → SumsGiven sums
+-- The next station, a replay of the report's edition, is answered with the refusal of its own score, and with 0 where it has none.
+pub fleet-grown-next :
+    (edition : ℕ) (stations : ℕ → Station) (k : ℕ) (sums : List ℕ) → Grown edition stations k sums → k < mostStations →
+    (l : Lease) (log marks own tallies shared : List ℕ) → stations k ≡ stationOf l (replayIn log marks own tallies shared) →
+    editionIn (replayIn log marks own tallies shared) ≡ edition → (r : ℕ) (sums' : List ℕ) →
+    AddCrosses l log marks own tallies r sums sums' → r ≡ refusalIn (stations k .score)
+fleet-grown-next = add-answers
+
+-- So the first station that isn't taken is the one that the report of them all is refused for, with the same number.
+pub fleet-grown-refused :
+    (edition : ℕ) (stations : ℕ → Station) (k : ℕ) (sums : List ℕ) → Grown edition stations k sums → k < mostStations →
+    (l : Lease) (log marks own tallies shared : List ℕ) → stations k ≡ stationOf l (replayIn log marks own tallies shared) →
+    editionIn (replayIn log marks own tallies shared) ≡ edition → (r : ℕ) (sums' : List ℕ) →
+    AddCrosses l log marks own tallies r sums sums' → (n : ℕ) → k < n → 0 < r → fleetTold n stations ≡ refuses r
+fleet-grown-refused = next-refusal
+
+-- The same in groups: the groups before were taken whole, and it is the first that isn't taken in the next one.
+pub fleet-grown-group-refused :
+    (edition : ℕ) (stations : ℕ → Station) (n : ℕ) (before : List ℕ) → Grown edition stations n before →
+    (k : ℕ) (sums : List ℕ) → Grown edition (behind n stations) k sums → k < mostStations →
+    (l : Lease) (log marks own tallies shared : List ℕ) → stations (n + k) ≡ stationOf l (replayIn log marks own tallies shared) →
+    editionIn (replayIn log marks own tallies shared) ≡ edition → (r : ℕ) (sums' : List ℕ) →
+    AddCrosses l log marks own tallies r sums sums' → (m : ℕ) → k < m → 0 < r → fleetTold (n + m) stations ≡ refuses r
+fleet-grown-group-refused = group-refusal
+
+-- Two reports of one edition are joined, unless they have over 4,294,967,296 stations together.
+pub fleet-grown-joined :
+    (edition : ℕ) (f g : ℕ → Station) (n m : ℕ) (sums other : List ℕ) → Grown edition f n sums → Grown edition g m other →
+    n + m ≤ mostStations → (r : ℕ) (sums' : List ℕ) → Crosses (joinTold (sumsIn sums) (sumsIn other)) r sums sums' → r ≡ 0
+fleet-grown-joined = join-answers
+
+-- A replay that was begun under an edition and fed with a log, cut anywhere, is of that edition, and is the station that egretfold_fleet_report
+-- reckons of the log's bytes (`stationAt`).
+pub fleet-grown-log :
+    (edition : ℕ) → isEdition edition ≡ true → (a₀ a : Arrays) (b : ℕ) → BeginsAt edition b a₀ a →
+    (ps : List (List ℕ)) (status taken : ℕ) (a' : Arrays) → Pieces a ps status taken a' → OfLog edition (uncut ps) (replayAt a')
+fleet-grown-log = from-log
+
+-- The numbers that egretfold_score_month left, with the days of its room that owe and are served 0, add the month just as its replay does.
+pub fleet-grown-month :
+    (a : Sums) (l : Lease) (q : Replay) → a .edition ≡ editionIn q → (r : ℕ) (claimed served month claimed' served' month' : List ℕ) →
+    MonthCrosses (scoreOf l q) r claimed served month claimed' served' month' → r ≡ 0 →
+    addMonthTold a (getD month' 0 0) (getD month' 1 0) (silentIn (l .days) (l .owed) served') ≡ addTold a (editionIn q) (stationOf l q)
+fleet-grown-month = month-rooms
+
+-- At each of these calls the numbers are such as the next one asks for, and egretfold_fleet_check takes them (`states.Fleet` has a constructor
+-- for each call): no sum passes 64 bits, since 31 * 100,000,000 * 4,294,967,296 < 2^64.
+pub fleet-grown-taken : {sums : List ℕ} → states.Fleet sums → {yes : Bool} → Judges yes (SumsGiven sums) → yes ≡ true
+fleet-grown-taken = fleet-taken
+
+pub fleet-grown-given : (edition : ℕ) (stations : ℕ → Station) (n : ℕ) (sums : List ℕ) → Grown edition stations n sums → SumsGiven sums
 fleet-grown-given = grown-given
 
 -- STATES THAT WERE KEPT ELSEWHERE, the project's own promise: "A state may be copied and kept (on disk, say) as it is". `Judges yes fact` is
@@ -1381,15 +1436,38 @@ pub trim-goes-on :
     SameAfter (replayAt a .midnights) (replayAt a .lastDay) status taken e status' taken' e'
 trim-goes-on h some c = trimmed-goes-on (replay-given h) some c
 
--- Over the years, without that "unless": a replay that is begun, fed and trimmed, in any order and for as long as its pieces are taken whole, is held
--- against one with room for any number of midnights (`freeOf`: document 02's replay, "at most 400 come in all" left out). That one takes the
--- same bytes, and its score by every lease line from the first day that the trimmed one has, and its parts, are those of the trimmed one.
-pub trim-years :
-    (edition : ℕ) (bytes : List ℕ) (q : Replay) → Years (newReplay edition) bytes q → 0 < q .midnights → (l : Lease) →
-    firstDay (q .midnights) (q .lastDay) ≤ l .firstDay → scoreOf l (freeOf (newFree edition) bytes .replay) ≡ scoreOf l q
-trim-years edition bytes q y some l h =
-    years-scores (freeOf (newFree edition) bytes .replay) q
-    (years-follow (newFree edition) (newReplay edition) (new-follows edition) bytes q y .1) some l h
+-- Over the years, without that "unless": a host begins a replay, feeds it pieces by egretfold_log_feed and bytes by egretfold_log_byte, and trims
+-- it, in any order and any number of times (`LogCalls`); calls may be refused, only not with 19 while there are 400 midnights. What it has then is
+-- held against document 02's replay of all those bytes with "at most 400 come in all" left out (`unlimited`): the session, the open record, the
+-- stop, the last day and the first refused word's number are the same, and so are each part and its day, from the first midnight that was kept on,
+-- and the score by each lease line that begins on that midnight's day or later.
+pub trim-years : {edition : ℕ} {bytes : List ℕ} {a : Arrays} → LogCalls edition bytes a → AsFree (unlimited edition bytes) (replayAt a)
+trim-years = years-as-free
+
+-- What the next piece is answered, the last and refused one too, is what that replay answers: the same status, the same bytes taken.
+pub trim-years-answers :
+    {edition : ℕ} {bytes : List ℕ} {a : Arrays} → LogCalls edition bytes a → (p : List ℕ) → Bytes8 p → (status taken : ℕ) (a' : Arrays) →
+    FedAt (replayOf (replayAt a) p) status taken a' → HadRoom status a' → AnswersAs (freeOf (unlimited edition bytes) p) status taken
+trim-years-answers = years-answered
+
+-- What egretfold_score_month writes and returns for such a lease line is that replay's month.
+pub trim-years-month :
+    {edition : ℕ} {bytes : List ℕ} {a : Arrays} → LogCalls edition bytes a → (l : Lease) → 0 < replayAt a .midnights →
+    firstDay (replayAt a .midnights) (replayAt a .lastDay) ≤ l .firstDay →
+    {r : ℕ} {claimed served month claimed' served' month' : List ℕ} →
+    ScoreCrosses l (a .log) (a .marks) (a .tallies) r claimed served month claimed' served' month' →
+    MonthCrosses (scoreOf l (unlimited edition bytes)) r claimed served month claimed' served' month'
+trim-years-month = years-scored
+
+-- And egretfold_log_check takes what the calls leave.
+pub trim-years-taken :
+    {edition : ℕ} {bytes : List ℕ} {a : Arrays} → LogCalls edition bytes a → {yes : Bool} → Judges yes (GivenAt a) → yes ≡ true
+trim-years-taken = years-judged
+
+-- Never trimmed, a replay is that one up to its 401st midnight.
+pub trim-years-free :
+    (edition : ℕ) (bytes : List ℕ) → Keeps 0 (freeOf (newFree edition) bytes) (replayOf (newReplay edition) bytes)
+trim-years-free = free-is
 
 -- And in any case: what the untrimmed replay takes, the trimmed one takes.
 pub trim-takes-all :

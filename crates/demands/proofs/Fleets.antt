@@ -37,8 +37,6 @@ use Rattle.fleet.proofs.Least.{yes-no}
 use Rattle.fleet.proofs.Months.{zero-fine}
 use Rattle.fleet.proofs.Smallest.{Best, none, best, named-is}
 use Rattle.fleet.proofs.Join.{Judged, refusedAt, allScored, judged, told-refused, told-scored, best-part}
-use Rattle.growing.specs.Calls.{Grown}
-use Rattle.growing.proofs.Calls.{is-report}
 use Rattle.demands.specs.Surveys.{inTurn}
 use Rattle.demands.specs.Fleets.{fleetAsks, Named, smallest, noneOwes, FleetSummed, FleetRefused, atStation}
 
@@ -101,7 +99,7 @@ module _ (edition : ℕ) (logs numbers : List ℕ) where
 
   named-by : (p : Part) → Best (servedBy n f) (owedBy n f) n p → Named n f (p .station)
   named-by p (none h) = noneOwes h
-  named-by p (best b l pos all low) = smallest b l pos all low
+  named-by p (best b l pos all low) = smallest b (record { listed = l; owes = pos; none-smaller = all; lowest = low })
 
   summed : ((k : ℕ) → k < n → isRefused (f k .score) ≡ false) → {room room' : List ℕ} {r : ℕ} →
       Crosses (fleetTold n f) r room room' → FleetSummed n f room'
@@ -158,22 +156,3 @@ report-left edition logs numbers r room room' c h = go (reportTold edition logs 
     go : (t : Told) → r ≡ statusOf t → room' ≡ roomOf t room → room' ≡ room
     go (gives v) s e = absurd (let z : ⊥ = omega arith in z)
     go (refuses m) s e = e
-
--- a report that grew station by station has the numbers of the one call
-pub report-grown : (edition : ℕ) (logs numbers : List ℕ) (r : ℕ) (room room' : List ℕ) →
-    Crosses (reportTold edition logs numbers (length room)) r room room' → r ≡ 0 → (sums : List ℕ) →
-    Grown (stationAt edition logs numbers) (stationsIn numbers) sums →
-    room' ≡ getD sums 1 0 ∷ getD sums 2 0 ∷ getD sums 3 0 ∷ getD sums 4 0 ∷ []
-report-grown edition logs numbers r room room' c z sums g =
-    summed .numbers ∙
-    ap (λ (k : ℕ). sum n (servedBy n f) ∷ sum n (owedBy n f) ∷ sum n (silentBy n f) ∷ k ∷ []) (sym (named-is n f)) ∙
-    ap (λ (t : Told). roomOf t []) (sym (told-scored n f (summed .all-scored)) ∙ is-report f n sums g .report)
-  where
-    n : ℕ
-    n = stationsIn numbers
-
-    f : ℕ → Station
-    f = stationAt edition logs numbers
-
-    summed : FleetSummed n f room'
-    summed = report-summed edition logs numbers r room room' c z

@@ -6,6 +6,7 @@ pub mod Editions
 pub mod Elements
 pub mod Fleets
 pub mod Flow
+pub mod Growing
 pub mod Lives
 pub mod Numbers
 pub mod Owning
@@ -20,3 +21,4 @@ pub mod Tables
 pub mod Trims
 pub mod Windows
 pub mod Writing
+pub mod Years

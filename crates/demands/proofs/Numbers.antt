@@ -62,6 +62,9 @@ use Rattle.kill.specs.Kill as kill
 use Rattle.kill.specs.Kill.{killTold, killOf}
 use Rattle.kill.specs.Through as kills
 use Rattle.kill.proofs.Through.{refused as kill-refused}
+use Rattle.growing.specs.Sums.{Sums}
+use Rattle.growing.specs.Cells.{begunTold, stationOf, addTold, addMonthTold, joinTold}
+use Rattle.growing.proofs.Calls.{some-number}
 use Rattle.demands.proofs.Fleets.{first-number}
 use Rattle.demands.proofs.Flow.{step-refused, run-walks}
 
@@ -262,6 +265,26 @@ report-number edition logs numbers room =
     (either _ _ _
     (either _ _ _ (by-pick Nonzero _ _ _ (λ e. numbered _ (first-number edition logs numbers e)) (λ e. given _)) (numbered 22 (omega arith)))
     (numbered 11 (omega arith)))
+
+pub begun-number : (edition : ℕ) → Nonzero (begunTold edition)
+unfolding begunTold
+begun-number edition = either _ _ _ (given _) (numbered 3 (omega arith))
+
+pub add-number : (a : Sums) (edition : ℕ) (l : Lease) (q : Replay) → Nonzero (addTold a edition (stationOf l q))
+unfolding addTold
+add-number a edition l q =
+    either _ _ _
+    (either _ _ _ (by-pick Nonzero _ _ _ (λ e. numbered _ (some-number l q e)) (λ e. given _)) (numbered 22 (omega arith)))
+    (numbered 3 (omega arith))
+
+pub add-month-number : (a : Sums) (served owed silent : ℕ) → Nonzero (addMonthTold a served owed silent)
+unfolding addMonthTold
+add-month-number a served owed silent =
+    either _ _ _ (either _ _ _ (given _) (numbered 21 (omega arith))) (numbered 22 (omega arith))
+
+pub join-number : (a b : Sums) → Nonzero (joinTold a b)
+unfolding joinTold
+join-number a b = either _ _ _ (either _ _ _ (given _) (numbered 22 (omega arith))) (numbered 3 (omega arith))
 
 pub lent-number : (l : Layout) (x y w h first room n : ℕ) (t : Told) → Nonzero t → Nonzero (ifLent l x y w h first room n t)
 unfolding ifLent

@@ -33,6 +33,8 @@ use lib.ListN.{length}
 use Rattle.conditional.specs.Conditional.{testOf, surveyOf}
 use Rattle.conditional_rooms.specs.Rooms.{SurveyCrosses}
 use Rattle.fleet.specs.Fleet.{reportTold}
+use Rattle.replay.specs.Cells.{replayIn}
+use Rattle.growing.specs.Cells.{sumsIn, begunTold, stationOf, editionIn, addTold, AddCrosses, addMonthTold, joinTold}
 use lib.Dec.{eqb}
 use Rattle.laws.specs.Choice.{pick}
 use Rattle.lessees.specs.Begin as pairs
@@ -134,6 +136,22 @@ pub data Call : Told → ℕ → List (List ℕ) → List (List ℕ) → Type 0 
   fleetReport : (edition : ℕ) (logs numbers : List ℕ) (r : ℕ) (room room' : List ℕ) →
       Crosses (reportTold edition logs numbers (length room)) r room room' →
       Call (reportTold edition logs numbers (length room)) r (room ∷ []) (room' ∷ [])
+  -- egretfold_fleet_begin
+  fleetBegin : (edition r : ℕ) (sums sums' : List ℕ) → Crosses (begunTold edition) r sums sums' →
+      Call (begunTold edition) r (sums ∷ []) (sums' ∷ [])
+  -- egretfold_fleet_add
+  fleetAdd : (l : Lease) (log marks own tallies shared : List ℕ) (r : ℕ) (sums sums' : List ℕ) →
+      AddCrosses l log marks own tallies r sums sums' →
+      Call
+      (addTold (sumsIn sums) (editionIn (replayIn log marks own tallies shared)) (stationOf l (replayIn log marks own tallies shared)))
+      r (sums ∷ []) (sums' ∷ [])
+  -- egretfold_fleet_add_month
+  fleetAddMonth : (served owed silent r : ℕ) (sums sums' : List ℕ) →
+      Crosses (addMonthTold (sumsIn sums) served owed silent) r sums sums' →
+      Call (addMonthTold (sumsIn sums) served owed silent) r (sums ∷ []) (sums' ∷ [])
+  -- egretfold_fleet_join
+  fleetJoin : (other : List ℕ) (r : ℕ) (sums sums' : List ℕ) → Crosses (joinTold (sumsIn sums) (sumsIn other)) r sums sums' →
+      Call (joinTold (sumsIn sums) (sumsIn other)) r (sums ∷ []) (sums' ∷ [])
   -- egretfold_pair_begin
   pairBegin : (inputs outputs edition r : ℕ) (own0 tallies0 own1 tallies1 shared own0' tallies0' own1' tallies1' shared' : List ℕ) →
       PairBegins inputs outputs edition r own0 tallies0 own1 tallies1 shared own0' tallies0' own1' tallies1' shared' →

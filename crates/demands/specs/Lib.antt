@@ -18,3 +18,4 @@ pub mod Tables
 pub mod Trims
 pub mod Windows
 pub mod Writing
+pub mod Years

@@ -1,5 +1,5 @@
--- States that were kept elsewhere and come back: the arrays that a host has of a session, of two parties and of a replay, from the calls
--- that begin them, from a check that took them, and from the calls that go on; each constructor has its call's contract. Assumes nothing.
+-- States that were kept elsewhere and come back: the arrays that a host has of a session, of two parties, of a replay and of a growing fleet
+-- report, from the calls that begin them, from a check that took them, and from the calls that go on; each constructor has its call's contract. Assumes nothing.
 use mathlib.Core.Path.{_≡_}
 use mathlib.Core.Bool.{Bool, true}
 use mathlib.Core.List.{List, [], _∷_}
@@ -16,6 +16,9 @@ use Rattle.log.specs.Asked.{Bytes8}
 use Rattle.log.specs.Feed.{replayOf}
 use Rattle.log_rooms.specs.Pieces.{Arrays, replayAt, GivenAt, BeginsAt, FedAt, ByteAt}
 use Rattle.judges.specs.Judged.{Judges}
+use Rattle.refusal.specs.Crossing.{Crosses}
+use Rattle.score.specs.Lease.{Lease}
+use Rattle.growing.specs.Cells.{SumsGiven, sumsIn, begunTold, AddCrosses, addMonthTold, joinTold}
 use Rattle.demands.specs.Pairs.{PairArrays, PairGivenAt, PairFedAt, PairBegunAt, sessionAt, withParty}
 use Rattle.demands.specs.Trims.{TrimmedAt}
 
@@ -63,6 +66,22 @@ pub data Replay : Arrays → Type 0 where
       FedAt (replayOf (replayAt a) bytes) r taken a' → Replay a'
   -- egretfold_log_trim
   trim : {a : Arrays} → Replay a → (r : ℕ) (a' : Arrays) → TrimmedAt a r a' → Replay a'
+
+-- a growing fleet report's numbers
+pub data Fleet : List ℕ → Type 0 where
+  -- egretfold_fleet_begin that returned 0
+  begun : (edition r : ℕ) (sums sums' : List ℕ) → Crosses (begunTold edition) r sums sums' → r ≡ 0 → Fleet sums'
+  -- egretfold_fleet_check that returned true
+  checked : (sums : List ℕ) → Judges true (SumsGiven sums) → Fleet sums
+  -- egretfold_fleet_add
+  add : (sums : List ℕ) → Fleet sums → (l : Lease) (log marks own tallies : List ℕ) (r : ℕ) (sums' : List ℕ) →
+      AddCrosses l log marks own tallies r sums sums' → Fleet sums'
+  -- egretfold_fleet_add_month
+  addMonth : (sums : List ℕ) → Fleet sums → (served owed silent r : ℕ) (sums' : List ℕ) →
+      Crosses (addMonthTold (sumsIn sums) served owed silent) r sums sums' → Fleet sums'
+  -- egretfold_fleet_join
+  join : (sums : List ℕ) → Fleet sums → (other : List ℕ) → Fleet other → (r : ℕ) (sums' : List ℕ) →
+      Crosses (joinTold (sumsIn sums) (sumsIn other)) r sums sums' → Fleet sums'
 
 -- a state that was saved and read back is taken, and goes on as the one that was saved
 pub record GoesOn (yes : Bool) (same : Type 0) : Type 0 where

@@ -67,7 +67,7 @@ pub extern "C" fn egretfold_group_check(cells: &[u32; group::CELLS]) -> bool
 // Whether the numbers are a growing report's.
 #[no_mangle]
 pub extern "C" fn egretfold_fleet_check(sums: &[u64; growing::SUMS]) -> bool
-    requires { ⌜ length (now sums) ≡ 7 ⌝ }
+    requires { ⌜ length (now sums) ≡ 8 ⌝ }
     ensures { λ r. ⌜ Judges r (SumsGiven (now (sums .entry))) ⌝ }
 {
     growing::is_kept(sums)

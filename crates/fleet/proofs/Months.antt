@@ -84,15 +84,17 @@ pub counting-ends : {served : List ℕ} {days owed silent k : ℕ} → Counting 
 counting-ends {served} {days} {owed} {silent} {k} c h =
     let same : k ≡ days = omega (arith, c .within) in c .so-far ∙ ap (λ (m : ℕ). silentIn m owed served) same
 
--- no month owes more than 31 days of 100,000,000 elements, nor is served more, nor has more silent days
+-- no month owes more than 31 days of 100,000,000 elements, nor is served more than it owes, nor has more silent days
 pub record Monthly (l : Lease) (s : Score) : Type 0 where
+  pub served-owed : servedIn s ≤ owedIn s
   pub served-most : servedIn s ≤ mostMonth
   pub owed-most : owedIn s ≤ mostMonth
   pub silent-most : silentDays l s ≤ 31
 
 refused-monthly : (l : Lease) (n : ℕ) → Monthly l (refused n)
 unfolding servedIn owedIn silentDays
-refused-monthly l n = record { served-most = omega arith; owed-most = omega arith; silent-most = omega arith }
+refused-monthly l n =
+    record { served-owed = omega arith; served-most = omega arith; owed-most = omega arith; silent-most = omega arith }
 
 pub monthly : (l : Lease) (r : Replay) → Monthly l (scoreOf l r)
 unfolding scoreOf
@@ -104,6 +106,7 @@ monthly l r = go (tested (isLease l)) (tested (eqb (r .stoppedBy) 0))
         let most = owed-small (l .days) (l .owed) (b .few-days) (b .few-owed) in
         unfold servedIn owedIn silentDays in
         record {
+          served-owed = served-month l r;
           served-most = le-trans (served-month l r) most;
           owed-most = most;
           silent-most = le-trans (silent-most (l .owed) (monthOf l r .served) (l .days)) (b .few-days);

@@ -33,7 +33,7 @@ fn is_smaller(served: u64, owed: u64, other_served: u64, other_owed: u64) -> boo
 
 // The smallest part with one station more, whose number is higher than those before: it has to be smaller to be named. One that owes
 // nothing is left out.
-fn next_part(part: Part, number: u64, served: u64, owed: u64) -> Part
+pub fn next_part(part: Part, number: u64, served: u64, owed: u64) -> Part
     requires { ⌜ ((served ≤ mostMonth) × (owed ≤ mostMonth)) × ((part .served ≤ mostMonth) × (part .owed ≤ mostMonth)) ⌝ }
     ensures { λ r. ⌜ r ≡ partNext part number served owed ⌝ }
 {

@@ -1,31 +1,43 @@
 -- A report that grows from call to call. Assumes nothing.
 use mathlib.Core.Path.{_≡_}
 use mathlib.Core.Bool.{false}
-use mathlib.Core.List.{List, [], _∷_}
-use Prim.Native.Nat.{ℕ, zero, suc, _<_}
-use lib.ListN.{getD}
-use Rattle.refusal.specs.Told.{gives}
+use mathlib.Core.List.{List}
+use Prim.Native.Nat.{ℕ, zero, suc, _+_, _<_}
+use Rattle.refusal.specs.Told.{Told}
+use Rattle.refusal.specs.Crossing.{Crosses}
+use Rattle.replay.specs.State.{Replay}
 use Rattle.replay.specs.Cells.{replayIn}
 use Rattle.score.specs.Lease.{Lease}
-use Rattle.fleet.specs.Fleet.{Station, isRefused, owedIn, fleetTold}
-use Rattle.growing.specs.Sums.{noSums}
-use Rattle.growing.specs.Cells.{sumsCells, stationOf, AddCrosses}
+use Rattle.score.specs.Score.{scoreOf}
+use Rattle.fleet.specs.Fleet.{Station, isRefused, servedIn, owedIn, silentDays}
+use Rattle.fleet.specs.Join.{sumsOf, behind}
+use Rattle.growing.specs.Cells.{sumsIn, sumsCells, stationOf, begunTold, AddCrosses, addMonthTold, joinTold}
 
--- the numbers after `n` calls of `add` that returned 0, one for each of the stations `f 0`, `f 1` and on; calls that returned another number
--- changed nothing, and may stand between them
-pub data Grown (f : ℕ → Station) : ℕ → List ℕ → Type 0 where
-  begun : (sums : List ℕ) → sums ≡ sumsCells noSums → Grown f zero sums
+-- the numbers of a report of an edition after calls that added `n` stations in all, which are `f 0`, `f 1` and on
+pub data Grown (edition : ℕ) : (ℕ → Station) → ℕ → List ℕ → Type 0 where
+  -- egretfold_fleet_begin that returned 0
+  begun : (f : ℕ → Station) (r : ℕ) (sums sums' : List ℕ) → Crosses (begunTold edition) r sums sums' → r ≡ 0 → Grown edition f zero sums'
+  -- egretfold_fleet_add that returned 0, for the next station
   more :
-      (k : ℕ) (sums : List ℕ) → Grown f k sums → (l : Lease) (log marks own tallies shared : List ℕ) →
+      (f : ℕ → Station) (k : ℕ) (sums : List ℕ) → Grown edition f k sums → (l : Lease) (log marks own tallies shared : List ℕ) →
       f k ≡ stationOf l (replayIn log marks own tallies shared) → (r : ℕ) (sums' : List ℕ) →
-      AddCrosses l log marks tallies r sums sums' → r ≡ 0 → Grown f (suc k) sums'
+      AddCrosses l log marks own tallies r sums sums' → r ≡ 0 → Grown edition f (suc k) sums'
+  -- egretfold_fleet_add_month that returned 0, with the numbers of the next station's month
+  month :
+      (f : ℕ → Station) (k : ℕ) (sums : List ℕ) → Grown edition f k sums → (l : Lease) (q : Replay) → f k ≡ stationOf l q →
+      isRefused (scoreOf l q) ≡ false → (r : ℕ) (sums' : List ℕ) →
+      Crosses (addMonthTold (sumsIn sums) (servedIn (scoreOf l q)) (owedIn (scoreOf l q)) (silentDays l (scoreOf l q))) r sums sums' →
+      r ≡ 0 → Grown edition f (suc k) sums'
+  -- egretfold_fleet_join that returned 0, with a report of the stations behind the first `n`
+  joined :
+      (f : ℕ → Station) (n m : ℕ) (sums other : List ℕ) → Grown edition f n sums → Grown edition (behind n f) m other →
+      (r : ℕ) (sums' : List ℕ) → Crosses (joinTold (sumsIn sums) (sumsIn other)) r sums sums' → r ≡ 0 → Grown edition f (n + m) sums'
+  -- any call that was refused
   same :
-      (k : ℕ) (sums : List ℕ) → Grown f k sums → (l : Lease) (log marks own tallies shared : List ℕ) → (r : ℕ) (sums' : List ℕ) →
-      AddCrosses l log marks tallies r sums sums' → 0 < r → Grown f k sums'
+      (f : ℕ → Station) (k : ℕ) (sums : List ℕ) → Grown edition f k sums → (t : Told) (r : ℕ) (sums' : List ℕ) →
+      Crosses t r sums sums' → 0 < r → Grown edition f k sums'
 
--- they are the report of these stations: its four numbers, none of them refused, and a station that owes 0 for none
-pub record IsReport (f : ℕ → Station) (n : ℕ) (sums : List ℕ) : Type 0 where
-  pub counted : getD sums 0 0 ≡ n
+-- they are what these stations come to, of which none is refused
+pub record IsReport (edition : ℕ) (f : ℕ → Station) (n : ℕ) (sums : List ℕ) : Type 0 where
+  pub cells : sums ≡ sumsCells (record { edition = edition; count = n; fleet = sumsOf n f })
   pub all-scored : (j : ℕ) → j < n → isRefused (f j .score) ≡ false
-  pub report : fleetTold n f ≡ gives (getD sums 1 0 ∷ getD sums 2 0 ∷ getD sums 3 0 ∷ getD sums 4 0 ∷ [])
-  pub none-owes : getD sums 6 0 ≡ 0 → (j : ℕ) → j < n → owedIn (f j .score) ≡ 0

@@ -1,5 +1,5 @@
--- A trimmed replay: it is the replay without all its midnights but the last, it is valid where that is, and trimming it again changes
--- nothing. Assumes nothing.
+-- A trimmed replay: it is valid where the replay is that it was made from, follows what that follows, and trimming it again changes nothing.
+-- Assumes nothing.
 use mathlib.Core.Path.{_≡_, refl, sym, ap, _∙_, subst}
 use mathlib.Core.Bool.{true}
 use Prim.Native.Nat.{ℕ, zero, suc, _+_, _-_, _<_, _≤_}
@@ -14,8 +14,8 @@ use Rattle.replay.specs.State.{Replay, marksLength}
 use Rattle.replay.specs.Report.{markAt, beganWith}
 use Rattle.replay.specs.Cells.{Grows, ReplayValid}
 use Rattle.replay.proofs.Marks.{mark-new, mark-other, grows-on, grows-marked, ended-now}
-use Rattle.trim.specs.Trim.{onlyMark, lastOnly, trimmed}
-use Rattle.trim.specs.Same.{Without}
+use Rattle.trim.specs.Trim.{cutBefore, onlyMark, lastOnly, trimmed}
+use Rattle.trim.specs.Free.{Follows, Behind, by}
 
 -- the two ways
 pub untrimmed : (r : Replay) → r .midnights ≡ 0 → trimmed r ≡ r
@@ -49,7 +49,7 @@ last-again r =
       stoppedBy = r .stoppedBy;
       refused = record { number = r .refused .number; midnights = none-less (r .refused .midnights - (r .midnights - 1)) j };
       midnights = 1;
-      lastDay = r .lastDay;
+      lastDay = lastOnly r .lastDay;
       marks = onlyMark (only-mark (markAt (r .marks) (r .midnights - 1)) j);
     }
   where
@@ -69,32 +69,6 @@ trimmed-again r = go (tested (eqb (r .midnights) 0))
 module _ (r : Replay) (v : ReplayValid r) (some : 0 < r .midnights) where
   abbrev last : Tally
   last = markAt (r .marks) (r .midnights - 1)
-
-  -- it is the replay without its midnights but the last
-  last-without : Without (r .midnights - 1) (r .lastDay) r (lastOnly r)
-  last-without =
-      record {
-        session = refl;
-        opened = refl;
-        stopped-by = refl;
-        refused = refl;
-        midnights = omega arith;
-        some = omega arith;
-        most = v .midnights-most;
-        last-day = refl;
-        first-day = refl;
-        long-room = v .marks-length;
-        room = only-length last;
-        marks = λ k h. one k (omega arith);
-      }
-    where
-      one : (k : ℕ) → k ≡ 0 → markAt (r .marks) (r .midnights - 1 + k) ≡ markAt (onlyMark last) k
-      one k e =
-          subst (λ (n : ℕ). markAt (r .marks) (r .midnights - 1 + n) ≡ markAt (onlyMark last) n) (sym e)
-          (ap (markAt (r .marks)) (omega arith) ∙ sym (only-mark last))
-
-  pub trimmed-without : Without (r .midnights - 1) (r .lastDay) r (trimmed r)
-  trimmed-without = subst (Without (r .midnights - 1) (r .lastDay) r) (sym (trimmed-is r some)) last-without
 
   -- the tallies at the last midnight are no more than those of now
   abbrev now : Tally
@@ -159,3 +133,45 @@ trimmed-valid r v = go (tested (eqb (r .midnights) 0))
         let ne : r .midnights ≡ 0 → ⊥ = eqb-false _ _ z in
         let some : 0 < r .midnights = omega arith in
         subst ReplayValid (sym (trimmed-is r some)) (last-valid r v some)
+
+-- a trimmed replay follows what the replay that it was made from follows, one with room for any number of midnights
+module _ {cut : ℕ} {r q : Replay} (e : Follows cut r q) where
+  pub last-follows : 0 < q .midnights → Follows (cut + (q .midnights - 1)) r (lastOnly q)
+  last-follows some =
+      record {
+        session = e .session;
+        opened = e .opened;
+        stopped-by = e .stopped-by;
+        refused =
+            (λ j. record { number = r .refused .number; midnights = place (r .refused .midnights) j }) ∙
+            ap (cutBefore (q .midnights - 1)) (e .refused);
+        midnights = omega (arith, e .midnights);
+        some = λ z. omega arith;
+        most = omega arith;
+        last-day = e .last-day;
+        days-number = omega arith;
+        long-room = e .long-room;
+        room = only-length (markAt (q .marks) (q .midnights - 1));
+        marks = λ k h. one k (omega arith);
+      }
+    where
+      place : (f : ℕ) → f - (cut + (q .midnights - 1)) ≡ f - cut - (q .midnights - 1)
+      place f = omega arith
+
+      one : (k : ℕ) → k ≡ 0 →
+          markAt (r .marks) (cut + (q .midnights - 1) + k) ≡ markAt (onlyMark (markAt (q .marks) (q .midnights - 1))) k
+      one k z =
+          let same-place : cut + (q .midnights - 1) + k ≡ cut + (q .midnights - 1) = omega arith in
+          ap (markAt (r .marks)) same-place ∙ e .marks (q .midnights - 1) (omega arith) ∙
+          sym
+          (ap (markAt (onlyMark (markAt (q .marks) (q .midnights - 1)))) z ∙ only-mark (markAt (q .marks) (q .midnights - 1)))
+
+  pub trim-follows : Behind r (trimmed q)
+  trim-follows = go (tested (eqb (q .midnights) 0))
+    where
+      go : Tested (eqb (q .midnights) 0) → Behind r (trimmed q)
+      go (holds z) = by cut (subst (Follows cut r) (sym (untrimmed q (eqb-true _ _ z))) e)
+      go (fails z) =
+          let ne : q .midnights ≡ 0 → ⊥ = eqb-false _ _ z in
+          let some : 0 < q .midnights = omega arith in
+          by (cut + (q .midnights - 1)) (subst (Follows (cut + (q .midnights - 1)) r) (sym (trimmed-is q some)) (last-follows some))

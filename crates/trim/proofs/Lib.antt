@@ -3,5 +3,6 @@ pub mod Cells
 pub mod Kept
 pub mod Laws
 pub mod Parts
+pub mod Rooms
 pub mod Scores
 pub mod Years

@@ -2,8 +2,8 @@
 //! and back. What comes back is judged by the library before it is a state again, so
 //! that no damaged bytes reach a call that trusts them.
 
-use crate::lengths::{CELLS, LOG, MARKS, OWN, SHARED, TALLIES};
-use crate::{lent, Group, Owners, Pair, Party, Refusal, Replay, Session};
+use crate::lengths::{CELLS, LOG, MARKS, OWN, SHARED, SUMS, TALLIES};
+use crate::{lent, Fleet, Group, Owners, Pair, Party, Refusal, Replay, Session};
 
 /// The bytes of a number of 32 bits, and of one of 64.
 const SHORT: usize = 4;
@@ -163,6 +163,24 @@ impl Group {
     pub fn from_bytes(bytes: &[u8]) -> Option<Group> {
         let cells = Cells::of(bytes, Group::BYTES)?.short();
         lent::group_check(&cells).then_some(Group { cells })
+    }
+}
+
+impl Fleet {
+    /// How many bytes a growing report is kept in.
+    pub const BYTES: usize = LONG * SUMS;
+
+    /// The report as bytes.
+    pub fn to_bytes(&self) -> Vec<u8> {
+        let mut bytes = Vec::with_capacity(Fleet::BYTES);
+        put_long(&mut bytes, &self.sums);
+        bytes
+    }
+
+    /// The report of these bytes; none where they are no report's.
+    pub fn from_bytes(bytes: &[u8]) -> Option<Fleet> {
+        let sums = Cells::of(bytes, Fleet::BYTES)?.long();
+        lent::fleet_check(&sums).then_some(Fleet { sums })
     }
 }
 

@@ -28,3 +28,6 @@ pub const CHANNELS: usize = 4;
 
 /// The most days that a lease line has.
 pub const DAYS: usize = 31;
+
+/// A growing fleet report's numbers.
+pub const SUMS: usize = 8;

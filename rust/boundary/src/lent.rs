@@ -11,14 +11,15 @@
 //!   an empty slice's pointer is not null);
 //! * nothing written overlaps anything else: every array that is written comes
 //!   as a `&mut`, which nothing else can share;
-//! * states as the library left them: [`Session`], [`Pair`], [`Replay`] and [`Group`]
+//! * states as the library left them: [`Session`], [`Pair`], [`Replay`], [`Group`] and [`Fleet`]
 //!   keep their arrays private and are made only by a begin that was accepted, or of
 //!   bytes whose arrays the library's own check says yes to. A replay's session is
 //!   shown but never handed out to be changed.
 
+use crate::fleet::Fleet;
 use crate::flow::{Group, Program};
 use crate::layout::Layout;
-use crate::lengths::{CELLS, CHANNELS, DAYS, LOG, MARKS, OWN, SHARED, SLOTS, TALLIES};
+use crate::lengths::{CELLS, CHANNELS, DAYS, LOG, MARKS, OWN, SHARED, SLOTS, SUMS, TALLIES};
 use crate::log::Replay;
 use crate::pair::{Owners, Pair, Party};
 use crate::picture::Rectangle;
@@ -55,7 +56,8 @@ pub fn session_begin_anew(session: &mut Session, edition: u32) -> u32 {
 }
 
 /// One word. command: 0 where a command is still open, else 1; then the
-/// completed command's header and four parameters. 1 to 9 or 17.
+/// completed command's header and four parameters. 1 to 9 or 17, and 20 where
+/// the arrays are a party's of a pair.
 #[inline]
 pub fn session_word(session: &mut Session, word: u32, command: &mut [u32; 6]) -> u32 {
     let Session {
@@ -361,6 +363,63 @@ pub fn fleet_report(edition: u32, logs: &[u8], numbers: &[u64], room: &mut [u64]
     let (logs, numbers, room) = (logs.as_ptr(), numbers.as_ptr(), room.as_mut_ptr());
     // SAFETY: each pointer comes with its slice's length; the room is apart from both.
     unsafe { raw::egretfold_fleet_report(edition, logs, length, numbers, count, room, room_length) }
+}
+
+/// A growing report of the number of an edition, and no station. 3.
+#[inline]
+pub fn fleet_begin(edition: u32) -> Answer<Fleet> {
+    let mut sums = [0; SUMS];
+    // SAFETY: one room, of the right length.
+    answer(unsafe { raw::egretfold_fleet_begin(&mut sums, edition) })?;
+    Ok(Fleet { sums })
+}
+
+/// One station more, by its replay and a lease line: first day, days, elements owed a
+/// day. 3 for a replay of another edition, 22, then 21, 18 or 19.
+#[inline]
+pub fn fleet_add(
+    fleet: &mut Fleet,
+    replay: &Replay,
+    (first_day, days, owed): (u32, u32, u32),
+) -> u32 {
+    let Replay {
+        log,
+        marks,
+        session: Session { own, tallies, .. },
+    } = replay;
+    let sums = &mut fleet.sums;
+    // SAFETY: the numbers are a report's and the arrays a replay's that the library gave
+    // out; they are apart.
+    unsafe { raw::egretfold_fleet_add(sums, log, marks, own, tallies, first_day, days, owed) }
+}
+
+/// One station more, by its month's numbers. 22, then 21.
+#[inline]
+pub fn fleet_add_month(fleet: &mut Fleet, served: u64, owed: u64, silent: u64) -> u32 {
+    // SAFETY: the numbers are a report's that the library gave out.
+    unsafe { raw::egretfold_fleet_add_month(&mut fleet.sums, served, owed, silent) }
+}
+
+/// The other report's stations behind these. 3 for another edition, 22.
+#[inline]
+pub fn fleet_join(fleet: &mut Fleet, other: &Fleet) -> u32 {
+    // SAFETY: both are a report's numbers that the library gave out, and apart.
+    unsafe { raw::egretfold_fleet_join(&mut fleet.sums, &other.sums) }
+}
+
+/// room: served, owed, silent days, the station with the smallest part, and 1 where it
+/// is one, 0 where none owes anything.
+#[inline]
+pub fn fleet_tell(fleet: &Fleet, room: &mut [u64; 5]) -> u32 {
+    // SAFETY: two arrays of the right lengths, of which nothing else is asked.
+    unsafe { raw::egretfold_fleet_tell(&fleet.sums, room) }
+}
+
+/// Whether the library takes these numbers as a growing report's.
+#[inline]
+pub fn fleet_check(sums: &[u64; SUMS]) -> bool {
+    // SAFETY: an array of the right length, of which nothing else is asked; nothing is written.
+    unsafe { raw::egretfold_fleet_check(sums) }
 }
 
 /// count: how many parameters a header announces. 2.

@@ -13,7 +13,7 @@
 //!
 //! [`headers`] has the commands' header words by name, [`lengths`] the arrays' lengths.
 //!
-//! A state may be kept elsewhere, on disk say: [`Session`], [`Pair`], [`Replay`] and [`Group`]
+//! A state may be kept elsewhere, on disk say: [`Session`], [`Pair`], [`Replay`], [`Group`] and [`Fleet`]
 //! have `to_bytes`, and `from_bytes`, which asks the library's own check and gives a state only
 //! where that says yes: what then comes can't be harmed by bytes that were.
 //!
@@ -69,7 +69,7 @@ mod view;
 pub use command::{parameters, write_command, Command};
 pub use edition::Edition;
 pub use element::{read, superfine, write, Element};
-pub use fleet::{fleet_report, FleetReport, MOST_STATIONS};
+pub use fleet::{fleet_report, Fleet, FleetReport, FleetTold, MOST_STATIONS};
 pub use flow::{Group, Loop, Loops, Mode, Program, Report, Stepped};
 pub use layout::{layout, locate, translate, Layout, Translated, Window};
 pub use log::{BytesFed, Day, LogStatus, Part, RefusedWord, Replay};

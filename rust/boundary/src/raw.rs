@@ -2,7 +2,7 @@
 //! array of a fixed length is a reference here (to C the same as a pointer), so
 //! that its length is checked; one with a length of its own is a pointer.
 
-use crate::lengths::{CELLS, CHANNELS, DAYS, LOG, MARKS, OWN, SHARED, SLOTS, TALLIES};
+use crate::lengths::{CELLS, CHANNELS, DAYS, LOG, MARKS, OWN, SHARED, SLOTS, SUMS, TALLIES};
 
 extern "C" {
     pub fn egretfold_session_begin(
@@ -133,6 +133,32 @@ extern "C" {
         room: *mut u64,
         room_length: usize,
     ) -> u32;
+
+    pub fn egretfold_fleet_begin(sums: &mut [u64; SUMS], edition: u32) -> u32;
+
+    pub fn egretfold_fleet_add(
+        sums: &mut [u64; SUMS],
+        log: &[u32; LOG],
+        marks: &[u64; MARKS],
+        own: &[u32; OWN],
+        tallies: &[u64; TALLIES],
+        first_day: u32,
+        days: u32,
+        owed: u32,
+    ) -> u32;
+
+    pub fn egretfold_fleet_add_month(
+        sums: &mut [u64; SUMS],
+        served: u64,
+        owed: u64,
+        silent: u64,
+    ) -> u32;
+
+    pub fn egretfold_fleet_join(sums: &mut [u64; SUMS], other: &[u64; SUMS]) -> u32;
+
+    pub fn egretfold_fleet_tell(sums: &[u64; SUMS], room: &mut [u64; 5]) -> u32;
+
+    pub fn egretfold_fleet_check(sums: &[u64; SUMS]) -> bool;
 
     pub fn egretfold_command_parameters(header: u32, count: &mut [u32; 1]) -> u32;
 

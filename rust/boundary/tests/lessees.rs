@@ -185,7 +185,7 @@ fn a_piece_runs_on_past_a_refused_word() {
         .collect();
     let numbers: Vec<u32> = words.iter().map(|(_, word)| *word).collect();
     let parties = Party::packed(words.iter().map(|(party, _)| *party));
-    assert_eq!(parties, [0x5555_5555 & (1 << 31) - 1]);
+    assert_eq!(parties, [0x5555_5555 & ((1 << 31) - 1)]);
     let mut session = pair();
     let told = session.feed_both(&numbers, &parties);
     let zeros = Fed {

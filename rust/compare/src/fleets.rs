@@ -15,9 +15,9 @@ const MOST: usize = 64;
 
 /// A station as both programs take it: its log, and first day, days and what a day owes.
 #[derive(Clone)]
-struct Given {
-    log: Vec<u8>,
-    lease: [u64; 3],
+pub struct Given {
+    pub log: Vec<u8>,
+    pub lease: [u64; 3],
 }
 
 /// What a start of a small station claims under edition 1.
@@ -58,7 +58,7 @@ fn stations(random: &mut Random) -> Vec<Given> {
         .collect()
 }
 
-fn station(random: &mut Random) -> Given {
+pub fn station(random: &mut Random) -> Given {
     match random.below(16) {
         0 => any_log(random),
         1 => large(random),
@@ -138,7 +138,7 @@ fn words(words: &[u32]) -> Vec<u8> {
 }
 
 /// A log or a lease line that is refused: 18, 19 or 21.
-fn damage(random: &mut Random, station: &mut Given) {
+pub fn damage(random: &mut Random, station: &mut Given) {
     match random.below(8) {
         0 | 1 => station.log.push(random.one_of(&[0, 3, 255])),
         2 => {
@@ -158,7 +158,7 @@ fn damage(random: &mut Random, station: &mut Given) {
 }
 
 /// The two slices of a fleet.
-fn slices(stations: &[Given]) -> (Vec<u8>, Vec<u64>) {
+pub fn slices(stations: &[Given]) -> (Vec<u8>, Vec<u64>) {
     let (mut logs, mut numbers) = (Vec::new(), Vec::new());
     for Given { log, lease } in stations {
         logs.extend(log);
@@ -263,10 +263,13 @@ fn spoiled(case: &mut Case, edition: Edition, stations: &[Given]) -> Agreement {
                 numbers.truncate(random.below(numbers.len() as u32 + 1) as usize);
             }
             3 => numbers.push(random.long()),
-            4 => match random.coin() {
-                true => logs.push(0),
-                false => drop(logs.pop()),
-            },
+            4 => {
+                if random.coin() {
+                    logs.push(0);
+                } else {
+                    logs.pop();
+                }
+            }
             _ => wrapped(random, &mut numbers),
         }
     }

@@ -24,9 +24,10 @@ pub fn run(case: &mut Case) -> Agreement {
     floats::agree(case)?;
     let words = programs::any(&mut case.random);
     let program = flow::loaded(case, words)?;
-    let fresh = match case.random.coin() {
-        true => flow::begun(case)?,
-        false => Some(in_partial_mode(case)?),
+    let fresh = if case.random.coin() {
+        flow::begun(case)?
+    } else {
+        Some(in_partial_mode(case)?)
     };
     if let (Some(program), Some(both)) = (program, fresh) {
         let masks = flow::any_masks(&mut case.random);
@@ -148,9 +149,12 @@ fn any_call(case: &mut Case, both: &Both) -> Asked {
         _ => case.random.below(16),
     };
     let random = &mut case.random;
-    let one = |_| match random.once_in(one_in) {
-        true => floats::any(random),
-        false => floats::harmless(random),
+    let one = |_| {
+        if random.once_in(one_in) {
+            floats::any(random)
+        } else {
+            floats::harmless(random)
+        }
     };
     let registers = (0..floats).map(one).collect();
     Asked { registers, mask }

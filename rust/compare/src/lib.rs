@@ -2,7 +2,7 @@
 //! made apart from it, on millions of made-up inputs: good ones, ones at the
 //! edges of the rules, damaged ones and noise.
 //!
-//! There are fifteen kinds of cases, one module each:
+//! There are sixteen kinds of cases, one module each:
 //!
 //! * [`addresses`]: layouts judged, pairs translated, addresses located back;
 //! * [`memory`]: elements read and written in lent memory, superfine reads;
@@ -17,6 +17,7 @@
 //! * [`surveys`]: conditional tests and surveys of domains;
 //! * [`pictures`]: rectangles painted into memory and copied out of it;
 //! * [`fleets`]: the logs and lease lines of up to 64 stations in one report;
+//! * [`growing`]: that report over any number of stations, added and joined;
 //! * [`states`]: states kept as bytes at random places, and gone on with;
 //! * [`trims`]: logs of days and of years whose replays are trimmed on the way.
 //!
@@ -34,6 +35,7 @@ pub mod fleets;
 pub mod floats;
 pub mod flow;
 pub mod groups;
+pub mod growing;
 pub mod kills;
 pub mod layouts;
 pub mod lessees;
@@ -48,6 +50,7 @@ pub mod pictures;
 pub mod programs;
 pub mod random;
 pub mod records;
+pub mod reduced;
 pub mod scores;
 pub mod settings;
 pub mod starts;
@@ -84,11 +87,12 @@ pub enum Kind {
     Pictures,
     Fleets,
     States,
+    Growing,
     Trims,
 }
 
 impl Kind {
-    pub const ALL: [Kind; 15] = [
+    pub const ALL: [Kind; 16] = [
         Kind::Addresses,
         Kind::Memory,
         Kind::Streams,
@@ -103,6 +107,7 @@ impl Kind {
         Kind::Pictures,
         Kind::Fleets,
         Kind::States,
+        Kind::Growing,
         Kind::Trims,
     ];
 
@@ -122,6 +127,7 @@ impl Kind {
             Kind::Pictures => "pictures",
             Kind::Fleets => "fleets",
             Kind::States => "states",
+            Kind::Growing => "growing",
             Kind::Trims => "trims",
         }
     }
@@ -146,6 +152,7 @@ impl Kind {
             Kind::Pictures => pictures::run(case),
             Kind::Fleets => fleets::run(case),
             Kind::States => states::run(case),
+            Kind::Growing => growing::run(case),
             Kind::Trims => trims::run(case),
         }
     }
@@ -181,15 +188,8 @@ pub fn run_case(
     tally: &mut Tally,
     aloud: bool,
 ) -> Result<(), Box<Failure>> {
-    let mut case = Case {
-        random: Random::of_case(kind as u64, seed, number),
-        tally,
-        aloud,
-    };
-    case.tally.cases += 1;
-    // A program that panics is told from one that answers, with the same report.
-    let ended = catch_unwind(AssertUnwindSafe(|| kind.run(&mut case)));
-    let agreement = ended.unwrap_or_else(|panic| Err(Box::new(panicked(&*panic))));
+    let random = Random::of_case(kind as u64, seed, number);
+    let (_, agreement) = run_with(kind, random, tally, aloud);
     agreement.map_err(|difference| {
         Box::new(Failure {
             kind,
@@ -200,6 +200,23 @@ pub fn run_case(
     })
 }
 
+/// Runs the case that these numbers make: how many of them it drew, and what came of it.
+pub fn run_with(kind: Kind, random: Random, tally: &mut Tally, aloud: bool) -> (usize, Agreement) {
+    let mut case = Case {
+        random,
+        tally,
+        aloud,
+    };
+    case.tally.cases += 1;
+    // A program that panics is told from one that answers, with the same report.
+    let ended = catch_unwind(AssertUnwindSafe(|| kind.run(&mut case)));
+    let agreement = ended.unwrap_or_else(|panic| Err(Box::new(panicked(&*panic))));
+    (case.random.drawn(), agreement)
+}
+
+/// What is told as asked where a program panicked.
+pub const PANICKED: &str = "a call that did not come back";
+
 fn panicked(panic: &(dyn Any + Send)) -> Difference {
     let text = panic
         .downcast_ref::<String>()
@@ -207,7 +224,7 @@ fn panicked(panic: &(dyn Any + Send)) -> Difference {
         .or_else(|| panic.downcast_ref::<&str>().map(|text| text.to_string()))
         .unwrap_or_default();
     Difference {
-        asked: "a call that did not come back".to_string(),
+        asked: PANICKED.to_string(),
         product: format!("panic: {text}"),
         expected: "an answer".to_string(),
     }

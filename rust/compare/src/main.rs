@@ -3,8 +3,10 @@
 
 use compare::case::say;
 use compare::options::{self, Wish};
+use compare::random::Random;
+use compare::reduced::reduced;
 use compare::tally::Tally;
-use compare::{run_case, run_cases, Failure, Kind};
+use compare::{run_case, run_cases, run_with, Failure, Kind};
 use std::process::ExitCode;
 use std::sync::atomic::{AtomicU64, Ordering};
 use std::sync::Mutex;
@@ -22,6 +24,7 @@ fn main() -> ExitCode {
             ExitCode::SUCCESS
         }
         Ok(Wish::Case { kind, seed, number }) => one_case(kind, seed, number),
+        Ok(Wish::Draws { kind, list }) => drawn_case(kind, &list),
         Ok(Wish::Cases {
             kinds,
             seed,
@@ -39,10 +42,15 @@ fn one_case(kind: Kind, seed: u64, number: u64) -> ExitCode {
     match run_case(kind, seed, number, &mut tally, true) {
         Ok(()) => end(1, 0),
         Err(failure) => {
-            say(&format!("\n{failure}"));
+            say(&format!("\n{failure}\n\n{}", reduced(&failure)));
             end(1, 1)
         }
     }
+}
+
+fn drawn_case(kind: Kind, list: &[u64]) -> ExitCode {
+    let (_, ended) = run_with(kind, Random::of_list(list), &mut Tally::new(), true);
+    end(1, u64::from(ended.is_err()))
 }
 
 /// The last line, and the number that the program ends with.
@@ -133,7 +141,7 @@ impl Work {
             say(&tally.describe());
         }
         if let Some(failure) = &failure {
-            say(failure);
+            say(&format!("{failure}\n\n{}", reduced(failure)));
         }
         end(self.cases(), failure.iter().count() as u64)
     }

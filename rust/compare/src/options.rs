@@ -5,19 +5,22 @@ use crate::Kind;
 pub const HELP: &str = "\
 Compares the product with the second program on made-up inputs.
 
-usage: ./compare [--seconds S] [--seed N] [--kind KIND] [--case M]
+usage: ./compare [--seconds S] [--seed N] [--kind KIND] [--case M | --draws LIST]
 
   --seconds S   go on for S seconds (default 10)
   --seed N      the seed of the cases (default 1)
   --kind KIND   only this kind: addresses, memory, streams, writer, flow, logs,
                 scores, modes, kills, lessees, surveys, pictures,
-                fleets, states or trims
+                fleets, states, growing or trims
   --case M      only case M of the kind, and print both answers of every
                 comparison; needs --kind
+  --draws LIST  only the case that these drawn numbers make, hex, parted by
+                commas, as a reduced case names them; needs --kind
   --help        this text
 
 Ends with 0 if all answers agreed, 1 at the first difference (which is printed
-with the command that runs its case again), and 2 for a wrong command line.";
+with the command that runs its case again, and reduced to a smaller case), and
+2 for a wrong command line.";
 
 /// What the command line asks for.
 #[derive(Clone, Debug, PartialEq, Eq)]
@@ -29,6 +32,11 @@ pub enum Wish {
         seed: u64,
         number: u64,
     },
+    /// The case that these numbers make, printed.
+    Draws {
+        kind: Kind,
+        list: Vec<u64>,
+    },
     /// Cases of these kinds in turn, until the seconds are over.
     Cases {
         kinds: Vec<Kind>,
@@ -39,7 +47,7 @@ pub enum Wish {
 
 /// The wish, or what is wrong with the command line.
 pub fn parse(arguments: &[String]) -> Result<Wish, String> {
-    let (mut seconds, mut seed, mut kind, mut number) = (10, 1, None, None);
+    let (mut seconds, mut seed, mut kind, mut number, mut list) = (10, 1, None, None, None);
     let mut rest = arguments.iter();
     while let Some(name) = rest.next() {
         if name == "--help" || name == "-h" {
@@ -50,14 +58,18 @@ pub fn parse(arguments: &[String]) -> Result<Wish, String> {
             "--seconds" => seconds = whole(name, value)?,
             "--seed" => seed = whole(name, value)?,
             "--case" => number = Some(whole(name, value)?),
+            "--draws" => list = Some(numbers(value)?),
             "--kind" => kind = Some(kind_named(value)?),
             _ => return Err(format!("unknown argument {name}")),
         }
     }
-    match (kind, number) {
-        (None, Some(_)) => Err("--case needs --kind".to_string()),
-        (Some(kind), Some(number)) => Ok(Wish::Case { kind, seed, number }),
-        (kind, None) => Ok(Wish::Cases {
+    match (kind, number, list) {
+        (_, Some(_), Some(_)) => Err("--case and --draws name two cases".to_string()),
+        (None, Some(_), None) => Err("--case needs --kind".to_string()),
+        (None, None, Some(_)) => Err("--draws needs --kind".to_string()),
+        (Some(kind), Some(number), None) => Ok(Wish::Case { kind, seed, number }),
+        (Some(kind), None, Some(list)) => Ok(Wish::Draws { kind, list }),
+        (kind, None, None) => Ok(Wish::Cases {
             kinds: kind.map_or(Kind::ALL.to_vec(), |kind| vec![kind]),
             seed,
             seconds,
@@ -72,6 +84,13 @@ fn whole<'a>(
     let value = value()?;
     let wrong = |_| format!("{name} needs a whole number, not {value}");
     value.parse().map_err(wrong)
+}
+
+fn numbers<'a>(value: impl FnOnce() -> Result<&'a String, String>) -> Result<Vec<u64>, String> {
+    let value = value()?;
+    let number = |text| u64::from_str_radix(text, 16);
+    let list: Result<Vec<u64>, _> = value.split(',').map(number).collect();
+    list.map_err(|_| format!("--draws needs hex numbers parted by commas, not {value}"))
 }
 
 fn kind_named<'a>(value: impl FnOnce() -> Result<&'a String, String>) -> Result<Kind, String> {
@@ -104,6 +123,9 @@ mod tests {
                 seconds
             })
         );
+        let list = vec![0, 31];
+        let drawn = parsed("--kind flow --draws 0,1f");
+        assert_eq!(drawn, Ok(Wish::Draws { kind, list }));
         assert_eq!(parsed("--seed 7 --help"), Ok(Wish::Help));
     }
 
@@ -121,6 +143,9 @@ mod tests {
     fn wrong_lines_are_told() {
         for line in [
             "--case 3",
+            "--draws 3",
+            "--draws g --kind flow",
+            "--draws 1 --case 1 --kind flow",
             "--kind",
             "--kind stream",
             "--seed x",

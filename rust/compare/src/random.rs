@@ -2,11 +2,18 @@
 //! same on every machine and can be made again from three numbers.
 
 /// A stream of numbers that only look random. Each number is the next multiple
-/// of an odd constant, stirred.
+/// of an odd constant, stirred; or, in a case that is reduced, the next of a list,
+/// and 0 behind it.
 #[derive(Clone, Debug)]
 pub struct Random {
     state: u64,
+    list: Option<Vec<u64>>,
+    drawn: usize,
 }
+
+/// A case of a list that draws more than this goes on for ever: with zeros alone, a
+/// coin that is thrown until it falls otherwise never does.
+const MOST_DRAWN: usize = 1_000_000;
 
 /// Odd, and its bits are as mixed as those of the golden ratio that it comes
 /// from: 2^64 divided by that ratio.
@@ -28,10 +35,34 @@ impl Random {
         let mut state = stir(kind.wrapping_add(STEP));
         state = stir(state ^ seed.wrapping_mul(STEP));
         state = stir(state ^ case.wrapping_mul(STEP));
-        Random { state }
+        Random {
+            state,
+            list: None,
+            drawn: 0,
+        }
+    }
+
+    /// The numbers of a list, then zeros. Panics where a case has no end with them.
+    pub fn of_list(list: &[u64]) -> Random {
+        Random {
+            state: 0,
+            list: Some(list.to_vec()),
+            drawn: 0,
+        }
+    }
+
+    /// How many numbers were drawn so far.
+    pub fn drawn(&self) -> usize {
+        self.drawn
     }
 
     pub fn long(&mut self) -> u64 {
+        let place = self.drawn;
+        self.drawn += 1;
+        if let Some(list) = &self.list {
+            assert!(place < MOST_DRAWN, "a case without an end");
+            return list.get(place).copied().unwrap_or(0);
+        }
         self.state = self.state.wrapping_add(STEP);
         stir(self.state)
     }
@@ -107,6 +138,13 @@ mod tests {
         for (kind, seed, case) in [(2, 2, 3), (1, 3, 3), (1, 2, 4), (1, 3, 2), (3, 2, 1)] {
             assert_ne!(Random::of_case(kind, seed, case).long(), first);
         }
+    }
+
+    #[test]
+    fn a_list_is_drawn_and_then_zeros() {
+        let mut random = Random::of_list(&[5, 1 << 63]);
+        assert_eq!((random.long(), random.below(8)), (5, 4));
+        assert_eq!((random.long(), random.drawn()), (0, 3));
     }
 
     #[test]

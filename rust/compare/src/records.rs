@@ -44,9 +44,10 @@ fn good(random: &mut Random) -> Vec<Record> {
     let words = words::any(random);
     let first = first_day(random);
     // Anywhere, or among the first words, so that the last day is a long one.
-    let end = match random.once_in(8) {
-        true => words.len() / 8,
-        false => words.len(),
+    let end = if random.once_in(8) {
+        words.len() / 8
+    } else {
+        words.len()
     };
     let mut places: Vec<usize> = (0..midnights(random))
         .map(|_| place_in(random, &words[..end]))

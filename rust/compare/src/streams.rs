@@ -36,9 +36,10 @@ pub fn run(case: &mut Case) -> Agreement {
     if seen.claims > u64::from(u32::MAX) {
         case.tally.mark("streams that claim 2^32 elements or more");
     }
-    case.tally.mark(match seen.stopped {
-        true => "streams refused",
-        false => "streams accepted",
+    case.tally.mark(if seen.stopped {
+        "streams refused"
+    } else {
+        "streams accepted"
     });
     Ok(())
 }

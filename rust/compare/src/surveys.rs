@@ -341,9 +341,10 @@ fn survey(
 fn count_survey(case: &mut Case, both: &Both, unit: &Unit, (passed, pairs): (u64, u64)) {
     let (layout, _, _) = window_of(unit.buffer);
     let tally = &mut case.tally;
-    tally.mark(match layout.tiled {
-        true => "surveys of tiled buffers",
-        false => "surveys of linear buffers",
+    tally.mark(if layout.tiled {
+        "surveys of tiled buffers"
+    } else {
+        "surveys of linear buffers"
     });
     tally.mark(TESTS[unit.test.unwrap_or(0) as usize % TESTS.len()]);
     tally.add("pairs surveyed", pairs);

@@ -346,6 +346,31 @@ fn fleets() {
     refusals(&tally, &[slices, stations].concat());
 }
 
+#[test]
+fn growing() {
+    let tally = agree(Kind::Growing, 0..10_000);
+    editions(&tally, 0);
+    assert!(tally.accepted >= 100_000, "accepted: {}", tally.accepted);
+    marks(&tally, &[("reports joined of groups", 5_000)]);
+    marks(&tally, &[("reports of more than 64 stations", 400)]);
+    marks(&tally, &[("reports that name station 64", 15)]);
+    marks(
+        &tally,
+        &[("reports that name station 64 or a later one", 150)],
+    );
+    marks(
+        &tally,
+        &[("reports of more than 64 stations that owe nothing", 50)],
+    );
+    marks(&tally, &[("reports of 2^32 stations", 300)]);
+    marks(&tally, &[("reports that request 14's tells too", 1_500)]);
+    let stations = [(18, 1_500), (19, 1_500), (21, 5_000)];
+    refusals(
+        &tally,
+        &[&[(3, 5_000), (22, 2_000)][..], &stations].concat(),
+    );
+}
+
 fn lessees(numbers: Range<u64>) {
     let tally = agree(Kind::Lessees, numbers);
     editions(&tally, 0);

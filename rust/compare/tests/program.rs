@@ -25,6 +25,7 @@ fn a_wrong_line_ends_with_2_and_the_help_text() {
     for line in [
         "--kind nothing",
         "--case 1",
+        "--kind flow --draws x",
         "--seconds",
         "--seed -1",
         "more",
@@ -47,6 +48,15 @@ fn one_case_prints_both_answers() {
         assert!(count("    product   ") > 0, "{kind}");
         assert_eq!(count("    product   "), count("    expected  "), "{kind}");
         assert!(text.ends_with("1 case, 0 differences\n"), "{kind}");
+    }
+}
+
+#[test]
+fn a_case_of_drawn_numbers_is_run() {
+    for list in ["0", "1f,ffffffffffffffff,8000000000000000"] {
+        let output = compare(&format!("--kind addresses --draws {list}"));
+        assert_eq!(output.status.code(), Some(0), "{list}");
+        assert!(text(&output).ends_with("1 case, 0 differences\n"), "{list}");
     }
 }
 

@@ -9,6 +9,7 @@
 //! * nothing, or a remark from # on.
 
 use crate::common::failure::{Failure, Outcome};
+use crate::common::files::Files;
 use crate::common::names::{self, Kind, Line};
 use crate::explain::cause::{self, Refused};
 use crate::input::lines::Lines;
@@ -39,6 +40,11 @@ pub struct Options {
 }
 
 impl Options {
+    /// Names the file of the line.
+    pub fn name(&self, files: &mut Files) {
+        files.reads_all("FILE", &self.file);
+    }
+
     /// Whether text is written.
     pub fn is_text(&self) -> bool {
         self.hex

@@ -41,7 +41,9 @@ mod score;
 mod survey;
 
 use clap::{CommandFactory, Parser, Subcommand};
-use common::failure::Outcome;
+use common::failure::{Failure, Outcome};
+use common::files::Files;
+use common::interrupt;
 use common::output::{self, Output};
 use common::visible;
 use std::io::{self, Write};
@@ -115,6 +117,7 @@ enum What {
 }
 
 fn main() -> ExitCode {
+    interrupt::prepare();
     let line = match Line::try_parse() {
         Ok(line) => line,
         Err(told) => return ExitCode::from(tell(&told)),
@@ -129,19 +132,29 @@ fn main() -> ExitCode {
 /// wrote, and its exit status.
 fn tell(told: &clap::Error) -> u8 {
     let text = visible::lines(&told.to_string());
-    // Where it can't be written, the status alone must do.
-    let _ = match told.use_stderr() {
-        true => write!(io::stderr(), "{text}"),
-        false => write!(io::stdout(), "{text}"),
-    };
-    u8::from(told.use_stderr()) * WRONG
+    if told.use_stderr() {
+        // Where it can't be written, the status alone must do.
+        let _ = write!(io::stderr(), "{text}");
+        return WRONG;
+    }
+    let mut out = io::stdout();
+    match write!(out, "{text}").and_then(|()| out.flush()) {
+        Err(error) if error.kind() != io::ErrorKind::BrokenPipe => Failure::from(error).tell(),
+        _ => 0,
+    }
 }
 
 /// The exit status of a wrong line.
 const WRONG: u8 = 2;
 
 fn answer(line: &Line) -> Outcome {
+    let mut files = Files::default();
+    line.output.name(&mut files);
+    name(line, &mut files);
+    files.are_apart()?;
     let mut output = Output::open(&line.output)?;
+    // Words up to a refused line are no answer; all others tell what was refused.
+    let reports = !matches!(&line.what, Some(What::Encode(_)));
     let outcome = match &line.what {
         // Words in binary go through as they are.
         Some(What::Encode(options)) if !options.is_text() => {
@@ -150,26 +163,43 @@ fn answer(line: &Line) -> Outcome {
         }
         Some(What::Picture(options)) if options.is_binary() => {
             picture::ask_terminal(output.is_terminal())?;
-            picture::run(options, &mut output)
+            picture::run(options, &mut files, &mut output)
         }
-        _ => run(line, &mut output.text()),
+        _ => run(line, &mut files, &mut output.text()),
     };
-    output.end(outcome)
+    output.end(outcome, reports, files)
 }
 
-fn run(line: &Line, out: &mut dyn Write) -> Outcome {
+/// Names the files of the line that its subcommand reads and writes.
+fn name(line: &Line, files: &mut Files) {
+    match &line.what {
+        Some(What::Score(options)) => options.name(files),
+        Some(What::Fleet(options)) => options.name(files),
+        Some(What::Decode(options)) => options.name(files),
+        Some(What::Encode(options)) => options.name(files),
+        Some(What::Replay(options)) => options.name(files),
+        Some(What::Address(options)) => options.name(files),
+        Some(What::Locate(options)) => options.name(files),
+        Some(What::Picture(options)) => options.name(files),
+        Some(What::Survey(options)) => options.name(files),
+        Some(What::Flow(options)) => options.name(files),
+        Some(What::Tile(_) | What::Explain(_) | What::Completions(_) | What::Manual(_)) | None => {}
+    }
+}
+
+fn run(line: &Line, files: &mut Files, out: &mut dyn Write) -> Outcome {
     match &line.what {
         None => score::sample::run(out),
-        Some(What::Score(options)) => score::run(options, out),
-        Some(What::Fleet(options)) => fleet::run(options, out),
+        Some(What::Score(options)) => score::run(options, files, out),
+        Some(What::Fleet(options)) => fleet::run(options, files, out),
         Some(What::Decode(options)) => decode::run(options, out),
         Some(What::Encode(options)) => encode::run(options, out),
-        Some(What::Replay(options)) => replay::run(options, out),
+        Some(What::Replay(options)) => replay::run(options, files, out),
         Some(What::Address(options)) => address::run(options, out),
         Some(What::Locate(options)) => address::locate::run(options, out),
         Some(What::Tile(options)) => address::tile::run(options, out),
-        Some(What::Picture(options)) => picture::run(options, out),
-        Some(What::Survey(options)) => survey::run(options, out),
+        Some(What::Picture(options)) => picture::run(options, files, out),
+        Some(What::Survey(options)) => survey::run(options, files, out),
         Some(What::Flow(options)) => flow::run(options, out),
         Some(What::Explain(options)) => explain::run(options, out),
         Some(What::Completions(options)) => completions::run(options, Line::command(), out),

@@ -85,7 +85,7 @@ fn lease_of(station: &[u64]) -> Answer<Lease> {
 
 /// "the number of silent days (owing more than 0, served 0)": of the lease's days,
 /// which all owe the same.
-fn silent_days(month: &Month) -> u64 {
+pub(crate) fn silent_days(month: &Month) -> u64 {
     if month.owed == 0 {
         return 0;
     }

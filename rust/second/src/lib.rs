@@ -20,7 +20,8 @@
 //! * [`score`]: a month of a log scored against its lease line, from document
 //!   02's request 5;
 //! * [`fleet`]: the months of up to 64 stations in one report, from document 02's
-//!   request 14.
+//!   request 14;
+//! * [`growing`]: that report over any number of stations, added one by one.
 //!
 //! Every refusal is document 01's number, as the `Err` of an [`Answer`].
 
@@ -31,6 +32,7 @@ pub mod command;
 mod edition;
 pub mod fleet;
 pub mod flow;
+pub mod growing;
 pub mod layout;
 pub mod lessees;
 pub mod log;

@@ -1,6 +1,7 @@
--- `address_rows::addresses` meets its contract: by the table of places, or by the bit rule. Assumes nothing.
+-- `address_rows::addresses` meets its contract: by the table of places, by the bit rule, or as one run. Assumes nothing.
 use lib.ListN.{length}
 use Rattle.address_rows.proofs.Bytes.{row-of-bytes, row-by-places}
+use Rattle.address_rows.proofs.Runs.{kind-arm}
 use borrow.Author.Needs.{needs}
 use Rattle.address_rows.proofs.addresses.Statement.{statement}
 use Rattle.address_rows.proofs.addresses.Tie as tie
@@ -13,10 +14,10 @@ by-places-requires c κs =
     row-of-bytes _ _ _ _ _ _ _ (at-if1 .if1 .taken) (at-if2 .if2 .taken) (entry .pre)
 
 by-runs-requires : tie.Need-by-runs-requires
-by-runs-requires c κs = search needs
+by-runs-requires c κs = (kind-arm (c .before .before .if1 .taken) (c .before .before .before .before .pre), c .before .if2 .left)
 
-by-runs-requires-2 : tie.Need-by-runs-requires-2
-by-runs-requires-2 c κs = search needs
+linear-requires : tie.Need-linear-requires
+linear-requires c κs = kind-arm (c .before .if1 .left) (c .before .before .before .pre)
 
 same-length : tie.Need-same-length
 same-length c = search needs
@@ -34,13 +35,13 @@ same-length-2 : tie.Need-same-length-2
 same-length-2 c = search needs
 
 returns-2 : tie.Need-returns-2
-returns-2 c = search needs
+returns-2 c = rw (c .before .before .before .before .before .if1 .taken) (c .before .before .by-runs .ensures)
 
 same-length-3 : tie.Need-same-length-3
 same-length-3 c = search needs
 
 returns-3 : tie.Need-returns-3
-returns-3 c = search needs
+returns-3 c = rw (c .before .before .before .before .if1 .left) (c .before .before .linear .ensures)
 
 pub addresses-spec : {M : Type 1} → statement M
 addresses-spec =
@@ -48,7 +49,7 @@ addresses-spec =
     (tie.spec
     by-places-requires
     by-runs-requires
-    by-runs-requires-2
+    linear-requires
     same-length
     returns
     same-length-2

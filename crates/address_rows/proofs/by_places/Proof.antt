@@ -1,21 +1,29 @@
 -- `address_rows::by_places` meets its contract: the table is lent to every run; before a run is written, all columns before it have their addresses. Assumes nothing.
 use mathlib.Core.Path.{_≡_, refl, sym, ap, _∙_}
 use mathlib.Core.Bool.{true}
-use mathlib.Core.List.{List, _++_}
 use Prim.Native.Nat.{ℕ, _+_, _-_, _*_, _/_, _≤_}
 use native.Mathlib.Omega.{arith}
-use lib.ListN.{length, drop}
-use Rattle.memory.proofs.Copies.{put-back}
-use Rattle.address_rows.specs.Rows.{listed, elementAt}
-use Rattle.address_rows.proofs.Listed.{listed-length, listed-all}
-use Rattle.address_rows.proofs.Runs.{column-bytes, pair-asked, some, inside, at-fits, fill-asked, put-in}
+use lib.ListN.{length}
+use Rattle.address_rows.specs.Rows.{elementAt, written}
+use Rattle.address_rows.proofs.Runs.{
+  column-bytes,
+  pair-asked,
+  run-rest,
+  at-fits,
+  fill-asked,
+  put-in,
+  written-none,
+  written-next,
+  written-long,
+  written-all,
+}
 use borrow.Author.Needs.{needs}
 use Rattle.address_rows.proofs.by_places.Statement.{statement}
 use Rattle.address_rows.proofs.by_places.Tie as tie
 
 abbrev Inv-loop : tie.InvT-loop
 Inv-loop base stride x y room₀ table count i₀ room i =
-    (i ≤ length room₀) × (length room ≡ length room₀) × (room ≡ listed (elementAt base 1 true (stride / 1) x y) 0 i ++ drop i room₀)
+    (i ≤ length room₀) × (length room ≡ length room₀) × (room ≡ written (elementAt base 1 true (stride / 1) x y) 0 i room₀)
 
 abbrev μ-loop : tie.MeasureT-loop
 μ-loop base stride x y room₀ table count i₀ room i = length room₀ - i
@@ -24,7 +32,9 @@ table-requires : tie.Need-table-requires Inv-loop μ-loop
 table-requires c κs = search needs
 
 loop-holds : tie.Need-loop-holds Inv-loop μ-loop
-loop-holds c = (omega arith, refl, refl)
+loop-holds c =
+    let args = c .before .before .args in
+    (omega arith, refl, sym (written-none (elementAt (args .base) 1 true (args .stride / 1) (args .x) (args .y)) 0 (args .room .now) (omega arith)))
 
 cast-column : tie.Need-cast-column Inv-loop μ-loop
 cast-column c =
@@ -48,7 +58,7 @@ run-from-requires c κs =
     let at-loop = at-test .before in
     let at-table = at-loop .before in
     let entry = at-table .before .before in
-    (entry .pre .size, column-bytes _ _ _ _ _ _ _ (entry .pre) _ (at-test .loop-test .taken), entry .pre .whole)
+    (entry .pre .size, column-bytes (entry .pre) _ (at-test .loop-test .taken), entry .pre .whole)
 
 sub-smaller : tie.Need-sub-smaller Inv-loop μ-loop
 sub-smaller c = let at-test = c .before in omega (arith, at-test .loop-test .taken)
@@ -64,7 +74,7 @@ byte-offset-requires c κs =
     let at-loop = at-test .before in
     let at-table = at-loop .before in
     let entry = at-table .before .before in
-    (at-table .table .ensures, pair-asked _ _ _ _ _ _ _ (entry .pre) _ (at-test .loop-test .taken), entry .pre .whole)
+    (at-table .table .ensures, pair-asked (entry .pre) _ (at-test .loop-test .taken), entry .pre .whole)
 
 add-at : tie.Need-add-at Inv-loop μ-loop
 add-at c =
@@ -75,7 +85,8 @@ add-at c =
     let at-loop = at-test .before in
     let at-table = at-loop .before in
     let entry = at-table .before .before in
-    omega (arith, at-fits _ _ _ _ _ _ _ (entry .pre) _ (at-test .loop-test .taken) _ _ _ (at-run .run-from .ensures) (at-smaller .smaller .ensures) (at-offset .byte-offset .ensures))
+    let run = run-rest _ _ _ (entry .pre) (at-test .loop-test .taken) (at-run .run-from .ensures) (at-smaller .smaller .ensures) refl in
+    omega (arith, at-fits (entry .pre) run _ (at-offset .byte-offset .ensures))
 
 add-fill : tie.Need-add-fill Inv-loop μ-loop
 add-fill c =
@@ -86,9 +97,10 @@ add-fill c =
     let at-loop = at-test .before in
     let at-table = at-loop .before in
     let entry = at-table .before .before in
+    let run = run-rest _ _ _ (entry .pre) (at-test .loop-test .taken) (at-run .run-from .ensures) (at-smaller .smaller .ensures) refl in
     omega (
       arith,
-      inside _ _ _ _ _ _ _ (entry .pre) _ (at-test .loop-test .taken) _ _ _ (at-run .run-from .ensures) (at-smaller .smaller .ensures) (at-offset .byte-offset .ensures),
+      run .inside,
       entry .pre .columns,
       entry .pre .step,
     )
@@ -119,8 +131,9 @@ part-fill-end c =
     let at-loop = at-test .before in
     let at-table = at-loop .before in
     let entry = at-table .before .before in
+    let run = run-rest _ _ _ (entry .pre) (at-test .loop-test .taken) (at-run .run-from .ensures) (at-smaller .smaller .ensures) refl in
     omega
-    (arith, inside _ _ _ _ _ _ _ (entry .pre) _ (at-test .loop-test .taken) _ _ _ (at-run .run-from .ensures) (at-smaller .smaller .ensures) (at-offset .byte-offset .ensures), at-loop .loop .inv .1)
+    (arith, run .inside, at-loop .loop .inv .1)
 
 fill-requires : tie.Need-fill-requires Inv-loop μ-loop
 fill-requires c κs =
@@ -131,7 +144,8 @@ fill-requires c κs =
     let at-loop = at-test .before in
     let at-table = at-loop .before in
     let entry = at-table .before .before in
-    fill-asked _ _ _ _ _ _ _ (entry .pre) _ (at-test .loop-test .taken) _ _ _ (at-run .run-from .ensures) (at-smaller .smaller .ensures) (at-offset .byte-offset .ensures) _ (at-loop .loop .inv .1)
+    let run = run-rest _ _ _ (entry .pre) (at-test .loop-test .taken) (at-run .run-from .ensures) (at-smaller .smaller .ensures) refl in
+    fill-asked (entry .pre) run _ (at-offset .byte-offset .ensures) _ (at-loop .loop .inv .1)
 
 add-i : tie.Need-add-i Inv-loop μ-loop
 add-i c =
@@ -143,9 +157,10 @@ add-i c =
     let at-loop = at-test .before in
     let at-table = at-loop .before in
     let entry = at-table .before .before in
+    let run = run-rest _ _ _ (entry .pre) (at-test .loop-test .taken) (at-run .run-from .ensures) (at-smaller .smaller .ensures) refl in
     omega (
       arith,
-      inside _ _ _ _ _ _ _ (entry .pre) _ (at-test .loop-test .taken) _ _ _ (at-run .run-from .ensures) (at-smaller .smaller .ensures) (at-offset .byte-offset .ensures),
+      run .inside,
       entry .pre .columns,
       entry .pre .step,
     )
@@ -160,8 +175,9 @@ loop-less c =
     let at-loop = at-test .before in
     let at-table = at-loop .before in
     let entry = at-table .before .before in
+    let run = run-rest _ _ _ (entry .pre) (at-test .loop-test .taken) (at-run .run-from .ensures) (at-smaller .smaller .ensures) refl in
     omega
-    (arith, some _ _ _ _ _ _ _ (entry .pre) _ (at-test .loop-test .taken) _ _ _ (at-run .run-from .ensures) (at-smaller .smaller .ensures) (at-offset .byte-offset .ensures), at-test .loop-test .taken)
+    (arith, run .some, at-test .loop-test .taken)
 
 loop-again : tie.Need-loop-again Inv-loop μ-loop
 loop-again c =
@@ -173,14 +189,24 @@ loop-again c =
     let at-loop = at-test .before in
     let at-table = at-loop .before in
     let entry = at-table .before .before in
-    put-in _ _ _ _ _ _ _ (entry .pre) _ (at-test .loop-test .taken) _ _ _ (at-run .run-from .ensures) (at-smaller .smaller .ensures) (at-offset .byte-offset .ensures) _ _ _ refl
-    (at-loop .loop .inv .1) (at-loop .loop .inv .2) (at-fill .fill .ensures)
+    let run = run-rest _ _ _ (entry .pre) (at-test .loop-test .taken) (at-run .run-from .ensures) (at-smaller .smaller .ensures) refl in
+    let inv = at-loop .loop .inv in
+    let one = put-in (entry .pre) run _ (at-offset .byte-offset .ensures) _ _ (inv .1) (at-fill .fill .ensures) in (
+      omega (arith, run .inside),
+      written-long _ _ _ _ _ (omega arith) (omega (arith, run .inside, inv .1)) one ∙ inv .1,
+      written-next _ _ _ _ _ _ _ (omega arith) (omega arith) (omega arith) (inv .2) one,
+    )
 
 same-length : tie.Need-same-length Inv-loop μ-loop
 same-length c = (c .before .loop) .inv .1
 
 returns : tie.Need-returns Inv-loop μ-loop
-returns c = listed-all _ _ _ _ ((c .before .loop) .inv .2) ((c .before .loop) .inv .0) ((c .loop-test) .left)
+returns c =
+    let args = c .before .before .before .before .args in
+    let inv = c .before .loop .inv in
+    let all : c .before .loop .i ≡ length (args .room .now) = omega (arith, inv .0, c .loop-test .left) in
+    let f = elementAt (args .base) 1 true (args .stride / 1) (args .x) (args .y) in
+    written-all f (args .room .now) _ (inv .2 ∙ ap (λ (n : ℕ). written f 0 n (args .room .now)) all)
 
 pub by-places-spec : {M : Type 1} → statement M
 by-places-spec =

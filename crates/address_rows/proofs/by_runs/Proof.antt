@@ -1,193 +1,109 @@
--- `address_rows::by_runs` meets its contract: before a run is written, all columns before it have their addresses. Assumes nothing.
-use mathlib.Core.Path.{_≡_, refl, sym, ap, _∙_}
-use mathlib.Core.List.{List, _++_}
-use Prim.Native.Nat.{ℕ, _+_, _-_, _*_, _/_, _≤_}
+-- `address_rows::by_runs` meets its contract: the rest of the first run, whole runs, and what is left. Assumes nothing.
+use mathlib.Core.Path.{_≡_, refl, sym, _∙_}
+use mathlib.Core.Bool.{true}
+use Prim.Native.Nat.{_/_}
 use native.Mathlib.Omega.{arith}
-use lib.ListN.{length, drop}
-use Rattle.memory.proofs.Copies.{put-back}
-use Rattle.address_rows.specs.Rows.{listed, elementAt}
-use Rattle.address_rows.proofs.Listed.{listed-length, listed-all}
-use Rattle.address_rows.proofs.Runs.{column-bytes, pair-asked, some, inside, at-fits, fill-asked, put-in}
+use lib.ListN.{length}
+use Rattle.address_rows.specs.Rows.{elementAt}
+use Rattle.address_rows.proofs.Listed.{listed-all}
+use Rattle.address_rows.proofs.Runs.{
+  first-bytes,
+  first-run,
+  begins-first,
+  last-run,
+  long-row,
+  long-run,
+  long-begins,
+  written-long,
+  in-three,
+  in-two,
+}
 use borrow.Author.Needs.{needs}
 use Rattle.address_rows.proofs.by_runs.Statement.{statement}
 use Rattle.address_rows.proofs.by_runs.Tie as tie
 
-abbrev Inv-loop : tie.InvT-loop
-Inv-loop base size tiled stride x y room₀ count i₀ room i =
-    (i ≤ length room₀) × (length room ≡ length room₀) × (room ≡ listed (elementAt base size tiled (stride / size) x y) 0 i ++ drop i room₀)
+-- a row of no pairs
+returns : tie.Need-returns
+returns c = listed-all _ 0 _ _ refl (omega arith) (omega (arith, c .if1 .taken))
 
-abbrev μ-loop : tie.MeasureT-loop
-μ-loop base size tiled stride x y room₀ count i₀ room i = length room₀ - i
+run-from-requires : tie.Need-run-from-requires
+run-from-requires c κs = (c .before .before .pre .0 .size, first-bytes (c .before .before .pre .0) (omega (arith, c .if1 .left)), c .before .before .pre .0 .whole)
 
-loop-holds : tie.Need-loop-holds Inv-loop μ-loop
-loop-holds c = (omega arith, refl, refl)
-
-cast-column : tie.Need-cast-column Inv-loop μ-loop
-cast-column c =
-    let at-test = c in
-    let at-loop = at-test .before in
-    let entry = at-loop .before .before in
-    omega (arith, at-test .loop-test .taken, entry .pre .columns, entry .pre .step)
-
-add-column : tie.Need-add-column Inv-loop μ-loop
-add-column c =
-    let at-test = c in
-    let at-loop = at-test .before in
-    let entry = at-loop .before .before in
-    omega (arith, at-test .loop-test .taken, entry .pre .columns, entry .pre .step)
-
-run-from-requires : tie.Need-run-from-requires Inv-loop μ-loop
-run-from-requires c κs =
-    let at-test = c in
-    let at-loop = at-test .before in
-    let entry = at-loop .before .before in
-    (entry .pre .size, column-bytes _ _ _ _ _ _ _ (entry .pre) _ (at-test .loop-test .taken), entry .pre .whole)
-
-sub-smaller : tie.Need-sub-smaller Inv-loop μ-loop
-sub-smaller c = let at-test = c .before in omega (arith, at-test .loop-test .taken)
-
-smaller-requires : tie.Need-smaller-requires Inv-loop μ-loop
+smaller-requires : tie.Need-smaller-requires
 smaller-requires c κs = search needs
 
-offset-requires : tie.Need-offset-requires Inv-loop μ-loop
-offset-requires c κs =
-    let at-smaller = c in
+one-run-requires : tie.Need-one-run-requires
+one-run-requires c κs =
+    let at-smaller = c .before in
     let at-run = at-smaller .before in
-    let at-test = at-run .before in
-    let at-loop = at-test .before in
-    let entry = at-loop .before .before in
-    (pair-asked _ _ _ _ _ _ _ (entry .pre) _ (at-test .loop-test .taken), entry .pre .whole)
+    let at-if1 = at-run .before in
+    let row = at-if1 .before .before .pre .0 in
+    (row, first-run _ _ row (omega (arith, at-if1 .if1 .left)) (at-run .run-from .ensures) (at-smaller .smaller .ensures))
 
-add-at : tie.Need-add-at Inv-loop μ-loop
-add-at c =
-    let at-offset = c in
-    let at-smaller = at-offset .before in
+whole-of-requires : tie.Need-whole-of-requires
+whole-of-requires c κs =
+    let at-one = c .before .before .before in
+    let at-smaller = at-one .before .before in
     let at-run = at-smaller .before in
-    let at-test = at-run .before in
-    let at-loop = at-test .before in
-    let entry = at-loop .before .before in
-    omega (arith, at-fits _ _ _ _ _ _ _ (entry .pre) _ (at-test .loop-test .taken) _ _ _ (at-run .run-from .ensures) (at-smaller .smaller .ensures) (at-offset .offset .ensures))
+    let entry = at-run .before .before .before .pre in
+    let few = at-smaller .smaller .ensures in
+    let long = written-long _ _ _ _ _ (omega arith) (few .1) (at-one .one-run .ensures) in
+    (long-row long (entry .0), entry .1, long-begins long (begins-first (entry .0) _ _ (at-run .run-from .ensures) few))
 
-add-fill : tie.Need-add-fill Inv-loop μ-loop
-add-fill c =
-    let at-offset = c in
-    let at-smaller = at-offset .before in
-    let at-run = at-smaller .before in
-    let at-test = at-run .before in
-    let at-loop = at-test .before in
-    let entry = at-loop .before .before in
-    omega (
-      arith,
-      inside _ _ _ _ _ _ _ (entry .pre) _ (at-test .loop-test .taken) _ _ _ (at-run .run-from .ensures) (at-smaller .smaller .ensures) (at-offset .offset .ensures),
-      entry .pre .columns,
-      entry .pre .step,
-    )
+-- the room is as long as before behind the whole runs
+one-run-requires-2 : tie.Need-one-run-requires-2
+one-run-requires-2 c κs =
+    let at-if2 = c .before in
+    let at-whole = at-if2 .before .before .before in
+    let at-one = at-whole .before .before .before .before in
+    let at-smaller = at-one .before .before in
+    let row = at-smaller .before .before .before .before .pre .0 in
+    let next = at-whole .whole-of .ensures .0 in
+    let first = written-long _ _ _ _ _ (omega arith) (at-smaller .smaller .ensures .1) (at-one .one-run .ensures) in
+    let long = written-long _ _ _ _ _ (next .0) (next .1 .inside) (at-whole .whole-of .ensures .1) ∙ first in
+    let last = last-run row _ (long-begins (sym first) (next .1)) (omega (arith, first, next .2)) (omega (arith, at-if2 .if2 .taken)) in
+    (long-row long row, long-run long last)
 
-mul-fill : tie.Need-mul-fill Inv-loop μ-loop
-mul-fill c =
-    let at-offset = c in
-    let at-smaller = at-offset .before in
-    let at-run = at-smaller .before in
-    let at-test = at-run .before in
-    let at-loop = at-test .before in
-    let entry = at-loop .before .before in
-    omega (arith, at-test .loop-test .taken, entry .pre .columns, entry .pre .step)
+same-length : tie.Need-same-length
+same-length c = search needs
 
-sub-fill : tie.Need-sub-fill Inv-loop μ-loop
-sub-fill c = omega arith
+returns-2 : tie.Need-returns-2
+returns-2 c =
+    let at-last = c .before .before in
+    let at-whole = at-last .before .before .before .before .before in
+    let at-one = at-whole .before .before .before .before in
+    let at-smaller = at-one .before .before in
+    let args = at-smaller .before .before .before .before .args in
+    let next = at-whole .whole-of .ensures .0 in
+    let first = written-long _ _ _ _ _ (omega arith) (at-smaller .smaller .ensures .1) (at-one .one-run .ensures) in
+    in-three (elementAt (args .base) (args .size) true (args .stride / args .size) (args .x) (args .y)) _ _ (args .room .now) _ _ _ (next .0)
+    (omega (arith, first, next .1 .inside)) (at-one .one-run .ensures) (at-whole .whole-of .ensures .1) (at-last .one-run2 .ensures)
 
-part-fill-start : tie.Need-part-fill-start Inv-loop μ-loop
-part-fill-start c = omega arith
+same-length-2 : tie.Need-same-length-2
+same-length-2 c = search needs
 
-part-fill-end : tie.Need-part-fill-end Inv-loop μ-loop
-part-fill-end c =
-    let at-offset = c in
-    let at-smaller = at-offset .before in
-    let at-run = at-smaller .before in
-    let at-test = at-run .before in
-    let at-loop = at-test .before in
-    let entry = at-loop .before .before in
-    omega
-    (arith, inside _ _ _ _ _ _ _ (entry .pre) _ (at-test .loop-test .taken) _ _ _ (at-run .run-from .ensures) (at-smaller .smaller .ensures) (at-offset .offset .ensures), at-loop .loop .inv .1)
-
-fill-requires : tie.Need-fill-requires Inv-loop μ-loop
-fill-requires c κs =
-    let at-offset = c .before in
-    let at-smaller = at-offset .before in
-    let at-run = at-smaller .before in
-    let at-test = at-run .before in
-    let at-loop = at-test .before in
-    let entry = at-loop .before .before in
-    fill-asked _ _ _ _ _ _ _ (entry .pre) _ (at-test .loop-test .taken) _ _ _ (at-run .run-from .ensures) (at-smaller .smaller .ensures) (at-offset .offset .ensures) _ (at-loop .loop .inv .1)
-
-add-i : tie.Need-add-i Inv-loop μ-loop
-add-i c =
-    let at-fill = c .before .before in
-    let at-offset = at-fill .before .before in
-    let at-smaller = at-offset .before in
-    let at-run = at-smaller .before in
-    let at-test = at-run .before in
-    let at-loop = at-test .before in
-    let entry = at-loop .before .before in
-    omega (
-      arith,
-      inside _ _ _ _ _ _ _ (entry .pre) _ (at-test .loop-test .taken) _ _ _ (at-run .run-from .ensures) (at-smaller .smaller .ensures) (at-offset .offset .ensures),
-      entry .pre .columns,
-      entry .pre .step,
-    )
-
-loop-less : tie.Need-loop-less Inv-loop μ-loop
-loop-less c =
-    let at-fill = c .before .before in
-    let at-offset = at-fill .before .before in
-    let at-smaller = at-offset .before in
-    let at-run = at-smaller .before in
-    let at-test = at-run .before in
-    let at-loop = at-test .before in
-    let entry = at-loop .before .before in
-    omega
-    (arith, some _ _ _ _ _ _ _ (entry .pre) _ (at-test .loop-test .taken) _ _ _ (at-run .run-from .ensures) (at-smaller .smaller .ensures) (at-offset .offset .ensures), at-test .loop-test .taken)
-
-loop-again : tie.Need-loop-again Inv-loop μ-loop
-loop-again c =
-    let at-fill = c .before .before in
-    let at-offset = at-fill .before .before in
-    let at-smaller = at-offset .before in
-    let at-run = at-smaller .before in
-    let at-test = at-run .before in
-    let at-loop = at-test .before in
-    let entry = at-loop .before .before in
-    put-in _ _ _ _ _ _ _ (entry .pre) _ (at-test .loop-test .taken) _ _ _ (at-run .run-from .ensures) (at-smaller .smaller .ensures) (at-offset .offset .ensures) _ _ _ refl
-    (at-loop .loop .inv .1) (at-loop .loop .inv .2) (at-fill .fill .ensures)
-
-same-length : tie.Need-same-length Inv-loop μ-loop
-same-length c = (c .before .loop) .inv .1
-
-returns : tie.Need-returns Inv-loop μ-loop
-returns c = listed-all _ _ _ _ ((c .before .loop) .inv .2) ((c .before .loop) .inv .0) ((c .loop-test) .left)
+returns-3 : tie.Need-returns-3
+returns-3 c =
+    let at-whole = c .before .before .before in
+    let at-one = at-whole .before .before .before .before in
+    let at-smaller = at-one .before .before in
+    let args = at-smaller .before .before .before .before .args in
+    let next = at-whole .whole-of .ensures .0 in
+    let first = written-long _ _ _ _ _ (omega arith) (at-smaller .smaller .ensures .1) (at-one .one-run .ensures) in
+    in-two (elementAt (args .base) (args .size) true (args .stride / args .size) (args .x) (args .y)) _ _ (args .room .now) _ _ (next .0)
+    (omega (arith, first, next .1 .inside, c .if2 .left)) (at-one .one-run .ensures) (at-whole .whole-of .ensures .1)
 
 pub by-runs-spec : {M : Type 1} → statement M
 by-runs-spec =
     tie.close
     (tie.spec
-    Inv-loop
-    μ-loop
-    loop-holds
-    cast-column
-    add-column
+    returns
     run-from-requires
-    sub-smaller
     smaller-requires
-    offset-requires
-    add-at
-    add-fill
-    mul-fill
-    sub-fill
-    part-fill-start
-    part-fill-end
-    fill-requires
-    add-i
-    loop-less
-    loop-again
+    one-run-requires
+    whole-of-requires
+    one-run-requires-2
     same-length
-    returns)
+    returns-2
+    same-length-2
+    returns-3)

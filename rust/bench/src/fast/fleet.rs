@@ -1,4 +1,4 @@
-//! A fleet's report: each station's log replayed and scored by itself.
+//! A fleet's report: each station's log replayed and scored by itself. And one that grows, a replay at a time.
 
 use super::log::Replay;
 use super::refusal::{Answer, LEASE, MALFORMED, ROOM, STATIONS};
@@ -16,6 +16,68 @@ struct Month {
     silent: u64,
 }
 
+/// A report that grows: what the stations so far come to, and the one with the smallest served part.
+pub struct Fleet {
+    edition: Edition,
+    stations: u64,
+    served: u64,
+    owed: u64,
+    silent: u64,
+    smallest: Option<(u64, Month)>,
+}
+
+impl Fleet {
+    pub fn new(edition: Edition) -> Fleet {
+        Fleet {
+            edition,
+            stations: 0,
+            served: 0,
+            owed: 0,
+            silent: 0,
+            smallest: None,
+        }
+    }
+
+    /// Adds the station of a replay, under its lease line. 3, 22, then 21, 18 or 19.
+    #[inline(never)]
+    pub fn add(&mut self, replay: &Replay, (first, days, owed): (u32, u32, u32)) -> Answer<()> {
+        if replay.session().edition() != self.edition {
+            return Err(MALFORMED);
+        }
+        if self.stations >> 32 != 0 {
+            return Err(STATIONS);
+        }
+        let line = [first, days, owed].map(u64::from);
+        check(line)?;
+        if let Some(number) = replay.stopped() {
+            return Err(number);
+        }
+        self.put(month(replay, line));
+        Ok(())
+    }
+
+    fn put(&mut self, month: Month) {
+        self.served += month.served;
+        self.owed += month.owed;
+        self.silent += month.silent;
+        // a product is at most 3,100,000,000 squared, below 2^64
+        let less = |other: Month| month.served * other.owed < other.served * month.owed;
+        if month.owed > 0 && self.smallest.map_or(true, |(_, other)| less(other)) {
+            self.smallest = Some((self.stations, month));
+        }
+        self.stations += 1;
+    }
+
+    /// Served, owed, silent days, the station with the smallest served part, and 1 where there is one.
+    pub fn told(&self) -> [u64; 5] {
+        let (station, named) = match self.smallest {
+            Some((number, _)) => (number, 1),
+            None => (MOST_STATIONS as u64, 0),
+        };
+        [self.served, self.owed, self.silent, station, named]
+    }
+}
+
 /// Served, owed, silent days and the station with the smallest served part, into the room. 3, 11, 22, then 21, 18 or 19.
 #[inline(never)]
 pub fn report(edition: u32, logs: &[u8], numbers: &[u64], room: &mut [u64]) -> Answer<()> {
@@ -25,44 +87,41 @@ pub fn report(edition: u32, logs: &[u8], numbers: &[u64], room: &mut [u64]) -> A
         _ => return Err(MALFORMED),
     };
     let stations = numbers.chunks_exact(4);
-    let lengths = stations.clone().map(|station| station[0]);
-    let all = lengths.fold(Some(0u64), |sum, length| sum?.checked_add(length));
+    let mut lengths = stations.clone().map(|station| station[0]);
+    let all = lengths.try_fold(0u64, |sum, length| sum.checked_add(length));
     if numbers.len() % 4 != 0 || room.len() != 4 || all != Some(logs.len() as u64) {
         return Err(ROOM);
     }
     if stations.len() > MOST_STATIONS {
         return Err(STATIONS);
     }
-    let mut sums = [0; 3];
-    let mut smallest: Option<(usize, Month)> = None;
+    let mut fleet = Fleet::new(edition);
     let mut rest = logs;
-    for (number, station) in stations.enumerate() {
+    for station in stations {
         let (log, behind) = rest.split_at(station[0] as usize);
         rest = behind;
-        let month = month(edition, log, station[1], station[2], station[3])?;
-        sums[0] += month.served;
-        sums[1] += month.owed;
-        sums[2] += month.silent;
-        // a product is at most 3,100,000,000 squared, below 2^64
-        let less = |other: Month| month.served * other.owed < other.served * month.owed;
-        if month.owed > 0 && smallest.map_or(true, |(_, other)| less(other)) {
-            smallest = Some((number, month));
+        let line = [station[1], station[2], station[3]];
+        check(line)?;
+        let mut replay = Replay::new_in(edition);
+        if let Some(number) = replay.feed(log).refusal {
+            return Err(number);
         }
+        fleet.put(month(&replay, line));
     }
-    room[..3].copy_from_slice(&sums);
-    room[3] = smallest.map_or(MOST_STATIONS, |(number, _)| number) as u64;
+    room.copy_from_slice(&fleet.told()[..4]);
     Ok(())
 }
 
-fn month(edition: Edition, log: &[u8], first: u64, days: u64, owed: u64) -> Answer<Month> {
-    let bounds = 1 <= days && days <= MOST_DAYS && owed <= MOST_OWED;
+/// A lease line's bounds. 21.
+fn check([first, days, owed]: [u64; 3]) -> Answer<()> {
+    let bounds = (1..=MOST_DAYS).contains(&days) && owed <= MOST_OWED;
     if !bounds || first > u64::from(u32::MAX) || first + days > 1 << 32 {
         return Err(LEASE);
     }
-    let mut replay = Replay::new_in(edition);
-    if let Some(number) = replay.feed(log).refusal {
-        return Err(number);
-    }
+    Ok(())
+}
+
+fn month(replay: &Replay, [first, days, owed]: [u64; 3]) -> Month {
     let mut month = Month {
         served: 0,
         owed: owed * days,
@@ -73,5 +132,5 @@ fn month(edition: Edition, log: &[u8], first: u64, days: u64, owed: u64) -> Answ
         month.served += served;
         month.silent += u64::from(owed > 0 && served == 0);
     }
-    Ok(month)
+    month
 }

@@ -62,7 +62,7 @@ impl Pair {
     /// Each party's own bits of the two masks.
     pub fn output_mask(&self) -> u32 {
         let ones: u32 = (0..4)
-            .map(|n| (self.outputs >> n & 1) * 0xF << (4 * n))
+            .map(|n| ((self.outputs >> n & 1) * 0xF) << (4 * n))
             .sum();
         let [zero, one] = [0, 1].map(|party| self.parties[party].output_mask());
         zero & !ones | one & ones

@@ -224,6 +224,17 @@ impl Replay {
         Ok(())
     }
 
+    /// Forgets all midnights but the last one. The place of a refused word counts from that one on.
+    #[inline(never)]
+    pub fn trim(&mut self) {
+        let cut = self.marks.len().saturating_sub(1);
+        self.marks.drain(..cut);
+        self.first_day += cut as u32;
+        if let Some((_, midnights)) = &mut self.refused {
+            *midnights = midnights.saturating_sub(cut);
+        }
+    }
+
     pub fn stopped(&self) -> Option<u32> {
         self.stopped
     }

@@ -442,6 +442,10 @@ impl Session {
         self.claims
     }
 
+    pub fn edition(&self) -> Edition {
+        self.edition
+    }
+
     pub fn domain(&self) -> Option<Domain> {
         self.domain
     }

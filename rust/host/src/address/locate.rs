@@ -5,6 +5,7 @@ use crate::address::layouts::LayoutOptions;
 use crate::address::owners;
 use crate::address::work::{self, Working};
 use crate::common::failure::{Failure, Outcome};
+use crate::common::files::Files;
 use crate::common::kinds::Address;
 use crate::explain::cause;
 use crate::input::lines::Lines;
@@ -46,6 +47,16 @@ pub struct Options {
     /// One JSON object an address, a line each
     #[arg(long)]
     json: bool,
+}
+
+impl Options {
+    /// Names the files of the line.
+    pub fn name(&self, files: &mut Files) {
+        files.reads("--stream", self.stream.as_deref());
+        if self.addresses.is_empty() {
+            files.reads_standard();
+        }
+    }
 }
 
 pub fn run(options: &Options, out: &mut dyn Write) -> Outcome {

@@ -11,6 +11,7 @@ pub mod work;
 use crate::address::layouts::LayoutOptions;
 use crate::address::work::Working;
 use crate::common::failure::{Failure, Outcome};
+use crate::common::files::Files;
 use crate::common::kinds::Address;
 use crate::explain::cause;
 use crate::input::lines::Lines;
@@ -41,6 +42,15 @@ pub struct Options {
     /// One JSON object a pair, a line each
     #[arg(long)]
     json: bool,
+}
+
+impl Options {
+    /// Names the file of the line.
+    pub fn name(&self, files: &mut Files) {
+        if self.pairs.is_empty() {
+            files.reads_standard();
+        }
+    }
 }
 
 /// What was told of a refused pair.

@@ -19,6 +19,9 @@ Examples:
   egretfold tile --size 4 --mark 37,18
   egretfold tile --size 16 --json";
 
+/// Elements at consecutive addresses: the first column, how many, and the byte at which they begin.
+type Run = (u32, u32, u32);
+
 #[derive(Args)]
 pub struct Options {
     /// Bytes of an element: 1, 2, 4, 8 or 16
@@ -151,9 +154,8 @@ impl Drawn {
         Ok(())
     }
 
-    /// The runs of the tile's first row, or of the marked one: elements at consecutive addresses. Each by its
-    /// first column, its length and the byte at which it begins.
-    fn row_runs(&self) -> Outcome<(u32, Vec<(u32, u32, u32)>)> {
+    /// The runs of the tile's first row, or of the marked one.
+    fn row_runs(&self) -> Outcome<(u32, Vec<Run>)> {
         let (left, top) = self.first();
         let row = self.mark.map_or(top, |(_, y)| y);
         let mut runs = Vec::new();

@@ -83,7 +83,7 @@ impl Digest {
     }
 
     /// The digest of the bytes so far: a bit that is set, zeros, and the length in bits.
-    pub fn finished(&self) -> [u8; LENGTH] {
+    pub fn finished(&self) -> Finished {
         let mut last = self.clone();
         let bits = self.length.wrapping_mul(8).to_be_bytes();
         let zeros = (2 * BLOCK - 1 - bits.len() - self.rest.len()) % BLOCK;
@@ -96,8 +96,19 @@ impl Digest {
     }
 }
 
+pub type Finished = [u8; LENGTH];
+
+/// A digest that was written by `hex`.
+pub fn of_hex(text: &str) -> Option<Finished> {
+    let mut digest = [0; LENGTH];
+    for (place, byte) in digest.iter_mut().enumerate() {
+        *byte = u8::from_str_radix(text.get(2 * place..2 * place + 2)?, 16).ok()?;
+    }
+    (hex(digest) == text).then_some(digest)
+}
+
 /// A digest in hex.
-pub fn hex(digest: [u8; LENGTH]) -> String {
+pub fn hex(digest: Finished) -> String {
     digest.iter().map(|byte| format!("{byte:02x}")).collect()
 }
 
@@ -124,5 +135,20 @@ mod tests {
             }
         }
         assert_eq!(Digest::again(BEGIN, 63, &[0; 62]), None);
+    }
+    #[test]
+    fn hex_is_read_back() {
+        let digest = Digest::new().finished();
+        let text = hex(digest);
+        assert_eq!(of_hex(&text), Some(digest));
+        for wrong in [
+            "",
+            &text[2..],
+            &(text.clone() + "00"),
+            &text.to_uppercase(),
+            &text.replace('e', "é"),
+        ] {
+            assert_eq!(of_hex(wrong), None, "{wrong}");
+        }
     }
 }

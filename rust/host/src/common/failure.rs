@@ -45,6 +45,27 @@ impl Failure {
         }
     }
 
+    /// How a line ends of which something couldn't be written: that is told besides, and the status is its.
+    pub fn both(outcome: Outcome, written: Outcome) -> Outcome {
+        match (outcome, written) {
+            (outcome, Ok(())) => outcome,
+            (Ok(()) | Err(Failure::Short), written) => written,
+            (Err(failure), Err(more)) => {
+                let texts = failure.text().into_iter().chain(more.text());
+                let texts: Vec<String> = texts.collect();
+                Err(Failure::Wrong(texts.join("\negretfold: ")))
+            }
+        }
+    }
+
+    /// What it says.
+    pub fn text(self) -> Option<String> {
+        match self {
+            Failure::Refused(text) | Failure::Wrong(text) => Some(text),
+            Failure::Short => None,
+        }
+    }
+
     /// Says what is wrong on standard error and gives the exit status.
     pub fn tell(self) -> u8 {
         let (text, status) = match self {

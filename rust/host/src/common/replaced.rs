@@ -1,7 +1,10 @@
-//! A picture's, a page's or a state's file: new, or in place of an earlier one.
+//! What may be replaced: by a picture, a page or a state an earlier one of ours, by an answer anything but a state or a
+//! station's log. What the line itself reads is asked about in `files`.
 
 use crate::common::failure::{Failure, Outcome};
 use crate::common::file::{Place, Stands};
+use crate::common::files::Files;
+use crate::input::looks::{self, Looks};
 use crate::replay::kept;
 use std::fs::File;
 use std::io::{self, Read, Write};
@@ -16,28 +19,31 @@ pub enum Kind {
     State,
 }
 
-/// How a picture of ours begins.
-pub const SVG_BEGIN: &str = "<svg ";
+/// How a picture of ours begins, and no other program's.
+pub const SVG_BEGIN: &str = r#"<svg data-by="egretfold" "#;
 
 /// How a page of ours begins.
-pub const HTML_BEGIN: &str = "<!DOCTYPE html>";
+pub const HTML_BEGIN: &str = "<!DOCTYPE html>\n<html lang=\"en\" data-by=\"egretfold\">";
+
+/// How a grey picture of ours begins.
+pub const PGM_BEGIN: &str = "P5\n# by egretfold\n";
 
 impl Kind {
     /// How files begin that may be replaced.
-    fn begins(self) -> &'static [&'static str] {
+    fn begin(self) -> &'static str {
         match self {
-            Kind::Svg => &[SVG_BEGIN, "<?xml"],
-            Kind::Html => &[HTML_BEGIN, "<!doctype html>"],
-            Kind::Pgm => &["P5"],
-            Kind::State => &[kept::MAGIC],
+            Kind::Svg => SVG_BEGIN,
+            Kind::Html => HTML_BEGIN,
+            Kind::Pgm => PGM_BEGIN,
+            Kind::State => kept::MAGIC,
         }
     }
 
     fn name(self) -> &'static str {
         match self {
-            Kind::Svg => "SVG picture",
-            Kind::Html => "HTML page",
-            Kind::Pgm => "PGM picture",
+            Kind::Svg => "SVG picture of ours",
+            Kind::Html => "HTML page of ours",
+            Kind::Pgm => "PGM picture of ours",
             Kind::State => "state file",
         }
     }
@@ -54,10 +60,31 @@ impl Kind {
     /// Whether the file is empty or begins as its kind does.
     fn is_that_of(self, file: &Path) -> io::Result<bool> {
         let mut begin = Vec::new();
-        File::open(file)?.take(16).read_to_end(&mut begin)?;
-        let begins = |with: &&str| begin.starts_with(with.as_bytes());
-        Ok(begin.is_empty() || self.begins().iter().any(begins))
+        let length = self.begin().len() as u64;
+        File::open(file)?.take(length).read_to_end(&mut begin)?;
+        Ok(begin.is_empty() || begin == self.begin().as_bytes())
     }
+}
+
+/// So many first bytes tell what a file looks like.
+const BEGIN: u64 = 512;
+
+/// A place for an answer, which may be new or replace anything but a state and what looks like a station's log: no answer of
+/// ours is one.
+pub fn by_answer(name: &Path) -> Outcome<Place> {
+    let place = Place::of(name)?;
+    if !place.stands.is_file() {
+        return Ok(place);
+    }
+    let mut begin = Vec::new();
+    // One that can't be read is none of ours either, but then nobody could tell.
+    let _ = File::open(name).and_then(|file| file.take(BEGIN).read_to_end(&mut begin));
+    let looks = match looks::of(&begin) {
+        Some(Looks::State) => "is a state file",
+        Some(Looks::Log) => "looks like a station's log",
+        _ => return Ok(place),
+    };
+    Err(place.failed(format!("stands there and {looks}; it is left as it is")))
 }
 
 pub struct Replaced {
@@ -69,12 +96,15 @@ impl Replaced {
     /// A place for a file. One that stands there is replaced only if it is of this kind
     /// itself, so that a name in the wrong place costs no log.
     pub fn new(name: &Path, kind: Kind) -> Outcome<Replaced> {
-        let replaced = Replaced {
-            name: name.to_path_buf(),
-            kind,
-        };
+        let replaced = Replaced::at(name, kind);
         replaced.place()?;
         Ok(replaced)
+    }
+
+    /// The same, asked only where it is written.
+    pub fn at(name: &Path, kind: Kind) -> Replaced {
+        let name = name.to_path_buf();
+        Replaced { name, kind }
     }
 
     fn place(&self) -> Outcome<Place> {
@@ -84,21 +114,23 @@ impl Replaced {
             ours.map_err(|error| place.failed(error))
         };
         match place.stands {
-            Stands::Special => Err(place.failed("is no file")),
-            Stands::File if !is_ours()? => {
+            Stands::Special | Stands::Descriptor(_) => Err(place.failed("is no file")),
+            Stands::File(_) if !is_ours()? => {
                 let kind = self.kind.name();
                 let is = format!("stands there and is no {kind}; it is left as it is");
                 Err(place.failed(is))
             }
-            Stands::File | Stands::Nothing => Ok(place),
+            Stands::File(_) | Stands::Nothing => Ok(place),
         }
     }
 
-    pub fn write(&self, content: impl AsRef<[u8]>) -> Outcome {
-        let mut file = self.place()?.begin()?;
-        let written = file.write_all(content.as_ref());
-        written.map_err(|error| file.failed(error))?;
-        file.put()
+    /// Writes it beside its place; a state is put there last.
+    pub fn write(&self, content: impl AsRef<[u8]>, files: &mut Files) {
+        let (place, content) = (self.place(), content.as_ref());
+        match self.kind {
+            Kind::State => files.write_state(place, content),
+            _ => drop(files.write(place, content)),
+        }
     }
 }
 
@@ -129,11 +161,17 @@ impl Goes {
         matches!(self, Goes::Standard)
     }
 
-    pub fn write(&self, text: impl FnOnce() -> String, out: &mut dyn Write) -> Outcome {
+    pub fn write(
+        &self,
+        text: impl FnOnce() -> String,
+        files: &mut Files,
+        out: &mut dyn Write,
+    ) -> Outcome {
         match self {
-            Goes::Nowhere => Ok(()),
-            Goes::Standard => Ok(out.write_all(text().as_bytes())?),
-            Goes::File(file) => file.write(text()),
+            Goes::Nowhere => {}
+            Goes::Standard => out.write_all(text().as_bytes())?,
+            Goes::File(file) => file.write(text(), files),
         }
+        Ok(())
     }
 }

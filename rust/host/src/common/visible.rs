@@ -73,7 +73,7 @@ mod tests {
     fn the_writer_spells_it_out_too() {
         let mut written = Vec::new();
         let mut out = Visible(&mut written);
-        write!(out, "é {}\n", "\u{1b}c").expect("it grows");
+        writeln!(out, "é \u{1b}c").expect("it grows");
         assert_eq!(written, "é \\u001bc\n".as_bytes());
     }
 }

@@ -9,13 +9,14 @@ pub mod walk;
 use crate::common::digits::Digits;
 use crate::common::edition::{self, EditionOption};
 use crate::common::failure::{Failure, Outcome};
+use crate::common::files::Files;
 use crate::decode::json::Json;
 use crate::decode::listing::{Listing, Summary, Terse};
-use crate::decode::parties::PartiesOptions;
+use crate::decode::parties::{Parties, PartiesOptions};
 use crate::decode::walk::{Form, Totals};
 use crate::input::source::Source;
 use crate::input::words::Words;
-use boundary::{Edition, Pair, Party};
+use boundary::{Edition, Pair};
 use clap::Args;
 use std::io::Write;
 use std::path::PathBuf;
@@ -58,6 +59,14 @@ pub struct Options {
     parties: PartiesOptions,
 }
 
+impl Options {
+    /// Names the files of the line.
+    pub fn name(&self, files: &mut Files) {
+        files.reads_all("FILE", &self.file);
+        self.parties.name(files);
+    }
+}
+
 pub fn run(options: &Options, out: &mut dyn Write) -> Outcome {
     let edition = options.edition.accepted().map_err(edition::refused)?;
     let lessees = options.parties.read(edition)?;
@@ -90,7 +99,7 @@ pub fn run(options: &Options, out: &mut dyn Write) -> Outcome {
 struct Stream {
     edition: Edition,
     /// Two parties, and whose each word is; none where there is one.
-    lessees: Option<(Pair, Vec<Party>)>,
+    lessees: Option<(Pair, Parties)>,
     /// Whether each change of what a start would get is told.
     changes: bool,
     words: Words,
@@ -107,7 +116,7 @@ impl Stream {
         } = self;
         let totals = match self.lessees {
             None => vec![walk::one(edition, changes, words, form)?],
-            Some((pair, parties)) => walk::two(pair, &parties, changes, words, form)?.into(),
+            Some((pair, parties)) => walk::two(pair, parties, changes, words, form)?.into(),
         };
         let refused = |totals: &Totals| {
             let (position, refused) = totals.refused.as_ref()?;

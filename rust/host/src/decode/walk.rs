@@ -6,6 +6,7 @@ use crate::common::failure::{Failure, Outcome};
 use crate::common::kinds::Position;
 use crate::common::names::{self, Kind, Line};
 use crate::common::settings::{self, Setting};
+use crate::decode::parties::Parties;
 use crate::explain::cause::{self, Refused};
 use crate::input::words::Words;
 use boundary::{headers, Answer, Command, Edition, Pair, Party, Reply, Session, View};
@@ -256,7 +257,7 @@ pub fn through(
 /// The same for two parties' words, where this names the party of each.
 pub fn two(
     mut pair: Pair,
-    parties: &[Party],
+    mut parties: Parties,
     changes: bool,
     words: Words,
     form: &mut dyn Form,
@@ -266,8 +267,8 @@ pub fn two(
     let take = |at: Position, word, form: &mut dyn Form| {
         count = at.0 + 1;
         // Words without a party are only counted.
-        let party = match parties.get(at.0 as usize) {
-            Some(party) => *party,
+        let party = match parties.next()? {
+            Some(party) => party,
             None => return Ok(()),
         };
         let pair = &mut pair;
@@ -283,12 +284,12 @@ pub fn two(
         form.end(each)?;
     }
     ended.map_err(|failure| failure.hinted(words.hint()))?;
-    match count == parties.len() as u64 {
+    let named = parties.count()?;
+    match count == named {
         true => Ok(totals),
         false => Err(Failure::wrong(format!(
-            "{}: {count} words, and the parties of {} are named",
-            words.name(),
-            parties.len()
+            "{}: {count} words, and the parties of {named} are named",
+            words.name()
         ))),
     }
 }

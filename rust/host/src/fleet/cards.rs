@@ -1,12 +1,13 @@
 //! A folder of cards, one a station.
 
 use crate::common::failure::{Failure, Outcome};
+use crate::common::files::Files;
 use crate::common::replaced::{Kind, Replaced};
 use crate::common::visible;
 use crate::fleet::leases::{fault, Fault, Row};
 use crate::fleet::month::{station, Fleet};
 use crate::score::picture;
-use std::collections::HashMap;
+use std::collections::{HashMap, HashSet};
 use std::fs;
 use std::io::{self, Write};
 use std::path::{Path, PathBuf};
@@ -16,7 +17,7 @@ const BY: &str = " by egretfold ";
 
 /// The name of a station's card: letters and digits as they are, anything else that may
 /// not stand in every file's name as a line.
-pub fn name(station: &str) -> String {
+fn name_of(station: &str) -> String {
     let plain = |letter: char| match letter {
         '-' | '_' | '.' => letter,
         _ if letter.is_alphanumeric() => letter,
@@ -26,23 +27,55 @@ pub fn name(station: &str) -> String {
     format!("{}.svg", name.trim_start_matches('.'))
 }
 
+/// Stations whose cards would have the name of an earlier one's, with that card's name, by their places.
+fn twice<'a>(stations: impl Iterator<Item = &'a str>) -> Vec<(usize, usize, String)> {
+    let mut names: HashMap<String, usize> = HashMap::new();
+    let mut twice = Vec::new();
+    for (place, station) in stations.enumerate() {
+        let name = name_of(station);
+        // Where capital letters are small ones too, as some folders have it.
+        if let Some(earlier) = names.insert(name.to_lowercase(), place) {
+            twice.push((place, earlier, name));
+        }
+    }
+    twice
+}
+
 /// Two stations whose cards would have one name, and cards that can't be put there. They
 /// are told before any log is read.
 pub fn faults(folder: &Path, rows: &[Row]) -> Vec<Fault> {
-    let mut names: HashMap<String, u64> = HashMap::new();
     let mut faults = Vec::new();
+    for (place, earlier, name) in twice(rows.iter().map(Row::station)) {
+        let line = rows[earlier].line;
+        let cause = format!("its card {name} would be that of line {line} too");
+        faults.push(fault(rows[place].line, "station", cause));
+    }
     for row in rows {
-        // Where capital letters are small ones too, as some folders have it.
-        let name = name(row.station());
-        if let Some(line) = names.insert(name.to_lowercase(), row.line) {
-            let cause = format!("its card {name} would be that of line {line} too");
-            faults.push(fault(row.line, "station", cause));
-        }
-        if let Err(Failure::Wrong(cause)) = Replaced::new(&folder.join(name), Kind::Svg) {
+        let name = folder.join(name_of(row.station()));
+        if let Err(Failure::Wrong(cause)) = Replaced::new(&name, Kind::Svg) {
             faults.push(fault(row.line, "station", cause));
         }
     }
     faults
+}
+
+/// The same for stations that have no lease file.
+pub fn are_apart(stations: &[&str]) -> Outcome {
+    match twice(stations.iter().copied()).first() {
+        None => Ok(()),
+        Some((place, earlier, name)) => {
+            let (one, other) = (stations[*earlier], stations[*place]);
+            let told = format!("the cards of stations {one} and {other} would both be {name}");
+            Err(Failure::Wrong(told))
+        }
+    }
+}
+
+/// Names the cards of these stations among the files of the line.
+pub fn name<'a>(folder: &Path, stations: impl Iterator<Item = &'a str>, files: &mut Files) {
+    for station in stations {
+        files.writes("--cards", Some(&folder.join(name_of(station))));
+    }
 }
 
 /// Makes sure of the folder.
@@ -59,17 +92,12 @@ pub fn folder(folder: &Path) -> Outcome {
 
 /// Writes each station's card, in place of an earlier one, and tells of others that stand
 /// there.
-pub fn write(fleet: &Fleet, folder: &Path) -> Outcome {
-    let mut failed = Vec::new();
-    let mut names = Vec::new();
-    for card in &fleet.cards {
-        let name = folder.join(name(station(card)));
-        let written =
-            Replaced::new(&name, Kind::Svg).and_then(|place| place.write(&picture::svg(card)));
-        if let Err(Failure::Wrong(text)) = written {
-            failed.push(text);
-        }
-        names.push(name);
+pub fn write(fleet: &Fleet, folder: &Path, files: &mut Files) {
+    let mut names = HashSet::new();
+    for card in fleet.cards() {
+        let name = folder.join(name_of(station(&card)));
+        Replaced::at(&name, Kind::Svg).write(picture::svg(&card), files);
+        names.insert(name);
     }
     for other in others(folder, &names) {
         let other = visible::line(&other.display().to_string());
@@ -79,14 +107,10 @@ pub fn write(fleet: &Fleet, folder: &Path) -> Outcome {
             "{other} is an earlier card, of no station of this fleet"
         );
     }
-    match failed.is_empty() {
-        true => Ok(()),
-        false => Err(Failure::Wrong(failed.join("\n  "))),
-    }
 }
 
 /// Cards that stand there and are none of these.
-fn others(folder: &Path, names: &[PathBuf]) -> Vec<PathBuf> {
+fn others(folder: &Path, names: &HashSet<PathBuf>) -> Vec<PathBuf> {
     let entries = fs::read_dir(folder).into_iter().flatten().flatten();
     let entries = entries.map(|entry| folder.join(entry.file_name()));
     let is_svg = |path: &PathBuf| path.extension().map_or(false, |end| end == "svg");
@@ -101,7 +125,7 @@ fn others(folder: &Path, names: &[PathBuf]) -> Vec<PathBuf> {
 
 #[cfg(test)]
 mod tests {
-    use super::name;
+    use super::name_of;
 
     #[test]
     fn a_cards_name_can_stand_in_any_folder() {
@@ -112,7 +136,7 @@ mod tests {
             ("..", ".svg"),
             ("Zürich-1", "Zürich-1.svg"),
         ] {
-            assert_eq!(name(station), due);
+            assert_eq!(name_of(station), due);
         }
     }
 }

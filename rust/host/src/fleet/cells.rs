@@ -19,7 +19,8 @@ pub fn count(text: &str, delimiter: u8) -> Result<u32, String> {
     };
     let groups: Vec<&str> = text.split(separator).collect();
     let digits = |group: &&str| group.bytes().all(|byte| byte.is_ascii_digit());
-    let first = (1..=3).contains(&groups[0].len());
+    // 0.100 is a tenth, whatever stands between its digits.
+    let first = (1..=3).contains(&groups[0].len()) && !groups[0].starts_with('0');
     let rest = groups[1..].iter().all(|group| group.len() == 3);
     match first && rest && groups.iter().all(digits) {
         true => numbers::count(&groups.concat()),
@@ -51,11 +52,13 @@ mod tests {
             "14.000",
             "1,",
             "-1,000",
+            "0,100",
+            "012,000",
             "",
         ] {
             assert!(count(text, b',').is_err(), "{text}");
         }
-        for text in ["14,000", "14.0", "14.000,00"] {
+        for text in ["14,000", "14.0", "14.000,00", "0.100", "0.000"] {
             assert!(count(text, b';').is_err(), "{text}");
         }
     }

@@ -58,7 +58,9 @@ pub fn tell(rows: &[Row], out: &mut dyn Write) -> Outcome {
 fn line(row: &Row) -> String {
     let asked = &row.asked;
     let line = &asked.line;
-    let mut words: Vec<String> = vec!["egretfold".into(), "score".into(), "--json".into()];
+    let mut words: Vec<String> = ["egretfold", "score", "--json", "--engine"]
+        .map(String::from)
+        .to_vec();
     let mut put = |option: &str, value: String| words.push(format!("{option}={}", quoted(&value)));
     put("--edition", asked.edition.to_string());
     put("--first-day", line.first_day.to_string());

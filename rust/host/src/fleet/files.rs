@@ -2,74 +2,104 @@
 //! in name order, or a pattern.
 
 use crate::input::source;
+use glob::{MatchOptions, Pattern};
 use std::cmp::Ordering;
+use std::ffi::OsString;
 use std::fs;
 use std::path::{Component, Path, PathBuf};
 
 /// What parts the names of a list.
 const GAPS: [char; 3] = [';', '\n', '\r'];
 
+/// More files than any log has: its 400 days have 9,600 hours.
+const MOST: usize = 100_000;
+
+/// What a cell names.
+#[derive(Default)]
+pub struct Named {
+    pub files: Vec<PathBuf>,
+    /// Pipes and devices that stand among a folder's files, which are no part of a log.
+    pub passed: Vec<PathBuf>,
+}
+
 /// The files that the text names, from this folder on, or what is wrong with it. A name
 /// that is a file's is that file, whatever letters it has; where nothing is found the name
 /// stays as it is, so that it is missed by that name.
-pub fn named(text: &str, folder: &Path) -> Result<Vec<PathBuf>, String> {
-    let whole = folder.join(text);
-    if !is_dash(text) && whole.exists() {
-        return Ok(one(&whole));
+pub fn named(text: &str, folder: &Path) -> Result<Named, String> {
+    let mut named = Named::default();
+    if !is_dash(text) && folder.join(text).exists() {
+        named.take(text, folder)?;
+        return Ok(named);
     }
     let names = text.split(GAPS).map(str::trim);
     let names: Vec<&str> = names.filter(|name| !name.is_empty()).collect();
-    match names.as_slice() {
-        [] => Err(format!("{text:?} names no file")),
-        names if names.iter().any(|name| is_dash(name)) => {
-            Err("standard input is no station's log; a file by that name is ./-".to_string())
-        }
-        names => Ok(names
-            .iter()
-            .flat_map(|name| one(&folder.join(name)))
-            .collect()),
+    if names.is_empty() {
+        return Err(format!("{text:?} names no file"));
     }
+    if names.iter().any(|name| is_dash(name)) {
+        return Err("standard input is no station's log; a file by that name is ./-".to_string());
+    }
+    for name in names {
+        named.take(name, folder)?;
+    }
+    Ok(named)
 }
 
 fn is_dash(name: &str) -> bool {
     source::is_standard(Some(Path::new(name)))
 }
 
-fn one(path: &Path) -> Vec<PathBuf> {
-    let files = match path.exists() {
-        true if path.is_dir() => files_in(path),
-        true => Vec::new(),
-        false => matching(path),
-    };
-    match files.is_empty() {
-        true => vec![path.to_path_buf()],
-        false => files,
+impl Named {
+    fn take(&mut self, name: &str, folder: &Path) -> Result<(), String> {
+        let path = folder.join(name);
+        let found = match path.exists() {
+            true if path.is_dir() => entries(&path, |name| !name.starts_with('.')),
+            true => vec![path.clone()],
+            false => matching(name, folder)?,
+        };
+        let before = self.files.len();
+        let is_whole = found == [path.clone()];
+        for path in found {
+            match fs::metadata(&path) {
+                Ok(about) if about.is_dir() && !is_whole => {}
+                Ok(about) if !about.is_file() && !is_whole => self.passed.push(path),
+                _ => self.files.push(apart_from_input(path)),
+            }
+        }
+        if self.files.len() == before {
+            self.files.push(apart_from_input(path));
+        }
+        few(&self.files)
     }
 }
 
-/// A folder's files in name order, without those that begin with a dot.
-fn files_in(folder: &Path) -> Vec<PathBuf> {
-    let is_file = |path: &PathBuf| !is_hidden(path) && !path.is_dir();
-    entries(folder).into_iter().filter(is_file).collect()
+fn few(files: &[PathBuf]) -> Result<(), String> {
+    match files.len() > MOST {
+        true => Err(format!("names over {MOST} files, which are the most")),
+        false => Ok(()),
+    }
 }
 
-fn is_hidden(path: &Path) -> bool {
-    name_of(path).starts_with('.')
+/// A file that is called as standard input is.
+fn apart_from_input(path: PathBuf) -> PathBuf {
+    match source::is_standard(Some(&path)) {
+        true => Path::new(".").join(path),
+        false => path,
+    }
 }
 
-fn name_of(path: &Path) -> String {
-    path.file_name()
-        .map_or(String::new(), |name| name.to_string_lossy().into_owned())
-}
-
-/// What stands in a folder, in name order; nothing where it can't be read.
-fn entries(folder: &Path) -> Vec<PathBuf> {
-    let folder = match folder.as_os_str().is_empty() {
+/// What stands in a folder by names that are kept, in name order; nothing where it can't be
+/// read.
+fn entries(folder: &Path, keeps: impl Fn(&str) -> bool) -> Vec<PathBuf> {
+    let read = match folder.as_os_str().is_empty() {
         true => Path::new("."),
         false => folder,
     };
-    let entries = fs::read_dir(folder).into_iter().flatten().flatten();
-    let mut names: Vec<_> = entries.map(|entry| entry.file_name()).collect();
+    let entries = fs::read_dir(read).into_iter().flatten().flatten();
+    let names = entries.map(|entry| entry.file_name());
+    let mut names: Vec<OsString> = names
+        .filter(|name| keeps(&name.to_string_lossy()))
+        .collect();
     names.sort_by(|one, other| {
         let (one_text, other_text) = (one.to_string_lossy(), other.to_string_lossy());
         name_order(&one_text, &other_text).then_with(|| one.cmp(other))
@@ -110,71 +140,68 @@ fn leading_digits(text: &str) -> &str {
     &text[..end.unwrap_or(text.len())]
 }
 
-/// The files that a path matches: * is any letters of a name, ? is one. Names that begin
-/// with a dot are matched by a dot alone.
-fn matching(path: &Path) -> Vec<PathBuf> {
-    let mut found = vec![PathBuf::new()];
-    for component in path.components() {
-        let pattern = component.as_os_str().to_string_lossy();
-        found = match component {
-            Component::Normal(_) if pattern.contains(['*', '?']) => {
-                let matches = |path: &PathBuf| {
-                    let hidden = is_hidden(path) && !pattern.starts_with('.');
-                    !hidden && matches(&name_of(path), &pattern)
-                };
-                let inside = |folder: &PathBuf| entries(folder).into_iter();
-                found.iter().flat_map(inside).filter(matches).collect()
+/// What a name matches from this folder on: * is any letters of a part of it, ? is one. Names
+/// that begin with a dot are matched by a dot alone, and a part that stands there as it is
+/// written is that one.
+fn matching(name: &str, folder: &Path) -> Result<Vec<PathBuf>, String> {
+    let mut found = vec![folder.to_path_buf()];
+    for component in Path::new(name).components() {
+        let part = component.as_os_str().to_string_lossy();
+        let is_pattern = matches!(component, Component::Normal(_)) && part.contains(['*', '?']);
+        let pattern = pattern(&part).filter(|_| is_pattern);
+        let inside = |path: &PathBuf| {
+            let plain = path.join(component);
+            match &pattern {
+                Some(pattern) if !plain.exists() => {
+                    entries(path, |name| pattern.matches_with(name, BY_A_DOT))
+                }
+                _ => vec![plain],
             }
-            _ => found.iter().map(|path| path.join(component)).collect(),
         };
+        found = found.iter().flat_map(inside).take(MOST + 1).collect();
+        few(&found)?;
     }
-    found.retain(|path| path.is_file());
-    found.into_iter().map(here).collect()
+    Ok(found)
 }
 
-/// Found in this very folder, of which the name says nothing, unless it would be standard
-/// input's.
-fn here(path: PathBuf) -> PathBuf {
-    match path.strip_prefix("./") {
-        Ok(name) if !source::is_standard(Some(name)) => name.to_path_buf(),
-        _ => path,
-    }
-}
+const BY_A_DOT: MatchOptions = MatchOptions {
+    case_sensitive: true,
+    require_literal_separator: false,
+    require_literal_leading_dot: true,
+};
 
-fn matches(name: &str, pattern: &str) -> bool {
-    match pattern.chars().next() {
-        None => name.is_empty(),
-        Some('*') => {
-            let rest = &pattern[1..];
-            let ends = name.char_indices().map(|(at, _)| at).chain([name.len()]);
-            ends.into_iter().any(|at| matches(&name[at..], rest))
-        }
-        Some(letter) => match name.chars().next() {
-            Some(first) if letter == '?' || letter == first => {
-                matches(&name[first.len_utf8()..], &pattern[letter.len_utf8()..])
-            }
-            _ => false,
-        },
+/// The library's pattern, for which [ and ** mean something: here they don't.
+fn pattern(text: &str) -> Option<Pattern> {
+    let mut text = text.replace('[', "[[]");
+    while text.contains("**") {
+        text = text.replace("**", "*");
     }
+    Pattern::new(&text).ok()
 }
 
 #[cfg(test)]
 mod tests {
-    use super::{matches, name_order};
+    use super::{name_order, pattern, BY_A_DOT};
 
     #[test]
     fn patterns_match_names() {
-        for (name, pattern, due) in [
+        for (name, text, due) in [
             ("day-01.log", "*.log", true),
             ("day-01.log", "day-??.log", true),
             ("day-1.log", "day-??.log", false),
             ("dé.log", "d?.log", true),
             ("a", "**", true),
+            ("a", "*****", true),
             ("", "*", true),
             ("", "?", false),
             ("day.log.gz", "*.log", false),
+            ("day[1].log", "day[1]*", true),
+            ("day1.log", "day[1]*", false),
+            (".day", "*day", false),
+            (".day", ".*", true),
         ] {
-            assert_eq!(matches(name, pattern), due, "{name} {pattern}");
+            let pattern = pattern(text).expect("a pattern");
+            assert_eq!(pattern.matches_with(name, BY_A_DOT), due, "{name} {text}");
         }
     }
 

@@ -2,6 +2,7 @@
 //! is told at once.
 
 use crate::common::failure::{Failure, Outcome};
+use crate::common::sheet;
 use crate::common::text;
 use crate::common::visible;
 use crate::fleet::{cells, files};
@@ -11,6 +12,8 @@ use crate::score::civil::Date;
 use crate::score::issue::Issue;
 use boundary::{Edition, Lease};
 use csv::{ByteRecord, ReaderBuilder};
+use std::collections::HashMap;
+use std::io::{self, Write};
 use std::path::{Path, PathBuf};
 
 /// More than any fleet's: this is no lease file.
@@ -54,12 +57,17 @@ pub struct Row {
     pub line: u64,
     pub asked: Asked,
     pub lease: Lease,
-    pub dates: Vec<Option<Date>>,
 }
 
 impl Row {
     pub fn station(&self) -> &str {
         self.asked.issue.station.as_deref().unwrap_or_default()
+    }
+
+    /// A date for each day of the lease, or none for all of them; that they can be had is
+    /// judged as the row is read.
+    pub fn dates(&self) -> Outcome<Vec<Option<Date>>> {
+        self.asked.dates(&self.lease).map_err(Failure::Wrong)
     }
 }
 
@@ -200,8 +208,8 @@ impl Leases {
                 .iter()
                 .map(|value| spelled(&String::from_utf8_lossy(value)));
             let like = like
-                .filter(|other| !is_known(other) && is_like(other, name))
-                .last();
+                .rev()
+                .find(|other| !is_known(other) && is_like(other, name));
             match (place, like) {
                 (None, Some(like)) => {
                     let cause = format!("there is none; {like:?} may be it");
@@ -222,10 +230,11 @@ impl Leases {
 
     /// No station has two rows.
     fn told_twice(&mut self) {
-        for (place, row) in self.rows.iter().enumerate() {
-            let same = |other: &&Row| other.station() == row.station();
-            if let Some(earlier) = self.rows[..place].iter().find(same) {
-                let cause = format!("{:?} stands in line {} too", row.station(), earlier.line);
+        let mut lines: HashMap<&str, u64> = HashMap::new();
+        for row in &self.rows {
+            let first = *lines.entry(row.station()).or_insert(row.line);
+            if first != row.line {
+                let cause = format!("{:?} stands in line {first} too", row.station());
                 self.faults.push(fault(row.line, "station", cause));
             }
         }
@@ -303,7 +312,7 @@ impl Reading<'_> {
     fn value(&mut self, column: usize) -> Option<String> {
         let value = self.record.get(self.header.places[column]?)?;
         match std::str::from_utf8(value) {
-            Ok(text) => Some(text.trim().to_string()).filter(|text| !text.is_empty()),
+            Ok(text) => Some(sheet::read(text.trim()).to_string()).filter(|text| !text.is_empty()),
             Err(_) => self.wrong(column, "isn't UTF-8; save the file as CSV in UTF-8"),
         }
     }
@@ -356,22 +365,23 @@ impl Reading<'_> {
             files: files.unwrap_or_default(),
             issue: Issue::of(&station, &lessee, issued),
         };
-        let (lease, dates) = self.lease(&asked)?;
+        let lease = self.lease(&asked)?;
         let line = self.line;
-        (self.faults.len() == before).then(|| Row {
-            line,
-            asked,
-            lease,
-            dates,
-        })
+        (self.faults.len() == before).then_some(Row { line, asked, lease })
     }
 
     fn files(&mut self, folder: &Path) -> Option<Vec<PathBuf>> {
         let text = self.needed(LOG)?;
-        match files::named(&text, folder) {
-            Ok(files) => Some(files),
-            Err(cause) => self.wrong(LOG, cause),
+        let named = match files::named(&text, folder) {
+            Ok(named) => named,
+            Err(cause) => return self.wrong(LOG, cause),
+        };
+        for path in &named.passed {
+            let path = visible::line(&path.display().to_string());
+            // Where standard error is closed, the files must do.
+            let _ = writeln!(io::stderr(), "{path} is no file and is passed over");
         }
+        Some(named.files)
     }
 
     fn date(&mut self) -> Option<Date> {
@@ -382,8 +392,8 @@ impl Reading<'_> {
         }
     }
 
-    /// The lease line judged, and its dates.
-    fn lease(&mut self, asked: &Asked) -> Option<(Lease, Vec<Option<Date>>)> {
+    /// The lease line judged, with its dates.
+    fn lease(&mut self, asked: &Asked) -> Option<Lease> {
         let lease = match asked.lease() {
             Ok(lease) => lease,
             Err(refused) => {
@@ -392,7 +402,7 @@ impl Reading<'_> {
             }
         };
         match asked.dates(&lease) {
-            Ok(dates) => Some((lease, dates)),
+            Ok(_) => Some(lease),
             Err(cause) => self.wrong(FIRST_DATE, cause),
         }
     }

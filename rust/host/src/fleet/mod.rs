@@ -1,36 +1,39 @@
 //! `egretfold fleet`: a month of many stations, scored against their lease lines.
 //!
 //! The lease file is read by `leases`, with `cells` and `files`; the logs are read side by
-//! side by `stations`, and what they come to is asked by `report`. `scores` joins what was
-//! scored elsewhere, for which `commands` gives the lines. A `month` is told as `text`,
-//! as `rows`, as a `page` and as a folder of `cards`.
+//! side by `stations`, and added to the product's report. `commands` gives the lines for
+//! scoring elsewhere, `scores` reads what they print, and `join` holds it against the lease
+//! file. A `month` of cards, each `kept` small, is told as `text`, as `rows`, as a `page` and
+//! as a folder of `cards`.
 
 mod cards;
 mod cells;
 mod commands;
 mod files;
+mod held;
+mod join;
+mod kept;
 mod leases;
 pub mod month;
 pub mod page;
-pub mod report;
 mod rows;
 mod scores;
 mod stations;
 pub mod text;
+mod workers;
 
 use crate::common::digits::Digits;
 use crate::common::edition::{self, EditionOption};
 use crate::common::failure::{Failure, Outcome};
+use crate::common::files::Files;
 use crate::common::replaced::{Goes, Kind};
+use crate::fleet::kept::Kept;
 use crate::fleet::leases::{Leases, Row};
-use crate::fleet::month::{station, Fleet, Sort};
-use crate::fleet::report::Four;
-use crate::score::asked::{Asked, Card};
+use crate::fleet::month::{Fleet, Sort};
 use crate::score::civil::Date;
 use crate::score::issue;
 use boundary::Edition;
 use clap::Args;
-use std::collections::HashMap;
 use std::io::Write;
 use std::path::{Path, PathBuf};
 
@@ -59,9 +62,16 @@ pub struct Options {
     /// due, else the fleet is who stands there
     #[arg(long, value_name = "FILE", num_args = 1.., conflicts_with = "number")]
     from_scores: Option<Vec<PathBuf>>,
+    /// With --from-scores and a lease file: hold each score's digest against its log, where that can be read here
+    #[arg(long, requires = "from_scores", requires = "leases")]
+    check_logs: bool,
     /// Print the line of score --json for each station, and read no log
     #[arg(long, conflicts_with_all = ["from_scores", "json", "csv", "plain", "html", "cards"])]
     commands: bool,
+    /// Print the lines of those stations alone that have no score in these files, or one that says that the log couldn't
+    /// be read
+    #[arg(long, value_name = "FILE", num_args = 1.., requires = "commands")]
+    missing: Option<Vec<PathBuf>>,
     /// The order of the stations
     #[arg(long, value_enum, default_value_t = Sort::Worst)]
     sort: Sort,
@@ -74,8 +84,8 @@ pub struct Options {
     /// Large numbers without commas between their digits
     #[arg(long, conflicts_with_all = ["json", "csv"])]
     plain: bool,
-    /// Write the month as a page for a browser, whole in this file; an earlier page there is replaced, nothing else; -
-    /// for standard output, in place of the text
+    /// Write the month as a page for a browser, whole in this file; an earlier page of ours there is replaced,
+    /// nothing else; - for standard output, in place of the text
     #[arg(long, value_name = "FILE")]
     html: Option<PathBuf>,
     /// Draw each station's card into this folder, in place of its earlier one
@@ -88,7 +98,21 @@ pub struct Options {
     edition: EditionOption,
 }
 
-pub fn run(options: &Options, out: &mut dyn Write) -> Outcome {
+impl Options {
+    /// Names the files of the line but for those that the lease file names.
+    pub fn name(&self, files: &mut Files) {
+        files.reads("LEASES.csv", self.leases.as_deref());
+        for scores in self.from_scores.iter().flatten() {
+            files.reads("--from-scores", Some(scores));
+        }
+        for scores in self.missing.iter().flatten() {
+            files.reads("--missing", Some(scores));
+        }
+        files.writes("--html", self.html.as_deref());
+    }
+}
+
+pub fn run(options: &Options, files: &mut Files, out: &mut dyn Write) -> Outcome {
     let edition = options.edition.accepted().map_err(edition::refused)?;
     let form = (options.json || options.csv).then_some("--json and --csv");
     let html = Goes::asked(options.html.as_deref(), Kind::Html, form)?;
@@ -97,31 +121,67 @@ pub fn run(options: &Options, out: &mut dyn Write) -> Outcome {
         Some(file) => Some(options.rows(file, (edition, date))?),
         None => None,
     };
-    if let (true, Some(rows)) = (options.commands, &rows) {
-        return commands::tell(rows, out);
+    name_rows(rows.as_deref().unwrap_or_default(), options, files)?;
+    if options.commands {
+        let rows = rows.unwrap_or_default();
+        let rows = match &options.missing {
+            Some(scored) => join::missing(scores::read(scored)?, rows)?,
+            None => rows,
+        };
+        return commands::tell(&rows, out);
+    }
+    let joined = match &options.from_scores {
+        Some(scored) => Some(join::joined(
+            scores::read(scored)?,
+            rows.as_deref(),
+            options.check_logs,
+        )?),
+        None => None,
+    };
+    let stations = joined.as_ref().map(|joined| joined.cards.len());
+    let stations = stations.max(rows.as_ref().map(Vec::len)).unwrap_or(0);
+    if options.html.is_some() {
+        page::holds(stations)?;
     }
     if let Some(folder) = &options.cards {
+        if let (Some(joined), None) = (&joined, &rows) {
+            let stations: Vec<&str> = joined.cards.iter().map(Kept::station).collect();
+            cards::are_apart(&stations)?;
+            cards::name(folder, stations.into_iter(), files);
+            files.are_apart()?;
+        }
         cards::folder(folder)?;
     }
-    let (cards, four) = match (&options.from_scores, &rows) {
-        (Some(files), rows) => joined(scores::read(files)?, rows.as_deref())?,
-        (None, rows) => stations::read(edition, rows.as_deref().unwrap_or_default())?,
+    let group = match joined {
+        Some(joined) => joined,
+        None => stations::read(edition, rows.unwrap_or_default())?,
     };
-    let fleet = Fleet::new(cards, four, options.sort, date);
-    let drawn = match &options.cards {
-        Some(folder) => cards::write(&fleet, folder),
-        None => Ok(()),
-    };
-    let written = html.write(|| page::html(&fleet), out);
-    match (options.json, options.csv) {
-        _ if html.is_standard() => {}
-        (true, _) => rows::json(&fleet, out)?,
-        (_, true) => rows::csv(&fleet, out)?,
-        _ => text::tell(&fleet, Digits::plain(options.plain), out)?,
+    let fleet = Fleet::new(group, options.sort, date);
+    if let Some(folder) = &options.cards {
+        cards::write(&fleet, folder, files);
     }
-    drawn?;
-    written?;
-    fleet.outcome()
+    let told = html.write(|| page::html(&fleet), files, out);
+    let told = told.and_then(|()| match (options.json, options.csv) {
+        _ if html.is_standard() => Ok(()),
+        (true, _) => rows::json(&fleet, out),
+        (_, true) => rows::csv(&fleet, out),
+        _ => text::tell(&fleet, Digits::plain(options.plain), out),
+    });
+    Failure::both(fleet.outcome(), told)
+}
+
+/// Names the files that the lease file tells of: the stations' cards, and their logs, which are read where there are no scores, and
+/// also by who runs the lines of --commands.
+fn name_rows(rows: &[Row], options: &Options, files: &mut Files) -> Outcome {
+    if let Some(folder) = &options.cards {
+        cards::name(folder, rows.iter().map(Row::station), files);
+    }
+    for row in rows {
+        for file in &row.asked.files {
+            files.reads_last(|| format!("the log of station {}", row.station()), file);
+        }
+    }
+    files.are_apart()
 }
 
 impl Options {
@@ -137,84 +197,5 @@ impl Options {
             leases.add_faults(faults);
         }
         leases.rows()
-    }
-}
-
-/// The edition by which all of them were scored.
-fn edition_of(cards: &[Card]) -> Outcome<Edition> {
-    let first = match cards.first() {
-        Some(first) => first,
-        None => return Err(Failure::wrong("there is no score in what is joined")),
-    };
-    let number = first.edition();
-    if let Some(other) = cards.iter().find(|card| card.edition() != number) {
-        let (one, other, by) = (station(first), station(other), other.edition());
-        return Err(Failure::Wrong(format!(
-            "station {one} is scored by edition {number} and station {other} by edition {by}"
-        )));
-    }
-    Edition::of(number).map_err(|_| Failure::Wrong(format!("there is no edition {number}")))
-}
-
-/// The cards that were scored elsewhere, in the lease file's order where there is one,
-/// and their four numbers by their months.
-fn joined(cards: Vec<Card>, rows: Option<&[Row]>) -> Outcome<(Vec<Card>, Four)> {
-    let edition = edition_of(&cards)?;
-    let mut told: HashMap<String, Card> = HashMap::new();
-    let mut order = Vec::new();
-    for card in cards {
-        let name = station(&card).to_string();
-        order.push(name.clone());
-        if told.insert(name.clone(), card).is_some() {
-            return Err(Failure::Wrong(format!("station {name} is scored twice")));
-        }
-    }
-    let cards: Vec<Card> = match rows {
-        None => order.iter().filter_map(|name| told.remove(name)).collect(),
-        Some(rows) => {
-            let due: Outcome<Vec<Card>> = rows
-                .iter()
-                .map(|row| due(row, edition, &mut told))
-                .collect();
-            let due = due?;
-            if let Some(name) = order.iter().find(|name| told.contains_key(*name)) {
-                let stranger = format!("station {name} is scored and has no row in the lease file");
-                return Err(Failure::Wrong(stranger));
-            }
-            due
-        }
-    };
-    let four = cards
-        .iter()
-        .enumerate()
-        .fold(Four::default(), |four, (place, card)| {
-            let own = card.score().map(|score| Four::of_month(place, score));
-            four.join(own.unwrap_or_default())
-        });
-    Ok((cards, four))
-}
-
-/// The card of a row, which must be of its lease line.
-fn due(row: &Row, edition: Edition, told: &mut HashMap<String, Card>) -> Outcome<Card> {
-    let Asked {
-        line, from, issue, ..
-    } = &row.asked;
-    match told.remove(row.station()) {
-        None => Ok(row
-            .asked
-            .missing(edition, "no score of it is among those that are joined")),
-        Some(card)
-            if card.line() == *line
-                && card.from() == *from
-                && card.issue().lessee == issue.lessee =>
-        {
-            Ok(card)
-        }
-        Some(_) => {
-            let (name, line) = (row.station(), row.line);
-            let cause =
-                format!("station {name} is scored for another lease than that of line {line}");
-            Err(Failure::Wrong(cause))
-        }
     }
 }

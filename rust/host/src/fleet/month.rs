@@ -1,18 +1,19 @@
 //! A fleet's month: its stations' cards with what they come to together.
 
+use crate::common::digest::Digest;
 use crate::common::edition;
 use crate::common::failure::{Failure, Outcome};
 use crate::common::text;
 use crate::fleet::files::name_order;
-use crate::fleet::report::Four;
+use crate::fleet::kept::{Kept, Scored};
+use crate::fleet::stations::Group;
 use crate::score::asked::Card;
 use crate::score::checks::Check;
 use crate::score::civil::Date;
-use crate::score::month::{percent, Score, Served};
-use boundary::{Edition, Verdict};
+use crate::score::month::{percent, Served};
+use boundary::{Edition, FleetTold, Verdict};
 use clap::ValueEnum;
 use std::cmp::Ordering;
-use std::collections::HashMap;
 
 /// The order in which stations are told.
 #[derive(Clone, Copy, Debug, PartialEq, Eq, ValueEnum)]
@@ -31,9 +32,11 @@ pub enum Sort {
 
 pub struct Fleet {
     /// In the lease file's order.
-    pub cards: Vec<Card>,
-    /// Of the stations that have a score.
-    pub four: Four,
+    pub kept: Vec<Kept>,
+    /// The report of the stations that have a score.
+    pub four: FleetTold,
+    /// The place of the station with the smallest part.
+    pub smallest: Option<usize>,
     /// The places in the order in which they are told.
     order: Vec<usize>,
     /// When the report is issued.
@@ -41,31 +44,46 @@ pub struct Fleet {
 }
 
 impl Fleet {
-    pub fn new(mut cards: Vec<Card>, four: Four, sort: Sort, date: Date) -> Fleet {
-        tell_same_logs(&mut cards);
-        let mut order: Vec<usize> = (0..cards.len()).collect();
+    pub fn new(group: Group, sort: Sort, date: Date) -> Fleet {
+        let mut kept = group.cards;
+        tell_same_logs(&mut kept);
+        let mut order: Vec<usize> = (0..kept.len()).collect();
         // Stable, so that what is equal stays in the file's order.
-        order.sort_by(|one, other| by(sort, &cards[*one], &cards[*other]));
+        order.sort_by(|one, other| by(sort, &kept[*one], &kept[*other]));
+        let four = group.report.tell();
+        // The report counts the stations that were added to it: those with a score.
+        let is_scored = |place: &usize| kept[*place].scored().is_some();
+        let smallest = four.station.and_then(|number| {
+            let mut scored = (0..kept.len()).filter(is_scored);
+            scored.nth(number as usize)
+        });
         Fleet {
-            cards,
+            kept,
             four,
+            smallest,
             order,
             date,
         }
     }
 
     /// The stations as they are told, with their places.
-    pub fn told(&self) -> impl Iterator<Item = (usize, &Card)> {
-        self.order.iter().map(|place| (*place, &self.cards[*place]))
+    pub fn told(&self) -> impl Iterator<Item = (usize, Card)> + '_ {
+        let places = self.order.iter();
+        places.map(|place| (*place, self.kept[*place].card()))
     }
 
-    pub fn scores(&self) -> impl Iterator<Item = &Score> {
-        self.cards.iter().filter_map(Card::score)
+    /// The stations in the lease file's order.
+    pub fn cards(&self) -> impl Iterator<Item = Card> + '_ {
+        self.kept.iter().map(Kept::card)
+    }
+
+    pub fn scores(&self) -> impl Iterator<Item = &Scored> {
+        self.kept.iter().filter_map(Kept::scored)
     }
 
     /// The edition of the lease rule, which is the same for all of them, with its rule.
     pub fn rule(&self) -> Option<&'static str> {
-        let number = self.cards.first()?.edition();
+        let number = self.kept.first()?.edition();
         Edition::of(number).ok().map(edition::rule)
     }
 
@@ -74,12 +92,12 @@ impl Fleet {
     }
 
     /// The name of the station with the smallest part.
-    pub fn smallest(&self) -> Option<&Card> {
-        self.four.smallest.map(|part| &self.cards[part.place])
+    pub fn smallest(&self) -> Option<&str> {
+        self.smallest.map(|place| self.kept[place].station())
     }
 
     pub fn count(&self, verdict: Verdict) -> usize {
-        let is = |score: &&Score| score.month.verdict == verdict;
+        let is = |score: &&Scored| score.total.verdict == verdict;
         self.scores().filter(is).count()
     }
 
@@ -90,8 +108,8 @@ impl Fleet {
     /// "14 stations: 1 short, 11 full, 1 refused, 1 not scored".
     pub fn heading(&self) -> String {
         let unscored = |refused: bool| {
-            let is = |card: &&Card| matches!(card, Card::Unscored(one) if one.refused == refused);
-            self.cards.iter().filter(is).count()
+            let is = |card: &&Kept| matches!(card, Kept::Unscored(one) if one.refused == refused);
+            self.kept.iter().filter(is).count()
         };
         let kinds = [
             (self.count(Verdict::Full), "full"),
@@ -104,14 +122,14 @@ impl Fleet {
         let kinds: Vec<String> = kinds
             .map(|(count, kind)| format!("{count} {kind}"))
             .collect();
-        let stations = text::count(self.cards.len() as u64, "station");
+        let stations = text::count(self.kept.len() as u64, "station");
         format!("{stations}: {}", kinds.join(", "))
     }
 
     /// How the fleet ends: a station without a score weighs more than a short month.
     pub fn outcome(&self) -> Outcome {
-        let unscored = self.cards.iter().filter(|card| card.score().is_none());
-        let names: Vec<&str> = unscored.map(station).collect();
+        let unscored = self.kept.iter().filter(|card| card.scored().is_none());
+        let names: Vec<&str> = unscored.map(Kept::station).collect();
         match names.len() {
             0 if self.count(Verdict::Short) > 0 => Err(Failure::Short),
             0 => Ok(()),
@@ -134,14 +152,15 @@ pub fn station(card: &Card) -> &str {
     card.issue().station.as_deref().unwrap_or("-")
 }
 
-fn by(sort: Sort, one: &Card, other: &Card) -> Ordering {
-    let name = |card: &Card| station(card).to_string();
-    let lessee = |card: &Card| card.issue().lessee.clone().unwrap_or_default();
-    let silent = |card: &Card| card.score().map(|score| score.count(Served::Dark));
+fn by(sort: Sort, one: &Kept, other: &Kept) -> Ordering {
+    fn lessee(card: &Kept) -> &str {
+        card.issue().lessee.as_deref().unwrap_or_default()
+    }
+    let silent = |card: &Kept| card.scored().map(|score| score.count(Served::Dark));
     match sort {
         Sort::Lease => Ordering::Equal,
-        Sort::Station => name_order(&name(one), &name(other)),
-        Sort::Lessee => name_order(&lessee(one), &lessee(other)),
+        Sort::Station => name_order(one.station(), other.station()),
+        Sort::Lessee => name_order(lessee(one), lessee(other)),
         // None comes before all numbers, so it is told last, which here is first.
         Sort::Silent => match (silent(one), silent(other)) {
             (None, None) => Ordering::Equal,
@@ -154,10 +173,10 @@ fn by(sort: Sort, one: &Card, other: &Card) -> Ordering {
 }
 
 /// Without a score, then by the served part, and last those that owe nothing.
-fn worst(one: &Card, other: &Card) -> Ordering {
-    let part = |card: &Card| {
-        card.score()
-            .map(|score| (score.month.served, score.month.owed))
+fn worst(one: &Kept, other: &Kept) -> Ordering {
+    let part = |card: &Kept| {
+        card.scored()
+            .map(|score| (score.total.served, score.total.owed))
     };
     match (part(one), part(other)) {
         (None, None) => Ordering::Equal,
@@ -173,44 +192,44 @@ fn worst(one: &Card, other: &Card) -> Ordering {
     }
 }
 
-/// Logs of two stations that are the same bytes: one of them is in the wrong place.
-fn tell_same_logs(cards: &mut [Card]) {
-    let mut stations: HashMap<String, Vec<String>> = HashMap::new();
-    for card in cards.iter() {
-        if let Some(digest) = card.score().and_then(of_bytes) {
-            let same = stations.entry(digest).or_default();
-            same.push(station(card).to_string());
-        }
+/// Logs of two stations that are the same bytes: one of them is in the wrong place. Empty
+/// ones are told as empty.
+fn tell_same_logs(kept: &mut [Kept]) {
+    let empty = Digest::new().finished();
+    let digest = |place: usize| kept[place].scored()?.digest;
+    let has_bytes = |place: &usize| digest(*place).map_or(false, |digest| digest != empty);
+    let mut places: Vec<usize> = (0..kept.len()).filter(has_bytes).collect();
+    places.sort_by_key(|place| digest(*place));
+    let mut told: Vec<(usize, String)> = Vec::new();
+    let mut rest = places.as_slice();
+    while let Some(first) = rest.first() {
+        let is_same = |place: &&usize| digest(**place) == digest(*first);
+        let (same, behind) = rest.split_at(rest.iter().take_while(is_same).count());
+        let others = same
+            .iter()
+            .filter_map(|place| Some((*place, others(kept, same, *place)?)));
+        told.extend(others);
+        rest = behind;
     }
-    for card in cards {
-        let own = station(card).to_string();
-        if let Card::Scored(score) = card {
-            let same = of_bytes(score).and_then(|digest| stations.get(&digest));
-            let others = same.into_iter().flatten().filter(|other| **other != own);
-            let others: Vec<&str> = others.map(String::as_str).collect();
-            if let Some(others) = first_of(&others) {
-                let text = format!("the log is byte for byte that of station {others} too");
-                score.checks.push(Check::new("same_log", text, None));
-            }
+    for (place, others) in told {
+        if let Kept::Scored(score) = &mut kept[place] {
+            let text = format!("the log is byte for byte that of station {others} too");
+            score.checks.push(Check::new("same_log", text, None));
         }
     }
 }
 
-/// The first names, and how many more there are.
-fn first_of(names: &[&str]) -> Option<String> {
+/// The first names beside this one's, and how many more there are.
+fn others(kept: &[Kept], same: &[usize], place: usize) -> Option<String> {
     const FIRST: usize = 3;
-    match names {
-        [] => None,
-        names if names.len() <= FIRST => Some(names.join(", ")),
-        names => {
-            let more = names.len() - FIRST;
-            Some(format!("{} and {more} more", names[..FIRST].join(", ")))
-        }
+    let others = same.iter().filter(|other| **other != place);
+    let names: Vec<&str> = others
+        .take(FIRST)
+        .map(|other| kept[*other].station())
+        .collect();
+    match same.len() - 1 {
+        0 => None,
+        count if count <= FIRST => Some(names.join(", ")),
+        count => Some(format!("{} and {} more", names.join(", "), count - FIRST)),
     }
-}
-
-/// The digest of a log that has any bytes.
-fn of_bytes(score: &Score) -> Option<String> {
-    let some = score.log["bytes"].as_u64().map_or(false, |bytes| bytes > 0);
-    score.digest.clone().filter(|_| some)
 }

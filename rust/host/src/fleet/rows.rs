@@ -2,6 +2,7 @@
 //! values.
 
 use crate::common::failure::Outcome;
+use crate::common::sheet;
 use crate::fleet::month::{station, Fleet};
 use crate::score::asked::Card;
 use crate::score::checks::Check;
@@ -10,11 +11,12 @@ use crate::score::month::{Score, Served};
 use crate::score::rows::lease;
 use csv::Writer;
 use serde_json::{json, Value};
-use std::io::Write;
+use std::io::{self, Write};
 
 /// A line for each station, and one for the fleet.
 pub fn json(fleet: &Fleet, out: &mut dyn Write) -> Outcome {
     for (_, card) in fleet.told() {
+        let card = &card;
         let mut value = json!({
             "station": station(card),
             "lessee": card.issue().lessee,
@@ -32,14 +34,14 @@ pub fn json(fleet: &Fleet, out: &mut dyn Write) -> Outcome {
     }
     let four = &fleet.four;
     let value = json!({"fleet": {
-        "stations": fleet.cards.len(),
+        "stations": fleet.kept.len(),
         "scored": fleet.scores().count(),
         "served": four.served,
         "owed": four.owed,
         "percent": fleet.percent(),
         "silent_days": four.silent_days,
-        "station": fleet.smallest().map(station),
-        "place": four.smallest.map(|part| part.place),
+        "station": fleet.smallest(),
+        "place": fleet.smallest,
         "full_days": fleet.days(Served::InFull),
         "issued": fleet.date.to_string(),
         "version": VERSION,
@@ -82,15 +84,15 @@ pub fn csv(fleet: &Fleet, out: &mut dyn Write) -> Outcome {
         "verdict",
         "explained",
     ];
-    let mut rows = vec![head.map(String::from)];
-    rows.extend(fleet.told().map(|(_, card)| row(card)));
-    let mut writer = Writer::from_writer(Vec::new());
-    for row in rows {
-        writer.write_record(row).map_err(std::io::Error::from)?;
+    let mut writer = Writer::from_writer(out);
+    writer.write_record(head).map_err(io::Error::from)?;
+    for (_, card) in fleet.told() {
+        let row = row(&card);
+        let cells = row.iter().map(|text| sheet::written(text));
+        let cells = cells.map(|cell| cell.into_owned().into_bytes());
+        writer.write_record(cells).map_err(io::Error::from)?;
     }
-    // Writing to memory can't fail.
-    let bytes = writer.into_inner().unwrap_or_default();
-    out.write_all(&bytes)?;
+    writer.flush()?;
     Ok(())
 }
 

@@ -1,13 +1,17 @@
 //! The lines of `score --json`, read back: a fleet that was scored elsewhere, joined.
 
+use crate::common::digest;
 use crate::common::failure::{Failure, Outcome};
+use crate::common::visible;
+use crate::fleet::held;
+use crate::fleet::kept::Kept;
 use crate::input::source::Source;
 use crate::score::asked::{accepted, dates, Card, LeaseLine, Unscored};
 use crate::score::checks::Check;
 use crate::score::civil::Date;
 use crate::score::issue::Issue;
 use crate::score::month::{verdict_name, Day, Score};
-use boundary::{Edition, Month, ScoredDay, Verdict};
+use boundary::{Edition, Month, Verdict};
 use serde_json::Value;
 use std::path::PathBuf;
 
@@ -18,9 +22,11 @@ const LONGEST: usize = 1 << 29;
 type Read<T> = Result<T, String>;
 
 /// The cards that these files tell, in their order.
-pub fn read(files: &[PathBuf]) -> Outcome<Vec<Card>> {
+pub fn read(files: &[PathBuf]) -> Outcome<Vec<Kept>> {
     let mut cards = Vec::new();
-    for mut source in Source::open_all(files)? {
+    for file in files {
+        // One at a time: there may be a file a station.
+        let mut source = Source::open(Some(file))?;
         let bytes = source.all(LONGEST)?;
         let wrong =
             |line: usize, cause| Failure::Wrong(format!("{}: line {line}: {cause}", source.name));
@@ -36,14 +42,14 @@ pub fn read(files: &[PathBuf]) -> Outcome<Vec<Card>> {
             match value.get("summary") {
                 Some(summary) => {
                     let card = card(summary, &days).map_err(|cause| wrong(line, cause))?;
-                    cards.push(card);
+                    cards.push(Kept::of(card));
                     days.clear();
                 }
                 None => days.push(value),
             }
         }
         if !days.is_empty() {
-            let cause = "the days are not followed by their summary: the lines are cut";
+            let cause = "the days are not followed by their summary: the lines are cut; take them away, and score the station again";
             return Err(wrong(last, cause.to_string()));
         }
     }
@@ -63,7 +69,7 @@ fn card(summary: &Value, days: &[Value]) -> Read<Card> {
         station: optional(summary, "station")?,
         lessee: optional(summary, "lessee")?,
         date: Date::parse(&text(summary, "issued")?)?,
-        version: text(summary, "version")?,
+        version: text(summary, "version")?.into(),
     };
     match summary.get("unscored") {
         Some(told) => unscored(summary, told, line, from, issue),
@@ -85,7 +91,7 @@ fn unscored(
         inputs: texts(summary, "inputs")?,
         issue,
         refused: text(told, "name")? == "REFUSED",
-        why: text(told, "why")?,
+        why: visible::lines(told["why"].as_str().ok_or_else(|| missing("why"))?),
         refusal: summary["refusal"].clone(),
         log: summary["log"].clone(),
     };
@@ -112,17 +118,19 @@ fn scored(
         read.push(day(value, &line, place, date)?);
     }
     let checks: Read<Vec<Check>> = list(summary, "checks")?.iter().map(check).collect();
+    let checks = checks?;
+    held::agree(&read, &checks)?;
     let edition = short(summary, "edition")?;
     let edition = Edition::of(edition).map_err(|_| format!("there is no edition {edition}"))?;
     let score = Score {
         edition,
         lease,
         inputs: texts(&summary["log"], "inputs")?,
-        digest: optional(summary, "sha256")?,
+        digest: optional(summary, "sha256")?.map(digested).transpose()?,
         log: summary["log"].clone(),
         month: month(summary, &read)?,
         days: read,
-        checks: checks?,
+        checks,
         issue,
     };
     Ok(Card::Scored(score))
@@ -140,7 +148,8 @@ fn day(value: &Value, line: &LeaseLine, place: u32, date: Option<Date>) -> Read<
     };
     let dated = optional(value, "date")? == date.map(|date| date.to_string());
     let number = line.first_day + place;
-    let capped = day.served == day.claimed.min(day.owed);
+    let capped =
+        day.served == day.claimed.min(day.owed) && value["dark"].as_bool() == Some(day.is_dark());
     match day.number == number && dated && day.owed == u64::from(line.owed) && capped {
         true => Ok(day),
         false => Err(format!("the line of day {number} isn't this lease's")),
@@ -160,13 +169,8 @@ fn month(summary: &Value, days: &[Day]) -> Read<Month> {
     if told != (served, owed) || text(summary, "verdict")? != verdict_name(verdict) {
         return Err("the month isn't what its days come to".to_string());
     }
-    let scored = |day: &Day| ScoredDay {
-        number: day.number,
-        claimed: day.claimed,
-        served: day.served,
-    };
     Ok(Month {
-        days: days.iter().map(scored).collect(),
+        days: days.iter().map(Day::scored).collect(),
         served,
         owed,
         verdict,
@@ -179,6 +183,14 @@ fn check(value: &Value) -> Read<Check> {
         text: text(value, "text")?,
         explains: optional(value, "explains")?,
     })
+}
+
+/// What is a SHA-256 in hex.
+fn digested(text: String) -> Read<String> {
+    match digest::of_hex(&text) {
+        Some(_) => Ok(text),
+        None => Err(missing("sha256")),
+    }
 }
 
 fn missing(key: &str) -> String {
@@ -194,15 +206,16 @@ fn short(value: &Value, key: &str) -> Read<u32> {
     u32::try_from(number).map_err(|_| missing(key))
 }
 
+/// Text as every other is: with nothing that a terminal would obey.
 fn text(value: &Value, key: &str) -> Read<String> {
-    let text = value[key].as_str().map(String::from);
+    let text = value[key].as_str().map(visible::line);
     text.ok_or_else(|| missing(key))
 }
 
 fn optional(value: &Value, key: &str) -> Read<Option<String>> {
     match &value[key] {
         Value::Null => Ok(None),
-        Value::String(text) => Ok(Some(text.clone())),
+        Value::String(text) => Ok(Some(visible::line(text))),
         _ => Err(missing(key)),
     }
 }
@@ -213,7 +226,7 @@ fn list<'a>(value: &'a Value, key: &str) -> Read<&'a Vec<Value>> {
 
 fn texts(value: &Value, key: &str) -> Read<Vec<String>> {
     let list = list(value, key)?.iter();
-    let text = |value: &Value| value.as_str().map(String::from);
+    let text = |value: &Value| value.as_str().map(visible::line);
     list.map(|value| text(value).ok_or_else(|| missing(key)))
         .collect()
 }

@@ -1,58 +1,104 @@
-//! A fleet's logs read side by side, and what comes of them.
+//! A fleet's logs read side by side, and what comes of them: each log is replayed once,
+//! and its month is added to the product's report as it stands.
 
 use crate::common::failure::{Failure, Outcome};
 use crate::explain::cause;
+use crate::fleet::kept::{Kept, Total};
 use crate::fleet::leases::Row;
-use crate::fleet::report::{Four, Group};
+use crate::fleet::workers;
 use crate::input::progress;
 use crate::score::asked::Card;
-use boundary::{Answer, Edition, Refusal, MOST_STATIONS};
-use rayon::prelude::*;
+use crate::score::month::Served;
+use boundary::{Answer, Edition, Refusal};
 use std::fs;
 
-/// Bytes of logs that a worker keeps for the report: some months of a station, and some
-/// stations a worker.
-const KEPT: usize = 32 << 20;
-
 /// So many parts a worker, so that none waits long for the last.
-const PARTS: usize = 4;
+const PARTS: usize = 16;
 
-/// Reads and scores each station; its cards in the rows' order, and the four numbers of
-/// those that have a score.
-pub fn read(edition: Edition, rows: &[Row]) -> Outcome<(Vec<Card>, Four)> {
-    progress::begin_together(bytes(rows), rows.len());
-    let parts = PARTS * rayon::current_num_threads();
-    let size = ((rows.len() + parts - 1) / parts).clamp(1, MOST_STATIONS);
-    let places: Vec<(usize, &Row)> = rows.iter().enumerate().collect();
-    let parts = places.par_chunks(size).map(|rows| part(edition, rows));
-    let read: Vec<(Vec<Card>, Answer<Four>)> = parts.collect();
-    progress::end_together();
-    let mut cards = Vec::new();
-    let mut told = Four::default();
-    for (some, four) in read {
-        cards.extend(some);
-        told = told.join(four.map_err(refused)?);
-    }
-    Ok((cards, told))
+/// Stations that stand one behind the other, and the report of those that have a score.
+pub struct Group {
+    pub cards: Vec<Kept>,
+    pub report: boundary::Fleet,
 }
 
-/// Some stations, one after the other.
-fn part(edition: Edition, rows: &[(usize, &Row)]) -> (Vec<Card>, Answer<Four>) {
-    let mut group = Group::new(edition, KEPT);
-    let mut cards = Vec::new();
-    for (place, row) in rows {
-        let also = &mut |piece: &[u8]| group.take(piece);
-        let dates = row.dates.clone();
-        let card = row.asked.score(edition, row.lease, dates, also);
-        group.end(*place, card.score());
-        cards.push(card);
+impl Group {
+    pub fn new(edition: Edition) -> Group {
+        Group {
+            cards: Vec::new(),
+            report: boundary::Fleet::new(edition),
+        }
+    }
+
+    /// Puts a station behind these, whose log is read for it.
+    fn read(mut self, edition: Edition, row: Row) -> Answer<Group> {
+        let read = row
+            .dates()
+            .and_then(|dates| Ok((dates, row.asked.log(edition)?)));
+        let card = match read {
+            Ok((dates, log)) => {
+                let card = row.asked.card(row.lease, dates, &log);
+                if let Card::Scored(_) = card {
+                    self.report.add(&log.replay, row.lease)?;
+                }
+                card
+            }
+            Err(failure) => row.asked.unread(failure),
+        };
+        let mut card = Kept::of(card);
+        // The row's own, so that its names aren't kept twice.
+        card.set_issue(row.asked.issue);
+        self.cards.push(card);
         progress::station_done();
+        Ok(self)
     }
-    (cards, group.told())
+
+    /// Puts a card behind these that was scored elsewhere: its month is added by its numbers.
+    pub fn take(&mut self, card: Kept) -> Answer<()> {
+        if let Kept::Scored(scored) = &card {
+            let Total { served, owed, .. } = scored.total;
+            let silent = scored.count(Served::Dark) as u64;
+            self.report.add_month(served, owed, silent)?;
+        }
+        self.cards.push(card);
+        Ok(())
+    }
+
+    /// Puts the other's stations behind these.
+    fn join(mut self, other: Group) -> Answer<Group> {
+        self.report.join(&other.report)?;
+        self.cards.extend(other.cards);
+        Ok(self)
+    }
 }
 
-/// Only of logs that have a score, so it would be the product's fault.
-fn refused(refusal: Refusal) -> Failure {
+/// Reads and scores each station, on all cores; groups of them are joined in the rows'
+/// order.
+pub fn read(edition: Edition, rows: Vec<Row>) -> Outcome<Group> {
+    progress::begin_together(bytes(&rows), rows.len());
+    let begin = || Ok(Group::new(edition));
+    let groups = workers::map(parts(rows), |rows| {
+        let each = |group: Answer<Group>, row| group?.read(edition, row);
+        rows.into_iter().fold(begin(), each)
+    });
+    let group = groups
+        .into_iter()
+        .fold(begin(), |one, other| one?.join(other?));
+    progress::end_together();
+    group.map_err(refused)
+}
+
+/// The rows in their order, some parts a worker.
+fn parts(rows: Vec<Row>) -> Vec<Vec<Row>> {
+    let size = rows.len() / (PARTS * workers::count()) + 1;
+    let mut rows = rows.into_iter();
+    let part = || Some(rows.by_ref().take(size).collect::<Vec<Row>>());
+    let parts = std::iter::from_fn(part);
+    parts.take_while(|part| !part.is_empty()).collect()
+}
+
+/// Of months that have a score, so it would be the product's fault, or of more stations
+/// than a report takes.
+pub fn refused(refusal: Refusal) -> Failure {
     Failure::Refused(format!("fleet: {}", cause::refused(refusal, None)))
 }
 

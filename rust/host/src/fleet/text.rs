@@ -3,6 +3,7 @@
 use crate::common::digits::Digits;
 use crate::common::failure::Outcome;
 use crate::common::text;
+use crate::fleet::kept::Kept;
 use crate::fleet::month::{station, Fleet};
 use crate::score::asked::Card;
 use crate::score::month::{Day, Score, Served};
@@ -10,6 +11,9 @@ use std::io::Write;
 
 /// A row's columns but the last, which is as long as it is.
 const COLUMNS: usize = 7;
+
+/// A column is no wider; a longer name moves its own row alone.
+const WIDEST: usize = 60;
 
 struct Row {
     columns: [String; COLUMNS],
@@ -24,26 +28,24 @@ pub fn tell(fleet: &Fleet, digits: Digits, out: &mut dyn Write) -> Outcome {
         writeln!(out, "{rule}")?;
     }
     writeln!(out)?;
-    for line in table(fleet, digits) {
-        writeln!(out, "{}", line.trim_end())?;
-    }
+    table(fleet, digits, out)?;
     writeln!(out)?;
     writeln!(out, "{}", four(fleet, digits))?;
-    let silent = fleet.told().filter_map(|(_, card)| silent_days(card));
-    list(out, "silent days:", silent.collect())?;
-    let checks = fleet.told().flat_map(|(_, card)| checks(card));
-    list(out, "check before sending:", checks.collect())?;
-    let unscored = fleet.told().filter_map(|(_, card)| unscored(card));
-    list(out, "no score:", unscored.collect())
+    let silent = fleet.told().filter_map(|(_, card)| silent_days(&card));
+    list(out, "silent days:", silent)?;
+    let checks = fleet.told().flat_map(|(_, card)| checks(&card));
+    list(out, "check before sending:", checks)?;
+    let unscored = fleet.told().filter_map(|(_, card)| unscored(&card));
+    list(out, "no score:", unscored)
 }
 
-fn list(out: &mut dyn Write, heading: &str, lines: Vec<String>) -> Outcome {
-    if lines.is_empty() {
-        return Ok(());
-    }
-    writeln!(out)?;
-    writeln!(out, "{heading}")?;
-    for line in lines {
+/// Lines below a heading, where there are any.
+fn list(out: &mut dyn Write, heading: &str, lines: impl Iterator<Item = String>) -> Outcome {
+    for (place, line) in lines.enumerate() {
+        if place == 0 {
+            writeln!(out)?;
+            writeln!(out, "{heading}")?;
+        }
         writeln!(out, "  {line}")?;
     }
     Ok(())
@@ -59,7 +61,7 @@ pub fn four(fleet: &Fleet, digits: Digits) -> String {
     let (served, owed) = (digits.of(four.served), digits.of(four.owed));
     let days = text::count(four.silent_days, "silent day");
     let smallest = match fleet.smallest() {
-        Some(card) => format!("smallest part: station {}", station(card)),
+        Some(station) => format!("smallest part: station {station}"),
         None => "no station owes anything".to_string(),
     };
     format!("served {served} of {owed} elements owed{percent}, {days}, {smallest}")
@@ -113,37 +115,44 @@ fn unscored(card: &Card) -> Option<String> {
     }
 }
 
-fn table(fleet: &Fleet, digits: Digits) -> Vec<String> {
-    let head = [
-        "station", "lessee", "served", "owed", "part", "silent", "full",
-    ];
-    let mut rows = vec![Row {
-        columns: head.map(String::from),
-        behind: "verdict".to_string(),
-    }];
-    rows.extend(fleet.told().map(|(_, card)| row(card, digits)));
-    rows.push(total(fleet, digits));
-    let letters = |place: usize| {
-        rows.iter()
-            .map(move |row| row.columns[place].chars().count())
+/// The table, row by row: first how wide its columns are, then each of them.
+fn table(fleet: &Fleet, digits: Digits, out: &mut dyn Write) -> Outcome {
+    let all = || {
+        let stations = fleet.told().map(move |(_, card)| row(&card, digits));
+        let total = std::iter::once_with(move || total(fleet, digits));
+        std::iter::once_with(head).chain(stations).chain(total)
     };
-    let width = |place: usize| letters(place).max().unwrap_or(0);
-    let [a, b, c, d, e, f, g] = [0, 1, 2, 3, 4, 5, 6].map(width);
-    let line = |row: &Row| {
+    let mut widths = [0; COLUMNS];
+    for row in all() {
+        for (width, column) in widths.iter_mut().zip(&row.columns) {
+            *width = column.chars().count().max(*width).min(WIDEST);
+        }
+    }
+    let [a, b, c, d, e, f, g] = widths;
+    // Without a column where no station has a lessee.
+    let has_lessee = |card: &Kept| card.issue().lessee.is_some();
+    let has_lessees = fleet.kept.iter().any(has_lessee);
+    for row in all() {
         let [station, lessee, served, owed, part, silent, full] = &row.columns;
-        // Without a column where no station has a lessee.
-        let lessee = match b > "lessee".len() || fleet.cards.iter().any(has_lessee) {
+        let lessee = match has_lessees {
             true => format!("  {lessee:<b$}"),
             false => String::new(),
         };
         let numbers = format!("{served:>c$}  {owed:>d$}  {part:>e$}  {silent:>f$}  {full:>g$}");
-        format!("{station:<a$}{lessee}  {numbers}  {}", row.behind)
-    };
-    rows.iter().map(line).collect()
+        let line = format!("{station:<a$}{lessee}  {numbers}  {}", row.behind);
+        writeln!(out, "{}", line.trim_end())?;
+    }
+    Ok(())
 }
 
-fn has_lessee(card: &Card) -> bool {
-    card.issue().lessee.is_some()
+fn head() -> Row {
+    let names = [
+        "station", "lessee", "served", "owed", "part", "silent", "full",
+    ];
+    Row {
+        columns: names.map(String::from),
+        behind: "verdict".to_string(),
+    }
 }
 
 fn row(card: &Card, digits: Digits) -> Row {

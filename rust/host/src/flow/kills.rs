@@ -63,6 +63,10 @@ pub fn all(asked: &[Asked], steps: usize) -> Outcome<Vec<Kill>> {
     Ok(kills)
 }
 
+/// Registers that are read of a file: some more than any group takes, so that too many are
+/// counted.
+const MOST: usize = 64;
+
 /// Registers, a line each: four channels, parted by blanks or commas.
 fn registers(source: Source) -> Outcome<Vec<f32>> {
     let mut lines = Lines::new(source);
@@ -72,6 +76,10 @@ fn registers(source: Source) -> Outcome<Vec<f32>> {
         let channels: Vec<&str> = line.split(is_gap).filter(|part| !part.is_empty()).collect();
         if channels.is_empty() {
             continue;
+        }
+        if registers.len() == MOST * CHANNELS {
+            let told = format!("over {MOST} registers, and a group has 32 processors at most");
+            return Err(lines.wrong(&told));
         }
         if channels.len() != CHANNELS {
             let given = channels.len();

@@ -6,6 +6,7 @@ mod slots;
 mod steps;
 
 use crate::common::failure::{Failure, Outcome};
+use crate::common::files::Files;
 use crate::common::kinds::{SlotNumber, Word};
 use crate::common::text;
 use crate::explain::cause::{self, Refused};
@@ -69,6 +70,16 @@ pub struct Options {
 }
 
 impl Options {
+    /// Names the files of the line.
+    pub fn name(&self, files: &mut Files) {
+        files.reads_all("FILE", &self.file);
+        files.reads("--masks", self.list.as_deref());
+        files.reads("--integers", self.integers.as_deref());
+        for kill in &self.kills {
+            files.reads("--kill", Some(&kill.file));
+        }
+    }
+
     fn mode(&self) -> Mode {
         match self.partial {
             true => Mode::Partial,

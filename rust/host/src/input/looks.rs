@@ -1,5 +1,5 @@
 //! What an input looks like by its first bytes, so that one given to the wrong
-//! subcommand is told what it may be. Only for hints: nothing is decided by it.
+//! subcommand is told what it may be, and no answer replaces a log or a state. Nothing else is decided by it.
 
 use crate::common::names;
 use crate::input::numbers;

@@ -38,6 +38,7 @@ impl Counted {
         Counting {
             reader,
             count: self.clone(),
+            ended: false,
         }
     }
 }
@@ -45,11 +46,17 @@ impl Counted {
 struct Counting {
     reader: Box<dyn Read>,
     count: Counted,
+    /// Whether the input has ended: a terminal would go on if it were asked again.
+    ended: bool,
 }
 
 impl Read for Counting {
     fn read(&mut self, room: &mut [u8]) -> io::Result<usize> {
+        if self.ended {
+            return Ok(0);
+        }
         let count = self.reader.read(room)?;
+        self.ended = count == 0 && !room.is_empty();
         self.count.0.set(self.count.bytes() + count as u64);
         Ok(count)
     }

@@ -1,7 +1,6 @@
 //! How far a file is read, or a fleet's logs, on standard error, where that takes over a
 //! second.
 
-use crate::common::interrupt;
 use console::Term;
 use indicatif::{ProgressBar, ProgressDrawTarget, ProgressStyle};
 use std::env;
@@ -54,6 +53,11 @@ impl Bar {
             at: 0,
             shown: None,
         }
+    }
+
+    /// The file's length, where it is known.
+    pub fn length(&self) -> Option<u64> {
+        self.length
     }
 
     /// So many bytes are read.
@@ -132,7 +136,6 @@ fn show(length: u64, shape: &str) -> Option<ProgressBar> {
     if !terminal.is_term() || dumb || narrow || IN_THE_WAY.load(Ordering::Relaxed) {
         return None;
     }
-    interrupt::prepare();
     let bar = ProgressBar::with_draw_target(Some(length), ProgressDrawTarget::stderr());
     if let Ok(style) = ProgressStyle::with_template(shape) {
         bar.set_style(style);

@@ -5,16 +5,18 @@
 
 use crate::common::failure::{Failure, Outcome};
 use crate::common::visible;
+use crate::input::later::Later;
 use crate::input::packed::{self, Counted};
 use crate::input::progress::Bar;
 use std::fs::{self, File};
 use std::io::{self, Read, Write};
-use std::os::unix::fs::MetadataExt;
 use std::path::{Path, PathBuf};
-use std::sync::{Mutex, PoisonError};
 
 /// Bytes that are read at once: a whole number of words.
 pub const PIECE: usize = 1 << 16;
+
+/// Bytes of memory that are read: twice the largest window.
+const MOST_MEMORY: u64 = 1 << 30;
 
 /// So many bytes of an input's begin are kept, to tell what it looks like.
 const BEGIN: usize = 512;
@@ -35,15 +37,6 @@ pub struct Source {
     /// What the input failed with.
     error: Option<io::Error>,
     bar: Bar,
-}
-
-/// The files that are read, by device and number.
-static READ: Mutex<Vec<(u64, u64)>> = Mutex::new(Vec::new());
-
-/// Whether this is a file that is read, by whatever name.
-pub fn is_read(path: &Path) -> bool {
-    let read = READ.lock().unwrap_or_else(PoisonError::into_inner);
-    fs::metadata(path).map_or(false, |about| read.contains(&(about.dev(), about.ino())))
 }
 
 /// What standard input is called.
@@ -70,9 +63,12 @@ impl Source {
             let what = if empty { "an empty folder" } else { "a folder" };
             return Err(Failure::Wrong(format!("{name}: is {what}")));
         }
-        let mut read = READ.lock().unwrap_or_else(PoisonError::into_inner);
-        read.push((about.dev(), about.ino()));
-        Ok(Source::new(name, Box::new(file), Some(about.len())))
+        let length = Some(about.len());
+        Ok(match about.is_file() {
+            true => Source::new(name, Box::new(Later::new(path, &about)), length),
+            // A pipe can't be opened twice.
+            false => Source::new(name, Box::new(file), length),
+        })
     }
 
     fn standard() -> Source {
@@ -87,14 +83,14 @@ impl Source {
     }
 
     /// The input's bytes as they stand: memory may begin as gzip's files do.
-    pub fn as_it_stands(self) -> Source {
+    pub fn without_unpacking(self) -> Source {
         Source {
             fresh: false,
             ..self
         }
     }
 
-    /// All of these files; standard input where none is named. All are opened first,
+    /// All of these files; standard input where none is named. All are asked for first,
     /// so that none is read where one is missing.
     pub fn open_all(files: &[PathBuf]) -> Outcome<Vec<Source>> {
         match files {
@@ -171,6 +167,21 @@ impl Source {
         match all.len() > most {
             true => Err(self.wrong(format!("is longer than {most} bytes"))),
             false => Ok(all),
+        }
+    }
+
+    /// A dump of memory from this address on. Memory that ends above 2^32 isn't read to its
+    /// end.
+    pub fn memory(&mut self, at: u32) -> Outcome<Vec<u8>> {
+        let most = MOST_MEMORY.min((1 << 32) - u64::from(at));
+        let longer = format!("is longer than {MOST_MEMORY} bytes, the most memory that is read");
+        if most == MOST_MEMORY && self.bar.length().map_or(false, |length| length > most) {
+            return Err(self.wrong(longer));
+        }
+        let dump = self.up_to(most)?;
+        match dump.len() as u64 > MOST_MEMORY {
+            true => Err(self.wrong(longer)),
+            false => Ok(dump),
         }
     }
 

@@ -6,7 +6,8 @@ mod refused;
 
 use crate::address::layouts::LayoutOptions;
 use crate::common::failure::{Failure, Outcome};
-use crate::common::file::{Place, Stands};
+use crate::common::file::Place;
+use crate::common::files::Files;
 use crate::common::kinds::Address;
 use crate::common::settings::{self, Setting, Value};
 use crate::common::text;
@@ -77,6 +78,15 @@ pub struct Options {
 }
 
 impl Options {
+    /// Names the files of the line.
+    pub fn name(&self, files: &mut Files) {
+        files.reads("--memory", Some(&self.memory));
+        files.reads("--stream", self.stream.as_deref());
+        files.reads("--in", self.r#in.as_deref());
+        files.writes("--out", self.out.as_deref());
+        files.writes("--to", self.to.as_deref());
+    }
+
     /// Whether bytes go to standard output, in place of the text.
     pub fn is_binary(&self) -> bool {
         let written = self.out.as_deref().or(self.to.as_deref());
@@ -105,7 +115,7 @@ struct Moved {
     at: u32,
 }
 
-pub fn run(options: &Options, out: &mut dyn Write) -> Outcome {
+pub fn run(options: &Options, files: &mut Files, out: &mut dyn Write) -> Outcome {
     one_standard_input(options)?;
     if options.out.is_none() && options.r#in.is_none() {
         return Err(Failure::wrong(
@@ -125,11 +135,9 @@ pub fn run(options: &Options, out: &mut dyn Write) -> Outcome {
     match place {
         None => out.write_all(&bytes)?,
         Some(place) => {
-            let mut file = place.begin()?;
-            let written = file.write_all(&bytes);
-            written.map_err(|error| file.failed(error))?;
-            file.put()?;
-            told(options, &moved, form, bytes.len(), out)?;
+            if files.write(Ok(place), &bytes) {
+                told(options, &moved, form, bytes.len(), out)?;
+            }
         }
     }
     Ok(())
@@ -169,7 +177,7 @@ fn place(options: &Options) -> Outcome<Option<Place>> {
     let written = options.out.as_deref().or(options.to.as_deref());
     let place = written.map(Place::of).transpose()?;
     match place {
-        Some(place) if place.stands == Stands::File && !options.replace => {
+        Some(place) if place.stands.is_file() && !options.replace => {
             Err(place.failed("stands there already; --replace replaces it"))
         }
         place => Ok(place),
@@ -189,7 +197,7 @@ fn moved(options: &Options) -> Result<Moved, Trouble> {
         Some(rectangle) => rectangle,
         None => [0, 0, window.step, layout.height],
     };
-    let mut source = Source::open(Some(&options.memory))?.as_it_stands();
+    let mut source = Source::open(Some(&options.memory))?.without_unpacking();
     let name = source.name.clone();
     Ok(Moved {
         layout,
@@ -201,8 +209,7 @@ fn moved(options: &Options) -> Result<Moved, Trouble> {
             rows,
         },
         name,
-        // Memory that ends above 2^32 isn't read to its end.
-        dump: source.up_to((1 << 32) - u64::from(at))?,
+        dump: source.memory(at)?,
         at,
     })
 }
@@ -292,7 +299,7 @@ fn painted(
     moved: &mut Moved,
     picture: &Path,
 ) -> Result<(Form, Vec<u8>), Trouble> {
-    let mut source = Source::open(Some(picture))?.as_it_stands();
+    let mut source = Source::open(Some(picture))?.without_unpacking();
     let name = source.name.clone();
     // More than the largest picture has, with its head.
     let file = source.up_to(1 << 29)?;

@@ -342,7 +342,7 @@ mod tests {
     /// The state after so many bytes of a log.
     fn kept(edition: Edition, bytes: usize) -> Kept {
         let mut log = Log::with_digest(edition);
-        let read = log.read(vec![Source::of_bytes("a log", &LOG[..bytes])], &mut |_| {});
+        let read = log.read(vec![Source::of_bytes("a log", &LOG[..bytes])]);
         assert!(read.is_ok());
         log.kept().expect("it isn't stopped")
     }

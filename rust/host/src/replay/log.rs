@@ -123,9 +123,8 @@ impl Log {
     }
 
     /// Reads all inputs, one behind the other. Where one fails on the way, what
-    /// came before that stands. After a stop the rest is only counted. Each piece is
-    /// handed on as it is read.
-    pub fn read(&mut self, sources: Vec<Source>, also: &mut dyn FnMut(&[u8])) -> Outcome {
+    /// came before that stands. After a stop the rest is only counted.
+    pub fn read(&mut self, sources: Vec<Source>) -> Outcome {
         let named = |source: &Source| (source.name.clone(), u64::MAX);
         let before = self.inputs.len();
         self.inputs.extend(sources.iter().map(named));
@@ -137,7 +136,6 @@ impl Log {
                     0 => break,
                     count => {
                         self.piece(&room[..count]);
-                        also(&room[..count]);
                         self.ask_again(before)?;
                     }
                 }

@@ -8,6 +8,7 @@ pub mod resumed;
 use crate::common::digits::Digits;
 use crate::common::edition::{self, EditionOption};
 use crate::common::failure::{Failure, Outcome};
+use crate::common::files::Files;
 use crate::input::source::Source;
 use crate::replay::resumed::StateOptions;
 use clap::Args;
@@ -50,27 +51,35 @@ pub struct Options {
     edition: EditionOption,
 }
 
-pub fn run(options: &Options, out: &mut dyn Write) -> Outcome {
+impl Options {
+    /// Names the files of the line.
+    pub fn name(&self, files: &mut Files) {
+        files.reads_all("LOG", &self.files);
+        self.state.name(files);
+    }
+}
+
+pub fn run(options: &Options, files: &mut Files, out: &mut dyn Write) -> Outcome {
     let edition = options.edition.accepted().map_err(edition::refused)?;
     let saved = options.state.place()?;
     let mut log = options.state.begin(edition)?;
-    let ended = log.read(Source::open_all(&options.files)?, &mut |_| {});
+    let ended = log.read(Source::open_all(&options.files)?);
     if log.is_again() {
         return ended;
     }
-    match (options.json, options.csv) {
-        (true, _) => days::json(&log, out)?,
-        (_, true) => days::csv(&log, out)?,
-        _ => days::table(&log, Digits::plain(options.plain), out)?,
-    }
-    ended?;
+    let told = match (options.json, options.csv) {
+        (true, _) => days::json(&log, out),
+        (_, true) => days::csv(&log, out),
+        _ => days::table(&log, Digits::plain(options.plain), out),
+    };
+    Failure::both(ended, told)?;
     // What stopped the replay tells more than a word that it went on after.
     let outcome = match log.stop.as_ref().or(log.word.as_ref()) {
         Some(refused) => Err(Failure::Refused(log.complaint(refused)).hinted(log.hint())),
         None => Ok(()),
     };
     match saved {
-        Some(saved) => saved.save(&log, outcome),
+        Some(saved) => saved.save(&log, outcome, files),
         None => outcome,
     }
 }

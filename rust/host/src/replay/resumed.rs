@@ -3,6 +3,7 @@
 
 use crate::common::digest::{Digest, LENGTH};
 use crate::common::failure::{Failure, Outcome};
+use crate::common::files::{self, Files};
 use crate::common::replaced::{Kind, Replaced};
 use crate::common::text;
 use crate::common::visible;
@@ -30,6 +31,17 @@ pub struct StateOptions {
 }
 
 impl StateOptions {
+    /// Names both files. A state may be replaced by the one that follows it.
+    pub fn name(&self, files: &mut Files) {
+        let (resume, save) = (self.resume.as_deref(), self.save.as_deref());
+        files.writes("--save", save);
+        let follows = |resume: &&Path| save.map_or(false, |save| files::is_same(resume, save));
+        match resume {
+            Some(resume) if !follows(&resume) => files.reads("--resume", Some(resume)),
+            _ => {}
+        }
+    }
+
     /// Where the state is to be saved, asked before anything is read.
     pub fn place(&self) -> Outcome<Option<Saved>> {
         self.save.as_deref().map(Saved::at).transpose()
@@ -64,18 +76,17 @@ impl Saved {
 
     /// Saves the log's state, and tells how the subcommand ends with it. A replay that is
     /// stopped isn't saved: what stands there stays.
-    pub fn save(&self, log: &Log, outcome: Outcome) -> Outcome {
-        let written = match log.kept() {
-            Some(kept) => self.file.write(kept.to_bytes()),
-            None => Err(Failure::Wrong(format!(
-                "{}: nothing is saved, since no byte is taken after that",
-                self.name
-            ))),
-        };
-        match (outcome, written) {
-            (Err(Failure::Short) | Ok(()), Err(failure)) => Err(failure),
-            (Err(failure), Err(Failure::Wrong(text))) => Err(failure.hinted(Some(text))),
-            (outcome, _) => outcome,
+    pub fn save(&self, log: &Log, outcome: Outcome, files: &mut Files) -> Outcome {
+        let name = &self.name;
+        match log.kept() {
+            Some(kept) => {
+                self.file.write(kept.to_bytes(), files);
+                outcome
+            }
+            None => outcome.map_err(|failure| {
+                let told = format!("{name}: nothing is saved, since no byte is taken after that");
+                failure.hinted(Some(told))
+            }),
         }
     }
 }
@@ -169,9 +180,14 @@ impl Resumed {
     /// What is said where all that came before comes again.
     pub fn complaint(&self, input: &str) -> String {
         let (name, bytes) = (&self.name, text::count(self.bytes, "byte"));
+        // Behind a midnight no log goes on with the same bytes.
+        let twice = match self.day {
+            None => "; where the same bytes came a second time, give both logs without --resume",
+            Some(_) => "",
+        };
         format!(
             "{input}: begins with the {bytes} that were taken before {name} was saved\n  \
-             give only what came behind them, or all of it without --resume"
+             give only what came behind them, or all of it without --resume{twice}"
         )
     }
 

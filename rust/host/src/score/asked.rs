@@ -22,6 +22,16 @@ pub struct LeaseLine {
     pub owed: u32,
 }
 
+impl LeaseLine {
+    pub fn of(lease: &Lease) -> LeaseLine {
+        LeaseLine {
+            first_day: lease.first_day(),
+            days: lease.days(),
+            owed: lease.owed(),
+        }
+    }
+}
+
 /// A lease line, its first day's date where that is known, and the log's files.
 pub struct Asked {
     /// The number of the edition of the lease rule.
@@ -41,6 +51,7 @@ pub enum Card {
 }
 
 /// A month that has no score.
+#[derive(Clone)]
 pub struct Unscored {
     /// The number of the edition that was asked for.
     pub edition: u32,
@@ -141,7 +152,7 @@ impl Card {
 
 impl Asked {
     /// The files by their names, with nothing that a terminal would obey.
-    fn names(&self) -> Vec<String> {
+    pub fn names(&self) -> Vec<String> {
         let name = |file: &Path| match source::is_standard(Some(file)) {
             true => source::STANDARD.to_string(),
             false => visible::line(&file.display().to_string()),
@@ -182,24 +193,10 @@ impl Asked {
         })
     }
 
-    /// Reads the log and scores it. Each piece of the log is handed on too.
-    pub fn score(
-        &self,
-        edition: Edition,
-        lease: Lease,
-        dates: Vec<Option<Date>>,
-        also: &mut dyn FnMut(&[u8]),
-    ) -> Card {
-        match self.log(edition, also) {
-            Ok(log) => self.card(lease, dates, &log),
-            Err(failure) => self.unread(failure),
-        }
-    }
-
     /// Reads the log. A score of a part of what was asked for would be no score.
-    pub fn log(&self, edition: Edition, also: &mut dyn FnMut(&[u8])) -> Outcome<Log> {
+    pub fn log(&self, edition: Edition) -> Outcome<Log> {
         let mut log = resumed::begin(self.resume.as_deref(), edition)?;
-        log.read(Source::open_all(&self.files)?, also)?;
+        log.read(Source::open_all(&self.files)?)?;
         Ok(log)
     }
 

@@ -8,6 +8,7 @@ use crate::score::month::Day;
 use boundary::{headers, Lease};
 use serde_json::{json, Value};
 
+#[derive(Clone)]
 pub struct Check {
     /// For programs.
     pub key: String,
@@ -107,14 +108,14 @@ fn refused(log: &Log, days: &[Day], checks: &mut Vec<Check>) {
             "the first start was refused 7 before anything was set: files from the set-up on are missing; \
              the state saved at the end of the month before would do (score --resume)"
                 .to_string(),
-            short.then(|| "the set-up is missing"),
+            short.then_some("the set-up is missing"),
         ));
     }
     let after = text::count(log.words_after(), "word");
     checks.push(Check::new(
         "refused_word",
         format!("{place}: word {refused}; the days go on, {after} after it without effect"),
-        short.then(|| "a word was refused"),
+        short.then_some("a word was refused"),
     ));
 }
 

@@ -4,6 +4,7 @@ use crate::common::visible;
 use crate::score::civil::Date;
 use clap::Args;
 use serde_json::{json, Value};
+use std::borrow::Cow;
 
 /// The version with its commit.
 pub const VERSION: &str = env!("EGRETFOLD_VERSION");
@@ -29,7 +30,7 @@ pub struct Issue {
     pub lessee: Option<String>,
     pub date: Date,
     /// Of the command that scored.
-    pub version: String,
+    pub version: Cow<'static, str>,
 }
 
 impl Issue {
@@ -47,7 +48,7 @@ impl Issue {
             station: name(station),
             lessee: name(lessee),
             date,
-            version: VERSION.to_string(),
+            version: VERSION.into(),
         }
     }
 

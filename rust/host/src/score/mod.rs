@@ -14,6 +14,7 @@ mod station;
 use crate::common::digits::Digits;
 use crate::common::edition::{self, EditionOption};
 use crate::common::failure::{Failure, Outcome};
+use crate::common::files::Files;
 use crate::common::replaced::{Goes, Kind};
 use crate::fleet::page;
 use crate::input::numbers;
@@ -38,7 +39,8 @@ than 0 and is served in full, \"nothing owed\" where days owe 0, else short. A d
 served nothing of what it owes.
 With --edition 2 a pair counts the unmasked channels of each output, where edition 1 counts an
 output that isn't silent once.
-Exit status: 0 full or nothing owed, 3 short, 1 refused, 2 a wrong command line or file.
+Exit status: 0 full or nothing owed, 3 short, 1 refused, 2 a wrong command line or file. With --engine it is 0 in all
+of these cases, once the line that says which is printed.
 Where there is no score, a card asked for with --svg or --html says so, in place of an earlier one.
 --save keeps the state at the log's end in a file, and --resume goes on from it: so a month whose set-up lies in the
 month before is scored from its own files.
@@ -76,14 +78,17 @@ pub struct Options {
     /// Large numbers without commas between their digits
     #[arg(long, conflicts_with_all = ["json", "csv"])]
     plain: bool,
-    /// Draw the month as a calendar to be printed, into this file; an earlier picture there is replaced, nothing else; -
-    /// for standard output, in place of the text
+    /// Draw the month as a calendar to be printed, into this file; an earlier picture of ours there is replaced,
+    /// nothing else; - for standard output, in place of the text
     #[arg(long, value_name = "FILE")]
     svg: Option<PathBuf>,
-    /// Write the month as a page for a browser, whole in this file; an earlier page there is replaced, nothing else; -
-    /// for standard output, in place of the text
+    /// Write the month as a page for a browser, whole in this file; an earlier page of ours there is replaced,
+    /// nothing else; - for standard output, in place of the text
     #[arg(long, value_name = "FILE")]
     html: Option<PathBuf>,
+    /// End with 0 once the month's line is printed, whatever it says: for engines, to which another status is a failure
+    #[arg(long, requires = "json")]
+    engine: bool,
     #[command(flatten)]
     state: StateOptions,
     #[command(flatten)]
@@ -93,6 +98,14 @@ pub struct Options {
 }
 
 impl Options {
+    /// Names the files of the line.
+    pub fn name(&self, files: &mut Files) {
+        files.reads_all("LOG", &self.files);
+        self.state.name(files);
+        files.writes("--svg", self.svg.as_deref());
+        files.writes("--html", self.html.as_deref());
+    }
+
     fn asked(&self) -> Asked {
         Asked {
             edition: self.edition.number,
@@ -130,10 +143,9 @@ impl Places {
 
     /// Where there is no score they say so, in place of earlier ones, which would no
     /// longer be true.
-    fn write(&self, card: &Card, out: &mut dyn Write) -> Outcome {
-        let svg = self.svg.write(|| picture::svg(card), out);
-        let html = self.html.write(|| page::of_one(card), out);
-        svg.and(html)
+    fn write(&self, card: &Card, files: &mut Files, out: &mut dyn Write) -> Outcome {
+        self.svg.write(|| picture::svg(card), files, out)?;
+        self.html.write(|| page::of_one(card), files, out)
     }
 
     fn take_standard(&self) -> bool {
@@ -141,24 +153,25 @@ impl Places {
     }
 }
 
-pub fn run(options: &Options, out: &mut dyn Write) -> Outcome {
+pub fn run(options: &Options, files: &mut Files, out: &mut dyn Write) -> Outcome {
     let places = Places::asked(options)?;
     let saved = options.state.place()?;
     let asked = options.asked();
     let (card, log) = card(options, &asked)?;
-    let written = places.write(&card, out);
-    if !places.take_standard() {
-        show_as_asked(options, &card, out)?;
-    }
-    let outcome = match (card.outcome(), written) {
-        (Err(Failure::Short) | Ok(()), Err(failure)) => Err(failure),
-        (Err(failure), Err(Failure::Wrong(text))) => Err(failure.hinted(Some(text))),
-        (outcome, _) => outcome,
+    let told = places.write(&card, files, out);
+    let told = match places.take_standard() {
+        true => told,
+        false => told.and_then(|()| show_as_asked(options, &card, out)),
     };
-    match (saved, log) {
-        (Some(saved), Some(log)) => saved.save(&log, outcome),
-        _ => outcome,
-    }
+    let ended = match options.engine {
+        true => Ok(()),
+        false => card.outcome(),
+    };
+    let outcome = match (saved, log) {
+        (Some(saved), Some(log)) => saved.save(&log, ended, files),
+        _ => ended,
+    };
+    Failure::both(outcome, told)
 }
 
 /// The card, and the log where it was read. Before any log is opened the edition is judged, before
@@ -179,7 +192,7 @@ fn card(options: &Options, asked: &Asked) -> Outcome<(Card, Option<Log>)> {
         }
     };
     let dates = asked.dates(&lease).map_err(wrong_from)?;
-    Ok(match asked.log(edition, &mut |_| {}) {
+    Ok(match asked.log(edition) {
         Ok(log) => (asked.card(lease, dates, &log), Some(log)),
         Err(failure) => (asked.unread(failure), None),
     })
@@ -202,7 +215,7 @@ fn wrong_from(text: String) -> Failure {
 pub fn show(source: Source, line: LeaseLine, from: Date, out: &mut dyn Write) -> Outcome<Verdict> {
     let lease = accepted(line).map_err(Failure::wrong)?;
     let mut log = Log::new(Edition::First);
-    log.read(vec![source], &mut |_| {})?;
+    log.read(vec![source])?;
     let dates = dates(Some(from), &lease).map_err(wrong_from)?;
     let score = Score::new(lease, dates, month_of(&log, &lease)?, &log, Issue::nobody());
     card::text(&score, Digits::Grouped, out)?;

@@ -59,6 +59,15 @@ impl Day {
         }
     }
 
+    /// As the product scored it.
+    pub fn scored(&self) -> ScoredDay {
+        ScoredDay {
+            number: self.number,
+            claimed: self.claimed,
+            served: self.served,
+        }
+    }
+
     pub fn is_dark(&self) -> bool {
         self.kind() == Served::Dark
     }
@@ -101,11 +110,7 @@ impl Score {
 
     /// The lease line as it was given.
     pub fn line(&self) -> LeaseLine {
-        LeaseLine {
-            first_day: self.lease.first_day(),
-            days: self.lease.days(),
-            owed: self.lease.owed(),
-        }
+        LeaseLine::of(&self.lease)
     }
 
     /// How many days were served so.

@@ -3,7 +3,7 @@
 use crate::common::failure::Outcome;
 use crate::common::kinds::Address;
 use crate::common::names;
-use crate::common::replaced::SVG_BEGIN;
+use crate::common::replaced::{PGM_BEGIN, SVG_BEGIN};
 use crate::common::settings::{Setting, Value};
 use crate::explain::cause::Refused;
 use crate::survey::Asked;
@@ -93,7 +93,7 @@ impl Survey<'_> {
     /// A grey picture of a byte a pair, 255 where it passes.
     pub fn pgm(&self) -> Vec<u8> {
         let rows = self.rows().count();
-        let mut bytes = format!("P5\n{} {rows}\n255\n", self.columns()).into_bytes();
+        let mut bytes = format!("{PGM_BEGIN}{} {rows}\n255\n", self.columns()).into_bytes();
         bytes.extend(self.room.iter().map(|byte| 255 * byte));
         bytes
     }

@@ -5,6 +5,7 @@ mod forms;
 mod refused;
 
 use crate::common::failure::{Failure, Outcome};
+use crate::common::files::Files;
 use crate::common::replaced::{Kind, Replaced};
 use crate::decode::settled;
 use crate::explain::cause::Refused;
@@ -61,10 +62,10 @@ pub struct Options {
     /// One JSON object a row and for the whole, a line each
     #[arg(long)]
     json: bool,
-    /// Draw the pairs, white where they pass, into this file; an earlier PGM there is replaced, nothing else
+    /// Draw the pairs, white where they pass, into this file; an earlier PGM of ours there is replaced, nothing else
     #[arg(long, value_name = "FILE")]
     pgm: Option<PathBuf>,
-    /// Draw the pairs that pass as SVG into this file; an earlier SVG there is replaced, nothing else
+    /// Draw the pairs that pass as SVG into this file; an earlier SVG of ours there is replaced, nothing else
     #[arg(long, value_name = "FILE")]
     svg: Option<PathBuf>,
 }
@@ -79,7 +80,17 @@ pub struct Asked<'a> {
     pub at: u32,
 }
 
-pub fn run(options: &Options, out: &mut dyn Write) -> Outcome {
+impl Options {
+    /// Names the files of the line.
+    pub fn name(&self, files: &mut Files) {
+        files.reads("--stream", Some(&self.stream));
+        files.reads("--memory", Some(&self.memory));
+        files.writes("--pgm", self.pgm.as_deref());
+        files.writes("--svg", self.svg.as_deref());
+    }
+}
+
+pub fn run(options: &Options, files: &mut Files, out: &mut dyn Write) -> Outcome {
     let standard = |file: &PathBuf| source::is_standard(Some(file));
     if standard(&options.stream) && standard(&options.memory) {
         return Err(Failure::wrong(
@@ -87,7 +98,7 @@ pub fn run(options: &Options, out: &mut dyn Write) -> Outcome {
         ));
     }
     let drawings = Drawings::asked(options)?;
-    let mut memory = Source::open(Some(&options.memory))?.as_it_stands();
+    let mut memory = Source::open(Some(&options.memory))?.without_unpacking();
     let name = memory.name.clone();
     let (hex, json) = (options.hex, options.json);
     let settled = settled::read(&options.stream, hex, options.words, json, out)?;
@@ -99,7 +110,7 @@ pub fn run(options: &Options, out: &mut dyn Write) -> Outcome {
         ))
     })?;
     // Memory that ends above 2^32 isn't read to its end.
-    let dump = memory.up_to((1 << 32) - u64::from(options.at))?;
+    let dump = memory.memory(options.at)?;
     let asked = Asked {
         session,
         buffer: session.format(headers::SET_COND_OUT_FMT, 0).ok().flatten(),
@@ -112,8 +123,12 @@ pub fn run(options: &Options, out: &mut dyn Write) -> Outcome {
         stream: &settled.name,
         memory: &name,
     };
-    answer(&asked, names, json, &drawings, out)?;
-    settled.refused.map_or(Ok(()), Err)
+    let told = answer(&asked, names, json, (&drawings, files), out);
+    let refused = settled.refused.map_or(Ok(()), Err);
+    match told {
+        Err(Failure::Wrong(_)) => Failure::both(refused, told),
+        told => told.and(refused),
+    }
 }
 
 /// Makes the survey, tells it and draws it; or tells why it is refused.
@@ -121,7 +136,7 @@ fn answer(
     asked: &Asked,
     names: Names,
     json: bool,
-    drawings: &Drawings,
+    (drawings, files): (&Drawings, &mut Files),
     out: &mut dyn Write,
 ) -> Outcome {
     match made(asked) {
@@ -136,7 +151,8 @@ fn answer(
                 true => survey.json(out)?,
                 false => survey.text(out)?,
             }
-            drawings.draw(&survey)
+            drawings.draw(&survey, files);
+            Ok(())
         }
         Err((refused, hint)) => {
             forms::refused(asked, &names, &refused, json, out)?;
@@ -166,14 +182,13 @@ impl Drawings {
         })
     }
 
-    fn draw(&self, survey: &Survey) -> Outcome {
+    fn draw(&self, survey: &Survey, files: &mut Files) {
         if let Some(file) = &self.pgm {
-            file.write(&survey.pgm())?;
+            file.write(survey.pgm(), files);
         }
         if let Some(file) = &self.svg {
-            file.write(survey.svg().as_bytes())?;
+            file.write(survey.svg(), files);
         }
-        Ok(())
     }
 }
 

@@ -292,7 +292,10 @@ fn a_card_without_a_score_says_so() {
         ),
         ("samples", APRIL, "NOT SCORED", "samples: is a folder", 2),
     ] {
-        for earlier in [Some(&b"<svg of a full month"[..]), None] {
+        for earlier in [
+            Some(&b"<svg data-by=\"egretfold\" of a full month"[..]),
+            None,
+        ] {
             let file = folder.0.join("card.svg").display().to_string();
             let _ = fs::remove_file(&file);
             if let Some(earlier) = earlier {

@@ -509,7 +509,7 @@ fn the_answer_goes_into_a_file_whole_or_not_at_all() {
     for name in [&log, &link] {
         let output = egretfold(&format!("replay {log} --output {name}"), b"");
         assert_eq!(output.status.code(), Some(2));
-        assert!(complained(&output).contains("is read here, so it is left as it is"));
+        assert!(complained(&output).contains("which is read: it is left as it is"));
         assert_eq!(fs::read(&log).expect("the log"), sample("station-14.log"));
     }
     for (name, status) in [("/dev/null", 0), ("/dev/full", 2), ("samples", 2), ("-", 0)] {

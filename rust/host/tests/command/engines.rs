@@ -101,8 +101,8 @@ const PARALLEL: &str =
     "egretfold fleet leases.csv --commands --issued 2026-05-02 | parallel -j 2 >scores";
 /// docs/FLEET.md's, by a loop in place of Slurm.
 const ARRAY: &str = "egretfold fleet leases.csv --commands --issued 2026-05-02 >lines; : >scores; \
-    for SLURM_ARRAY_TASK_ID in $(seq $(wc -l <lines)); do \
-    sh -c \"$(sed -n ${SLURM_ARRAY_TASK_ID}p lines)\" >>scores; done";
+    for SLURM_ARRAY_TASK_ID in 1 2 3 4 5 6 7; do \
+    sed -n ${SLURM_ARRAY_TASK_ID}~7p lines | xargs -r -d '\n' -n 1 sh -c >>scores; done";
 
 fn has_parallel() -> bool {
     let version = Command::new("parallel").arg("--version").output();

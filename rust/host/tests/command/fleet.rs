@@ -376,7 +376,7 @@ fn the_forms_agree() {
         for key in ["verdict", "explained"] {
             if let Some(words) = station[key].as_str() {
                 assert!(row.contains(words) && line.contains(words), "{words}");
-                assert!(page.contains(&words.replace('\'', "'")), "{words}");
+                assert!(page.contains(words), "{words}");
             }
         }
     }
@@ -396,7 +396,11 @@ fn cards_are_replaced_and_none_is_left_that_is_not_true() {
     let ask = || fleet(&file, &format!("--cards {}", cards.display()));
     fs::create_dir(&cards).expect("a folder");
     for name in ["14.svg", "15-b.svg", "16.svg"] {
-        fs::write(cards.join(name), "<svg of a full month").expect("a card");
+        fs::write(
+            cards.join(name),
+            "<svg data-by=\"egretfold\" of a full month",
+        )
+        .expect("a card");
     }
     fs::write(
         cards.join("99.svg"),
@@ -494,7 +498,9 @@ fn a_page_is_whole_and_well_formed() {
     );
     let file = folder.write("leases.csv", rows.as_bytes());
     let page = folder.0.join("page.html");
-    folder.write("page.html", b"<!DOCTYPE html>\n<p>an earlier month</p>\n");
+    let earlier =
+        "<!DOCTYPE html>\n<html lang=\"en\" data-by=\"egretfold\"><p>an earlier month</p>\n";
+    folder.write("page.html", earlier.as_bytes());
     let output = fleet(&file, &format!("--html {}", page.display()));
     assert_eq!(output.status.code(), Some(1));
     let text = fs::read_to_string(&page).expect("the page");
@@ -654,6 +660,126 @@ fn stations_of(lines: &[u8]) -> Vec<String> {
     stations
 }
 
+/// Runs a line of `--commands`, as it stands or without one of its words.
+fn run_line(line: &str, without: &str, behind: &str) -> Output {
+    let line = line.replacen(without, "", 1);
+    let line = line.replacen("egretfold", env!("CARGO_BIN_EXE_egretfold"), 1);
+    let mut shell = Command::new("sh");
+    shell.args(["-c", &format!("{line} {behind}")]);
+    with_input(shell, b"")
+}
+
+/// A line for engines tells the same as any other, and ends with 0 once it has told.
+#[test]
+fn lines_for_engines_end_with_0_once_they_have_told() {
+    let rows = format!(
+        "1,,full-month.log,131,31,14000000,\n2,,a.log,{APRIL}\n3,,damaged.log,{APRIL}\n4,,no-such.log,{APRIL}\n"
+    );
+    let (folder, file) = leased("fleet-engine", &rows);
+    folder.write("full-month.log", &sample("full-month.log"));
+    folder.write("a.log", &sample("station-14.log"));
+    folder.write("damaged.log", &sample("damaged.log"));
+    let lines = told(&fleet(&file, "--commands"));
+    assert_eq!(lines.lines().count(), 4);
+    for (line, status) in lines.lines().zip([0, 3, 1, 2]) {
+        let engine = run_line(line, "none of it", "");
+        assert_eq!((engine.status.code(), &*complained(&engine)), (Some(0), ""));
+        let alone = run_line(line, " --engine", "");
+        assert_eq!(alone.status.code(), Some(status), "{line}");
+        assert!(told(&engine) == told(&alone) && told(&engine).contains("{\"summary\":"));
+        // What wasn't printed wasn't told.
+        assert_eq!(
+            run_line(line, "none of it", ">/dev/full").status.code(),
+            Some(2)
+        );
+        assert_eq!(run_line(line, " --json", "").status.code(), Some(2));
+        assert_eq!(run_line(line, " --days=", "").status.code(), Some(2));
+    }
+}
+
+/// The lines still to be run: of stations of which no score came, and of those whose log
+/// couldn't be read, whose later score then counts.
+#[test]
+fn the_lines_without_a_score_are_printed_again() {
+    let rows = format!(
+        "1,,late.log,{APRIL}\n2,,a.log,{APRIL}\n3,,damaged.log,{APRIL}\n4,,b.log,{APRIL}\n"
+    );
+    let (folder, file) = leased("fleet-missing", &rows);
+    for (name, bytes) in [("a.log", "station-14.log"), ("b.log", "refused.log")] {
+        folder.write(name, &sample(bytes));
+    }
+    folder.write("damaged.log", &sample("damaged.log"));
+    let all = told(&fleet(&file, "--commands --issued 2026-05-02"));
+    let all: Vec<&str> = all.lines().collect();
+    let parts = stations_of(&scores_of(&file));
+    let scores = folder.write("scores", parts[..3].concat().as_bytes());
+    let missing = |files: &str, more: &str| {
+        fleet(
+            &file,
+            &format!("{more} --commands --issued 2026-05-02 --missing {files}"),
+        )
+    };
+    let told_lines = |output: &Output| -> Vec<String> {
+        assert_eq!(complained(output), "");
+        assert_eq!(output.status.code(), Some(0));
+        told(output).lines().map(String::from).collect()
+    };
+    // Station 1's log couldn't be read; of station 4 no score came; 3 is refused, as it will be again.
+    assert_eq!(told_lines(&missing(&scores, "")), [all[0], all[3]]);
+    let nothing = folder.write("nothing", b"");
+    assert_eq!(told_lines(&missing(&nothing, "")), all);
+    let two = format!("{nothing} {}", folder.write("rest", parts[3].as_bytes()));
+    assert_eq!(told_lines(&missing(&two, "")), all[..3]);
+    // Once the log is there its score counts, in whatever order the two come.
+    folder.write("late.log", &sample("full-month.log"));
+    let again = run_line(all[0], "none of it", "");
+    let due = told(&fleet(&file, "--json --issued 2026-05-02"));
+    for scores in [
+        [&*parts.concat(), &*told(&again)].concat(),
+        [&*told(&again), &*parts.concat()].concat(),
+    ] {
+        let scores = folder.write("scores", scores.as_bytes());
+        let join = fleet(
+            &file,
+            &format!("--json --issued 2026-05-02 --from-scores {scores}"),
+        );
+        assert_eq!(told(&join), due);
+        assert_eq!(told_lines(&missing(&scores, "")), [""; 0]);
+    }
+    // What isn't this month's is told, as by the join.
+    for (text, more, due) in [
+        (
+            parts[1].replace("\"days\":30", "\"days\":31"),
+            "",
+            "line 31: the lease has 31 days, and 30 lines stand before it",
+        ),
+        (
+            parts[2].replace("\"owed\":14000000", "\"owed\":5"),
+            "",
+            "station 3 is scored for another lease than that of line 4",
+        ),
+        (
+            parts[2].replace("\"station\":\"3\"", "\"station\":\"9\""),
+            "",
+            "station 9 is scored and has no row in the lease file",
+        ),
+        (
+            parts[1].clone(),
+            "--edition 2",
+            "station 2 is scored by edition 1, and edition 2 is asked for",
+        ),
+        (parts[1].repeat(2), "", "station 2 is scored twice"),
+    ] {
+        let output = missing(&folder.write("scores", text.as_bytes()), more);
+        assert_eq!((output.status.code(), &*told(&output)), (Some(2), ""));
+        assert!(complained(&output).contains(due), "{}", complained(&output));
+    }
+    assert_eq!(
+        fleet(&file, &format!("--missing {nothing}")).status.code(),
+        Some(2)
+    );
+}
+
 #[test]
 fn scores_that_are_not_whole_are_told() {
     let folder = Folder::new("fleet-not-whole");
@@ -709,8 +835,8 @@ fn scores_that_are_not_whole_are_told() {
         ),
         (
             parts[0].replacen(
-                "\"claimed\":0,\"served\":0",
-                "\"claimed\":1,\"served\":1",
+                "\"claimed\":0,\"served\":0,\"owed\":14000000,\"dark\":true",
+                "\"claimed\":1,\"served\":1,\"owed\":14000000,\"dark\":false",
                 1,
             ),
             "",
@@ -789,7 +915,8 @@ fn a_fleet_is_scored_by_one_edition() {
 /// A start's claim under these settings, 96 x 18.
 const CLAIM: u64 = 1_728;
 
-/// More stations than the report takes at once; what each serves is known from its starts.
+/// More stations than the report of request 14 takes, some of them without a log; what each
+/// serves is known from its starts.
 #[test]
 fn many_stations_are_joined() {
     let folder = Folder::new("fleet-many");
@@ -809,8 +936,11 @@ fn many_stations_are_joined() {
             own_served += (starts * CLAIM).min(due);
             days += u64::from(due > 0 && starts == 0);
         }
-        folder.write(&format!("{station}.log"), &log);
         rows += &format!("s{station},,{station}.log,101,3,{due},\n");
+        if station % 11 == 3 {
+            continue;
+        }
+        folder.write(&format!("{station}.log"), &log);
         served += own_served;
         owed += 3 * due;
         silent += days;
@@ -835,7 +965,7 @@ fn many_stations_are_joined() {
     }
 }
 
-/// Logs far longer than what is kept of them: memory stays the same.
+/// Of logs nothing is kept but where they stand: memory stays the same.
 #[test]
 fn memory_does_not_grow_with_the_logs() {
     let folder = Folder::new("fleet-memory");
@@ -850,8 +980,10 @@ fn memory_does_not_grow_with_the_logs() {
         .collect();
     let file = folder.write("leases.csv", format!("{HEADER}{rows}").as_bytes());
     let program = env!("CARGO_BIN_EXE_egretfold");
-    // 60 MB a log, 6 logs, and 2 workers that keep 32 MB each at the most.
-    let line = format!("ulimit -v 400000; RAYON_NUM_THREADS=2 {program} fleet {file} --json");
+    // 60 MB a log, of which 2 workers have 64 KB each at a time.
+    let line = format!(
+        "ulimit -v {LITTLE}; MALLOC_ARENA_MAX=1 RAYON_NUM_THREADS=2 {program} fleet {file} --json"
+    );
     let mut shell = Command::new("sh");
     shell.args(["-c", &line]);
     let output = with_input(shell, b"");
@@ -861,6 +993,29 @@ fn memory_does_not_grow_with_the_logs() {
         (&whole["silent_days"], &whole["station"]),
         (&6.into(), &"0".into())
     );
+}
+
+/// KB of addresses, of which the program's own code and its threads' stacks are the most.
+const LITTLE: u32 = 40_000;
+
+/// Many stations are kept small: their number hardly shows.
+#[test]
+fn memory_hardly_grows_with_the_stations() {
+    let folder = Folder::new("fleet-memory-many");
+    let log = [sample("three-days.log")[..75].to_vec(), midnights(101..132)].concat();
+    folder.write("a.log", &log);
+    let row = |station: u32| format!("{station},,a.log,101,31,1,2026-04-01\n");
+    let rows: String = (0..5_000).map(row).collect();
+    let file = folder.write("leases.csv", format!("{HEADER}{rows}").as_bytes());
+    let program = env!("CARGO_BIN_EXE_egretfold");
+    for form in ["", "--json", "--csv"] {
+        let line = format!("ulimit -v {LITTLE}; MALLOC_ARENA_MAX=1 RAYON_NUM_THREADS=2 {program} fleet {file} {form}");
+        let mut shell = Command::new("sh");
+        shell.args(["-c", &line]);
+        let output = with_input(shell, b"");
+        assert_eq!(output.status.code(), Some(3), "{}", complained(&output));
+        assert!(told(&output).lines().count() > 5_000, "{form}");
+    }
 }
 
 /// One bar for all logs, with the stations done.

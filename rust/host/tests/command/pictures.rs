@@ -147,7 +147,7 @@ fn a_file_that_stands_there_is_replaced_only_where_that_is_asked() {
     );
     let output = egretfold(&own, b"");
     assert_eq!(output.status.code(), Some(2));
-    assert!(complained(&output).contains("is read here"));
+    assert!(complained(&output).contains("which is read"));
 }
 
 #[test]
@@ -177,7 +177,8 @@ fn a_surveys_drawings_are_as_stored_and_say_what_its_rows_say() {
         .filter_map(|line| Some(line["pairs"].as_str()?.to_string()))
         .collect();
     let picture = fs::read(&pgm).expect("it is drawn");
-    let pixels = picture.strip_prefix(b"P5\n48 20\n255\n").expect("its head");
+    let pixels = picture.strip_prefix(b"P5\n# by egretfold\n48 20\n255\n");
+    let pixels = pixels.expect("its head");
     let wanted: Vec<u8> = bits.bytes().map(|bit| (bit - b'0') * 255).collect();
     assert_eq!(pixels, wanted);
     let passed = last_line(&json)["survey"]["passed"].as_u64();

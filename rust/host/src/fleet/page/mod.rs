@@ -6,6 +6,7 @@ mod glance;
 mod stations;
 
 use crate::common::digits::Digits;
+use crate::common::failure::{Failure, Outcome};
 use crate::common::replaced::HTML_BEGIN;
 use crate::fleet::month::{station, Fleet};
 use crate::fleet::text;
@@ -19,6 +20,19 @@ const SCRIPT: &str = include_str!("sort.js");
 
 /// Nothing is fetched, from wherever the file is opened.
 const POLICY: &str = "default-src 'none'; style-src 'unsafe-inline'; script-src 'unsafe-inline'";
+
+/// Stations on a page, which is made whole in memory: some ten thousand bytes each.
+const MOST: usize = 5_000;
+
+/// Whether a page holds so many.
+pub fn holds(stations: usize) -> Outcome {
+    match stations > MOST {
+        true => Err(Failure::Wrong(format!(
+            "--html: a page holds {MOST} stations at most, and these are {stations}; --cards draws any number"
+        ))),
+        false => Ok(()),
+    }
+}
 
 /// A station with its place in the fleet.
 type Placed<'a> = (usize, &'a Card);
@@ -42,7 +56,8 @@ pub fn of_one(card: &Card) -> String {
 
 /// The page of a fleet.
 pub fn html(fleet: &Fleet) -> String {
-    let cards: Vec<Placed> = fleet.told().collect();
+    let cards: Vec<(usize, Card)> = fleet.told().collect();
+    let cards: Vec<Placed> = cards.iter().map(|(place, card)| (*place, card)).collect();
     let told = [
         fleet.heading(),
         text::four(fleet, Digits::Grouped),
@@ -67,7 +82,7 @@ pub fn html(fleet: &Fleet) -> String {
 
 /// The month, where all stations have the same.
 fn title(fleet: &Fleet) -> String {
-    let mut titles = fleet.cards.iter().map(picture::title_of);
+    let mut titles = fleet.cards().map(|card| picture::title_of(&card));
     let first = titles.next().unwrap_or_default();
     match titles.all(|title| title == first) {
         true => format!("Fleet, {first}"),
@@ -89,7 +104,6 @@ fn page(class: &str, title: &str, told: &[String], issued: &str, body: &str) -> 
     let told: String = told.collect();
     format!(
         r#"{HTML_BEGIN}
-<html lang="en">
 <head>
 <meta charset="utf-8"/>
 <meta http-equiv="Content-Security-Policy" content="{POLICY}"/>

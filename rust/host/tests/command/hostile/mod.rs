@@ -1,287 +1,133 @@
-//! A driver that makes hostile lines and inputs, runs the command on them, and holds
-//! what must hold of every answer: its exit status, no panic, nothing that a terminal would
-//! obey, JSON and rows that can be read, pictures that are well formed, the same status
-//! where nobody reads, and text that says what JSON says.
+//! A driver of hostile cases: it makes one from its number, runs the command, and holds what must hold whatever is asked.
 //!
-//! By itself it runs a fixed list of cases. `tools/hostile` runs more of them, and holds
-//! a build with overflow checks against the shipped one: HOSTILE_CASES says how many,
-//! HOSTILE_SEED which, and HOSTILE_OTHER names the other build.
+//! By itself it runs a fixed list of cases. `tools/hostile` runs others for as long as it is told, and holds a build with
+//! overflow checks against the shipped one. It sets HOSTILE_SECONDS, how long; HOSTILE_SEED, which cases; HOSTILE_OTHER, the
+//! other build; HOSTILE_COUNTS, the file that gets the counts; and HOSTILE_CASE, the number of the only case.
 
+mod aimed;
+mod jobs;
+mod lines;
 mod made;
 
-use crate::common::{complained, root, told, with_input, Folder};
-use crate::score::well_formed;
+use crate::common::Folder;
 use compare::random::Random;
-use made::{Case, OWN};
-use serde_json::Value;
+use std::collections::BTreeMap;
 use std::env;
-use std::ffi::{OsStr, OsString};
+use std::ffi::OsString;
+use std::fmt::Write as _;
 use std::fs;
-use std::io::Write;
-use std::os::unix::ffi::{OsStrExt, OsStringExt};
+use std::panic;
 use std::path::Path;
-use std::process::{Command, Output, Stdio};
+use std::process::{Command, Output};
+use std::sync::Mutex;
+use std::thread;
+use std::time::{Duration, Instant};
 
-const CASES: u64 = 1_600;
+/// The kinds of case: a name, so many of them in a round, and what makes a case, runs it and panics where something doesn't
+/// hold. A kind more is a line more.
+const KINDS: &[(&str, u64, fn(&mut Scene))] = &[
+    ("lines", 16, lines::drive),
+    ("outputs aimed at inputs", 6, aimed::drive),
+    ("kills", 1, jobs::killed),
+    ("full disks", 3, jobs::full),
+];
 
-fn setting(name: &str, without: u64) -> u64 {
-    let given = env::var(name).ok().and_then(|text| text.parse().ok());
-    given.unwrap_or(without)
+/// The cases of the fixed list.
+const CASES: u64 = 2_200;
+
+/// Where a case is made and run.
+pub struct Scene<'a> {
+    pub random: Random,
+    /// A folder of its own, empty.
+    pub folder: &'a Path,
+    /// The build with overflow checks, where there is one.
+    pub other: Option<OsString>,
+    /// The line at hand, for who looks at a fault.
+    line: &'a Mutex<String>,
 }
 
-/// A case as it is run: its files are written, and its line names them.
-struct Run<'a> {
-    arguments: Vec<OsString>,
-    input: &'a [u8],
-}
+impl Scene<'_> {
+    /// Tells what is run now.
+    pub fn is_about(&self, line: &dyn std::fmt::Debug) {
+        *self.line.lock().expect("no other has it") = format!("{line:?}");
+    }
 
-impl Run<'_> {
-    fn of<'a>(case: &'a Case, folder: &Path) -> Run<'a> {
-        for (name, bytes) in &case.files {
-            fs::write(folder.join(name), bytes).expect("the file is written");
+    /// The shipped build or the other one, whose answers are the same.
+    pub fn program(&mut self) -> OsString {
+        match &self.other {
+            Some(other) if self.random.coin() => other.clone(),
+            _ => shipped(),
         }
-        let named = |argument: &OsString| match argument.as_bytes().strip_prefix(OWN.as_bytes()) {
-            Some(name) => folder.join(OsStr::from_bytes(name)).into_os_string(),
-            None => OsString::from_vec(argument.as_bytes().to_vec()),
-        };
-        Run {
-            arguments: case.arguments.iter().map(named).collect(),
-            input: &case.input,
-        }
-    }
-
-    fn has(&self, flag: &str) -> bool {
-        self.arguments.iter().any(|argument| argument == flag)
-    }
-
-    fn is(&self, name: &str) -> bool {
-        self.arguments.first().map_or(false, |first| first == name)
-    }
-
-    fn by(&self, program: &OsStr, more: &[&str]) -> Output {
-        let mut command = Command::new(program);
-        command.args(&self.arguments).args(more);
-        with_input(command, self.input)
-    }
-
-    fn output(&self, more: &[&str]) -> Output {
-        self.by(OsStr::new(env!("CARGO_BIN_EXE_egretfold")), more)
-    }
-
-    /// The status where nobody reads.
-    fn status_unread(&self) -> Option<i32> {
-        let mut child = Command::new(env!("CARGO_BIN_EXE_egretfold"))
-            .args(&self.arguments)
-            .current_dir(root())
-            .stdin(Stdio::piped())
-            .stdout(Stdio::piped())
-            .stderr(Stdio::null())
-            .spawn()
-            .expect("the command runs");
-        drop(child.stdout.take());
-        let mut stdin = child.stdin.take().expect("it has an input");
-        let _ = stdin.write_all(self.input);
-        drop(stdin);
-        child.wait().expect("the command ends").code()
     }
 }
 
-/// What must hold of every answer.
-fn hold(run: &Run, output: &Output) {
-    let status = output.status.code().expect("it ends by itself");
+pub fn shipped() -> OsString {
+    env!("CARGO_BIN_EXE_egretfold").into()
+}
+
+/// What must hold of the end of any run that no signal ended.
+pub fn hold_end(output: &Output) {
+    let errors = String::from_utf8_lossy(&output.stderr);
+    let fault = errors.contains("panicked") || errors.contains("fault of the program");
+    assert!(!fault, "{errors}");
+    let status = output.status.code();
     assert!(
-        status <= 2 || (status == 3 && (run.is("score") || run.is("fleet"))),
-        "status {status}"
+        status.map_or(false, |status| status <= 3),
+        "{status:?}: {errors}"
     );
-    let errors = complained(output);
-    assert!(
-        !errors.contains("panicked") && !errors.contains("fault of the program"),
-        "{errors}"
-    );
-    let plain = |text: &str| {
-        text.chars()
-            .all(|letter| letter == '\n' || !letter.is_control())
+}
+
+/// Runs it to its end.
+pub fn ended(mut command: Command) -> Output {
+    let output = command.output().expect("the command runs");
+    hold_end(&output);
+    output
+}
+
+fn number(name: &str) -> Option<u64> {
+    env::var(name).ok()?.parse().ok()
+}
+
+/// The kind of a case, by its place in the round.
+fn kind_of(case: u64) -> (&'static str, fn(&mut Scene)) {
+    let round: u64 = KINDS.iter().map(|(_, times, _)| times).sum();
+    let mut place = case % round;
+    for (name, times, drive) in KINDS {
+        if place < *times {
+            return (name, *drive);
+        }
+        place -= times;
+    }
+    unreachable!("the place is in the round")
+}
+
+/// Runs one case; gives its kind, and what was run where it failed.
+fn run(case: u64, folder: &Path) -> (&'static str, Result<(), String>) {
+    let (name, drive) = kind_of(case);
+    let seed = number("HOSTILE_SEED").unwrap_or(1);
+    let _ = fs::remove_dir_all(folder);
+    fs::create_dir_all(folder).expect("a folder");
+    let line = Mutex::new(String::new());
+    let failed = panic::catch_unwind(|| {
+        drive(&mut Scene {
+            random: Random::of_case(98, seed, case),
+            folder,
+            other: env::var_os("HOSTILE_OTHER"),
+            line: &line,
+        });
+    });
+    let told = || {
+        let line = line.lock().map_or(String::new(), |line| line.clone());
+        format!("{name}, case {case} of seed {seed}: {line}")
     };
-    assert!(plain(&errors), "{errors:?}");
-    // What is wrong or refused is told, and what is fine tells nothing but what to check.
-    let only_checks = errors
-        .lines()
-        .all(|line| run.has("--csv") && !line.starts_with("egretfold: "));
-    match status {
-        0 | 3 => assert!(only_checks, "{errors}"),
-        _ => assert!(!errors.is_empty()),
-    }
-    // Binary, which goes through as it is.
-    if run.is("encode") && !run.has("--hex") || run.is("picture") && run.has("-") {
-        return;
-    }
-    let text = told(output);
-    assert!(plain(&text), "{text:?}");
-    if run.has("--json") {
-        for line in text
-            .lines()
-            .filter(|_| !run.is("manual") && !run.is("completions"))
-        {
-            let value: Value = serde_json::from_str(line).expect("JSON");
-            assert!(value.is_object(), "{line}");
-        }
-    }
-    if run.has("--csv") && run.is("fleet") {
-        // Rows with another number of values than the first are an error there.
-        let mut rows = csv::Reader::from_reader(text.as_bytes());
-        assert!(rows.records().all(|row| row.is_ok()), "{text}");
-    } else if run.has("--csv") {
-        let mut rows = text.lines().map(|line| line.split(',').count());
-        let head = rows.next().unwrap_or(0);
-        assert!(rows.all(|values| values == head), "{text}");
-    }
-    if let Some(page) = text.strip_prefix("<!DOCTYPE html>\n") {
-        assert!(well_formed(page) > 20);
-    }
-    if text.starts_with("<svg ") {
-        assert!(well_formed(&text) > 5);
-    }
+    (name, failed.map_err(|_| told()))
 }
 
-/// The forms of one answer end alike and tell the same.
-fn compare_forms(run: &Run, text: &Output) {
-    let other = [
-        "--json",
-        "--csv",
-        "--svg",
-        "--html",
-        "--terse",
-        "--plain",
-        "--work",
-        "--commands",
-    ];
-    let known = [
-        "score", "fleet", "replay", "decode", "address", "locate", "flow", "tile", "survey",
-        "picture",
-    ];
-    // Bytes on standard output leave no room for another form.
-    let binary = run.is("picture") && run.has("-");
-    if binary || other.iter().any(|flag| run.has(flag)) || !known.iter().any(|name| run.is(name)) {
-        return;
-    }
-    let json = run.output(&["--json"]);
-    assert_eq!(json.status.code(), text.status.code());
-    // Clap's own words name the line's options.
-    if !complained(text).starts_with("error: ") {
-        assert_eq!(complained(&json), complained(text));
-    }
-    hold(
-        &Run {
-            arguments: [&run.arguments[..], &["--json".into()]].concat(),
-            input: run.input,
-        },
-        &json,
-    );
-    let lines: Vec<Value> = told(&json)
-        .lines()
-        .map(|line| serde_json::from_str(line).expect("JSON"))
-        .collect();
-    let text = told(text).replace(',', "");
-    match &run.arguments[0] {
-        name if name == "replay" => {
-            for line in &lines {
-                if let (Some(day), Some(runs)) = (line["day"].as_u64(), line["runs"].as_u64()) {
-                    let claims = &line["claims"];
-                    let due = format!("{day:>10}  {runs:>10}  {claims:>17}");
-                    let shown = text
-                        .lines()
-                        .any(|line| line.split_whitespace().eq(due.split_whitespace()));
-                    assert!(shown, "{due} in {text}");
-                }
-            }
-        }
-        name if name == "score" => {
-            if let Some(verdict) = lines
-                .last()
-                .and_then(|line| line["summary"]["verdict"].as_str())
-            {
-                assert!(text.contains(&format!("\n{verdict}: ")), "{text}");
-                let served = &lines[lines.len() - 1]["summary"]["served"];
-                let total = text
-                    .lines()
-                    .find(|line| line.trim_start().starts_with("total"));
-                let total = total.expect("the totals").split_whitespace().nth(2);
-                assert_eq!(total, Some(served.to_string().as_str()));
-            }
-        }
-        name if name == "fleet" => {
-            if let Some(fleet) = lines.last().map(|line| &line["fleet"]) {
-                let (served, owed) = (&fleet["served"], &fleet["owed"]);
-                let due = format!("served {served} of {owed} elements owed");
-                assert!(text.contains(&due), "{due} in {text}");
-                let stations = &fleet["stations"];
-                assert_eq!(*stations, lines.len() - 1);
-                assert!(text.starts_with(&format!("fleet of {stations} station")));
-            }
-        }
-        name if name == "decode" => {
-            let summary = lines.last().map(|line| &line["summary"]);
-            if let Some(claims) = summary.and_then(|summary| summary["claims"].as_u64()) {
-                let words = claims.to_string();
-                assert!(text.contains(&format!(" {words} element")), "{text}");
-            }
-        }
-        name if name == "survey" => {
-            let survey = lines.last().map(|line| &line["survey"]);
-            if let Some(passed) = survey.and_then(|survey| survey["passed"].as_u64()) {
-                let pairs = survey.and_then(|survey| survey["pairs"].as_u64());
-                let due = format!("  passed  {passed} of {}\n", pairs.unwrap_or(0));
-                assert!(text.contains(&due), "{text}");
-            }
-        }
-        name if name == "address" || name == "locate" => {
-            for address in lines.iter().filter_map(|line| line["address"].as_str()) {
-                assert!(text.contains(address), "{address} in {text}");
-            }
-        }
-        _ => {}
-    }
-}
-
-/// The other build says the same.
-fn compare_builds(run: &Run, output: &Output) {
-    if let Some(other) = env::var_os("HOSTILE_OTHER") {
-        let by_other = run.by(&other, &[]);
-        assert_eq!(by_other.status.code(), output.status.code());
-        assert_eq!(complained(&by_other), complained(output));
-        assert!(
-            by_other.stdout == output.stdout,
-            "the other build's answer differs"
-        );
-    }
-}
-
-fn drive(number: u64, folder: &Folder) {
-    let mut random = Random::of_case(98, setting("HOSTILE_SEED", 1), number);
-    let case = made::case(&mut random);
-    let run = Run::of(&case, &folder.0);
-    let output = run.output(&[]);
-    hold(&run, &output);
-    if random.once_in(6) {
-        assert_eq!(run.status_unread(), output.status.code());
-    }
-    compare_forms(&run, &output);
-    compare_builds(&run, &output);
-}
-
-/// Runs its share of the cases, and tells the number and the line of one that fails.
 fn drive_share(share: u64, shares: u64) {
     let folder = Folder::new(&format!("hostile-{share}"));
-    let cases = setting("HOSTILE_CASES", CASES);
-    for number in (share..cases).step_by(shares as usize) {
-        let failed = std::panic::catch_unwind(|| drive(number, &folder)).is_err();
-        if failed {
-            let mut random = Random::of_case(98, setting("HOSTILE_SEED", 1), number);
-            let arguments = made::case(&mut random).arguments;
-            panic!("case {number}: {arguments:?}");
-        }
-        for entry in fs::read_dir(&folder.0).expect("the folder") {
-            fs::remove_file(entry.expect("an entry").path()).expect("it goes");
+    for case in (share..CASES).step_by(shares as usize) {
+        if let (_, Err(told)) = run(case, &folder.0.join("own")) {
+            panic!("{told}");
         }
     }
 }
@@ -294,4 +140,66 @@ fn hostile_cases_of_even_numbers() {
 #[test]
 fn hostile_cases_of_odd_numbers() {
     drive_share(1, 2);
+}
+
+/// What was run of a kind.
+#[derive(Default)]
+struct Count {
+    passed: u64,
+    failed: Vec<String>,
+}
+
+/// Runs cases until the time is over, on two threads.
+fn drive_for(time: Duration) -> BTreeMap<&'static str, Count> {
+    let counts = Mutex::new(BTreeMap::<&str, Count>::new());
+    let begun = Instant::now();
+    let share = |share: u64| {
+        let folder = Folder::new(&format!("hostile-for-{share}"));
+        for case in (share..).step_by(2) {
+            if begun.elapsed() >= time {
+                return;
+            }
+            let (name, result) = run(case, &folder.0.join("own"));
+            let mut counts = counts.lock().expect("nothing panics that has it");
+            let count = counts.entry(name).or_default();
+            match result {
+                Ok(()) => count.passed += 1,
+                Err(told) => count.failed.push(told),
+            }
+        }
+    };
+    thread::scope(|scope| {
+        scope.spawn(|| share(0));
+        scope.spawn(|| share(1));
+    });
+    counts.into_inner().expect("nothing panics that has it")
+}
+
+/// What `tools/hostile` asks for; nothing where it doesn't.
+#[test]
+fn for_as_long_as_is_asked() {
+    let counts = match (number("HOSTILE_CASE"), number("HOSTILE_SECONDS")) {
+        (Some(case), _) => {
+            let folder = Folder::new("hostile-case");
+            let (_, result) = run(case, &folder.0.join("own"));
+            return result.expect("the case holds");
+        }
+        (None, Some(seconds)) => drive_for(Duration::from_secs(seconds)),
+        (None, None) => return,
+    };
+    let (mut passed, mut failed, mut text) = (0, 0, String::new());
+    for (name, count) in &counts {
+        let _ = writeln!(text, "{:>8}  {name}", count.passed);
+        for told in &count.failed {
+            let _ = writeln!(text, "FAILED: {told}");
+        }
+        passed += count.passed;
+        failed += count.failed.len();
+    }
+    let _ = writeln!(text, "{passed} passed, {failed} failed");
+    match env::var_os("HOSTILE_COUNTS") {
+        Some(file) => fs::write(file, &text).expect("the counts are written"),
+        None => print!("{text}"),
+    }
+    assert!(passed > 0 && failed == 0, "{text}");
 }
