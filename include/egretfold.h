@@ -439,15 +439,15 @@ bool egretfold_group_check(const uint32_t cells[EGRETFOLD_CELLS]);
 uint32_t egretfold_group_kill(uint32_t slots, uint32_t cells[EGRETFOLD_CELLS], uint32_t mask, const float *registers,
                               size_t floats, uint32_t killed[1]);
 
-/* The maximum of two registers, channel by channel: a's where b's is less than a's, otherwise b's, with the bits as they are, a
- * NaN's too. Returns nothing. */
-void egretfold_register_maximum(const float a[EGRETFOLD_CHANNELS], const float b[EGRETFOLD_CHANNELS],
-                                float maximum[EGRETFOLD_CHANNELS]);
+/* The maximum of two registers, channel by channel: a's where b's is less than a's, otherwise b's. A channel is the bits of its float
+ * (memcpy makes one of the other), and the answer's are one operand's as they are, a NaN's payload too. Returns nothing. */
+void egretfold_register_maximum(const uint32_t a[EGRETFOLD_CHANNELS], const uint32_t b[EGRETFOLD_CHANNELS],
+                                uint32_t maximum[EGRETFOLD_CHANNELS]);
 
 /* The choice between two registers by a third one, channel by channel: a's where the third's is at least zero, as minus zero is and a
- * NaN isn't, otherwise b's, with the bits as they are. Returns nothing. */
-void egretfold_register_choice(const float a[EGRETFOLD_CHANNELS], const float b[EGRETFOLD_CHANNELS],
-                               const float third[EGRETFOLD_CHANNELS], float choice[EGRETFOLD_CHANNELS]);
+ * NaN isn't, otherwise b's. Channels are bits here too. Returns nothing. */
+void egretfold_register_choice(const uint32_t a[EGRETFOLD_CHANNELS], const uint32_t b[EGRETFOLD_CHANNELS],
+                               const uint32_t third[EGRETFOLD_CHANNELS], uint32_t choice[EGRETFOLD_CHANNELS]);
 
 /* ---- States that were kept elsewhere ----
  * Each returns true just where the arrays, wherever they come from and whatever numbers they have, are such as the functions above may

@@ -227,7 +227,7 @@ module _ (edition : ℕ) (known : isEdition edition ≡ true) (before : List ℕ
   v₁ : ReplayValid (begun edition before day)
   v₁ = midnight-valid r₀ day v₀ a
 
-  pub to-day : replayed edition (withDay before day during) ≡ goneOn (begun edition before day) during
+  to-day : replayed edition (withDay before day during) ≡ goneOn (begun edition before day) during
   to-day = gone-on edition before (recordBytes 2 day ++ during) ∙ midnight-read r₀ day during a
 
   -- a part is what the words since its midnight added, while its day goes on
@@ -244,43 +244,11 @@ module _ (edition : ℕ) (known : isEdition edition ≡ true) (before : List ℕ
         (begins-empty r₀ v₀ day (a .may-begin)) ∙
         ap₂ {C = Tally} (λ (i j : ℕ). record { runs = i; claims = j }) (zero-add _) (zero-add _)
 
-    pub day-so-far : partAt (replayed edition (withDay before day during)) (r₀ .midnights + 1) ≡ added (r₀ .session) (wordsIn (begun edition before day) during)
-    day-so-far = ap (λ (r : Replay). partAt r (r₀ .midnights + 1)) to-day ∙ during-part
-
-    -- and once the next midnight has come it is what the words between the two midnights added, whatever bytes come later
-    module _ (b' : Bytes8 during) (next : ℕ) (later : List ℕ) (a' : AtMidnight (goneOn (begun edition before day) during) next) where
-      abbrev r₂ : Replay
-      r₂ = goneOn (begun edition before day) during
-
-      at-next : replayed edition (withDay before day during ++ recordBytes 2 next) ≡ afterMidnight r₂ next
-      unfolding replayOf
-      at-next =
-          gone-on edition (withDay before day during) (recordBytes 2 next) ∙
-          ap (λ (r : Replay). goneOn r (recordBytes 2 next)) to-day ∙
-          ap (goneOn r₂) (sym (append-nil (recordBytes 2 next))) ∙ midnight-read r₂ next [] a'
-
-      two-more : r₀ .midnights + 1 < afterMidnight r₂ next .midnights
-      unfolding afterMidnight
-      two-more = omega (arith, same)
-
-      up-to : r₀ .midnights + 1 ≤ r₂ .midnights
-      unfolding afterMidnight
-      up-to = omega (arith, same)
-
-      pub day-ended :
-          partAt (replayed edition ((withDay before day during ++ recordBytes 2 next) ++ later)) (r₀ .midnights + 1) ≡
-          added (r₀ .session) (wordsIn (begun edition before day) during)
-      day-ended =
-          days-stand edition (withDay before day during ++ recordBytes 2 next) later (r₀ .midnights + 1)
-          (subst (λ (r : Replay). r₀ .midnights + 1 < r .midnights) (sym at-next) two-more) ∙
-          ap (λ (r : Replay). partAt r (r₀ .midnights + 1)) at-next ∙
-          closes r₂ (piece-valid (begun edition before day) v₁ during b') next (a' .may-begin) (r₀ .midnights + 1) up-to ∙ during-part
-
 -- what ends before the first midnight: the words before it
 none-yet : (edition : ℕ) → partAt (newReplay edition) 0 ≡ noTally
 none-yet edition = part-is (newReplay edition .marks) 0 (newReplay edition .session .party .tally) 0 (omega arith) ∙ unfold endedWith beganWith pick in refl
 
-pub before-first : (edition : ℕ) → isEdition edition ≡ true → (bytes : List ℕ) → replayed edition bytes .midnights ≡ 0 → partAt (replayed edition bytes) 0 ≡ added (newReplay edition .session) (wordsIn (newReplay edition) bytes)
+before-first : (edition : ℕ) → isEdition edition ≡ true → (bytes : List ℕ) → replayed edition bytes .midnights ≡ 0 → partAt (replayed edition bytes) 0 ≡ added (newReplay edition .session) (wordsIn (newReplay edition) bytes)
 before-first edition known bytes e =
     grows-by (newReplay edition) (new-replay-valid edition known) bytes e ∙
     ap (λ (t : Tally).

@@ -5,7 +5,7 @@
 use mathlib.Core.Path.{_≡_, refl, _∙_}
 use mathlib.Core.Bool.{Bool, true, false}
 use mathlib.Core.List.{List, [], _∷_, _++_, map, List·Permᴰ}
-use Prim.Native.Nat.{ℕ, suc, _+_, _-_, _*_, _%_, _^_, _<_, _≤_}
+use Prim.Native.Nat.{ℕ, suc, _+_, _-_, _*_, _/_, _%_, _^_, _<_, _≤_}
 use lib.Count.{ones, trailingZeros}
 use lib.Ieee.{Float, lt}
 use lib.ListN.{length, take, drop, getD, replicate}
@@ -20,13 +20,14 @@ use Rattle.layout.specs.Layout.{wellFormed, unitOf, rowStep, tileRows, spanOf, 
 use Rattle.layout.specs.declared.Layout.{Layout}
 use Rattle.layout.proofs.Window.{form-size}
 use Rattle.address.specs.Offset.{blockWidth, blockHeight, codeOf, insideOf, tiledOffset, linearOffset, offsetOf}
-use Rattle.address.specs.Address.{stepOf as rowStepOf, ifAccepted, inside, addressOf, breaks, runOf, translateOf, locateOf}
+use Rattle.address.specs.Address.{stepOf as rowStepOf, layoutOf, ifAccepted, inside, addressOf, breaks, runOf, translateOf, locateOf}
 use Rattle.address.specs.Inverse.{Accepted, Inside, Inverse}
 use Rattle.address.specs.Formula.{printedAddress, guideAddress}
 use Rattle.address.specs.Run.{Longest, runNumber}
 use Rattle.address.proofs.Formula.{printed, address-printed, address-guide}
 use Rattle.address.proofs.Inverse.{inverse}
 use Rattle.address.proofs.Runs.{longest, run-number, run-back as leads-back}
+use Rattle.places.specs.Places.{places}
 use Rattle.memory.specs.Bytes.{Touched}
 use Rattle.memory.specs.Elements.{readOf, writeOf}
 use Rattle.memory.specs.Reads.{ReadBack}
@@ -124,14 +125,15 @@ use Rattle.group.specs.Group.{
 }
 use Rattle.group.specs.Cells as cells
 use Rattle.group.specs.Cells.{activeMask}
-use Rattle.group.specs.Causes.{Cause}
+use Rattle.group.specs.Causes.{Cause, FirstMet}
 use Rattle.group.proofs.State.{old-answers}
-use Rattle.group.proofs.Modes.{step-shared, step-cause, cause-refuses, run-shared}
+use Rattle.group.proofs.Firsts.{run-shared, run-first-cause, first-cause-refuses, one-number}
+use Rattle.group.proofs.Modes.{step-shared, step-cause, cause-refuses}
 use Rattle.group_rooms.specs.Rooms.{BeginCrosses as GroupBegins, StepCrosses, RunCrosses}
 use Rattle.loops.specs.Loops.{Opened, Looping, Repeating, turnOf, shownAL}
-use Rattle.registers.specs.Registers.{float, lessThanZero, atLeastZero, maximumOf, choiceOf, killedBy, registerAt}
-use Rattle.registers.specs.Pattern.{belowZero, notBelowZero, lessThan, maximumBits, choiceBits, noNumber, killedByBits}
-use Rattle.registers.proofs.Copying.{maximum-copies, choice-copies}
+use Rattle.registers.specs.Registers.{channelCount, float, lessThanZero, atLeastZero, maximumOf, choiceOf, eachOf2, eachOf3, killedBy, maskedAt}
+use Rattle.registers.specs.Pattern.{belowZero, notBelowZero, lessThan, noNumber, killedByBits}
+use Rattle.registers.proofs.Copying.{maximum-channel, choice-channel}
 use Rattle.registers.proofs.Order.{less-than}
 use Rattle.registers.proofs.Patterns.{below-zero, at-least-zero, less-than-zero-cases, maximum-pattern, choice-pattern, killed-pattern}
 use Rattle.kill.specs.Kill as killing
@@ -147,6 +149,7 @@ use Rattle.flow.specs.Plain.{AllPlain, plainRun, loopsAfter}
 use Rattle.flow.proofs.Plain.{old-run, plain-run-loops}
 use Rattle.flow.proofs.Counting.{mask-count, mask-first, mask-none}
 use Rattle.flow.specs.Cases.{oneWord, c9, c10, c11, c12}
+use Rattle.command_rooms.specs.Rooms.{CommandCrosses}
 use Rattle.element_rooms.specs.Rooms.{WriteCrosses}
 use Rattle.picture_rooms.specs.Rooms.{copyOf, PaintCrosses}
 use Rattle.session_rooms.specs.Rooms.{WordCrosses, FeedCrosses}
@@ -156,6 +159,7 @@ use Rattle.log_rooms.specs.Pieces.{Arrays, replayAt, GivenAt, BeginsAt, FedAt, 
 use Rattle.log_rooms.proofs.Cut.{any-pieces, pieces-given}
 use Rattle.score_rooms.specs.Rooms.{lineTold, MonthCrosses, ScoreCrosses}
 use Rattle.score_rooms.proofs.FromLog.{score-from-log}
+use Rattle.demands.specs.Addresses.{Nobodys, LeadsBack, LeadsThere}
 use Rattle.demands.specs.Calls.{Call, Untouched}
 use Rattle.demands.specs.Cases.{Agree as Cases, cases}
 use Rattle.demands.specs.Days.{added, replayed, AtMidnight, withDay, begun, bytesBefore}
@@ -163,10 +167,12 @@ use Rattle.demands.specs.Flow.{Agree, AllAgree, Made, Ran, Refused}
 use Rattle.demands.specs.Flow as flow
 use Rattle.demands.specs.Painting.{Painting, Painted}
 use Rattle.demands.specs.Rectangles.{RectanglePainted, RectangleRead}
-use Rattle.demands.specs.Partial.{FirstMet, inFull, Beside}
+use Rattle.demands.specs.Partial.{inFull, Beside}
 use Rattle.demands.specs.Pieces.{Handed, WordRefused, InTurn, AsOne}
 use Rattle.demands.specs.Refused.{FirstRefused, Reported}
-use Rattle.demands.specs.Windows.{Fits, PairOutside, ByteShared}
+use Rattle.demands.specs.Windows.{InOrder}
+use Rattle.demands.specs.Writing.{Spelled, Writes}
+use Rattle.demands.proofs.Addresses.{accepted-when, when-accepted, there-back, back-there, nobody-refused, refused-nobody}
 use Rattle.demands.proofs.Calls.{refused-call}
 use Rattle.demands.proofs.Days.{part-0, before-midnight, day-words, days-stand}
 use Rattle.demands.proofs.Elements.{write-done}
@@ -176,10 +182,11 @@ use Rattle.demands.proofs.Flow.{step-made, step-refused, run-walks, sam
 use Rattle.demands.proofs.Owning.{log-number}
 use Rattle.demands.proofs.Painting.{every-order}
 use Rattle.demands.proofs.Rectangles.{rectangle-painted, rectangle-read}
-use Rattle.demands.proofs.Partial.{run-first-cause, first-cause-refuses, one-number, full-given, full-mode, full-group, step-beside, run-beside}
+use Rattle.demands.proofs.Partial.{full-given, full-mode, full-group, step-beside, run-beside}
 use Rattle.demands.proofs.Pieces.{handed-reached, handed-given, word-refused, as-one}
 use Rattle.demands.proofs.Refused.{refused-place}
-use Rattle.demands.proofs.Windows.{passes, gets-eight, gets-nine}
+use Rattle.demands.proofs.Windows.{in-order-told}
+use Rattle.demands.proofs.Writing.{spelled-back}
 use Rattle.refusal.specs.Crossing.{Crosses}
 use Rattle.state.specs.State.{Shared}
 use Rattle.state.specs.Cells.{sharedOf}
@@ -203,11 +210,14 @@ use Rattle.state.specs.Cells.{Sized, ownLength}
 use Rattle.log_rooms.specs.Pieces.{firstOfTwo}
 use Rattle.judges.specs.Judged.{Judges, sessionBy}
 use Rattle.demands.specs.Pieces.{firstOf}
-use Rattle.demands.specs.States.{PairArrays, PairGivenAt, PairFedAt, GoesOn, SamePiece}
+use Rattle.demands.specs.Pairs.{PairArrays, PairGivenAt, PairFedAt, sessionAt}
+use Rattle.demands.specs.States.{GoesOn, SamePiece}
 use Rattle.demands.specs.States as states
-use Rattle.demands.specs.Lives.{sessionAt, Life, LookAlike, SameTo, AsOneCall, SameWord}
+use Rattle.demands.specs.Lives.{Life, LookAlike, SameTo, AsOneCall, SameWord}
 use Rattle.demands.proofs.Lives.{life-isolated, word-isolated, life-given, life-as-one}
+use Rattle.demands.specs.Tables.{placeByTable}
 use Rattle.demands.specs.Trims.{TrimmedAt, SameAfter, HadRoom}
+use Rattle.demands.proofs.Tables.{table-length, table-agrees, table-address}
 use Rattle.demands.proofs.Trims.{trimmed-goes-on, trimmed-view}
 use Rattle.trim.specs.Trim.{trimmed}
 use Rattle.trim.specs.Laws.{NotFull}
@@ -322,6 +332,16 @@ pub demand2-writer :
     allByWriter (feedOf s ws .commands) room ≡ written (feedOf s ws .commands)
 demand2-writer = by-writer
 
+-- The same over calls: words that egretfold_session_word takes one by one, until one of them completes a command. The header and the fields
+-- that its six numbers then have, handed to egretfold_command_write with room for five words, give back these words, behind those that an
+-- open command held before.
+pub demand2-write-calls :
+    {own tallies shared ws end : List ℕ} → Given own tallies shared → Spelled own tallies shared ws end →
+    (r : ℕ) (room room' number number' : List ℕ) → mostWords ≤ length room →
+    CommandCrosses (getD end 1 0) (drop 2 end) r room room' number number' →
+    Writes (heldOf (partyOf own tallies .opened) ++ ws) r room room' number'
+demand2-write-calls = spelled-back
+
 -- These words, read again by a session between two commands that has the settings they first met and room for them, give the same
 -- commands and settings, add the same to the tallies, and leave the session between two commands.
 pub demand2-read-again :
@@ -377,6 +397,38 @@ demand3-address l accepted = address-printed l (form-size (l .base .0) (l .pitch
 pub demand3 : (l : Layout) → Accepted l → Inverse l
 demand3 = inverse
 
+-- The same over calls. "A layout .. is accepted when it gets neither 3 nor 6": just where egretfold_layout answers 0.
+pub demand3-accepted :
+    (base pitch height size : ℕ) (tiled : Bool) {r : ℕ} {room room' : List ℕ} → Crosses (judgeOf base pitch height size tiled) r room room' →
+    r ≡ 0 → Accepted (layoutOf base pitch height size tiled)
+demand3-accepted = accepted-when
+
+pub demand3-accepts :
+    (base pitch height size : ℕ) (tiled : Bool) {r : ℕ} {room room' : List ℕ} → Crosses (judgeOf base pitch height size tiled) r room room' →
+    Accepted (layoutOf base pitch height size tiled) → r ≡ 0
+demand3-accepts = when-accepted
+
+-- Where egretfold_translate answers 0 with an address, egretfold_locate of each of the element's bytes answers 0 with that pair and the byte's place.
+pub demand3-back :
+    (l : Layout) (x y r : ℕ) (room room' : List ℕ) → Crosses (translateOf l x y) r room room' → r ≡ 0 → (place : ℕ) → place < l .size →
+    (r' : ℕ) (back back' : List ℕ) → Crosses (locateOf l (getD room' 0 0 + place)) r' back back' → LeadsBack x y place r' back'
+demand3-back = there-back
+
+-- Where egretfold_locate answers 0 with a pair and a place, egretfold_translate of that pair answers 0, and the byte is at that place of the element.
+pub demand3-there :
+    (l : Layout) (a r : ℕ) (back back' : List ℕ) → Crosses (locateOf l a) r back back' → r ≡ 0 → (r' : ℕ) (room room' : List ℕ) →
+    Crosses (translateOf l (getD back' 0 0) (getD back' 1 0)) r' room room' → LeadsThere (l .size) a back' r' room'
+demand3-there = back-there
+
+-- And egretfold_locate of an accepted layout answers 12 exactly where no pair owns the byte.
+pub demand3-nobodys :
+    (l : Layout) → Accepted l → (a r : ℕ) (back back' : List ℕ) → Crosses (locateOf l a) r back back' → Nobodys l a → r ≡ 12
+demand3-nobodys = nobody-refused
+
+pub demand3-refused :
+    (l : Layout) → Accepted l → (a r : ℕ) (back back' : List ℕ) → Crosses (locateOf l a) r back back' → r ≡ 12 → Nobodys l a
+demand3-refused = refused-nobody
+
 -- ELEMENTS AND WINDOWS
 
 -- A write that answers 0 touches only the part of memory that holds the element: its bytes are those given, and every byte that the pair
@@ -399,16 +451,11 @@ pub superfine-reads :
     (joined (readOf (formatLayout base format height) (x + 1) (y + 1) at m) (readOf (formatLayout base format height) x y at m)))
 superfine-reads = four-reads
 
--- A start that the settings don't refuse: every pair of the domain is inside each window that counts, and no byte lies in two spans that
--- count. 8 comes with a pair of the domain that is outside such a window, 9 with a byte that two such spans share.
-pub start-fits : (s : Session) → Reached s → (v : List ℕ) → startRuleOf command.Start s ≡ gives v → Fits s
-start-fits = passes
-
-pub start-outside : (s : Session) → Reached s → startRuleOf command.Start s ≡ refuses 8 → PairOutside s
-start-outside = gets-eight
-
-pub start-shared : (s : Session) → Reached s → startRuleOf command.Start s ≡ refuses 9 → ByteShared s
-start-shared = gets-nine
+-- "7 start without a domain, an instruction format or any output set"; 8 a pair of the domain that is outside a window that counts; 9 a byte that two
+-- spans that count share: a start gets each of them exactly where it is due and none before it is, and else every pair of the domain is
+-- inside each window that counts, and no byte lies in two of their spans.
+pub start-order : (s : Session) → Reached s → InOrder s (startRuleOf command.Start s)
+start-order = in-order-told
 
 -- FLOW
 
@@ -1070,26 +1117,31 @@ pub float-cases :
     (lessThanZero (float 0x80000001) ≡ true)
 float-cases = less-than-zero-cases
 
--- So who is killed is known by the bits of the registers alone; and the maximum and the choice are the floats of the operands' own bits.
+-- So who is killed is known by the bits of the registers alone.
 pub kill-by-bits :
     (mask : ℕ) (bits : List ℕ) (i : ℕ) → ((k : ℕ) → getD bits k noNumber < 2 ^ 32) →
-    killedBy mask (registerAt (map float bits) i) ≡ killedByBits mask bits i
+    killedBy (maskedAt (map float bits) i mask) ≡ killedByBits mask bits i
 kill-by-bits = killed-pattern
 
-pub maximum-by-bits : (a b : ℕ) → maximumOf (float a) (float b) ≡ float (maximumBits a b)
+-- "Also give, channel by channel, the maximum and the choice .., copying bits exactly; maximum of A and B is A if B < A, otherwise B.": a call of
+-- egretfold_register_maximum leaves in each channel of its room one of the operands' patterns as it stands, whatever they are, a NaN's payload
+-- too; so does one of egretfold_register_choice, the first operand's where the third is at least zero, else the second's.
+pub maximum-copied :
+    (a b room : List ℕ) → room ≡ eachOf2 maximumOf a b → (c : ℕ) → c < channelCount →
+    getD room c 0 ≡ pick (lt (float (getD b c 0)) (float (getD a c 0))) (getD a c 0) (getD b c 0)
+maximum-copied = maximum-channel
+
+pub choice-copied :
+    (a b third room : List ℕ) → room ≡ eachOf3 choiceOf a b third → (c : ℕ) → c < channelCount →
+    getD room c 0 ≡ pick (atLeastZero (float (getD third c 0))) (getD a c 0) (getD b c 0)
+choice-copied = choice-channel
+
+-- Which of them it is goes by the bits alone.
+pub maximum-by-bits : (a b : ℕ) → maximumOf a b ≡ pick (lessThan b a) a b
 maximum-by-bits = maximum-pattern
 
-pub choice-by-bits : (a b third : ℕ) → third < 2 ^ 32 → choiceOf (float a) (float b) (float third) ≡ float (choiceBits a b third)
+pub choice-by-bits : (a b third : ℕ) → third < 2 ^ 32 → choiceOf a b third ≡ pick (notBelowZero third) a b
 choice-by-bits = choice-pattern
-
--- "copying bits exactly": the maximum and the choice over bit patterns (registers::maximum_bits and choice_bits, whose contracts are
--- `eachBits2 maximumBits` and `eachBits3 choiceBits`) are, for every pattern, one of the operands as it stands, a NaN's payload too:
--- "maximum of A and B is A if B < A, otherwise B", and the first operand where the third is at least zero, else the second.
-pub maximum-copied : (a b : ℕ) → maximumBits a b ≡ pick (lt (float b) (float a)) a b
-maximum-copied = maximum-copies
-
-pub choice-copied : (a b third : ℕ) → third < 2 ^ 32 → choiceBits a b third ≡ pick (atLeastZero (float third)) a b
-choice-copied = choice-copies
 
 -- REQUEST 12, "Conditional output tests"
 
@@ -1232,6 +1284,19 @@ fleet-joined-calls = behind-told
 pub fleet-sums-joined :
     (n m : ℕ) (stations : ℕ → Station) → sumsOf (n + m) stations ≡ joinedFleet n (sumsOf n stations) (sumsOf m (behind n stations))
 fleet-sums-joined = sums-joined
+
+-- "Inside, one-byte tiled layouts shall read a fixed table of 2,048 places within a tile, corrected for x6 and y5, and must agree with the bit
+-- rule at every pair.": so it does, and the address of every pair of such a layout is that by the table.
+pub places-length : length places ≡ 2048
+places-length = table-length
+
+pub places-agree : (x y : ℕ) → placeByTable x y ≡ insideOf 1 x y
+places-agree = table-agrees
+
+pub places-address :
+    (l : Layout) → l .size ≡ 1 → l .tiled ≡ true → (x y : ℕ) →
+    addressOf l x y ≡ l .base .0 + (2048 * (y / 32 * (rowStepOf l / 64) + x / 64) + placeByTable x y)
+places-address = table-address
 
 -- A FLEET'S REPORT THAT GROWS, the project's own promise for fleets of any size. `Grown edition stations n sums`: the eight numbers of a report
 -- that was begun under an edition, after calls that added the stations 0 to n - 1, one by one (egretfold_fleet_add), by their months' numbers

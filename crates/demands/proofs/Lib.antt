@@ -1,3 +1,4 @@
+pub mod Addresses
 pub mod Calls
 pub mod Days
 pub mod Demands
@@ -16,6 +17,8 @@ pub mod Rectangles
 pub mod Refused
 pub mod States
 pub mod Surveys
+pub mod Tables
 pub mod Trims
 pub mod Windows
+pub mod Writing
 pub mod Years

@@ -8,36 +8,30 @@ use native.Mathlib.Omega.{arith}
 use lib.Dec.{eqb}
 use lib.ListN.{length, length-append, getD, take, drop}
 use borrow.Author.Tests.{ne-eqb}
-use Rattle.laws.specs.Choice.{pick}
 use Rattle.laws.proofs.Choice.{pick-yes, pick-no}
 use Rattle.refusal.specs.Crossing.{Crosses, statusOf, roomOf}
-use Rattle.state.specs.State.{Party, Shared, Session}
-use Rattle.state.specs.Cells.{partyOf, sharedOf, sessionOf, partyCells, tallyCells, sharedCells}
+use Rattle.state.specs.State.{Session}
+use Rattle.state.specs.Cells.{partyOf, sharedOf, partyCells, tallyCells}
 use Rattle.state.specs.Valid.{Valid}
 use Rattle.state.specs.Asked.{Held}
 use Rattle.state.proofs.Cells.{own-canon, tally-canon, shared-canon}
 use Rattle.session.specs.Step.{Reply, Stepped, stillOpen, completed, refused, stepOf}
-use Rattle.session.specs.Refusals.{low, full, foreign, RefusedTo, unchanged, stopping}
 use Rattle.session.proofs.Refusals.{refused-word}
-use Rattle.session.specs.Feed.{First, nothing, first, Fed, feedOf, firstStatus}
+use Rattle.session.specs.Feed.{first, Fed, feedOf, firstStatus}
 use Rattle.session_rooms.specs.Rooms.{replyTold, WordCrosses, FeedCrosses}
 use Rattle.lessees.specs.Sight.{seen, seenShared}
 use Rattle.lessees.specs.Pair.{Pair, Sent, side, putBack, Part, silence, noted, PairFed, notedFor, pairStep, pieceOf, joinedPart, joinedPair, wordsFor, toldFor, sentAll, PairValid}
-use Rattle.lessees.specs.Rooms.{sentOf, groupsOf, partCells, earlierNumber, PairHeld, PairGiven, PairLeft}
+use Rattle.lessees.specs.Rooms.{sentOf, groupsOf, partCells, earlierNumber, PairHeld, PairLeft, PairUntouched}
 use Rattle.lessees.specs.Life as records
 use Rattle.lessees.proofs.Cut.{cut}
 use Rattle.lessees.proofs.Runs.{ranFor, ran}
-use Rattle.lessees.proofs.Taking.{BothTold, piece-told, piece-valid}
+use Rattle.lessees.proofs.Taking.{piece-told, piece-valid}
 use Rattle.lessees.proofs.Folding.{earlier-number, pair-view, pair-given}
 use Rattle.lessees.proofs.Life.{same-piece}
 use Rattle.lessees.proofs.Steps.{seen-step}
-use Rattle.demands.specs.States.{PairArrays, PairGivenAt, PairFedAt}
+use Rattle.demands.proofs.Numbers.{word-least}
+use Rattle.demands.specs.Pairs.{PairArrays, PairGivenAt, PairFedAt, pairAt, ownAt, talliesAt, sessionAt, withParty}
 use Rattle.demands.specs.Lives.{
-  pairAt,
-  ownAt,
-  talliesAt,
-  sessionAt,
-  withParty,
   untold,
   pieceTold,
   toldTo,
@@ -55,7 +49,21 @@ use Rattle.demands.specs.Lives.{
   AsOneCall,
   SameWord,
 }
-use Rattle.demands.proofs.States.{untouched-same}
+
+-- a call that is refused leaves the arrays as they were
+module _ {a a' : PairArrays} (e : PairUntouched (a .own0) (a .tallies0) (a .own1) (a .tallies1) (a .shared) (a' .own0) (a' .tallies0) (a' .own1)
+    (a' .tallies1) (a' .shared))
+  where
+    pub untouched-same : a' ≡ a
+    untouched-same =
+        λ i.
+        record {
+          own0 = e .own0-cells i;
+          tallies0 = e .tally0-cells i;
+          own1 = e .own1-cells i;
+          tallies1 = e .tally1-cells i;
+          shared = e .shared-cells i;
+        }
 
 abbrev HeldAt : Pair → PairArrays → Type 0
 HeldAt q a = PairHeld q (a .own0) (a .tallies0) (a .own1) (a .tallies1) (a .shared)
@@ -347,12 +355,6 @@ life-isolated p {a} {a'} g g' alike {ws} {ws'} {told} {told'} {b} {b'} life life
     }
 
 -- word by word: the same word of the party is answered the same
-refused-least : {s u : Session} {n : ℕ} → RefusedTo s n u → 0 < n
-refused-least (unchanged e) = omega arith
-refused-least (stopping (low a b)) = omega arith
-refused-least (stopping full) = omega arith
-refused-least (stopping foreign) = omega arith
-
 same-answer : (x y : Reply) → x ≡ y → ((n : ℕ) → y ≡ refused n → 0 < n) → {r r' : ℕ} {c c₁ c' c₁' : List ℕ} →
     Crosses (replyTold x) r c c₁ → Crosses (replyTold y) r' c' c₁' → SameWord r r' c₁ c₁'
 same-answer x y e h {r} {r'} {c} {c₁} {c'} {c₁'} k k' =
@@ -386,4 +388,4 @@ word-isolated p {a} {a'} g g' alike w r r' own tallies shared command command₁
     (ap (λ (t : Stepped). t .reply) (sym (seen-step (sessionAt p a) w (side-valid p a g))) ∙
     ap (λ (s : Session). stepOf s w .reply) (seen-at p a a' alike) ∙
     ap (λ (t : Stepped). t .reply) (seen-step (sessionAt p a') w (side-valid p a' g')))
-    (λ n e. refused-least (refused-word (sessionAt p a') w n e)) (k .answer) (k' .answer)
+    (λ n e. word-least (refused-word (sessionAt p a') w n e)) (k .answer) (k' .answer)

@@ -22,7 +22,8 @@ use Rattle.rules.specs.Writer.{judgeCommandOf}
 use Rattle.rules.specs.Writer as writer
 use Rattle.command.specs.declared.commands.Command.{Command}
 use Rattle.rules.proofs.Rule.{Ruled, fine, five, six, ruled}
-use Rattle.state.specs.State.{Party, Shared}
+use Rattle.state.specs.State.{Party, Shared, Session}
+use Rattle.session.specs.Refusals.{low, full, foreign, RefusedTo, unchanged, stopping}
 use Rattle.group.specs.Modes.{Mode}
 use Rattle.group.specs.Group.{Program, Group, Outcome, Steps, Fails, Run, Makes, Breaks, onceMore, stepTold, runTold, beginTold, groupStep, groupRun}
 use Rattle.flow.specs.Store.{loadTold}
@@ -66,6 +67,13 @@ use Rattle.growing.specs.Cells.{begunTold, stationOf, addTold, addMonthTold, jo
 use Rattle.growing.proofs.Calls.{some-number}
 use Rattle.demands.proofs.Fleets.{first-number}
 use Rattle.demands.proofs.Flow.{step-refused, run-walks}
+
+-- nor has one of a word
+pub word-least : {s u : Session} {n : ℕ} → RefusedTo s n u → 1 ≤ n
+word-least (unchanged e) = omega arith
+word-least (stopping (low a b)) = omega arith
+word-least (stopping full) = omega arith
+word-least (stopping foreign) = omega arith
 
 abbrev pub Nonzero : Told → Type 0
 Nonzero t = (n : ℕ) → t ≡ refuses n → 1 ≤ n

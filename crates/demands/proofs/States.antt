@@ -22,12 +22,10 @@ use Rattle.session.proofs.Kept.{kept}
 use Rattle.session.proofs.Refusals.{fed-valid}
 use Rattle.session.proofs.Reached.{reached-valid}
 use Rattle.session_rooms.specs.Rooms.{FeedCrosses}
-use Rattle.lessees.specs.Pair.{pieceOf}
 use Rattle.lessees.specs.Begin.{newPair}
-use Rattle.lessees.specs.Rooms.{PairGiven, PairUntouched, pairOf, sentOf, groupsOf}
+use Rattle.lessees.specs.Rooms.{groupsOf}
 use Rattle.lessees.proofs.Begun.{begun-valid}
 use Rattle.lessees.proofs.Folding.{pair-given}
-use Rattle.lessees.proofs.Taking.{piece-valid}
 use Rattle.log.specs.Asked.{Bytes8}
 use Rattle.log.specs.Feed.{replayOf}
 use Rattle.log.proofs.Handed.{begun-given, piece-given, byte-given}
@@ -36,8 +34,11 @@ use Rattle.log_rooms.proofs.Cut.{any-pieces}
 use Rattle.judges.specs.Judged.{Judges, sessionBy}
 use Rattle.judges.proofs.Valid.{judged-given, given-judged}
 use Rattle.demands.specs.Pieces.{firstOf, InTurn, andThen, AsOne}
-use Rattle.demands.specs.States.{PairArrays, PairGivenAt, PairFedAt, GoesOn, SamePiece}
+use Rattle.demands.specs.Lives as lives
+use Rattle.demands.specs.Pairs.{PairArrays, PairGivenAt, PairFedAt}
+use Rattle.demands.specs.States.{GoesOn, SamePiece}
 use Rattle.demands.specs.States as states
+use Rattle.demands.proofs.Lives.{untouched-same, life-given}
 use Rattle.demands.proofs.Pieces.{as-one}
 use Rattle.demands.proofs.Trims.{trimmed-given}
 
@@ -94,35 +95,23 @@ module _ {o t s : List ℕ} (h : states.Session o t s) (before : List ℕ) (r ta
         }
 
 -- two parties' arrays
-module _ {a a' : PairArrays} (e : PairUntouched (a .own0) (a .tallies0) (a .own1) (a .tallies1) (a .shared) (a' .own0) (a' .tallies0) (a' .own1)
-    (a' .tallies1) (a' .shared))
-  where
-    pub untouched-same : a' ≡ a
-    untouched-same =
-        λ i.
-        record {
-          own0 = e .own0-cells i;
-          tallies0 = e .tally0-cells i;
-          own1 = e .own1-cells i;
-          tallies1 = e .tally1-cells i;
-          shared = e .shared-cells i;
-        }
-
 pair-after : {a : PairArrays} → PairGivenAt a → (words parties : List ℕ) (r : ℕ) (fed : List ℕ) (a' : PairArrays) (fed' : List ℕ) →
     PairFedAt words parties r a fed a' fed' → PairGivenAt a'
 pair-after {a} g words parties r fed a' fed' c = go (tested (eqb (length parties) (groupsOf (length words))))
   where
     go : Tested (eqb (length parties) (groupsOf (length words))) → PairGivenAt a'
-    go (holds q) =
-        pair-given _ (piece-valid (pairOf (a .own0) (a .tallies0) (a .own1) (a .tallies1) (a .shared)) (sentOf words parties) (g .valid))
-        (c .left (eqb-true _ _ q) .held)
-    go (fails q) = subst PairGivenAt (sym (untouched-same (c .untouched (eqb-false _ _ q) .0))) g
+    go (holds q) = life-given g (lives.piece words parties r fed a' fed' (eqb-true _ _ q) c lives.noMore)
+    go (fails q) = life-given g (lives.refusedPiece words parties r fed a' fed' (eqb-false _ _ q) c lives.noMore)
 
 pub pair-handed : {a : PairArrays} → states.Pair a → PairGivenAt a
 pair-handed (states.begun inputs outputs edition r may b a h) =
     pair-given (newPair inputs outputs edition) (begun-valid inputs outputs edition may) (h .held may)
 pair-handed (states.checked a j) = j .sound refl
 pair-handed (states.piece h words parties r fed a fed' c) = pair-after (pair-handed h) words parties r fed a fed' c
+pair-handed (states.word h party w r own tallies shared command command' c) =
+    life-given (pair-handed h) (lives.word party w r own tallies shared command command' c lives.noMore)
+pair-handed (states.feed h party ws r own tallies shared fed c) =
+    life-given (pair-handed h) (lives.feed party ws r own tallies shared fed c lives.noMore)
 
 pub pair-taken : {a : PairArrays} → states.Pair a → {yes : Bool} → Judges yes (PairGivenAt a) → yes ≡ true
 pair-taken h j = j .complete (pair-handed h)

@@ -1,6 +1,6 @@
--- Refusals 8 and 9 in words of pairs and bytes, for every session that the entries give out: a start that passes has every pair of the
--- domain inside each window that counts and no byte in two of their spans; 8 comes with a pair that is outside, 9 with a byte that is
--- shared. Assumes nothing.
+-- Refusals 7, 8 and 9 of a start, for every session that the entries give out, each exactly where it is due: 7 where a domain, an instruction
+-- format or an output is missing, 8 with a pair of the domain that is outside a window that counts, 9 with a byte that two of their spans
+-- share. Assumes nothing.
 use mathlib.Core.Path.{_≡_, refl, sym, ap, _∙_, subst}
 use mathlib.Core.Bool.{Bool, true, false}
 use mathlib.Core.List.{List, [], _∷_}
@@ -10,12 +10,12 @@ use native.Mathlib.Omega.{arith}
 use lib.Dec.{eqb, leb, ltb}
 use lib.ListN.{length, getD, set}
 use lib.Seq.{getD-set-same, getD-set-other}
-use borrow.Author.Tests.{eqb-true, eqb-false, ltb-true, ltb-false, lt-ltb, leb-true, leb-false}
+use borrow.Author.Tests.{eq-eqb, eqb-true, eqb-false, ltb-true, ltb-false, lt-ltb, leb-true, leb-false}
 use Rattle.laws.specs.Choice.{_and_, pick}
-use Rattle.laws.specs.Below.{every}
-use Rattle.laws.specs.Masks.{on}
+use Rattle.laws.specs.Below.{some, every}
+use Rattle.laws.specs.Masks.{_or_, on}
 use Rattle.laws.proofs.Choice.{Tested, tested, holds, fails, pick-yes, pick-no, pick-same, and-intro, and-left, and-right}
-use Rattle.laws.proofs.Below.{every-at}
+use Rattle.laws.proofs.Below.{every-at, some-at}
 use Rattle.laws.proofs.Table.{each, _&_}
 use Rattle.refusal.specs.Told.{Told, gives, refuses, isGiven}
 use Rattle.layout.specs.Layout.{wellFormed, spanOf, windowRule, judgeOf}
@@ -53,7 +53,7 @@ use Rattle.session.specs.Reached.{Reached, begun, word, piece}
 use Rattle.session.proofs.Ways.{Way, wasStopped, stops, opens, fills, ends, way}
 use Rattle.session.proofs.Kept.{kept}
 use Rattle.session.proofs.Reached.{reached-valid}
-use Rattle.demands.specs.Windows.{InDomain, InSpan, layoutIn, windowIn, Counts, Windowed, Fits, PairOutside, ByteShared}
+use Rattle.demands.specs.Windows.{InDomain, InSpan, layoutIn, windowIn, Counts, Windowed, Complete, Fits, PairOutside, ByteShared, InOrder}
 
 no-way : {A : Type 0} → false ≡ true → A
 no-way e = absurd (let z : _≡_ {A = ℕ} 0 1 = cc in omega arith)
@@ -228,40 +228,31 @@ unfolding pick
 asked-no true t e = (refl, e)
 asked-no false t e = no-way (sym e)
 
--- which of the three tests decided
-module _ (a b c : Bool) where
-  abbrev told : Told
-  told = pick a (pick b (pick c (gives []) (refuses 9)) (refuses 8)) (refuses 7)
+-- a test that holds at some number below `k`
+data Holding (k : ℕ) (f : ℕ → Bool) : Type 0 where
+  at-one : (i : ℕ) → i < k → f i ≡ true → Holding k f
 
-  numbers : {A : Type 0} (m n : ℕ) → refuses m ≡ refuses n → (m ≡ n → ⊥) → A
-  numbers m n e ne = absurd (ne (same e))
-    where
-      same : refuses m ≡ refuses n → m ≡ n
-      same z = cc
+holding : (k : ℕ) (f : ℕ → Bool) → some k f ≡ true → Holding k f
+unfolding some _or_
+holding zero f e = no-way e
+holding (suc k) f e = go (tested (f zero)) (holding k (λ i. f (suc i)))
+  where
+    go : Tested (f zero) → (some k (λ i. f (suc i)) ≡ true → Holding k (λ i. f (suc i))) → Holding (suc k) f
+    go (holds z) rest = at-one 0 (suc-le-suc zero-le) z
+    go (fails z) rest = up (rest (sym (ap (λ (b : Bool). b or some k (λ i. f (suc i))) z) ∙ e))
+      where
+        up : Holding k (λ i. f (suc i)) → Holding (suc k) f
+        up (at-one i h w) = at-one (suc i) (suc-le-suc h) w
 
-  given-no : {A : Type 0} {n : ℕ} {v : List ℕ} → gives v ≡ refuses n → A
-  given-no z = absurd (let y : _≡_ {A = ℕ} 0 1 = cc in omega arith)
+-- answers apart
+two-numbers : {A : Type 0} (m n : ℕ) → (m ≡ n → ⊥) → refuses m ≡ refuses n → A
+two-numbers m n ne e = absurd (ne (same e))
+  where
+    same : refuses m ≡ refuses n → m ≡ n
+    same z = cc
 
-all-hold : (a b c : Bool) (v : List ℕ) → told a b c ≡ gives v → (b ≡ true) × (c ≡ true)
-unfolding pick
-all-hold true true true v e = (refl, refl)
-all-hold true true false v e = given-no true true false (sym e)
-all-hold true false c v e = given-no true false c (sym e)
-all-hold false b c v e = given-no false b c (sym e)
-
-eight : (a b c : Bool) → told a b c ≡ refuses 8 → b ≡ false
-unfolding pick
-eight true true true e = given-no true true true e
-eight true true false e = numbers true true false 9 8 e (λ (z : 9 ≡ 8). omega arith)
-eight true false c e = refl
-eight false b c e = numbers false b c 7 8 e (λ (z : 7 ≡ 8). omega arith)
-
-nine : (a b c : Bool) → told a b c ≡ refuses 9 → c ≡ false
-unfolding pick
-nine true true true e = given-no true true true e
-nine true true false e = refl
-nine true false c e = numbers true false c 8 9 e (λ (z : 8 ≡ 9). omega arith)
-nine false b c e = numbers false b c 7 9 e (λ (z : 7 ≡ 9). omega arith)
+given-no : {A : Type 0} {n : ℕ} {v : List ℕ} → gives v ≡ refuses n → A
+given-no z = absurd (let y : _≡_ {A = ℕ} 0 1 = cc in omega arith)
 
 module _ (s : Session) (r : Reached s) where
   abbrev d : Domain
@@ -393,17 +384,101 @@ module _ (s : Session) (r : Reached s) where
   unfolding disjoint
   one-shared e = first-of (failing 4 _ e)
 
-  -- a start by the settings
-  pub passes : (v : List ℕ) → startRuleOf command.Start s ≡ gives v → Fits s
-  unfolding startRuleOf readyOf
-  passes v e =
-      let both = all-hold (complete d (s .party .instructions) outs) _ _ v e in
-      record { inside = inside-all (both .0); apart = apart-all (both .1) }
+  -- 7
+  abbrev none-missing : Bool
+  none-missing = complete d (s .party .instructions) outs
 
-  pub gets-eight : startRuleOf command.Start s ≡ refuses 8 → PairOutside s
-  unfolding startRuleOf readyOf
-  gets-eight e = one-outside (eight (complete d (s .party .instructions) outs) _ _ e)
+  is-complete : none-missing ≡ true → Complete s
+  unfolding complete
+  is-complete e = go (holding 4 (isSet outs) (and-right _ _ (and-right _ _ e)))
+    where
+      go : Holding 4 (isSet outs) → Complete s
+      go (at-one n h w) =
+          record {
+            domain-set = eqb-true _ _ (and-left _ _ e);
+            instructions-set = eqb-true _ _ (and-left _ _ (and-right _ _ e));
+            number = n;
+            is-output = h;
+            output-set = w;
+          }
 
-  pub gets-nine : startRuleOf command.Start s ≡ refuses 9 → ByteShared s
+  complete-is : Complete s → none-missing ≡ true
+  unfolding complete
+  complete-is k =
+      and-intro (eq-eqb _ _ (k .domain-set))
+      (and-intro (eq-eqb _ _ (k .instructions-set)) (some-at 4 (isSet outs) (k .number) (k .is-output) (k .output-set)))
+
+  -- a start by the settings: the three tests in their order
+  rule-is :
+      startRuleOf command.Start s ≡
+      pick none-missing (pick (covered (s .shared .mask) outs d) (pick (disjoint (s .shared .mask) outs) (gives []) (refuses 9)) (refuses 8)) (refuses 7)
   unfolding startRuleOf readyOf
-  gets-nine e = one-shared (nine (complete d (s .party .instructions) outs) _ _ e)
+  rule-is = refl
+
+  not-outside : covered (s .shared .mask) outs d ≡ true → PairOutside s → ⊥
+  not-outside e p = p .outside (inside-all e (p .number) (p .counted) (p .column) (p .row) (p .of-domain))
+
+  not-shared : disjoint (s .shared .mask) outs ≡ true → ByteShared s → ⊥
+  not-shared e q =
+      apart-all e (q .first) (q .second) (q .first-counts) (q .second-counts) (q .different) (q .address) (q .in-first) (q .in-second)
+
+  pub in-order-told : InOrder s (startRuleOf command.Start s)
+  in-order-told = by (tested none-missing) (tested (covered (s .shared .mask) outs d)) (tested (disjoint (s .shared .mask) outs))
+    where
+      by :
+          Tested none-missing → Tested (covered (s .shared .mask) outs d) → Tested (disjoint (s .shared .mask) outs) →
+          InOrder s (startRuleOf command.Start s)
+      by (fails a) b c =
+          let is : startRuleOf command.Start s ≡ refuses 7 = rule-is ∙ pick-no _ _ a in
+          let not : Complete s → ⊥ = λ k. no-way (sym a ∙ complete-is k) in
+          record {
+            seven = λ e k. not k;
+            gets-seven = λ n. is;
+            eight = λ e. two-numbers 7 8 (λ (z : 7 ≡ 8). omega arith) (sym is ∙ e);
+            gets-eight = λ k p. absurd (not k);
+            nine = λ e. two-numbers 7 9 (λ (z : 7 ≡ 9). omega arith) (sym is ∙ e);
+            gets-nine = λ k n q. absurd (not k);
+            passes = λ v e. given-no (sym e ∙ is);
+            may-pass = λ k f. absurd (not k);
+          }
+      by (holds a) (fails b) c =
+          let is : startRuleOf command.Start s ≡ refuses 8 = rule-is ∙ pick-yes _ _ a ∙ pick-no _ _ b in
+          let p : PairOutside s = one-outside b in
+          record {
+            seven = λ e k. two-numbers 8 7 (λ (z : 8 ≡ 7). omega arith) (sym is ∙ e);
+            gets-seven = λ n. absurd (n (is-complete a));
+            eight = λ e. (is-complete a, p);
+            gets-eight = λ k q. is;
+            nine = λ e. two-numbers 8 9 (λ (z : 8 ≡ 9). omega arith) (sym is ∙ e);
+            gets-nine = λ k n q. absurd (n p);
+            passes = λ v e. given-no (sym e ∙ is);
+            may-pass = λ k f. absurd (p .outside (f .inside (p .number) (p .counted) (p .column) (p .row) (p .of-domain)));
+          }
+      by (holds a) (holds b) (fails c) =
+          let is : startRuleOf command.Start s ≡ refuses 9 = rule-is ∙ pick-yes _ _ a ∙ pick-yes _ _ b ∙ pick-no _ _ c in
+          let q : ByteShared s = one-shared c in
+          record {
+            seven = λ e k. two-numbers 9 7 (λ (z : 9 ≡ 7). omega arith) (sym is ∙ e);
+            gets-seven = λ n. absurd (n (is-complete a));
+            eight = λ e. two-numbers 9 8 (λ (z : 9 ≡ 8). omega arith) (sym is ∙ e);
+            gets-eight = λ k p. absurd (not-outside b p);
+            nine = λ e. (is-complete a, not-outside b, q);
+            gets-nine = λ k n q. is;
+            passes = λ v e. given-no (sym e ∙ is);
+            may-pass =
+                λ k f.
+                absurd
+                (f .apart (q .first) (q .second) (q .first-counts) (q .second-counts) (q .different) (q .address) (q .in-first) (q .in-second));
+          }
+      by (holds a) (holds b) (holds c) =
+          let is : startRuleOf command.Start s ≡ gives [] = rule-is ∙ pick-yes _ _ a ∙ pick-yes _ _ b ∙ pick-yes _ _ c in
+          record {
+            seven = λ e k. given-no (sym is ∙ e);
+            gets-seven = λ n. absurd (n (is-complete a));
+            eight = λ e. given-no (sym is ∙ e);
+            gets-eight = λ k p. absurd (not-outside b p);
+            nine = λ e. given-no (sym is ∙ e);
+            gets-nine = λ k n q. absurd (not-shared c q);
+            passes = λ v e. (is-complete a, record { inside = inside-all b; apart = apart-all c });
+            may-pass = λ k f. is;
+          }

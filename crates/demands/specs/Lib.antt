@@ -1,3 +1,4 @@
+pub mod Addresses
 pub mod Calls
 pub mod Cases
 pub mod Days
@@ -6,12 +7,15 @@ pub mod Fleets
 pub mod Flow
 pub mod Lives
 pub mod Painting
+pub mod Pairs
 pub mod Partial
 pub mod Pieces
 pub mod Rectangles
 pub mod Refused
 pub mod States
 pub mod Surveys
+pub mod Tables
 pub mod Trims
 pub mod Windows
+pub mod Writing
 pub mod Years

@@ -7,38 +7,14 @@ use Prim.Native.Nat.{ℕ, _+_}
 use lib.Dec.{eqb}
 use lib.ListN.{length, getD, take, drop}
 use Rattle.laws.specs.Choice.{pick}
-use Rattle.state.specs.State.{Session}
-use Rattle.state.specs.Cells.{partyOf, sharedOf, sessionOf}
+use Rattle.state.specs.Cells.{partyOf, sharedOf}
 use Rattle.session.specs.Step.{stepOf}
 use Rattle.session.specs.Feed.{feedOf}
 use Rattle.session_rooms.specs.Rooms.{WordCrosses, FeedCrosses}
 use Rattle.lessees.specs.Sight.{seenShared}
-use Rattle.lessees.specs.Pair.{Pair, Sent, sentAll}
-use Rattle.lessees.specs.Rooms.{sentOf, groupsOf, pairOf, earlierNumber}
-use Rattle.demands.specs.States.{PairArrays, PairFedAt}
-
-abbrev pub pairAt : PairArrays → Pair
-pairAt a = pairOf (a .own0) (a .tallies0) (a .own1) (a .tallies1) (a .shared)
-
--- a party's own cells and its tallies
-abbrev pub ownAt : Bool → PairArrays → List ℕ
-ownAt false a = a .own0
-ownAt true a = a .own1
-
-abbrev pub talliesAt : Bool → PairArrays → List ℕ
-talliesAt false a = a .tallies0
-talliesAt true a = a .tallies1
-
--- the session that they hold with the shared cells
-abbrev pub sessionAt : Bool → PairArrays → Session
-sessionAt p a = sessionOf (ownAt p a) (talliesAt p a) (a .shared)
-
--- the arrays after a call with one party's own and the shared ones
-abbrev pub withParty : Bool → List ℕ → List ℕ → List ℕ → PairArrays → PairArrays
-withParty false own tallies shared a =
-    record { own0 = own; tallies0 = tallies; own1 = a .own1; tallies1 = a .tallies1; shared = shared }
-withParty true own tallies shared a =
-    record { own0 = a .own0; tallies0 = a .tallies0; own1 = own; tallies1 = tallies; shared = shared }
+use Rattle.lessees.specs.Pair.{Sent, sentAll}
+use Rattle.lessees.specs.Rooms.{sentOf, groupsOf, earlierNumber}
+use Rattle.demands.specs.Pairs.{PairArrays, PairFedAt, ownAt, talliesAt, sessionAt, withParty}
 
 -- what a party is told in three numbers: words taken, commands completed, the first refusal or 0
 abbrev pub untold : List ℕ

@@ -1,22 +1,8 @@
--- Request 7: the first cause that a run meets, and partial mode beside full mode over a group's cells. Assumes nothing.
+-- Request 7: partial mode beside full mode over a group's cells. Assumes nothing.
 use mathlib.Core.Path.{_≡_}
-use mathlib.Core.Bool.{Bool, false}
-use mathlib.Core.List.{List, _∷_}
+use mathlib.Core.List.{List}
 use Prim.Native.Nat.{ℕ, _≤_}
 use lib.ListN.{set}
-use Rattle.group.specs.Modes.{Full}
-use Rattle.group.specs.Group.{Group, Steps, Program, ended, groupStep}
-use Rattle.group.specs.Causes.{Cause}
-
--- a run of full mode comes to a step with a cause, before the program's end, and no step before it has one
-pub data FirstMet (program : Program) (booleans : ℕ) : List ℕ → Group → ℕ → Type 0 where
-  here :
-      (alu predicate : ℕ) (masks : List ℕ) (g : Group) (n : ℕ) → ended program g ≡ false → Cause program g alu predicate booleans n →
-      FirstMet program booleans (alu ∷ (predicate ∷ masks)) g n
-  later :
-      (alu predicate : ℕ) (masks : List ℕ) (g g' : Group) (jump : Bool) (n : ℕ) → ended program g ≡ false →
-      ((m : ℕ) → Cause program g alu predicate booleans m → ⊥) → groupStep Full program alu predicate booleans g ≡ Steps jump g' →
-      FirstMet program booleans masks g' n → FirstMet program booleans (alu ∷ (predicate ∷ masks)) g n
 
 -- the same cells in full mode: cell 12 is 0
 abbrev pub inFull : List ℕ → List ℕ

@@ -12,7 +12,6 @@ use Rattle.session.specs.Feed.{feedOf}
 use Rattle.session.specs.Answers.{Begins}
 use Rattle.session_rooms.specs.Rooms.{WordCrosses, FeedCrosses}
 use Rattle.lessees.specs.Begin.{mayBegin}
-use Rattle.lessees.specs.Rooms.{PairGiven, PairBegins, PairFeeds}
 use Rattle.log.specs.Asked.{Bytes8}
 use Rattle.log.specs.Feed.{replayOf}
 use Rattle.log_rooms.specs.Pieces.{Arrays, replayAt, GivenAt, BeginsAt, FedAt, ByteAt}
@@ -20,6 +19,7 @@ use Rattle.judges.specs.Judged.{Judges}
 use Rattle.refusal.specs.Crossing.{Crosses}
 use Rattle.score.specs.Lease.{Lease}
 use Rattle.growing.specs.Cells.{SumsGiven, sumsIn, begunTold, AddCrosses, addMonthTold, joinTold}
+use Rattle.demands.specs.Pairs.{PairArrays, PairGivenAt, PairFedAt, PairBegunAt, sessionAt, withParty}
 use Rattle.demands.specs.Trims.{TrimmedAt}
 
 -- a session's arrays
@@ -37,27 +37,6 @@ pub data Session : List ℕ → List ℕ → List ℕ → Type 0 where
       FeedCrosses (feedOf (sessionOf own tallies shared) ws) r own' tallies' shared' fed → Session own' tallies' shared'
 
 -- two parties' arrays
-pub record PairArrays : Type 0 where
-  pub own0 : List ℕ
-  pub tallies0 : List ℕ
-  pub own1 : List ℕ
-  pub tallies1 : List ℕ
-  pub shared : List ℕ
-
-abbrev pub PairGivenAt : PairArrays → Type 0
-PairGivenAt a = PairGiven (a .own0) (a .tallies0) (a .own1) (a .tallies1) (a .shared)
-
--- what one call of egretfold_pair_feed answers and leaves
-abbrev pub PairFedAt : List ℕ → List ℕ → ℕ → PairArrays → List ℕ → PairArrays → List ℕ → Type 0
-PairFedAt words parties r a fed a' fed' =
-    PairFeeds words parties r (a .own0) (a .tallies0) (a .own1) (a .tallies1) (a .shared) fed (a' .own0) (a' .tallies0) (a' .own1)
-    (a' .tallies1) (a' .shared) fed'
-
-abbrev pub PairBegunAt : ℕ → ℕ → ℕ → ℕ → PairArrays → PairArrays → Type 0
-PairBegunAt inputs outputs edition r a a' =
-    PairBegins inputs outputs edition r (a .own0) (a .tallies0) (a .own1) (a .tallies1) (a .shared) (a' .own0) (a' .tallies0) (a' .own1)
-    (a' .tallies1) (a' .shared)
-
 pub data Pair : PairArrays → Type 0 where
   -- egretfold_pair_begin that returned 0
   begun : (inputs outputs edition r : ℕ) → mayBegin inputs outputs edition ≡ true → (a a' : PairArrays) →
@@ -67,6 +46,12 @@ pub data Pair : PairArrays → Type 0 where
   -- egretfold_pair_feed
   piece : {a : PairArrays} → Pair a → (words parties : List ℕ) (r : ℕ) (fed : List ℕ) (a' : PairArrays) (fed' : List ℕ) →
       PairFedAt words parties r a fed a' fed' → Pair a'
+  -- egretfold_session_word with one party's arrays and the shared ones
+  word : {a : PairArrays} → Pair a → (party : Bool) (w r : ℕ) (own tallies shared command command' : List ℕ) →
+      WordCrosses (stepOf (sessionAt party a) w) r own tallies shared command command' → Pair (withParty party own tallies shared a)
+  -- egretfold_session_feed with them
+  feed : {a : PairArrays} → Pair a → (party : Bool) (ws : List ℕ) (r : ℕ) (own tallies shared fed : List ℕ) →
+      FeedCrosses (feedOf (sessionAt party a) ws) r own tallies shared fed → Pair (withParty party own tallies shared a)
 
 -- a replay's arrays
 pub data Replay : Arrays → Type 0 where

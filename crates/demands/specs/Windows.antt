@@ -1,9 +1,10 @@
--- Refusals 8 and 9 in words of pairs and bytes: the pairs of a domain, the bytes of a span, and the outputs that a start looks at.
+-- Refusals 7, 8 and 9 in words of settings, pairs and bytes: the pairs of a domain, the bytes of a span, and the outputs that a start looks at.
 -- Assumes nothing.
 use mathlib.Core.Path.{_≡_}
 use mathlib.Core.Bool.{true}
-use mathlib.Core.List.{List}
+use mathlib.Core.List.{List, []}
 use Prim.Native.Nat.{ℕ, _+_, _<_, _≤_}
+use Rattle.refusal.specs.Told.{Told, gives, refuses}
 use Rattle.layout.specs.Layout.{spanOf}
 use Rattle.layout.specs.declared.Layout.{Layout}
 use Rattle.address.specs.Address.{stepOf}
@@ -42,7 +43,15 @@ pub record Counts (s : Session) (n : ℕ) : Type 0 where
 pub record Windowed (outputs : List Buffer) : Type 0 where
   pub each-accepted : (n : ℕ) → n < 4 → isSet outputs n ≡ true → Accepted (layoutIn (output outputs n))
 
--- a start that 7, 8 and 9 don't refuse
+-- 7: "start without a domain, an instruction format or any output set": none of these is missing
+pub record Complete (s : Session) : Type 0 where
+  pub domain-set : s .party .domain .isSet ≡ 1
+  pub instructions-set : s .party .instructions .isSet ≡ 1
+  pub number : ℕ
+  pub is-output : number < 4
+  pub output-set : isSet (seenBy s) number ≡ true
+
+-- a start that 8 and 9 don't refuse
 pub record Fits (s : Session) : Type 0 where
   -- every pair of the domain is inside each window that counts
   pub inside : (n : ℕ) → Counts s n → (i j : ℕ) → InDomain (s .party .domain) i j → Inside (windowIn s n) i j
@@ -68,3 +77,14 @@ pub record ByteShared (s : Session) : Type 0 where
   pub address : ℕ
   pub in-first : InSpan (windowIn s first) address
   pub in-second : InSpan (windowIn s second) address
+
+-- what a start is told: 7, 8, 9 or nothing of these, each exactly where it is due, the lower number first
+pub record InOrder (s : Session) (t : Told) : Type 0 where
+  pub seven : t ≡ refuses 7 → Complete s → ⊥
+  pub gets-seven : (Complete s → ⊥) → t ≡ refuses 7
+  pub eight : t ≡ refuses 8 → Complete s × PairOutside s
+  pub gets-eight : Complete s → PairOutside s → t ≡ refuses 8
+  pub nine : t ≡ refuses 9 → Complete s × (PairOutside s → ⊥) × ByteShared s
+  pub gets-nine : Complete s → (PairOutside s → ⊥) → ByteShared s → t ≡ refuses 9
+  pub passes : (v : List ℕ) → t ≡ gives v → Complete s × Fits s
+  pub may-pass : Complete s → Fits s → t ≡ gives []

@@ -1,6 +1,6 @@
 // Registers of four f32 channels: the kill test on a group, the maximum and the choice.
 ghost use mathlib.Core.Path.{_≡_};
-ghost use Rattle.registers.specs.Registers.{maximumOf, choiceOf, eachOf2, eachOf3, registerAt, channelsOf};
+ghost use Rattle.registers.specs.Registers.{maximumOf, choiceOf, eachOf2, eachOf3};
 ghost use Rattle.group.specs.Cells.{groupOf, GroupGiven};
 ghost use Rattle.kill.specs.Kill.{killOf};
 ghost use Rattle.register_rooms.specs.Rooms.{KillCrosses};
@@ -20,27 +20,27 @@ pub extern "C" fn egretfold_group_kill(
     register_rooms::kill(slots, cells, mask, registers, killed)
 }
 
-// The maximum of two registers, channel by channel.
+// The maximum of two registers of bit patterns, channel by channel: each answer is one of the operands' patterns, a NaN's too.
 #[no_mangle]
 pub extern "C" fn egretfold_register_maximum(
-    a: &[f32; registers::CHANNELS],
-    b: &[f32; registers::CHANNELS],
-    room: &mut [f32; registers::CHANNELS],
+    a: &[u32; registers::CHANNELS],
+    b: &[u32; registers::CHANNELS],
+    room: &mut [u32; registers::CHANNELS],
 )
-    ensures { λ r. ⌜ now (room .exit) ≡ channelsOf (eachOf2 maximumOf (registerAt (now (a .entry)) 0) (registerAt (now (b .entry)) 0)) ⌝ }
+    ensures { λ r. ⌜ now (room .exit) ≡ eachOf2 maximumOf (now (a .entry)) (now (b .entry)) ⌝ }
 {
     register_rooms::maximum(a, b, room)
 }
 
-// The choice between two registers by a third one, channel by channel.
+// The choice between two registers of bit patterns by a third one, channel by channel.
 #[no_mangle]
 pub extern "C" fn egretfold_register_choice(
-    a: &[f32; registers::CHANNELS],
-    b: &[f32; registers::CHANNELS],
-    third: &[f32; registers::CHANNELS],
-    room: &mut [f32; registers::CHANNELS],
+    a: &[u32; registers::CHANNELS],
+    b: &[u32; registers::CHANNELS],
+    third: &[u32; registers::CHANNELS],
+    room: &mut [u32; registers::CHANNELS],
 )
-    ensures { λ r. ⌜ now (room .exit) ≡ channelsOf (eachOf3 choiceOf (registerAt (now (a .entry)) 0) (registerAt (now (b .entry)) 0) (registerAt (now (third .entry)) 0)) ⌝ }
+    ensures { λ r. ⌜ now (room .exit) ≡ eachOf3 choiceOf (now (a .entry)) (now (b .entry)) (now (third .entry)) ⌝ }
 {
     register_rooms::choice(a, b, third, room)
 }

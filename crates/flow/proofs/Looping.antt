@@ -1,4 +1,4 @@
--- Request 4: a step of ops 1 to 4 is led by its turn, so a loop of count n around a body that stays inside it runs the body n times,
+-- Request 4: a step of ops 1 to 4 is led by its turn, so a loop of count n around a body that stays inside it runs the body exactly n times,
 -- and aL after k turns is its start and k steps. Assumes nothing.
 use mathlib.Core.Path.{_≡_, refl, sym, ap, _∙_, subst}
 use mathlib.Core.Bool.{Bool, true, false}
@@ -118,58 +118,6 @@ closings-rep-done (suc k) n ls s h = by (tested (leb n k)) (closings-rep-done k 
     by (fails e) ih =
         let q : k < n = leb-false n k e in
         ap (λ (t : Turn). onJump t (closing false)) (closings-rep k n ls q) ∙ pick-no _ _ (le-ltb 1 (n - k) (omega arith))
-
--- a close of a LOOP that jumps, by the sign of its step
-close-up :
-    (m al step : ℕ) (ls : List Opened) → 1 < m → step < 128 → al + step < 256 →
-    closing true (Looping m al step ∷ ls) ≡ Turns true (Looping (m - 1) (al + step) step ∷ ls)
-unfolding stays movedTo
-close-up m al step ls h p q =
-    pick-yes (pick (stays al step) (Turns true (Looping (m - 1) (movedTo al step) step ∷ ls)) NoRoom) (Turns false ls) (lt-ltb 1 m h) ∙
-    pick-yes (Turns true (Looping (m - 1) (movedTo al step) step ∷ ls)) NoRoom
-    (pick-yes (ltb (al + step) 256) (leb 256 (al + step)) (lt-ltb step 128 p) ∙ lt-ltb (al + step) 256 q) ∙
-    ap (λ (x : ℕ). Turns true (Looping (m - 1) x step ∷ ls)) (pick-yes (al + step) (al + step - 256) (lt-ltb step 128 p))
-
-close-down :
-    (m al step : ℕ) (ls : List Opened) → 1 < m → 128 ≤ step → 256 ≤ al + step →
-    closing true (Looping m al step ∷ ls) ≡ Turns true (Looping (m - 1) (al + step - 256) step ∷ ls)
-unfolding stays movedTo
-close-down m al step ls h p q =
-    pick-yes (pick (stays al step) (Turns true (Looping (m - 1) (movedTo al step) step ∷ ls)) NoRoom) (Turns false ls) (lt-ltb 1 m h) ∙
-    pick-yes (Turns true (Looping (m - 1) (movedTo al step) step ∷ ls)) NoRoom
-    (pick-no (ltb (al + step) 256) (leb 256 (al + step)) (le-ltb step 128 p) ∙ le-leb 256 (al + step) q) ∙
-    ap (λ (x : ℕ). Turns true (Looping (m - 1) x step ∷ ls)) (pick-no (al + step) (al + step - 256) (le-ltb step 128 p))
-
--- aL after k closes that jump: its start and k steps, as long as it stays within 0 to 255
-pub al-up :
-    (k n al step : ℕ) (ls : List Opened) → step < 128 → k < n → al + k * step ≤ 255 →
-    closings true k (Looping n al step ∷ ls) ≡ Turns true (Looping (n - k) (al + k * step) step ∷ ls)
-al-up zero n al step ls p h q = λ i. Turns true (Looping (none-less n i) (same al step i) step ∷ ls)
-  where
-    same : (al step : ℕ) → al ≡ al + 0 * step
-    same al step = omega arith
-al-up (suc k) n al step ls p h q =
-    ap (λ (t : Turn). onJump t (closing true)) (al-up k n al step ls p (omega arith) (omega (arith, suc-mul k step))) ∙
-    close-up (n - k) (al + k * step) step ls (omega arith) p (omega (arith, suc-mul k step)) ∙
-    (λ i. Turns true (Looping (one-less k n h i) (more k i) step ∷ ls))
-  where
-    more : (k : ℕ) → al + k * step + step ≡ al + suc k * step
-    more k = omega (arith, suc-mul k step)
-
-pub al-down :
-    (k n al step : ℕ) (ls : List Opened) → 128 ≤ step → step ≤ 255 → k < n → k * (256 - step) ≤ al →
-    closings true k (Looping n al step ∷ ls) ≡ Turns true (Looping (n - k) (al - k * (256 - step)) step ∷ ls)
-al-down zero n al step ls p r h q = λ i. Turns true (Looping (none-less n i) (same al step i) step ∷ ls)
-  where
-    same : (al step : ℕ) → al ≡ al - 0 * (256 - step)
-    same al step = omega arith
-al-down (suc k) n al step ls p r h q =
-    ap (λ (t : Turn). onJump t (closing true)) (al-down k n al step ls p r (omega arith) (omega (arith, suc-mul k (256 - step)))) ∙
-    close-down (n - k) (al - k * (256 - step)) step ls (omega arith) p (omega (arith, suc-mul k (256 - step))) ∙
-    (λ i. Turns true (Looping (one-less k n h i) (less k q i) step ∷ ls))
-  where
-    less : (k : ℕ) → suc k * (256 - step) ≤ al → al - k * (256 - step) + step - 256 ≡ al - suc k * (256 - step)
-    less k q = omega (arith, suc-mul k (256 - step))
 
 -- the turns of a LOOP: k are made and some are left, or all are made, or aL left 0 to 255
 data Left (n step : ℕ) (ls : List Opened) (k : ℕ) : Turn → Type 0 where
@@ -294,7 +242,7 @@ loop-last k n step ls x y _ (Some al h) e f = by (tested (ltb 1 (n - k))) (teste
 
 -- a loop of count n around a body that stays inside it runs the body n times: k closes jump, one more stays, and then k + 1 is n and
 -- the loop is gone
-pub rep-times :
+rep-times :
     (mode : Mode) (program : Program) (booleans : ℕ) (Body : Group → Group → Type 0) → Inside program false Body →
     (n : ℕ) (ls : List Opened) (k : ℕ) (g s c g' : Group) (alu predicate : ℕ) → 1 ≤ n → g .loops ≡ Repeating n ∷ ls →
     Turning mode program booleans Body k g s → Body s c → groupStep mode program alu predicate booleans c ≡ Steps false g' →
@@ -303,7 +251,7 @@ rep-times mode program booleans Body inside n ls k g s c g' alu predicate h e wa
     rep-last k n ls (s .loops) (g' .loops) h (ap (closings false k) (sym e) ∙ turning-closes mode program booleans false Body inside way)
     (closed mode program booleans false Body inside s c g' false alu predicate b last)
 
-pub loop-times :
+loop-times :
     (mode : Mode) (program : Program) (booleans : ℕ) (Body : Group → Group → Type 0) → Inside program true Body →
     (n al step : ℕ) (ls : List Opened) (k : ℕ) (g s c g' : Group) (alu predicate : ℕ) → 1 ≤ n → g .loops ≡ Looping n al step ∷ ls →
     Turning mode program booleans Body k g s → Body s c → groupStep mode program alu predicate booleans c ≡ Steps false g' →
@@ -432,7 +380,7 @@ module _
       by true i e = loop-fewer mode program booleans Body i count (field 15 8 (integerAt program o)) (field 23 16 (integerAt program o)) (o .loops) k g s some-turns e way
       by false i e = rep-fewer mode program booleans Body i count (o .loops) k g s some-turns e way
 
-  pub last-turn :
+  last-turn :
       (k : ℕ) (s c g' : Group) (alu' predicate' : ℕ) → Turning mode program booleans Body k g s → Body s c →
       groupStep mode program alu' predicate' booleans c ≡ Steps false g' → (suc k ≡ count) × (g' .loops ≡ o .loops)
   last-turn k s c g' alu' predicate' way b e = by loop inside (made .pushed some-turns)
@@ -511,26 +459,7 @@ module _
         all : (n : ℕ) → 1 ≤ n → n ≤ suc (n - 1)
         all n h = omega arith
 
--- and after k turns the aL shown is its start and k steps
-pub al-shown-up :
-    (mode : Mode) (program : Program) (booleans : ℕ) (Body : Group → Group → Type 0) → Inside program true Body →
-    (n al step : ℕ) (ls : List Opened) (k : ℕ) (g s : Group) → g .loops ≡ Looping n al step ∷ ls → Turning mode program booleans Body k g s →
-    step < 128 → k < n → al + k * step ≤ 255 → shownAL (s .loops) ≡ al + k * step
-al-shown-up mode program booleans Body inside n al step ls k g s e way p h q =
-    ap shownAL
-    (turn-loops (s .loops) (Looping (n - k) (al + k * step) step ∷ ls) true true
-    (sym (ap (closings true k) (sym e) ∙ turning-closes mode program booleans true Body inside way) ∙ al-up k n al step ls p h q))
-
-pub al-shown-down :
-    (mode : Mode) (program : Program) (booleans : ℕ) (Body : Group → Group → Type 0) → Inside program true Body →
-    (n al step : ℕ) (ls : List Opened) (k : ℕ) (g s : Group) → g .loops ≡ Looping n al step ∷ ls → Turning mode program booleans Body k g s →
-    128 ≤ step → step ≤ 255 → k < n → k * (256 - step) ≤ al → shownAL (s .loops) ≡ al - k * (256 - step)
-al-shown-down mode program booleans Body inside n al step ls k g s e way p r h q =
-    ap shownAL
-    (turn-loops (s .loops) (Looping (n - k) (al - k * (256 - step)) step ∷ ls) true true
-    (sym (ap (closings true k) (sym e) ∙ turning-closes mode program booleans true Body inside way) ∙ al-down k n al step ls p r h q))
-
--- so are they without asking how far k goes: each close that jumped kept aL within 0 to 255
+-- after k turns the aL shown is its start and k steps: each close that jumped kept it within 0 to 255
 module _ (n step : ℕ) (ls : List Opened) (al : ℕ → ℕ) (Within : ℕ → Type 0) (more : (k : ℕ) → Within k → stays (al k) step ≡ true → Within (suc k))
     (moves : (k : ℕ) → Within k → stays (al k) step ≡ true → movedTo (al k) step ≡ al (suc k)) where
   data LeftAt (k : ℕ) : Turn → Type 0 where

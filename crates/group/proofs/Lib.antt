@@ -1,3 +1,4 @@
+pub mod Firsts
 pub mod Modes
 pub mod Places
 pub mod State

@@ -1,9 +1,8 @@
 -- Request 7, proved once over the counter limit: what the two modes make of one state. Whatever partial mode accepts, full mode answers alike,
--- and what full mode accepts and partial mode refuses has one of three causes: for a step and for a whole run. Assumes nothing.
+-- and what full mode accepts and partial mode refuses has one of three causes, of a step; proofs/Firsts.antt has runs. Assumes nothing.
 use mathlib.Core.Path.{_≡_, refl, sym, ap, _∙_, subst}
 use mathlib.Core.Logic.{_⊎_, inl, inr}
 use mathlib.Core.Bool.{Bool, true, false}
-use mathlib.Core.List.{List, [], _∷_}
 use Prim.Native.Nat.{ℕ, zero, suc, _<_, _≤_}
 use native.Mathlib.Omega.{arith}
 use lib.Dec.{eqb, leb}
@@ -16,9 +15,9 @@ use Rattle.laws.proofs.Below.{some-same, none-at}
 use Rattle.loops.specs.Loops.{wordAt, turnOf}
 use Rattle.group.specs.Proc.{Proc, Active, Idle, Absent, isActive, atLimit, decided, increment, counterLimit}
 use Rattle.group.specs.Modes.{Mode, Full, Partial, partialLimit, limitOf}
-use Rattle.group.specs.Group.{Group, Outcome, Steps, Fails, Program, Run, Makes, Breaks, onceMore, goOn, opOf, bElse, jumpAny, aOp, jumpFunc, branchOp, booleanNumber, integerNumber}
-use Rattle.group.specs.Group.{permits, allowed, fitsFirst, allowedLoop, turnedIf, wishOf, overLimit, settled, jumpStep, onTurn, withLoops, loopStep, slotStep, storeSlots, ended, groupStep, groupSteps, groupRun}
-use Rattle.group.specs.Causes.{firstHere, secondHere, procsHere, wantedHere, Cause, loopOp, returnOp, counterAtFive, Met, here, later}
+use Rattle.group.specs.Group.{Group, Outcome, Steps, Fails, Program, opOf, bElse, jumpAny, aOp, jumpFunc, branchOp, booleanNumber, integerNumber}
+use Rattle.group.specs.Group.{permits, allowed, fitsFirst, allowedLoop, turnedIf, wishOf, overLimit, settled, jumpStep, onTurn, withLoops, loopStep, slotStep, storeSlots, ended, groupStep}
+use Rattle.group.specs.Causes.{firstHere, secondHere, procsHere, wantedHere, Cause, loopOp, returnOp, counterAtFive}
 use Rattle.group.proofs.State.{jump-permitted}
 
 -- who is not at a lower limit is not at a higher one
@@ -263,79 +262,3 @@ module _ (program : Program) (alu predicate booleans : ℕ) (g : Group) where
       by (holds t) u = refused-steps (sym (pick-yes _ _ t) ∙ f)
       by (fails t) (holds u) = pick-no _ _ t ∙ pick-yes _ _ u ∙ slot-refuses c (sym (pick-no _ _ t ∙ pick-yes _ _ u) ∙ f)
       by (fails t) (fails u) = refused-steps (sym (pick-no _ _ t ∙ pick-no _ _ u) ∙ f)
-
--- the same of a run
-module _ (program : Program) (booleans : ℕ) where
-  abbrev RunBeside : List ℕ → Group → Run → Run → Type 0
-  RunBeside masks g (Makes n g') full = full ≡ Makes n g'
-  RunBeside masks g (Breaks n) (Makes k g') = Met program booleans masks g n
-  RunBeside masks g (Breaks n) (Breaks m) = Unit {0}
-
-  run-onto : (masks : List ℕ) (g : Group) {p p' f f' : Run} → p ≡ p' → f ≡ f' → RunBeside masks g p' f' → RunBeside masks g p f
-  run-onto masks g {p} {p'} {f} {f'} a b q = subst (λ (x : Run). RunBeside masks g x f) (sym a) (subst (RunBeside masks g p') (sym b) q)
-
-  -- one step more in front
-  once-beside :
-      (alu predicate : ℕ) (masks : List ℕ) (g g' : Group) (jump : Bool) → groupStep Full program alu predicate booleans g ≡ Steps jump g' →
-      (p f : Run) → RunBeside masks g' p f → RunBeside (alu ∷ (predicate ∷ masks)) g (onceMore p) (onceMore f)
-  once-beside alu predicate masks g g' jump e (Makes n h) f q = ap onceMore q
-  once-beside alu predicate masks g g' jump e (Breaks n) (Makes k h) q = later alu predicate masks g g' jump n e q
-  once-beside alu predicate masks g g' jump e (Breaks n) (Breaks m) q = tt
-
-  -- a step that partial mode refuses, and what full mode's run comes to
-  met-here :
-      (alu predicate : ℕ) (masks : List ℕ) (g : Group) (n : ℕ) → Cause program g alu predicate booleans n → (f : Run) →
-      RunBeside (alu ∷ (predicate ∷ masks)) g (Breaks n) f
-  met-here alu predicate masks g n c (Makes k h) = here alu predicate masks g n c
-  met-here alu predicate masks g n c (Breaks m) = tt
-
-  turn-beside :
-      (alu predicate : ℕ) (masks : List ℕ) (g : Group) →
-      ((g' : Group) → RunBeside masks g' (groupSteps Partial program booleans masks g') (groupSteps Full program booleans masks g')) →
-      (p f : Outcome) → groupStep Full program alu predicate booleans g ≡ f → StepBeside program g alu predicate booleans p f →
-      RunBeside (alu ∷ (predicate ∷ masks)) g
-      (goOn p (λ g'. groupSteps Partial program booleans masks g')) (goOn f (λ g'. groupSteps Full program booleans masks g'))
-  turn-beside alu predicate masks g ih (Steps jump g') f e q =
-      subst (RunBeside (alu ∷ (predicate ∷ masks)) g (onceMore (groupSteps Partial program booleans masks g')))
-      (sym (ap (λ (o : Outcome). goOn o (λ h. groupSteps Full program booleans masks h)) q))
-      (once-beside alu predicate masks g g' jump (e ∙ q) (groupSteps Partial program booleans masks g') (groupSteps Full program booleans masks g') (ih g'))
-  turn-beside alu predicate masks g ih (Fails n) (Steps jump g') e q =
-      met-here alu predicate masks g n q (onceMore (groupSteps Full program booleans masks g'))
-  turn-beside alu predicate masks g ih (Fails n) (Fails m) e q = tt
-
-  steps-beside :
-      (masks : List ℕ) (g : Group) → RunBeside masks g (groupSteps Partial program booleans masks g) (groupSteps Full program booleans masks g)
-  unfolding groupSteps
-  steps-beside [] g = refl
-  steps-beside (alu ∷ []) g = refl
-  steps-beside (alu ∷ (predicate ∷ masks)) g = by (steps-beside masks) (tested (ended program g))
-    where
-      by :
-          ((g' : Group) → RunBeside masks g' (groupSteps Partial program booleans masks g') (groupSteps Full program booleans masks g')) →
-          Tested (ended program g) →
-          RunBeside (alu ∷ (predicate ∷ masks)) g (groupSteps Partial program booleans (alu ∷ (predicate ∷ masks)) g)
-          (groupSteps Full program booleans (alu ∷ (predicate ∷ masks)) g)
-      by ih (holds t) = run-onto (alu ∷ (predicate ∷ masks)) g (pick-yes _ _ t) (pick-yes _ _ t) refl
-      by ih (fails t) =
-          run-onto (alu ∷ (predicate ∷ masks)) g (pick-no _ _ t) (pick-no _ _ t)
-          (turn-beside alu predicate masks g ih (groupStep Partial program alu predicate booleans g) (groupStep Full program alu predicate booleans g) refl
-          (step-beside program alu predicate booleans g))
-
-  run-beside : (masks : List ℕ) (g : Group) → RunBeside masks g (groupRun Partial program booleans masks g) (groupRun Full program booleans masks g)
-  unfolding groupRun
-  run-beside masks g = by (tested (ended program g))
-    where
-      by : Tested (ended program g) → RunBeside masks g (groupRun Partial program booleans masks g) (groupRun Full program booleans masks g)
-      by (holds t) = run-onto masks g (pick-yes _ _ t) (pick-yes _ _ t) tt
-      by (fails t) = run-onto masks g (pick-no _ _ t) (pick-no _ _ t) (steps-beside masks g)
-
-  pub run-shared :
-      (masks : List ℕ) (g g' : Group) (n : ℕ) → groupRun Partial program booleans masks g ≡ Makes n g' →
-      groupRun Full program booleans masks g ≡ Makes n g'
-  run-shared masks g g' n e = subst (λ (r : Run). RunBeside masks g r (groupRun Full program booleans masks g)) e (run-beside masks g)
-
-  pub run-cause :
-      (masks : List ℕ) (g g' : Group) (n k : ℕ) → groupRun Partial program booleans masks g ≡ Breaks n →
-      groupRun Full program booleans masks g ≡ Makes k g' → Met program booleans masks g n
-  run-cause masks g g' n k e f =
-      subst (RunBeside masks g (Breaks n)) f (subst (λ (r : Run). RunBeside masks g r (groupRun Full program booleans masks g)) e (run-beside masks g))

@@ -1,14 +1,14 @@
 -- Request 7: "Partial mode refuses what full mode accepts for the three causes above and no other.": the causes by name, of a step and of a
 -- run. Assumes nothing.
 use mathlib.Core.Path.{_≡_}
-use mathlib.Core.Bool.{Bool, true}
+use mathlib.Core.Bool.{Bool, true, false}
 use mathlib.Core.List.{List, _∷_}
 use Prim.Native.Nat.{ℕ, _≤_}
 use lib.ListN.{getD}
 use Rattle.laws.specs.Masks.{on}
 use Rattle.group.specs.Proc.{Proc, isActive, decided}
 use Rattle.group.specs.Modes.{Full, partialLimit}
-use Rattle.group.specs.Group.{Group, Steps, Program, opOf, bElse, jumpAny, aOp, jumpFunc, branchOp, booleanNumber, turnedIf, wishOf, overLimit, groupStep}
+use Rattle.group.specs.Group.{Group, Steps, Program, opOf, bElse, jumpAny, aOp, jumpFunc, branchOp, booleanNumber, turnedIf, wishOf, overLimit, ended, groupStep}
 
 -- the words of the slot that a group stands at, the processors once B_ELSE has done its work, and what the wishes decide
 module _ (program : Program) (g : Group) where
@@ -37,12 +37,12 @@ module _ (program : Program) (g : Group) where
         opOf firstHere ≡ 0 → aOp firstHere ≡ 0 →
         overLimit partialLimit (branchOp (wantedHere alu predicate booleans) firstHere) procsHere ≡ true → Cause alu predicate booleans 14
 
--- a run of full mode comes to a step that has a cause
-pub data Met (program : Program) (booleans : ℕ) : List ℕ → Group → ℕ → Type 0 where
+-- a run of full mode comes to a step with a cause, before the program's end, and no step before it has one
+pub data FirstMet (program : Program) (booleans : ℕ) : List ℕ → Group → ℕ → Type 0 where
   here :
-      (alu predicate : ℕ) (masks : List ℕ) (g : Group) (n : ℕ) → Cause program g alu predicate booleans n →
-      Met program booleans (alu ∷ (predicate ∷ masks)) g n
+      (alu predicate : ℕ) (masks : List ℕ) (g : Group) (n : ℕ) → ended program g ≡ false → Cause program g alu predicate booleans n →
+      FirstMet program booleans (alu ∷ (predicate ∷ masks)) g n
   later :
-      (alu predicate : ℕ) (masks : List ℕ) (g g' : Group) (jump : Bool) (n : ℕ) →
-      groupStep Full program alu predicate booleans g ≡ Steps jump g' → Met program booleans masks g' n →
-      Met program booleans (alu ∷ (predicate ∷ masks)) g n
+      (alu predicate : ℕ) (masks : List ℕ) (g g' : Group) (jump : Bool) (n : ℕ) → ended program g ≡ false →
+      ((m : ℕ) → Cause program g alu predicate booleans m → ⊥) → groupStep Full program alu predicate booleans g ≡ Steps jump g' →
+      FirstMet program booleans masks g' n → FirstMet program booleans (alu ∷ (predicate ∷ masks)) g n

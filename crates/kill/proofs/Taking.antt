@@ -15,7 +15,7 @@ use Rattle.laws.specs.Masks.{_or_, on, pack}
 use Rattle.laws.proofs.Choice.{Tested, holds, fails, tested, and-no-right}
 use Rattle.laws.proofs.Below.{count-same, count-bounded}
 use Rattle.laws.proofs.Masks.{pack-same, on-pack, on-above}
-use Rattle.registers.specs.Registers.{killedBy, registerAt, killMask}
+use Rattle.registers.specs.Registers.{killedBy, maskedAt, killMask}
 use Rattle.group.specs.Proc.{Proc, Active, Idle, Absent, isLive, isActive, counterBit}
 use Rattle.group.specs.Group.{Group}
 use Rattle.group.specs.Cells.{liveIn, activeIn, modeIn, killedIn, liveMask, activeMask, plane, groupOf, cellsWith, lastCells, cellsOf, GroupGiven}
@@ -24,7 +24,7 @@ use Rattle.kill.specs.Kill.{isKilled, afterKill, startSize}
 use Rattle.kill.specs.Answers.{TakenOut}
 
 -- a register without a number kills nobody
-spared : (mask : ℕ) → killedBy mask (record { c0 = nan; c1 = nan; c2 = nan; c3 = nan }) ≡ false
+spared : (mask : ℕ) → killedBy (record { c0 = nan; c1 = nan; c2 = nan; c3 = nan; mask = mask }) ≡ false
 unfolding killedBy some lt _or_
 spared mask =
     rw (
@@ -36,28 +36,29 @@ spared mask =
     refl
 
 -- past the list's end there is none
-beyond : (l : List Float) (mask n i : ℕ) → length l ≡ n * 4 → n ≤ i → killedBy mask (registerAt l i) ≡ false
+beyond : (l : List Float) (mask n i : ℕ) → length l ≡ n * 4 → n ≤ i → killedBy (maskedAt l i mask) ≡ false
 beyond l mask n i e h =
-    ap (killedBy mask)
+    ap killedBy
     (λ j.
     record {
       c0 = List·getD-eq-default l nan {n = i * 4} (omega arith) j;
       c1 = List·getD-eq-default l nan {n = i * 4 + 1} (omega arith) j;
       c2 = List·getD-eq-default l nan {n = i * 4 + 2} (omega arith) j;
       c3 = List·getD-eq-default l nan {n = i * 4 + 3} (omega arith) j;
+      mask = mask;
     }) ∙
     spared mask
 
 -- the mask of the registers that kill, processor by processor
 mask-at :
-    (l : List Float) (mask n i : ℕ) → length l ≡ n * 4 → on i (killMask (length l / 4) l mask) ≡ killedBy mask (registerAt l i)
+    (l : List Float) (mask n i : ℕ) → length l ≡ n * 4 → on i (killMask (length l / 4) l mask) ≡ killedBy (maskedAt l i mask)
 mask-at l mask n i e = go (tested (ltb i (length l / 4)))
   where
-    go : Tested (ltb i (length l / 4)) → on i (killMask (length l / 4) l mask) ≡ killedBy mask (registerAt l i)
-    go (holds t) = on-pack (length l / 4) i (λ j. killedBy mask (registerAt l j)) (ltb-true i (length l / 4) t)
+    go : Tested (ltb i (length l / 4)) → on i (killMask (length l / 4) l mask) ≡ killedBy (maskedAt l i mask)
+    go (holds t) = on-pack (length l / 4) i (λ j. killedBy (maskedAt l j mask)) (ltb-true i (length l / 4) t)
     go (fails t) =
         let k : length l / 4 ≤ i = ltb-false i (length l / 4) t in
-        on-above (length l / 4) i (λ j. killedBy mask (registerAt l j)) k ∙ sym (beyond l mask n i e (omega arith))
+        on-above (length l / 4) i (λ j. killedBy (maskedAt l j mask)) k ∙ sym (beyond l mask n i e (omega arith))
 
 -- what a kill does to a processor's bits
 live-left : (b : Bool) (p : Proc) → (isLive p and not (isActive p and b)) ≡ isLive (pick (isActive p and b) Absent p)

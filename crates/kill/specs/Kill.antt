@@ -9,14 +9,14 @@ use Rattle.laws.specs.Choice.{_and_, pick}
 use Rattle.laws.specs.Below.{count}
 use Rattle.laws.specs.Masks.{_or_, on, pack}
 use Rattle.refusal.specs.Told.{Told, gives, refuses}
-use Rattle.registers.specs.Registers.{channelCount, killedBy, registerAt}
+use Rattle.registers.specs.Registers.{channelCount, killedBy, maskedAt}
 use Rattle.group.specs.Proc.{Absent, isActive, mostProcessors}
 use Rattle.group.specs.Group.{Group}
 use Rattle.group.specs.Cells.{modeIn, atStart, cellsOf}
 
 -- "An active processor with a channel under the mask less than zero is killed, and no other."
 abbrev pub isKilled : List Float → ℕ → Group → ℕ → Bool
-isKilled registers mask g i = isActive (g .procs i) and killedBy mask (registerAt registers i)
+isKilled registers mask g i = isActive (g .procs i) and killedBy (maskedAt registers i mask)
 
 -- those who are killed now, as a mask
 abbrev pub killedNow : List Float → ℕ → Group → ℕ

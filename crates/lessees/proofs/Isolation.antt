@@ -144,8 +144,3 @@ isolated p q v (w ∷ ws) = sent p (w .party) (w .word) (isolated p (putBack (w 
     sent true true x ih = unfold alone notedFor mineOf pick in own-fed true q v x (wordsFor true ws) _ ih
     sent false true x ih = unfold alone notedFor mineOf pick in ih ∙ ap (λ (s : Session). feedOf s (wordsFor false ws)) (unmoved q v true x)
     sent true false x ih = unfold alone notedFor mineOf pick in ih ∙ ap (λ (s : Session). feedOf s (wordsFor true ws)) (unmoved q v false x)
-
--- so a party's answers, own part, tallies and settings are the same in any two streams in which its words are
-pub isolation : (p : Bool) (q : Pair) → PairValid q → (a b : List Sent) → wordsFor p a ≡ wordsFor p b →
-    alone p (pieceOf q a) ≡ alone p (pieceOf q b)
-isolation p q v a b e = isolated p q v a ∙ ap (feedOf (seen (side p q))) e ∙ sym (isolated p q v b)

@@ -2,7 +2,6 @@ pub mod Alike
 pub mod Begun
 pub mod Cut
 pub mod Folding
-pub mod Host
 pub mod Isolation
 pub mod Life
 pub mod Lawful

@@ -14,7 +14,6 @@ use Rattle.state.specs.Asked.{Given, Held}
 use Rattle.session.specs.Feed.{firstStatus, Fed}
 use Rattle.lessees.specs.Pair.{Pair, Sent, Part, PairFed, PairValid, pieceOf}
 use Rattle.lessees.specs.Begin.{newPair, mayBegin, beginTold}
-use Rattle.lessees.specs.Sight.{seenShared}
 
 -- the party of word `k`: "bit k of number i is word 32 i + k's"
 abbrev pub partyAt : List ℕ → ℕ → Bool
@@ -137,11 +136,3 @@ pub record PairFeeds
   pub untouched :
       (length parties ≡ groupsOf (length words) → ⊥) →
       PairUntouched own0 tallies0 own1 tallies1 shared own0' tallies0' own1' tallies1' shared' × (fed' ≡ fed)
-
--- what a party has and was told, by two callers' cells: its own cells, its tallies, its three numbers of the piece, and the settings that
--- it sees
-pub record SameSight (mine : ℕ) (own tallies shared told own' tallies' shared' told' : List ℕ) : Type 0 where
-  pub own-same : own ≡ own'
-  pub tallies-same : tallies ≡ tallies'
-  pub told-same : told ≡ told'
-  pub settings-same : seenShared mine (sharedOf shared) ≡ seenShared mine (sharedOf shared')

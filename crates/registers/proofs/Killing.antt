@@ -12,8 +12,8 @@ use Rattle.laws.specs.Choice.{_and_}
 use Rattle.laws.specs.Below.{some}
 use Rattle.laws.specs.Masks.{_or_, digit, on, pack}
 use Rattle.laws.proofs.Masks.{on-zero, pack-same, pack-lt, digit-lt}
-use Rattle.registers.specs.declared.Register.{Register}
-use Rattle.registers.specs.Registers.{lessThanZero, killedBy, registerAt, killMask}
+use Rattle.registers.specs.declared.Masked.{Masked}
+use Rattle.registers.specs.Registers.{lessThanZero, killedBy, maskedAt, killMask}
 
 -- the code's `&` and `|` on tests
 pub both-tests : (a b : Bool) → (a && b) ≡ (a and b)
@@ -33,25 +33,25 @@ or-none false = refl
 
 -- a register kills where one of its four channels does, each under its bit
 pub four-channels :
-    (mask : ℕ) (r : Register) {h0 h1 h2 h3 : Bool} →
-    h0 ≡ (eqb (mask % 2) 1 and lessThanZero (r .c0)) → h1 ≡ (eqb (mask / 2 % 2) 1 and lessThanZero (r .c1)) →
-    h2 ≡ (eqb (mask / 4 % 2) 1 and lessThanZero (r .c2)) → h3 ≡ (eqb (mask / 8 % 2) 1 and lessThanZero (r .c3)) →
-    (h0 || (h1 || (h2 || h3))) ≡ killedBy mask r
+    (r : Masked) {h0 h1 h2 h3 : Bool} →
+    h0 ≡ (eqb (r .mask % 2) 1 and lessThanZero (r .c0)) → h1 ≡ (eqb (r .mask / 2 % 2) 1 and lessThanZero (r .c1)) →
+    h2 ≡ (eqb (r .mask / 4 % 2) 1 and lessThanZero (r .c2)) → h3 ≡ (eqb (r .mask / 8 % 2) 1 and lessThanZero (r .c3)) →
+    (h0 || (h1 || (h2 || h3))) ≡ killedBy r
 unfolding killedBy some on
-four-channels mask r {h0} {h1} {h2} {h3} e0 e1 e2 e3 =
+four-channels r {h0} {h1} {h2} {h3} e0 e1 e2 e3 =
     either-test h0 (h1 || (h2 || h3)) ∙
-    ap₂ _or_ (e0 ∙ ap (λ (t : Bool). t and lessThanZero (r .c0)) (sym (on-zero mask)))
+    ap₂ _or_ (e0 ∙ ap (λ (t : Bool). t and lessThanZero (r .c0)) (sym (on-zero (r .mask))))
     (either-test h1 (h2 || h3) ∙ ap₂ _or_ e1 (either-test h2 h3 ∙ ap₂ _or_ e2 (e3 ∙ or-none _)))
 
 -- the mask of processors i to n - 1, moved down by i
 unfoldable pub killedFrom : ℕ → ℕ → List Float → ℕ → ℕ
-killedFrom i n l mask = pack (n - i) (λ j. killedBy mask (registerAt l (i + j)))
+killedFrom i n l mask = pack (n - i) (λ j. killedBy (maskedAt l (i + j) mask))
 
 module _ (l : List Float) (mask n : ℕ) where
   -- beyond the last processor there is none
   pub from-none : 0 ≡ killedFrom n n l mask
   unfolding killedFrom pack
-  from-none = ap (λ (k : ℕ). pack k (λ j. killedBy mask (registerAt l (n + j)))) (none n)
+  from-none = ap (λ (k : ℕ). pack k (λ j. killedBy (maskedAt l (n + j) mask))) (none n)
     where
       none : (n : ℕ) → 0 ≡ n - n
       none n = omega arith
@@ -60,7 +60,7 @@ module _ (l : List Float) (mask n : ℕ) where
   pub from-room : (i : ℕ) → 0 < i → n ≤ 32 → killedFrom i n l mask < 0x80000000
   unfolding killedFrom
   from-room i h k =
-      lt-of-lt-of-le (pack-lt (n - i) (λ j. killedBy mask (registerAt l (i + j)))) (pow-mono (few h k))
+      lt-of-lt-of-le (pack-lt (n - i) (λ j. killedBy (maskedAt l (i + j) mask))) (pow-mono (few h k))
     where
       few : 0 < i → n ≤ 32 → n - i ≤ 31
       few h k = omega arith
@@ -68,14 +68,14 @@ module _ (l : List Float) (mask n : ℕ) where
   -- one processor more, below
   pub from-more :
       {i found bit : ℕ} {hit : Bool} → 0 < i → i ≤ n → found ≡ killedFrom i n l mask → bit ≡ digit hit →
-      hit ≡ killedBy mask (registerAt l (i - 1)) → found * 2 + bit ≡ killedFrom (i - 1) n l mask
+      hit ≡ killedBy (maskedAt l (i - 1) mask) → found * 2 + bit ≡ killedFrom (i - 1) n l mask
   unfolding killedFrom pack
   from-more {i} {found} {bit} {hit} h k e b t =
-      ap₂ (λ (x y : ℕ). x * 2 + y) e (b ∙ ap digit t) ∙ turn (killedFrom i n l mask) (digit (killedBy mask (registerAt l (i - 1)))) ∙
+      ap₂ (λ (x y : ℕ). x * 2 + y) e (b ∙ ap digit t) ∙ turn (killedFrom i n l mask) (digit (killedBy (maskedAt l (i - 1) mask))) ∙
       sym
-      (ap (λ (m : ℕ). pack m (λ j. killedBy mask (registerAt l (i - 1 + j)))) (more h k) ∙
-      ap₂ (λ (b : Bool) (m : ℕ). digit b + m * 2) (ap (λ (m : ℕ). killedBy mask (registerAt l m)) (here h))
-      (pack-same (n - i) _ _ (λ j q. ap (λ (m : ℕ). killedBy mask (registerAt l m)) (next h j))))
+      (ap (λ (m : ℕ). pack m (λ j. killedBy (maskedAt l (i - 1 + j) mask))) (more h k) ∙
+      ap₂ (λ (b : Bool) (m : ℕ). digit b + m * 2) (ap (λ (m : ℕ). killedBy (maskedAt l m mask)) (here h))
+      (pack-same (n - i) _ _ (λ j q. ap (λ (m : ℕ). killedBy (maskedAt l m mask)) (next h j))))
     where
       turn : (a b : ℕ) → a * 2 + b ≡ b + a * 2
       turn a b = omega arith
@@ -93,8 +93,8 @@ module _ (l : List Float) (mask n : ℕ) where
   pub from-all : {i : ℕ} → i ≡ 0 → killedFrom i n l mask ≡ killMask n l mask
   unfolding killedFrom
   from-all {i} e =
-      ap (λ (m : ℕ). killedFrom m n l mask) e ∙ ap (λ (m : ℕ). pack m (λ j. killedBy mask (registerAt l (0 + j)))) (whole n) ∙
-      pack-same n _ _ (λ j q. ap (λ (m : ℕ). killedBy mask (registerAt l m)) (zero-on j))
+      ap (λ (m : ℕ). killedFrom m n l mask) e ∙ ap (λ (m : ℕ). pack m (λ j. killedBy (maskedAt l (0 + j) mask))) (whole n) ∙
+      pack-same n _ _ (λ j q. ap (λ (m : ℕ). killedBy (maskedAt l m mask)) (zero-on j))
     where
       whole : (n : ℕ) → n - 0 ≡ n
       whole n = omega arith

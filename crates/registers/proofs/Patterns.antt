@@ -1,5 +1,5 @@
 -- What request 11 says of floats, by bit patterns: for every pattern of 32 bits, less than zero, at least zero, the maximum and the
--- choice are what specs/Pattern.antt writes. Assumes nothing.
+-- choice go by what specs/Pattern.antt writes. Assumes nothing.
 use mathlib.Core.Path.{_≡_, refl, sym, ap, ap₂, _∙_}
 use mathlib.Core.Bool.{Bool, true, false, not}
 use mathlib.Core.List.{List, map}
@@ -8,14 +8,14 @@ use native.Mathlib.Omega.{arith}
 use lib.Dec.{T, leb, ltb}
 use lib.ListN.{getD, List·getD-map}
 use lib.Ieee.{Float, binary32, nan, ofBits, toBits, fits, isNan, lt, le}
-use lib.Ieee.Bits.{ofBits-toBits, toBits-ofBits, toBits-lt, nanBits-is, nanBits-above}
+use lib.Ieee.Bits.{ofBits-toBits, toBits-lt, nanBits-is, nanBits-above}
 use borrow.Author.Tests.{leb-true, leb-false, le-ltb, lt-ltb, le-leb}
 use Rattle.laws.specs.Choice.{_and_, pick}
 use Rattle.laws.specs.Below.{some}
 use Rattle.laws.specs.Masks.{_or_, on}
-use Rattle.laws.proofs.Choice.{Tested, holds, fails, tested, by-pick, pick-yes, pick-no}
-use Rattle.registers.specs.Pattern.{isNumber, belowZero, notBelowZero, lessThan, maximumBits, choiceBits, noNumber, killedByBits}
-use Rattle.registers.specs.Registers.{float, lessThanZero, atLeastZero, maximumOf, choiceOf, killedBy, registerAt}
+use Rattle.laws.proofs.Choice.{Tested, holds, fails, tested}
+use Rattle.registers.specs.Pattern.{isNumber, belowZero, notBelowZero, lessThan, noNumber, killedByBits}
+use Rattle.registers.specs.Registers.{float, lessThanZero, atLeastZero, maximumOf, choiceOf, killedBy, maskedAt}
 use Rattle.registers.proofs.Order.{less-than, at-most-not, no-most}
 
 leb-same : (a b c d : ℕ) → (a ≤ b → c ≤ d) → (c ≤ d → a ≤ b) → leb a b ≡ leb c d
@@ -102,37 +102,17 @@ pub at-least-zero-cases :
 unfolding le ofBits
 at-least-zero-cases = (refl, refl, refl, refl, refl)
 
-carried : (t : Bool) (a b : ℕ) → pick t (float a) (float b) ≡ float (pick t a b)
-carried t a b =
-    by-pick (λ (x : Float). x ≡ float (pick t a b)) t (float a) (float b)
-    (λ e. ap float (sym (pick-yes a b e))) (λ e. ap float (sym (pick-no a b e)))
+-- the maximum and the choice, for every pattern
+pub maximum-pattern : (a b : ℕ) → maximumOf a b ≡ pick (lessThan b a) a b
+maximum-pattern a b = ap (λ (t : Bool). pick t a b) (less-than b a)
 
--- the maximum of two patterns' floats is the float of the pattern that the order picks, NaNs and zeros of either sign too
-pub maximum-pattern : (a b : ℕ) → maximumOf (float a) (float b) ≡ float (maximumBits a b)
-maximum-pattern a b = ap (λ (t : Bool). pick t (float a) (float b)) (less-than b a) ∙ carried (lessThan b a) a b
-
--- and so is the choice
-pub choice-pattern : (a b third : ℕ) → third < 2 ^ 32 → choiceOf (float a) (float b) (float third) ≡ float (choiceBits a b third)
-choice-pattern a b third h =
-    ap (λ (t : Bool). pick t (float a) (float b)) (at-least-zero third h) ∙ carried (notBelowZero third) a b
-
--- "copying bits exactly": the answer's bits are that pattern's, where it is no NaN. The logic has one NaN, without payload:
--- docs/DECISIONS.md names the test that stands in there.
-pub maximum-bits :
-    (a b : ℕ) → maximumBits a b < 2 ^ 32 → T (not (isNan (float (maximumBits a b)))) →
-    toBits binary32 (maximumOf (float a) (float b)) ≡ maximumBits a b
-maximum-bits a b h k = ap (toBits binary32) (maximum-pattern a b) ∙ toBits-ofBits binary32 (maximumBits a b) h k
-
-pub choice-bits :
-    (a b third : ℕ) → third < 2 ^ 32 → choiceBits a b third < 2 ^ 32 → T (not (isNan (float (choiceBits a b third)))) →
-    toBits binary32 (choiceOf (float a) (float b) (float third)) ≡ choiceBits a b third
-choice-bits a b third t h k =
-    ap (toBits binary32) (choice-pattern a b third t) ∙ toBits-ofBits binary32 (choiceBits a b third) h k
+pub choice-pattern : (a b third : ℕ) → third < 2 ^ 32 → choiceOf a b third ≡ pick (notBelowZero third) a b
+choice-pattern a b third h = ap (λ (t : Bool). pick t a b) (at-least-zero third h)
 
 -- who is killed, by the bits of the registers alone
 pub killed-pattern :
     (mask : ℕ) (l : List ℕ) (i : ℕ) → ((k : ℕ) → getD l k noNumber < 2 ^ 32) →
-    killedBy mask (registerAt (map float l) i) ≡ killedByBits mask l i
+    killedBy (maskedAt (map float l) i mask) ≡ killedByBits mask l i
 unfolding killedBy killedByBits some ofBits
 killed-pattern mask l i low =
     ap₂ _or_ (at 0 (i * 4) ∙ ap (λ (k : ℕ). on 0 mask and belowZero (getD l k noNumber)) (same i))

@@ -2,7 +2,7 @@
 -- pattern is the magnitude: 7F800000 is infinity, and what is above it is a NaN. proofs/Patterns.antt has it that this is the
 -- order of specs/Registers.antt, for every pattern. Assumes nothing.
 use mathlib.Core.Bool.{Bool, false, not}
-use mathlib.Core.List.{List, [], _∷_}
+use mathlib.Core.List.{List}
 use Prim.Native.Nat.{ℕ, _+_, _*_, _%_}
 use lib.Dec.{leb, ltb}
 use lib.ListN.{getD}
@@ -47,23 +47,6 @@ lessThan a b =
     pick (negative a)
     (pick (negative b) (ltb (magnitude b) (magnitude a)) (ltb 0 (magnitude a + magnitude b)))
     (pick (negative b) false (ltb (magnitude a) (magnitude b)))
-
--- the maximum and the choice of patterns: one of the operands, bit for bit
-abbrev pub maximumBits : ℕ → ℕ → ℕ
-maximumBits a b = pick (lessThan b a) a b
-
-abbrev pub choiceBits : ℕ → ℕ → ℕ → ℕ
-choiceBits a b third = pick (notBelowZero third) a b
-
--- "channel by channel", of registers as four patterns each
-abbrev pub eachBits2 : (ℕ → ℕ → ℕ) → List ℕ → List ℕ → List ℕ
-eachBits2 f a b =
-    f (getD a 0 0) (getD b 0 0) ∷ f (getD a 1 0) (getD b 1 0) ∷ f (getD a 2 0) (getD b 2 0) ∷ f (getD a 3 0) (getD b 3 0) ∷ []
-
-abbrev pub eachBits3 : (ℕ → ℕ → ℕ → ℕ) → List ℕ → List ℕ → List ℕ → List ℕ
-eachBits3 f a b third =
-    f (getD a 0 0) (getD b 0 0) (getD third 0 0) ∷ f (getD a 1 0) (getD b 1 0) (getD third 1 0) ∷
-    f (getD a 2 0) (getD b 2 0) (getD third 2 0) ∷ f (getD a 3 0) (getD b 3 0) (getD third 3 0) ∷ []
 
 -- a NaN: what stands past a list's end
 abbrev pub noNumber : ℕ

@@ -1,6 +1,7 @@
 -- Request 11, "Kill test on float registers": a register of four f32 channels, less than zero and at least zero, who is killed by its
--- register, the maximum and the choice. A float is the logic's (lib.Ieee), `lt` and `le` are IEEE 754's < and ≤; the same by bit
--- patterns is specs/Pattern.antt. Assumes nothing.
+-- register, the maximum and the choice. A float is the logic's (lib.Ieee), `lt` and `le` are IEEE 754's < and ≤; what these are of bit
+-- patterns is specs/Pattern.antt. The maximum and the choice are of bit patterns, compared as their floats: the logic's one NaN has no
+-- payload, and "copying bits exactly" is of payloads too. Assumes nothing.
 use mathlib.Core.Bool.{Bool, true, false}
 use mathlib.Core.List.{List, [], _∷_}
 use Prim.Native.Nat.{ℕ, zero, suc, _+_, _*_}
@@ -10,7 +11,6 @@ use Rattle.laws.specs.Choice.{_and_, pick}
 use Rattle.laws.specs.Below.{some}
 use Rattle.laws.specs.Masks.{on, pack}
 use Rattle.registers.specs.declared.Masked.{Masked}
-use Rattle.registers.specs.declared.Register.{Register}
 
 -- "a register of four f32 channels": how many, and how many 32 registers have
 abbrev pub channelCount : ℕ
@@ -31,67 +31,46 @@ abbrev pub atLeastZero : Float → Bool
 atLeastZero x = le (float 0) x
 
 -- channel `c` of a register
-abbrev pub channel : ℕ → Register → Float
+abbrev pub channel : ℕ → Masked → Float
 channel zero r = r .c0
 channel (suc zero) r = r .c1
 channel (suc (suc zero)) r = r .c2
 channel (suc (suc (suc c))) r = r .c3
 
 -- "the instruction has one write mask of four bits, bit c for channel c": "a channel under the mask less than zero"
-unfoldable pub killedBy : ℕ → Register → Bool
-killedBy mask r = some channelCount (λ c. on c mask and lessThanZero (channel c r))
+unfoldable pub killedBy : Masked → Bool
+killedBy r = some channelCount (λ c. on c (r .mask) and lessThanZero (channel c r))
 
--- "maximum of A and B is A if B < A, otherwise B"
-abbrev pub maximumOf : Float → Float → Float
-maximumOf a b = pick (lt b a) a b
-
--- "the choice by "third operand at least zero" (first operand if yes, second if no)"
-abbrev pub choiceOf : Float → Float → Float → Float
-choiceOf a b third = pick (atLeastZero third) a b
-
--- "channel by channel"
-abbrev pub eachOf2 : (Float → Float → Float) → Register → Register → Register
-eachOf2 f a b =
-    record { c0 = f (a .c0) (b .c0); c1 = f (a .c1) (b .c1); c2 = f (a .c2) (b .c2); c3 = f (a .c3) (b .c3) }
-
-abbrev pub eachOf3 : (Float → Float → Float → Float) → Register → Register → Register → Register
-eachOf3 f a b third =
-    record {
-      c0 = f (a .c0) (b .c0) (third .c0);
-      c1 = f (a .c1) (b .c1) (third .c1);
-      c2 = f (a .c2) (b .c2) (third .c2);
-      c3 = f (a .c3) (b .c3) (third .c3);
-    }
-
--- "Each processor brings a register": processor i's in a list of floats, four a processor; past the list's end there is no number
-abbrev pub registerAt : List Float → ℕ → Register
-registerAt l i =
+-- "Each processor brings a register": processor i's in a list of floats, four a processor, under the write mask; past the list's end
+-- there is no number
+abbrev pub maskedAt : List Float → ℕ → ℕ → Masked
+maskedAt l i mask =
     record {
       c0 = getD l (i * channelCount) nan;
       c1 = getD l (i * channelCount + 1) nan;
       c2 = getD l (i * channelCount + 2) nan;
       c3 = getD l (i * channelCount + 3) nan;
-    }
-
--- a register under the instruction's write mask, without it
-abbrev pub unmasked : Masked → Register
-unmasked r = record { c0 = r .c0; c1 = r .c1; c2 = r .c2; c3 = r .c3 }
-
--- processor i's in a list, under the write mask
-abbrev pub maskedAt : List Float → ℕ → ℕ → Masked
-maskedAt l i mask =
-    record {
-      c0 = registerAt l i .c0;
-      c1 = registerAt l i .c1;
-      c2 = registerAt l i .c2;
-      c3 = registerAt l i .c3;
       mask = mask;
     }
 
--- a register's channels as a list
-abbrev pub channelsOf : Register → List Float
-channelsOf r = r .c0 ∷ r .c1 ∷ r .c2 ∷ r .c3 ∷ []
-
 -- those of the first n processors whose register kills, as a mask
 abbrev pub killMask : ℕ → List Float → ℕ → ℕ
-killMask n l mask = pack n (λ i. killedBy mask (registerAt l i))
+killMask n l mask = pack n (λ i. killedBy (maskedAt l i mask))
+
+-- "maximum of A and B is A if B < A, otherwise B", of bit patterns
+abbrev pub maximumOf : ℕ → ℕ → ℕ
+maximumOf a b = pick (lt (float b) (float a)) a b
+
+-- "the choice by "third operand at least zero" (first operand if yes, second if no), copying bits exactly"
+abbrev pub choiceOf : ℕ → ℕ → ℕ → ℕ
+choiceOf a b third = pick (atLeastZero (float third)) a b
+
+-- "channel by channel", of registers as four patterns each
+abbrev pub eachOf2 : (ℕ → ℕ → ℕ) → List ℕ → List ℕ → List ℕ
+eachOf2 f a b =
+    f (getD a 0 0) (getD b 0 0) ∷ f (getD a 1 0) (getD b 1 0) ∷ f (getD a 2 0) (getD b 2 0) ∷ f (getD a 3 0) (getD b 3 0) ∷ []
+
+abbrev pub eachOf3 : (ℕ → ℕ → ℕ → ℕ) → List ℕ → List ℕ → List ℕ → List ℕ
+eachOf3 f a b third =
+    f (getD a 0 0) (getD b 0 0) (getD third 0 0) ∷ f (getD a 1 0) (getD b 1 0) (getD third 1 0) ∷
+    f (getD a 2 0) (getD b 2 0) (getD third 2 0) ∷ f (getD a 3 0) (getD b 3 0) (getD third 3 0) ∷ []

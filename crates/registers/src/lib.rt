@@ -1,24 +1,17 @@
 // Registers of four f32 channels (request 11, "Kill test on float registers"): which registers of a list kill, and the maximum and
-// the choice, channel by channel. Floats are compared as IEEE 754 does, so that minus zero and a NaN are not less than zero; what is
-// answered is one of the operands as it stands. Nothing is refused here: crates/kill judges the write mask and the list.
+// the choice, channel by channel. Floats are compared as IEEE 754 does, so that minus zero and a NaN are not less than zero. The maximum
+// and the choice are of bit patterns, so that what is answered is one of the operands bit for bit, a NaN's payload too. Nothing is
+// refused here: crates/kill judges the write mask and the list.
 ghost use mathlib.Core.Path.{_≡_};
 ghost use Prim.Native.Nat.{_+_, _*_, _≤_, _/_};
 ghost use lib.Dec.{eqb};
 ghost use lib.ListN.{length};
 ghost use Rattle.laws.specs.Choice.{_and_};
 ghost use Rattle.laws.specs.Masks.{digit};
-ghost use Rattle.registers.specs.Registers.{lessThanZero, killedBy, maximumOf, choiceOf, eachOf2, eachOf3, channelCount, mostChannels, unmasked, maskedAt, killMask};
-ghost use Rattle.registers.specs.Pattern.{isNumber, notBelowZero, lessThan, maximumBits, choiceBits, eachBits2, eachBits3};
+ghost use Rattle.registers.specs.Registers.{float, lessThanZero, atLeastZero, killedBy, maximumOf, choiceOf, eachOf2, eachOf3, channelCount, mostChannels, maskedAt, killMask};
+ghost use Rattle.registers.specs.Pattern.{isNumber};
 
-// "a register of four f32 channels"
-pub struct Register {
-    pub c0: f32,
-    pub c1: f32,
-    pub c2: f32,
-    pub c3: f32,
-}
-
-// A register under the instruction's write mask, bit c of which is for channel c: what a processor is tested by.
+// "a register of four f32 channels" under the instruction's write mask, bit c of which is for channel c: what a processor is tested by.
 pub struct Masked {
     pub c0: f32,
     pub c1: f32,
@@ -40,50 +33,12 @@ fn under(bit: u32, channel: f32) -> bool
 // Whether a channel under the write mask is less than zero. All four are asked, without a branch between them: that is quicker
 // than stopping at the first.
 pub fn kills(register: Masked) -> bool
-    ensures { λ r. ⌜ r ≡ killedBy (register .mask) (unmasked register) ⌝ }
+    ensures { λ r. ⌜ r ≡ killedBy register ⌝ }
 {
     let mask = register.mask;
     under(mask % 2, register.c0)
         | (under(mask / 2 % 2, register.c1)
             | (under(mask / 4 % 2, register.c2) | under(mask / 8 % 2, register.c3)))
-}
-
-// The larger of two channels: `a` where `b < a`, otherwise `b`.
-fn larger(a: f32, b: f32) -> f32
-    ensures { λ r. ⌜ r ≡ maximumOf a b ⌝ }
-{
-    if b < a { a } else { b }
-}
-
-// One of two channels: `a` where the third is at least zero, otherwise `b`.
-fn chosen(a: f32, b: f32, third: f32) -> f32
-    ensures { λ r. ⌜ r ≡ choiceOf a b third ⌝ }
-{
-    if third >= 0.0 { a } else { b }
-}
-
-// The maximum of two registers, channel by channel.
-pub fn maximum(a: Register, b: Register) -> Register
-    ensures { λ r. ⌜ r ≡ eachOf2 maximumOf a b ⌝ }
-{
-    Register {
-        c0: larger(a.c0, b.c0),
-        c1: larger(a.c1, b.c1),
-        c2: larger(a.c2, b.c2),
-        c3: larger(a.c3, b.c3),
-    }
-}
-
-// The choice between two registers by a third one, channel by channel.
-pub fn choice(a: Register, b: Register, third: Register) -> Register
-    ensures { λ r. ⌜ r ≡ eachOf3 choiceOf a b third ⌝ }
-{
-    Register {
-        c0: chosen(a.c0, b.c0, third.c0),
-        c1: chosen(a.c1, b.c1, third.c1),
-        c2: chosen(a.c2, b.c2, third.c2),
-        c3: chosen(a.c3, b.c3, third.c3),
-    }
 }
 
 // The register of processor `i` in a list, four channels a processor, under the write mask.
@@ -133,66 +88,52 @@ fn is_number(bits: u32) -> bool
     bits % SIGN <= INFINITY
 }
 
-// Whether one pattern's float is less than another's. A NaN is compared with nothing: there is no float made of its pattern.
-fn is_less(a: u32, b: u32) -> bool
-    ensures { λ r. ⌜ r ≡ lessThan a b ⌝ }
-{
-    if is_number(a) {
-        if is_number(b) {
-            return f32::from_bits(a) < f32::from_bits(b);
-        }
-    }
-    false
-}
-
-// Whether a pattern's float is at least zero.
-fn is_at_least_zero(bits: u32) -> bool
-    ensures { λ r. ⌜ r ≡ notBelowZero bits ⌝ }
+// The float of a bit pattern. `f32::from_bits` is defined at a number's pattern alone; a NaN's float is any NaN, since floats are only compared.
+// Without a branch between the channels all four are compared at once.
+fn float_of(bits: u32) -> f32
+    ensures { λ r. ⌜ r ≡ float bits ⌝ }
 {
     if is_number(bits) {
-        return f32::from_bits(bits) >= 0.0;
+        f32::from_bits(bits)
+    } else {
+        0.0 / 0.0
     }
-    false
 }
 
 // The larger of two channels by their patterns: `a`, bit for bit, where `b < a`, otherwise `b`. A NaN's payload is copied too.
-fn larger_bits(a: u32, b: u32) -> u32
-    ensures { λ r. ⌜ r ≡ maximumBits a b ⌝ }
+fn larger(a: u32, b: u32) -> u32
+    ensures { λ r. ⌜ r ≡ maximumOf a b ⌝ }
 {
-    if is_less(b, a) { a } else { b }
+    if float_of(b) < float_of(a) { a } else { b }
 }
 
 // One of two channels by their patterns: `a`, bit for bit, where the third is at least zero, otherwise `b`.
-fn chosen_bits(a: u32, b: u32, third: u32) -> u32
-    ensures { λ r. ⌜ r ≡ choiceBits a b third ⌝ }
+fn chosen(a: u32, b: u32, third: u32) -> u32
+    ensures { λ r. ⌜ r ≡ choiceOf a b third ⌝ }
 {
-    if is_at_least_zero(third) { a } else { b }
+    if float_of(third) >= 0.0 { a } else { b }
 }
 
 // The maximum of two registers of bit patterns, channel by channel.
-pub fn maximum_bits(a: &[u32; CHANNELS], b: &[u32; CHANNELS]) -> [u32; CHANNELS]
-    ensures { λ r. ⌜ r ≡ eachBits2 maximumBits (now (a .entry)) (now (b .entry)) ⌝ }
+pub fn maximum(a: &[u32; CHANNELS], b: &[u32; CHANNELS]) -> [u32; CHANNELS]
+    ensures { λ r. ⌜ r ≡ eachOf2 maximumOf (now (a .entry)) (now (b .entry)) ⌝ }
 {
     [
-        larger_bits(a[0], b[0]),
-        larger_bits(a[1], b[1]),
-        larger_bits(a[2], b[2]),
-        larger_bits(a[3], b[3]),
+        larger(a[0], b[0]),
+        larger(a[1], b[1]),
+        larger(a[2], b[2]),
+        larger(a[3], b[3]),
     ]
 }
 
 // The choice between two registers of bit patterns by a third one, channel by channel.
-pub fn choice_bits(
-    a: &[u32; CHANNELS],
-    b: &[u32; CHANNELS],
-    third: &[u32; CHANNELS],
-) -> [u32; CHANNELS]
-    ensures { λ r. ⌜ r ≡ eachBits3 choiceBits (now (a .entry)) (now (b .entry)) (now (third .entry)) ⌝ }
+pub fn choice(a: &[u32; CHANNELS], b: &[u32; CHANNELS], third: &[u32; CHANNELS]) -> [u32; CHANNELS]
+    ensures { λ r. ⌜ r ≡ eachOf3 choiceOf (now (a .entry)) (now (b .entry)) (now (third .entry)) ⌝ }
 {
     [
-        chosen_bits(a[0], b[0], third[0]),
-        chosen_bits(a[1], b[1], third[1]),
-        chosen_bits(a[2], b[2], third[2]),
-        chosen_bits(a[3], b[3], third[3]),
+        chosen(a[0], b[0], third[0]),
+        chosen(a[1], b[1], third[1]),
+        chosen(a[2], b[2], third[2]),
+        chosen(a[3], b[3], third[3]),
     ]
 }

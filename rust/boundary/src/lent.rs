@@ -772,21 +772,22 @@ pub fn group_kill(
     }
 }
 
-/// maximum: of two registers, channel by channel. Refuses nothing.
+/// maximum: of two registers, channel by channel, each channel as its bits. Refuses
+/// nothing.
 #[inline]
-pub fn register_maximum(a: &[f32; CHANNELS], b: &[f32; CHANNELS], maximum: &mut [f32; CHANNELS]) {
+pub fn register_maximum(a: &[u32; CHANNELS], b: &[u32; CHANNELS], maximum: &mut [u32; CHANNELS]) {
     // SAFETY: three arrays of the right length; the one that is written is apart.
     unsafe { raw::egretfold_register_maximum(a, b, maximum) }
 }
 
-/// choice: between two registers by a third one, channel by channel. Refuses
-/// nothing.
+/// choice: between two registers by a third one, channel by channel, each channel as
+/// its bits. Refuses nothing.
 #[inline]
 pub fn register_choice(
-    a: &[f32; CHANNELS],
-    b: &[f32; CHANNELS],
-    third: &[f32; CHANNELS],
-    choice: &mut [f32; CHANNELS],
+    a: &[u32; CHANNELS],
+    b: &[u32; CHANNELS],
+    third: &[u32; CHANNELS],
+    choice: &mut [u32; CHANNELS],
 ) {
     // SAFETY: four arrays of the right length; the one that is written is apart.
     unsafe { raw::egretfold_register_choice(a, b, third, choice) }

@@ -364,16 +364,16 @@ extern "C" {
     ) -> u32;
 
     pub fn egretfold_register_maximum(
-        a: &[f32; CHANNELS],
-        b: &[f32; CHANNELS],
-        maximum: &mut [f32; CHANNELS],
+        a: &[u32; CHANNELS],
+        b: &[u32; CHANNELS],
+        maximum: &mut [u32; CHANNELS],
     );
 
     pub fn egretfold_register_choice(
-        a: &[f32; CHANNELS],
-        b: &[f32; CHANNELS],
-        third: &[f32; CHANNELS],
-        choice: &mut [f32; CHANNELS],
+        a: &[u32; CHANNELS],
+        b: &[u32; CHANNELS],
+        third: &[u32; CHANNELS],
+        choice: &mut [u32; CHANNELS],
     );
 
     pub fn egretfold_session_check(

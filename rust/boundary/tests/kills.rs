@@ -212,8 +212,21 @@ fn less(a: u32, b: u32) -> bool {
     number(a) && number(b) && key(a) < key(b)
 }
 
-/// A NaN's payload is outside what is proved (docs/DECISIONS.md): these two tests
-/// stand in for it.
+/// Over bits, of which the proof speaks, and over the host's floats.
+fn both_maxima(a: &[u32; 4], b: &[u32; 4]) -> [[u32; 4]; 2] {
+    let mut bits = [0xDEAD_BEEF; 4];
+    lent::register_maximum(a, b, &mut bits);
+    let floats = maximum(&a.map(f32::from_bits), &b.map(f32::from_bits));
+    [bits, floats.map(f32::to_bits)]
+}
+
+fn both_choices(a: &[u32; 4], b: &[u32; 4], third: &[u32; 4]) -> [[u32; 4]; 2] {
+    let mut bits = [0xDEAD_BEEF; 4];
+    lent::register_choice(a, b, third, &mut bits);
+    let [a, b, third] = [a, b, third].map(|register| register.map(f32::from_bits));
+    [bits, choice(&a, &b, &third).map(f32::to_bits)]
+}
+
 #[test]
 fn the_maximum_copies_bits_exactly() {
     let patterns = patterns();
@@ -225,8 +238,8 @@ fn the_maximum_copies_bits_exactly() {
                 (one[channel], other[channel]) = (*a, *b);
                 let mut expected = other;
                 expected[channel] = if less(*b, *a) { *a } else { *b };
-                let answer = maximum(&one.map(f32::from_bits), &other.map(f32::from_bits));
-                assert_eq!(answer.map(f32::to_bits), expected, "{a:08X} and {b:08X}");
+                let answers = both_maxima(&one, &other);
+                assert_eq!(answers, [expected; 2], "{a:08X} and {b:08X}");
             }
         }
     }
@@ -239,14 +252,15 @@ fn the_choice_copies_bits_exactly() {
         let at_least_zero = !less(*third, 0) && *third & !SIGN <= 0x7F80_0000;
         for a in &patterns {
             let b = a ^ 0x0040_0001;
-            let registers = [[*a; 4], [b; 4], [*third; 4]].map(|r| r.map(f32::from_bits));
-            let answer = choice(&registers[0], &registers[1], &registers[2]);
-            let expected = if at_least_zero { *a } else { b };
-            assert_eq!(
-                answer.map(f32::to_bits),
-                [expected; 4],
-                "{a:08X} by {third:08X}"
-            );
+            // In every channel, so that each is seen to be copied.
+            for channel in 0..4 {
+                let (mut one, mut other, mut by) = ([1; 4], [2; 4], [SIGN | 1; 4]);
+                (one[channel], other[channel], by[channel]) = (*a, b, *third);
+                let mut expected = other;
+                expected[channel] = if at_least_zero { *a } else { b };
+                let answers = both_choices(&one, &other, &by);
+                assert_eq!(answers, [expected; 2], "{a:08X} by {third:08X}");
+            }
         }
     }
 }

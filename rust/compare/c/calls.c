@@ -755,14 +755,7 @@ static void check_loops(void)
     agree_words("group_loops, all closed", told, closed, 13);
 }
 
-/* The bits of a float, and the float of bits, whatever they are. */
-static uint32_t bits_of(float f)
-{
-    uint32_t bits;
-    memcpy(&bits, &f, sizeof bits);
-    return bits;
-}
-
+/* The float of bits, whatever they are. */
 static float float_of(uint32_t bits)
 {
     float f;
@@ -812,18 +805,11 @@ static void check_registers(void)
     const uint32_t thirds[4] = {0x80000000, 0x7FC00000, 0, 0x80000001};
     const uint32_t larger[4] = {0x80000000, 0x40000000, 0x3F800000, 0xFF812345};
     const uint32_t chosen[4] = {0, 0x3F800000, 0x7FC12345, 0xFF812345};
-    float a[4], b[4], third[4], room[4];
-    uint32_t seen[4];
-    for (int c = 0; c < 4; c++)
-        a[c] = float_of(bits[0][c]), b[c] = float_of(bits[1][c]), third[c] = float_of(thirds[c]);
-    egretfold_register_maximum(a, b, room);
-    for (int c = 0; c < 4; c++)
-        seen[c] = bits_of(room[c]);
-    agree_words("register_maximum", seen, larger, EGRETFOLD_CHANNELS);
-    egretfold_register_choice(a, b, third, room);
-    for (int c = 0; c < 4; c++)
-        seen[c] = bits_of(room[c]);
-    agree_words("register_choice", seen, chosen, EGRETFOLD_CHANNELS);
+    uint32_t room[4];
+    egretfold_register_maximum(bits[0], bits[1], room);
+    agree_words("register_maximum", room, larger, EGRETFOLD_CHANNELS);
+    egretfold_register_choice(bits[0], bits[1], thirds, room);
+    agree_words("register_choice", room, chosen, EGRETFOLD_CHANNELS);
 }
 
 static bool is_pair(const struct pair *p)

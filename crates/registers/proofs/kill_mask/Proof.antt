@@ -5,8 +5,7 @@ use Prim.Native.Nat.{_/_, _≤_}
 use native.Mathlib.Omega.{arith}
 use lib.ListN.{length}
 use Rattle.laws.proofs.Masks.{digit-lt}
-use Rattle.registers.specs.declared.Masked.{Masked}
-use Rattle.registers.specs.Registers.{killedBy, unmasked}
+use Rattle.registers.specs.Registers.{killedBy}
 use Rattle.registers.proofs.Killing.{killedFrom, from-none, from-room, from-more, from-all}
 use Rattle.registers.proofs.kill_mask.Statement.{statement}
 use Rattle.registers.proofs.kill_mask.Tie as tie
@@ -76,7 +75,7 @@ loop-again c =
     let mask = entry .args .mask in (
       omega (arith, at-loop .loop .inv),
       from-more registers mask (length registers / 4) (at-test .loop-test .taken) (at-loop .loop .inv .0) (at-loop .loop .inv .1)
-          (c .bit-of .ensures) (at-kills .kills .ensures ∙ ap (λ (m : Masked). killedBy (m .mask) (unmasked m)) (at-register .masked-at .ensures)),
+          (c .bit-of .ensures) (at-kills .kills .ensures ∙ ap killedBy (at-register .masked-at .ensures)),
     )
 
 -- all processors

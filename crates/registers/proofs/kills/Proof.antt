@@ -1,6 +1,5 @@
 -- `registers::kills` meets its contract: one of the four channels under the mask. Assumes nothing.
 use borrow.Author.Needs.{needs}
-use Rattle.registers.specs.Registers.{unmasked}
 use Rattle.registers.proofs.Killing.{four-channels}
 use Rattle.registers.proofs.kills.Statement.{statement}
 use Rattle.registers.proofs.kills.Tie as tie
@@ -24,7 +23,7 @@ returns c =
     let at-second = at-third .before in
     let at-first = at-second .before in
     let entry = at-first .before in
-    four-channels (entry .args .register .mask) (unmasked (entry .args .register))
+    four-channels (entry .args .register)
     (at-first .under .ensures) (at-second .under2 .ensures) (at-third .under3 .ensures) (c .under4 .ensures)
 
 pub kills-spec : {M : Type 1} → statement M
