@@ -1,7 +1,7 @@
 //! Logs with hostile names, through the lines of `fleet --commands`: a name is refused before any line is printed, or each
 //! line, run by a shell as it stands, scores its station and does nothing else, and the join is the direct report.
 
-use super::{ended, hold_end, Scene};
+use super::{ended, Scene};
 use crate::common::{sample, told};
 use compare::random::Random;
 use std::ffi::{OsStr, OsString};
@@ -175,7 +175,6 @@ pub fn drive(scene: &mut Scene) {
     let mut scores = Vec::new();
     for line in told(&commands).lines() {
         let output = run(OsStr::new("sh"), &["-c", line], &program, folder);
-        hold_end(&output);
         scores.extend(output.stdout);
     }
     assert!(!folder.join(CANARY).exists(), "a name was run");
