@@ -5,9 +5,11 @@
 //! other build; HOSTILE_COUNTS, the file that gets the counts; and HOSTILE_CASE, the number of the only case.
 
 mod aimed;
+mod forged;
 mod jobs;
 mod lines;
 mod made;
+mod names;
 
 use crate::common::Folder;
 use compare::random::Random;
@@ -32,6 +34,9 @@ const KINDS: &[Kind] = &[
     ("outputs aimed at inputs", 6, aimed::drive),
     ("kills", 1, jobs::killed),
     ("full disks", 3, jobs::full),
+    ("names through shells", 1, names::drive),
+    ("forged scores", 2, forged::scores),
+    ("forged states", 2, forged::states),
 ];
 
 /// The cases of the fixed list.
