@@ -349,8 +349,8 @@ pub fn drive(scene: &mut Scene) {
     let numbers: Vec<u64> = read.iter().map(|name| before[name].0).collect();
     for (name, (number, bytes)) in &before {
         let stays = after.get(name).map_or(false, |(_, is)| is == bytes);
-        // A state may be replaced by the one that follows it.
-        let follows = name == "march.state" && is_target(name, &["--save"]);
+        // A state may be replaced by the one that follows it, by whichever of its names.
+        let follows = name.ends_with("march.state") && is_target(name, &["--save"]);
         assert!(
             stays || follows || !numbers.contains(number),
             "{name} is read, and was changed"
