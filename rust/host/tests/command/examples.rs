@@ -2,9 +2,8 @@
 //! with the program that starts anew at each midnight, and, indented alike below it,
 //! what it prints. Each is run as it stands.
 
-use crate::common::{complained, egretfold, root, told, with_input};
+use crate::common::{complained, egretfold, root, shell, told};
 use std::fs;
-use std::process::Command;
 
 /// The line that runs station 14's log anew at each midnight.
 const ANEW: &str =
@@ -44,15 +43,8 @@ fn examples(text: &str) -> Vec<Example> {
 }
 
 fn run(example: &Example) -> String {
-    let program = env!("CARGO_BIN_EXE_egretfold");
-    let anew = env!("CARGO_BIN_EXE_anew-each-midnight");
-    let line = example
-        .line
-        .replace("./egretfold", program)
-        .replace(ANEW, anew);
-    let mut shell = Command::new("sh");
-    shell.args(["-c", &line]);
-    let output = with_input(shell, b"");
+    let line = example.line.replace("./egretfold", "egretfold");
+    let output = shell(&line.replace(ANEW, "anew-each-midnight"));
     told(&output) + &complained(&output)
 }
 
