@@ -1,7 +1,7 @@
 //! Pictures out of memory and back into it, byte for byte both ways; and the drawings
 //! of a survey, held against its rows.
 
-use crate::common::{complained, egretfold, last_line, root, sample, told, Folder};
+use crate::common::{complained, egretfold, last_line, sample, told, Folder};
 use crate::score::well_formed;
 use compare::layouts::SIZES;
 use compare::random::Random;
