@@ -82,9 +82,10 @@ fn name(argument: &Arg) -> String {
     let value = argument.get_value_names().filter(|_| takes);
     let value = value.map(|names| names.iter().map(|name| format!(" {name}")).collect());
     let value: String = value.unwrap_or_default();
-    match names.is_empty() {
-        true => value.trim_start().to_string(),
-        false => names.join(", ") + &value,
+    if names.is_empty() {
+        value.trim_start().to_string()
+    } else {
+        names.join(", ") + &value
     }
 }
 
@@ -139,9 +140,10 @@ impl Page {
 /// A line that man takes for text alone.
 fn escaped(line: &str) -> String {
     let line = line.replace('\\', "\\e").replace('-', "\\-");
-    match line.starts_with(['.', '\'']) {
-        true => format!("\\&{line}"),
-        false => line,
+    if line.starts_with(['.', '\'']) {
+        format!("\\&{line}")
+    } else {
+        line
     }
 }
 

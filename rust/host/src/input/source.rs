@@ -64,10 +64,11 @@ impl Source {
             return Err(Failure::Wrong(format!("{name}: is {what}")));
         }
         let length = Some(about.len());
-        Ok(match about.is_file() {
-            true => Source::new(name, Box::new(Later::new(path, &about)), length),
+        Ok(if about.is_file() {
+            Source::new(name, Box::new(Later::new(path, &about)), length)
+        } else {
             // A pipe can't be opened twice.
-            false => Source::new(name, Box::new(file), length),
+            Source::new(name, Box::new(file), length)
         })
     }
 
@@ -164,9 +165,10 @@ impl Source {
     /// The whole input, of which that much is taken.
     pub fn all(&mut self, most: usize) -> Outcome<Vec<u8>> {
         let all = self.up_to(most as u64)?;
-        match all.len() > most {
-            true => Err(self.wrong(format!("is longer than {most} bytes"))),
-            false => Ok(all),
+        if all.len() > most {
+            Err(self.wrong(format!("is longer than {most} bytes")))
+        } else {
+            Ok(all)
         }
     }
 
@@ -179,16 +181,18 @@ impl Source {
             return Err(self.wrong(longer));
         }
         let dump = self.up_to(most)?;
-        match dump.len() as u64 > MOST_MEMORY {
-            true => Err(self.wrong(longer)),
-            false => Ok(dump),
+        if dump.len() as u64 > MOST_MEMORY {
+            Err(self.wrong(longer))
+        } else {
+            Ok(dump)
         }
     }
 
     fn failed(&self, error: &io::Error) -> String {
-        match self.packed {
-            true => format!("byte {} of what gzip packed: {error}", self.at),
-            false => format!("byte {}: {error}", self.at),
+        if self.packed {
+            format!("byte {} of what gzip packed: {error}", self.at)
+        } else {
+            format!("byte {}: {error}", self.at)
         }
     }
 

@@ -114,13 +114,14 @@ fn the_forms_agree() {
             // One number for all days, which JSON has in the summary alone.
             object["edition"] = summary["edition"].clone();
             let dated = object["date"].is_string();
-            let keys: &[&str] = match dated {
-                true => &[
+            let keys: &[&str] = if dated {
+                &[
                     "day", "date", "claimed", "served", "owed", "dark", "in_log", "edition",
-                ],
-                false => &[
+                ]
+            } else {
+                &[
                     "day", "claimed", "served", "owed", "dark", "in_log", "edition",
-                ],
+                ]
             };
             let values: Vec<String> = keys
                 .iter()
