@@ -108,12 +108,11 @@ impl Line<'_, '_> {
             self.put(option);
         }
         let free = self.standard.is_none() && self.scene.random.once_in(6);
-        let alias = match free {
-            true => {
-                self.standard = Some(name.to_string());
-                self.scene.random.one_of(&STANDARD).to_string()
-            }
-            false => self.alias(name),
+        let alias = if free {
+            self.standard = Some(name.to_string());
+            self.scene.random.one_of(&STANDARD).to_string()
+        } else {
+            self.alias(name)
         };
         self.words.push(alias);
         self.read.push(name.to_string());
@@ -238,12 +237,11 @@ impl Line<'_, '_> {
         self.reads("--stream", "s.ctm");
         self.reads("--memory", "m.mem");
         self.flag(2, "--replace");
-        match self.scene.random.coin() {
-            true => self.writes(1, "--out"),
-            false => {
-                self.reads("--in", "p.ppm");
-                self.writes(1, "--to");
-            }
+        if self.scene.random.coin() {
+            self.writes(1, "--out");
+        } else {
+            self.reads("--in", "p.ppm");
+            self.writes(1, "--to");
         }
     }
 
