@@ -8,8 +8,10 @@ use crate::common::visible;
 use crate::input::later::Later;
 use crate::input::packed::{self, Counted};
 use crate::input::progress::Bar;
+use nix::unistd::isatty;
 use std::fs::{self, File};
 use std::io::{self, Read, Write};
+use std::os::unix::io::AsRawFd;
 use std::path::{Path, PathBuf};
 
 /// Bytes that are read at once: a whole number of words.
@@ -73,7 +75,7 @@ impl Source {
     }
 
     fn standard() -> Source {
-        if atty::is(atty::Stream::Stdin) {
+        if isatty(io::stdin().as_raw_fd()).unwrap_or(false) {
             // Where standard error is closed, nobody wonders.
             let _ = writeln!(
                 io::stderr(),
