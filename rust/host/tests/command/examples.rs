@@ -81,6 +81,24 @@ fn the_first_page_is_short() {
     assert!(lines <= 120, "README.md has {lines} lines");
 }
 
+/// An editor shows them whole. A row of docs/AUDIT.md is one line, which tools/audit reads.
+#[test]
+fn the_documents_lines_are_short() {
+    let docs = fs::read_dir(root().join("docs")).expect("the documents are there");
+    let docs = docs.map(|entry| entry.expect("an entry").path());
+    let first = ["README.md", "CONTRIBUTING.md", "CHANGELOG.md"].map(|name| root().join(name));
+    let documents = first.into_iter().chain(docs);
+    for file in documents.filter(|file| file.extension().map_or(false, |kind| kind == "md")) {
+        let text = fs::read_to_string(&file).expect("text");
+        for (number, line) in (1..).zip(text.lines()) {
+            let row = file.ends_with("AUDIT.md") && line.starts_with('|');
+            let length = line.chars().count();
+            let place = format!("{}:{number}", file.display());
+            assert!(row || length <= 170, "{place} has {length} characters");
+        }
+    }
+}
+
 #[test]
 fn the_first_page_lists_every_command() {
     let text = fs::read_to_string(root().join("README.md")).expect("the document is there");
