@@ -368,6 +368,7 @@ impl Reading<'_> {
             resume: self.state(folder, station.as_deref()),
             saves: false,
             files: files.unwrap_or_default(),
+            called: None,
             issue: Issue::of(&station, &lessee, issued),
         };
         let lease = self.lease(&asked)?;

@@ -30,6 +30,11 @@ pub enum Sort {
     Silent,
 }
 
+/// The checks that are told of stations beside each other, by their keys: a log by itself doesn't tell them.
+pub const OF_THE_FLEET: [&str; 1] = [SAME_LOG];
+
+const SAME_LOG: &str = "same_log";
+
 pub struct Fleet {
     /// In the lease file's order.
     pub kept: Vec<Kept>,
@@ -214,7 +219,7 @@ fn tell_same_logs(kept: &mut [Kept]) {
     for (place, others) in told {
         if let Kept::Scored(score) = &mut kept[place] {
             let text = format!("the log is byte for byte that of station {others} too");
-            score.checks.push(Check::new("same_log", text, None));
+            score.checks.push(Check::new(SAME_LOG, text, None));
         }
     }
 }

@@ -5,14 +5,16 @@ use crate::common::failure::{Failure, Outcome};
 use crate::common::visible;
 use crate::fleet::held;
 use crate::fleet::kept::Kept;
+use crate::fleet::month::OF_THE_FLEET;
 use crate::input::source::Source;
-use crate::score::asked::{accepted, dates, Card, LeaseLine, Unscored};
+use crate::score::asked::{accepted, dates, Called, Card, LeaseLine, Unscored};
 use crate::score::checks::Check;
 use crate::score::civil::Date;
 use crate::score::issue::Issue;
 use crate::score::month::{verdict_name, Began, Day, Score};
 use boundary::{Edition, Month, Verdict};
 use serde_json::Value;
+use std::borrow::Cow;
 use std::path::PathBuf;
 
 /// Lines of a hundred thousand stations.
@@ -57,7 +59,17 @@ pub fn read(files: &[PathBuf]) -> Outcome<Vec<Kept>> {
 }
 
 fn card(summary: &Value, days: &[Value]) -> Read<Card> {
-    let lease = &summary["lease"];
+    let (line, from) = lease_line(summary)?;
+    let issue = issue(summary)?;
+    match summary.get("unscored") {
+        Some(told) => unscored(summary, told, line, from, issue),
+        None => scored(summary, days, line, from, issue),
+    }
+}
+
+/// The lease line with its first date.
+fn lease_line(value: &Value) -> Read<(LeaseLine, Option<Date>)> {
+    let lease = &value["lease"];
     let line = LeaseLine {
         first_day: short(lease, "first_day")?,
         days: short(lease, "days")?,
@@ -65,16 +77,60 @@ fn card(summary: &Value, days: &[Value]) -> Read<Card> {
     };
     let from = optional(lease, "from")?;
     let from = from.map(|text| Date::parse(&text)).transpose()?;
-    let issue = Issue {
+    Ok((line, from))
+}
+
+fn issue(summary: &Value) -> Read<Issue> {
+    Ok(Issue {
         station: optional(summary, "station")?,
         lessee: optional(summary, "lessee")?,
         date: Date::parse(&text(summary, "issued")?)?,
         version: text(summary, "version")?.into(),
+        archive: optional(summary, "archive")?.map(Cow::from),
+    })
+}
+
+/// What a card says of itself that no log tells, by which it can be made anew.
+pub struct Said {
+    /// The number of its edition.
+    pub edition: u32,
+    pub line: LeaseLine,
+    pub from: Option<Date>,
+    pub issue: Issue,
+    pub called: Called,
+    /// Whether it says that there is a score.
+    pub scored: bool,
+    /// What a fleet's card is to be checked for beside other stations.
+    pub checks: Vec<Check>,
+}
+
+/// The same of its summary, whose figures aren't asked about.
+pub fn said(summary: &Value) -> Read<Said> {
+    let (line, from) = lease_line(summary)?;
+    let scored = summary.get("unscored").is_none();
+    let inputs = match scored {
+        true => texts(&summary["log"], "inputs")?,
+        false => texts(summary, "inputs")?,
     };
-    match summary.get("unscored") {
-        Some(told) => unscored(summary, told, line, from, issue),
-        None => scored(summary, days, line, from, issue),
-    }
+    let began = began(&summary["began_from"])?;
+    // What is none isn't one that can be told again, and is found where the figures are compared.
+    let checks = summary["checks"].as_array().into_iter().flatten();
+    let checks = checks.filter_map(|value| check(value).ok());
+    let checks = checks.filter(|check| OF_THE_FLEET.contains(&&*check.key));
+    // None of them explains a short month.
+    let checks = checks.map(|check| Check::new(&check.key, check.text, None));
+    Ok(Said {
+        edition: short(summary, "edition")?,
+        line,
+        from,
+        issue: issue(summary)?,
+        called: Called {
+            inputs,
+            state: began.map(|began| began.state),
+        },
+        scored,
+        checks: checks.collect(),
+    })
 }
 
 fn unscored(

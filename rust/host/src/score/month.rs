@@ -11,6 +11,7 @@ use boundary::{Edition, Lease, Month, ScoredDay, Verdict};
 use serde_json::{json, Value};
 
 /// A month, its lease and what is told of the log that it is of.
+#[derive(Clone)]
 pub struct Score {
     /// The edition of the lease rule that it is scored by.
     pub edition: Edition,
@@ -51,6 +52,7 @@ impl Began {
 }
 
 /// A day of the lease.
+#[derive(Clone)]
 pub struct Day {
     pub number: u32,
     pub date: Option<Date>,

@@ -3,7 +3,7 @@
 //!
 //!     RENEW=1 cargo test -p host golden
 
-use crate::common::{complained, egretfold, root, told, Folder};
+use crate::common::{complained, egretfold, root, told, without_version, Folder};
 use std::fs;
 use std::path::Path;
 
@@ -966,12 +966,4 @@ fn seen(arguments: &str, input: &str) -> String {
         complained(&output)
     );
     without_version(&seen)
-}
-
-/// The text without the commit that the command is built from, which no stored file can
-/// know.
-fn without_version(text: &str) -> String {
-    let version = told(&egretfold("-V", b""));
-    let version = version.trim().trim_start_matches("egretfold ");
-    text.replace(version, "VERSION")
 }

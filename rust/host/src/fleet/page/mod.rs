@@ -49,7 +49,10 @@ pub fn of_one(card: &Card) -> String {
         Card::Unscored(unscored) => unscored.name().to_string(),
     };
     let cards = [(0, card)];
-    let parts = [glance::table(&cards), all_cards(&cards)];
+    let parts = [
+        glance::table(&cards),
+        section(0, &picture::svg_in_its_page(card)),
+    ];
     let issued = card.issue().told();
     page("one", &title, &[told], &issued, &parts.concat())
 }
@@ -180,9 +183,11 @@ fn silent_days(cards: &[Placed]) -> String {
 }
 
 fn all_cards(cards: &[Placed]) -> String {
-    let card = |(place, card): &Placed| {
-        let svg = picture::svg_within(card);
-        format!("<section class=\"card\" id=\"station-{place}\">\n{svg}</section>\n")
-    };
+    let card = |(place, card): &Placed| section(*place, &picture::svg_among_others(card));
     cards.iter().map(card).collect()
+}
+
+/// The drawn card of the station with this place.
+fn section(place: usize, svg: &str) -> String {
+    format!("<section class=\"card\" id=\"station-{place}\">\n{svg}</section>\n")
 }

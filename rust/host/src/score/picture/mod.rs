@@ -13,6 +13,7 @@ use crate::common::digits::grouped;
 use crate::common::replaced::SVG_BEGIN;
 use crate::common::text;
 use crate::score::asked::Card;
+use crate::score::block::{self, file_name};
 use crate::score::civil::{Date, WEEKDAYS};
 use crate::score::month::{self, Score, Served};
 use crate::score::picture::cell::bar;
@@ -45,16 +46,23 @@ const SMALL: Style = Style::of(12, PALE_INK);
 
 /// A card as a picture of its own.
 pub fn svg(card: &Card) -> String {
-    drawn(card).alone()
+    let card = block::printed(card);
+    drawn(&card).alone(&block::of(&card))
 }
 
-/// A card for a page that has the patterns.
-pub fn svg_within(card: &Card) -> String {
-    drawn(card).within()
+/// A card for a page of its own that has the patterns.
+pub fn svg_in_its_page(card: &Card) -> String {
+    let card = block::printed(card);
+    drawn(&card).within(&block::of(&card))
 }
 
-fn drawn(card: &Card) -> Framed {
-    match card {
+/// A card among others on a page that has the patterns: who wants its figures takes the card by itself.
+pub fn svg_among_others(card: &Card) -> String {
+    drawn(&block::printed(card)).within("")
+}
+
+fn drawn(printed: &Card) -> Framed {
+    match printed {
         Card::Scored(score) => calendar(score),
         Card::Unscored(unscored) => unscored::drawn(unscored),
     }
@@ -91,8 +99,7 @@ fn calendar(score: &Score) -> Framed {
     }
     legend(&mut drawing, score, below + 22);
     foot::issue(&mut drawing, &score.issue, below + 22);
-    let digest = score.digest.as_deref();
-    foot::digests(&mut drawing, digest, score.began.as_ref(), below + 22);
+    foot::digests(&mut drawing, score, below + 22);
     foot::sign(&mut drawing, below + 22);
     Framed {
         title: title(score),
@@ -120,21 +127,21 @@ pub const PATTERNS: &str = r##"<defs>
 "##;
 
 impl Framed {
-    fn alone(&self) -> String {
+    fn alone(&self, block: &str) -> String {
         let scaled = |most: u32, of: u32, by: u32| (most * of + by / 2) / by;
         let (width, height) = match scaled(PAPER_WIDTH, self.height, WIDTH) {
             high if high <= PAPER_HEIGHT => (PAPER_WIDTH, high),
             _ => (scaled(PAPER_HEIGHT, WIDTH, self.height), PAPER_HEIGHT),
         };
         let size = format!(r#" width="{width}mm" height="{height}mm""#);
-        self.svg(&size, PATTERNS)
+        self.svg(&size, block, PATTERNS)
     }
 
-    fn within(&self) -> String {
-        self.svg("", "")
+    fn within(&self, block: &str) -> String {
+        self.svg("", block, "")
     }
 
-    fn svg(&self, size: &str, patterns: &str) -> String {
+    fn svg(&self, size: &str, block: &str, patterns: &str) -> String {
         let title = Drawing::escaped(&self.title);
         let told = Drawing::escaped(&self.told);
         let view = format!(r#"viewBox="0 0 {WIDTH} {}""#, self.height);
@@ -145,7 +152,7 @@ impl Framed {
             r##"{SVG_BEGIN}xmlns="http://www.w3.org/2000/svg"{size} {view} {fonts} role="img">
 <title>{title}</title>
 <desc>{told}</desc>
-{patterns}{elements}</svg>
+{block}{patterns}{elements}</svg>
 "##
         )
     }
@@ -192,19 +199,23 @@ fn head(drawing: &mut Drawing, score: &Score, down: u32) {
         None => format!("{owed} elements owed a day"),
     };
     let lease = format!("{lease}, edition {}", score.edition.number());
-    let log = format!("Log {}", month::log_name(&score.inputs, file_name));
-    drawing.text((LEFT, down + 58), &title(score), &TITLE);
-    let lines = [score.issue.whose(), Some(lease), Some(log)];
-    for (y, line) in (88..).step_by(24).zip(lines.iter().flatten()) {
-        let style = PLAIN.at_most(580);
+    let log = format!("Log {}", month::log_name(&score.inputs, short_name));
+    let heading = TITLE.showing("month");
+    drawing.text((LEFT, down + 58), &title(score), &heading);
+    let whose = score.issue.whose().map(|whose| (whose, "whose"));
+    let lines = [whose, Some((lease, "lease")), Some((log, "log"))];
+    for (y, (line, figure)) in (88..).step_by(24).zip(lines.iter().flatten()) {
+        let style = PLAIN.at_most(580).showing(figure);
         drawing.text((LEFT, down + y), &within(line, 80), &style);
     }
     verdict(drawing, score, down);
     let (served, owed) = (score.month.served, score.month.owed);
     let total = format!("{} of {} elements served", grouped(served), grouped(owed));
     let right = PLAIN.to_the_left();
-    drawing.text((RIGHT, down + 112), &total, &right.bold());
-    drawing.text((RIGHT, down + 136), &in_days(score), &right);
+    let style = right.bold().showing("served of owed");
+    drawing.text((RIGHT, down + 112), &total, &style);
+    let style = right.showing("part and days");
+    drawing.text((RIGHT, down + 136), &in_days(score), &style);
     let fill = match score.month.verdict {
         Verdict::Full => FULL,
         _ => PART,
@@ -224,10 +235,9 @@ fn in_days(score: &Score) -> String {
     format!("{percent}: {full} in full, {part} in part, {dark} dark")
 }
 
-/// A file's name without the folders that it is in.
-pub fn file_name(path: &str) -> String {
-    let name = path.rsplit('/').next().unwrap_or(path);
-    within(name, 60)
+/// A file's name in a line of the card.
+fn short_name(path: &str) -> String {
+    within(&file_name(path), 60)
 }
 
 /// A text, or so many letters of its begin and its end.
@@ -276,6 +286,7 @@ fn verdict(drawing: &mut Drawing, score: &Score, down: u32) {
     let x = RIGHT - width;
     let name = score.verdict_name().to_uppercase();
     let style = Style::of(26, ink).bold().in_the_middle();
+    let style = style.showing("verdict");
     drawing.rect((x, down + 30), (width, 46), &look);
     drawing.text((x + width / 2, down + 62), &name, &style);
 }
@@ -311,14 +322,14 @@ fn legend(drawing: &mut Drawing, score: &Score, y: u32) {
 
 #[cfg(test)]
 mod tests {
-    use super::{file_name, within, wrapped};
+    use super::{short_name, within, wrapped};
 
     #[test]
     fn a_long_name_keeps_its_begin_and_its_end() {
         assert_eq!(within("station.log", 11), "station.log");
         assert_eq!(within("é-station-14.log", 11), "é-sta…14.log");
-        assert_eq!(file_name("/a/b/station.log"), "station.log");
-        assert_eq!(file_name("standard input"), "standard input");
+        assert_eq!(short_name("/a/b/station.log"), "station.log");
+        assert_eq!(short_name("standard input"), "standard input");
     }
 
     #[test]

@@ -8,11 +8,11 @@ use crate::score::month;
 use crate::score::picture::notice::Notice;
 use crate::score::picture::svg::{Drawing, Style, INK, PAPER};
 use crate::score::picture::{
-    file_name, foot, month_of, within, Framed, LEFT, PLAIN, RIGHT, TITLE, WIDTH,
+    foot, month_of, short_name, within, Framed, LEFT, PLAIN, RIGHT, TITLE, WIDTH,
 };
 
 pub fn drawn(unscored: &Unscored) -> Framed {
-    let told = without_folders(&unscored.why, &unscored.inputs);
+    let told = &unscored.why;
     let why: Vec<String> = told.lines().map(|line| line.trim().into()).collect();
     let notice = Notice::new("There is no score, because", &why);
     let below = 160 + notice.height();
@@ -24,7 +24,7 @@ pub fn drawn(unscored: &Unscored) -> Framed {
     let owed = grouped(u64::from(unscored.line.owed));
     let (days, edition) = (days(unscored), unscored.edition);
     let lease = format!("{days}, {owed} elements owed a day, edition {edition}");
-    let log = format!("Log {}", month::log_name(&unscored.inputs, file_name));
+    let log = format!("Log {}", month::log_name(&unscored.inputs, short_name));
     let lines = [unscored.issue.whose(), Some(lease), Some(log)];
     for (y, line) in (88..).step_by(24).zip(lines.iter().flatten()) {
         drawing.text((LEFT, y), &within(line, 80), &PLAIN.at_most(620));
