@@ -289,7 +289,7 @@ mod tests {
             ("x=\"1\"", "x=\"2\"", "day 7, drawn"),
             ("SHORT", "FULL", "verdict"),
             ("</svg>", "<text>9</text></svg>", "drawn"),
-            ("<svg>\n", "<svg><!-- -->\n", "drawn"),
+            ("<svg>\n", "<svg><!-- -->\n", "day 7, drawn"),
             ("</svg>", "", "drawn"),
         ] {
             assert_eq!(names(&apart(&logs.replace(old, new))), [due], "{new}");

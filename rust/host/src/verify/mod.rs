@@ -14,6 +14,7 @@ use crate::fleet::scores::Said;
 use crate::input::source;
 use crate::score::asked::{Asked, Card};
 use crate::score::issue::{ARCHIVE, VERSION};
+use crate::score::month::log_name;
 use crate::score::rows;
 use crate::verify::compared::{differences, Difference};
 use crate::verify::given::Given;
@@ -211,7 +212,8 @@ impl Verified<'_> {
         let issue = &said.issue;
         let archive = issue.archive.iter().map(|archive| archive_line(archive));
         let mut lines: Vec<String> = issue.whose().into_iter().collect();
-        lines.extend([lease, issue.told()]);
+        let log = log_name(&said.called.inputs, |name| name.to_string());
+        lines.extend([lease, format!("Log {log}"), issue.told()]);
         lines.extend(archive);
         lines.extend(said.checks.iter().map(|check| check.text.clone()));
         lines

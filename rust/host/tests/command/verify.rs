@@ -64,6 +64,8 @@ fn a_card_is_verified_in_each_form() {
         for line in [
             "  Station 14, leased to Harbour\n",
             "  30 days from day 101 (2026-04-01) on, 14,000,000 elements owed a day, edition 1\n",
+            "  Log ",
+            "station-14.log\n",
             "  Issued 2026-05-02 by egretfold VERSION\n  SHA-256 of the proved archive: ARCHIVE\n",
             "scored anew by egretfold VERSION\n  SHA-256 of the proved archive: ARCHIVE\n  SHA-256 of the log's bytes: 3c06cff29145",
             "\nverified: all that the card says of the log, and shows, is what these logs give\n",
