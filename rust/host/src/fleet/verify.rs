@@ -6,6 +6,7 @@ use crate::common::files::Files;
 use crate::common::text;
 use crate::common::visible;
 use crate::fleet::cards;
+use crate::fleet::join;
 use crate::fleet::leases::Row;
 use crate::fleet::month::{station, Fleet};
 use crate::score::asked::Card;
@@ -150,6 +151,9 @@ fn found(mut card: Card, file: &Path) -> Found {
         Err(cause) => return Found::Unreadable(cause),
     };
     card.issue_mut().is_said_by(&given.said.issue);
+    if let Card::Scored(score) = &mut card {
+        join::say_again(&mut score.checks, &given.said.checks);
+    }
     match differences(&given, &given.form.made(&card)) {
         none if none.is_empty() => Found::Verified,
         differences => Found::Differs(differences),

@@ -43,6 +43,8 @@ pub struct Asked {
     pub resume: Option<PathBuf>,
     /// Whether a state is saved at its end.
     pub saves: bool,
+    /// Whether inputs with the same bytes are meant.
+    pub repeats: bool,
     pub files: Vec<PathBuf>,
     /// What the files are called, where a card tells that.
     pub called: Option<Called>,
@@ -253,6 +255,7 @@ impl Asked {
         if self.saves {
             log = log.for_a_state();
         }
+        log = log.taking_repeats(self.repeats);
         let mut sources = Source::open_all(&self.files)?;
         if let Some(called) = &self.called {
             called.name(&mut sources, &mut log);

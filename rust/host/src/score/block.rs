@@ -4,6 +4,7 @@
 use crate::score::asked::{Card, Unscored};
 use crate::score::checks::Check;
 use crate::score::month::{Began, Score};
+use crate::score::picture::file_name;
 use crate::score::picture::unscored::without_folders;
 use crate::score::rows;
 use serde_json::{json, Value};
@@ -53,11 +54,6 @@ fn printed_unscored(unscored: &Unscored) -> Unscored {
         log: Value::Null,
         ..unscored.clone()
     }
-}
-
-/// A file's name without the folders that it is in.
-pub fn file_name(path: &str) -> String {
-    path.rsplit('/').next().unwrap_or(path).to_string()
 }
 
 /// The block of a card that is printed so.

@@ -10,6 +10,7 @@ use crate::common::failure::{Failure, Outcome};
 use crate::common::files::Files;
 use crate::common::text;
 use crate::common::visible;
+use crate::fleet::files::{self, Named};
 use crate::fleet::scores::Said;
 use crate::input::source;
 use crate::score::asked::{Asked, Card};
@@ -42,7 +43,7 @@ pub struct Options {
     /// The card: SVG, HTML or JSON; standard input for -
     #[arg(value_name = "CARD")]
     card: PathBuf,
-    /// The log; several files in their order are one log; standard input for -
+    /// The log; several files in their order are one log, and so are a folder's, in name order; standard input for -
     #[arg(value_name = "LOG", required = true)]
     files: Vec<PathBuf>,
     /// The state that the log goes on from, where the card names one
@@ -57,19 +58,27 @@ impl Options {
     /// Names the files of the line.
     pub fn name(&self, files: &mut Files) {
         files.reads("CARD", Some(&self.card));
-        files.reads_all("LOG", &self.files);
+        files.reads_all("LOG", &self.logs().files);
         files.reads("--resume", self.resume.as_deref());
     }
 
-    /// What is asked by what the card says of itself.
+    /// The log's files, those of folders among them.
+    fn logs(&self) -> Named {
+        files::in_folders(&self.files)
+    }
+
+    /// What is asked by what the card says of itself. Whether repeated pieces are meant the card's digest tells.
     fn asked(&self, said: &Said) -> Asked {
+        let logs = self.logs();
+        logs.tell_passed();
         Asked {
             edition: said.edition,
             line: said.line,
             from: said.from,
             resume: self.resume.clone(),
             saves: false,
-            files: self.files.clone(),
+            repeats: true,
+            files: logs.files,
             called: Some(said.called.clone()),
             issue: said.issue.clone(),
         }
@@ -211,9 +220,9 @@ impl Verified<'_> {
         );
         let issue = &said.issue;
         let archive = issue.archive.iter().map(|archive| archive_line(archive));
-        let mut lines: Vec<String> = issue.whose().into_iter().collect();
+        let mut lines: Vec<String> = issue.whose().into_iter().chain(issue.lease()).collect();
         let log = log_name(&said.called.inputs, |name| name.to_string());
-        lines.extend([lease, format!("Log {log}"), issue.told()]);
+        lines.extend([lease, issue.days(), format!("Log {log}"), issue.told()]);
         lines.extend(archive);
         lines.extend(said.checks.iter().map(|check| check.text.clone()));
         lines

@@ -67,7 +67,7 @@ fn a_card_is_verified_in_each_form() {
             "  Log ",
             "station-14.log\n",
             "  Issued 2026-05-02 by egretfold VERSION\n  SHA-256 of the proved archive: ARCHIVE\n",
-            "scored anew by egretfold VERSION\n  SHA-256 of the proved archive: ARCHIVE\n  SHA-256 of the log's bytes: 3c06cff29145",
+            "scored anew by egretfold VERSION\n  SHA-256 of the proved archive: ARCHIVE\n  SHA-256 of the log's bytes: ",
             "\nverified: all that the card says of the log, and shows, is what these logs give\n",
         ] {
             assert!(text.contains(line), "{form}: {line} in {text}");
@@ -390,15 +390,15 @@ fn hostile_cards_are_told_and_never_verified() {
             "its block of figures is cut",
         ),
         (
-            with(&svg, "{\"day\":101,", "{\"day\":101,,"),
+            with(&svg, "\"day\":101,", "\"day\":101,,"),
             2,
             "line 1 of its figures is no JSON: ",
         ),
         (
             with(
                 &svg,
-                "{\"day\":101,",
-                &format!("{}\n{{\"day\":101,", "[".repeat(100_000)),
+                "{\"summary\"",
+                &format!("{}\n{{\"summary\"", "[".repeat(100_000)),
             ),
             2,
             "recursion limit",
@@ -420,7 +420,7 @@ fn hostile_cards_are_told_and_never_verified() {
         ),
         (format!("{json}{json}").into_bytes(), 2, "has 2 summaries"),
         (
-            with(&json, "{\"day\":101,", "{\"day\":101,\"day\":101,"),
+            with(&json, "\"day\":101,", "\"day\":101,\"day\":101,"),
             1,
             "",
         ),

@@ -4,6 +4,7 @@
 
 mod glance;
 mod stations;
+mod strip;
 
 use crate::common::digits::Digits;
 use crate::common::failure::{Failure, Outcome};
@@ -11,6 +12,7 @@ use crate::common::replaced::HTML_BEGIN;
 use crate::fleet::month::{station, Fleet};
 use crate::fleet::text;
 use crate::score::asked::Card;
+use crate::score::block;
 use crate::score::issue::VERSION;
 use crate::score::picture::svg::Drawing;
 use crate::score::picture::{self, PATTERNS};
@@ -39,6 +41,7 @@ type Placed<'a> = (usize, &'a Card);
 
 /// The page of one station.
 pub fn of_one(card: &Card) -> String {
+    let card = &block::printed(card);
     let month = picture::title_of(card);
     let title = match card.issue().whose() {
         Some(whose) => format!("{whose}: {month}"),
@@ -48,9 +51,13 @@ pub fn of_one(card: &Card) -> String {
         Card::Scored(score) => score.verdict(),
         Card::Unscored(unscored) => unscored.name().to_string(),
     };
-    let cards = [(0, card)];
+    let checks = card.score().map_or(&[][..], |score| &score.checks);
+    let checks = checks
+        .iter()
+        .map(|check| format!("<li>{}</li>\n", escaped(&check.text)));
     let parts = [
-        glance::table(&cards),
+        notice("Check before sending", checks.collect()),
+        strip::of(card),
         section(0, &picture::svg_in_its_page(card)),
     ];
     let issued = card.issue().told();
@@ -76,7 +83,7 @@ pub fn html(fleet: &Fleet) -> String {
         glance::table(&cards),
         "<h2>Stations</h2>\n".to_string(),
         stations::table(fleet, &cards),
-        silent_days(&cards),
+        dark_days(&cards),
         all_cards(&cards),
     ];
     let issued = format!("Issued {} by egretfold {VERSION}", fleet.date);
@@ -170,15 +177,15 @@ fn checks(placed: &Placed) -> Vec<String> {
         .collect()
 }
 
-fn silent_days(cards: &[Placed]) -> String {
-    let silent = |placed: &Placed| {
-        let text = text::silent(placed.1.score()?);
+fn dark_days(cards: &[Placed]) -> String {
+    let dark = |placed: &Placed| {
+        let text = text::dark(placed.1.score()?);
         (!text.is_empty()).then(|| line(placed, &text))
     };
-    let lines: String = cards.iter().filter_map(silent).collect();
+    let lines: String = cards.iter().filter_map(dark).collect();
     match lines.is_empty() {
         true => String::new(),
-        false => format!("<h2>Silent days</h2>\n<ul>\n{lines}</ul>\n"),
+        false => format!("<h2>Dark days</h2>\n<ul>\n{lines}</ul>\n"),
     }
 }
 
