@@ -4,7 +4,7 @@
 //! side by `stations`, and added to the product's report. `commands` gives the lines for
 //! scoring elsewhere, `scores` reads what they print, and `join` holds it against the lease
 //! file. A `month` of cards, each `kept` small, is told as `text`, as `rows`, as a `page` and
-//! as a folder of `cards`.
+//! as a folder of `cards`, which `verify` holds against their logs.
 
 mod cards;
 pub mod cells;
@@ -17,10 +17,11 @@ mod leases;
 pub mod month;
 pub mod page;
 mod rows;
-mod scores;
+pub mod scores;
 mod states;
 mod stations;
 pub mod text;
+mod verify;
 mod workers;
 
 use crate::common::digits::Digits;
@@ -52,12 +53,16 @@ is read from nothing.
 A station whose log is refused or can't be read is told in its row, and the others are scored.
 Exit status: 0 all full or nothing owed, 3 one is short, 1 one has no score, 2 a wrong command line or
 lease file.
+With --verify each card is verified, differs, or is unreadable, missing or nobody's, as egretfold verify --help tells, and its
+lease line and names are held against the lease file's. Exit status: 0 all are verified, 1 one differs, is missing or is
+nobody's, 2 one is unreadable.
 
 Examples, from the repository's root:
   egretfold fleet samples/leases.csv
   egretfold fleet samples/leases.csv --sort station --csv
   egretfold fleet samples/leases.csv --csv-days
   egretfold fleet samples/leases.csv --html april.html --cards cards
+  egretfold fleet samples/leases.csv --verify cards
   egretfold fleet samples/leases.csv --commands | sh >scores; egretfold fleet samples/leases.csv --from-scores scores";
 
 #[derive(Args)]
@@ -101,6 +106,10 @@ pub struct Options {
     /// Draw each station's card into this folder, in place of its earlier one
     #[arg(long, value_name = "DIR")]
     cards: Option<PathBuf>,
+    /// Hold each station's card in this folder, which --cards wrote, against its log, which is scored anew
+    #[arg(long, value_name = "FOLDER", requires = "leases",
+        conflicts_with_all = ["from_scores", "commands", "csv", "csv_days", "plain", "html", "cards", "save_states", "sort", "issued"])]
+    verify: Option<PathBuf>,
     /// Save each station's state at its log's end in this folder, by the station's name, for the column state of the next
     /// month's lease file; an earlier state of the same station there is replaced, nothing else
     #[arg(long, value_name = "FOLDER", conflicts_with = "from_scores")]
@@ -181,6 +190,9 @@ pub fn run(options: &Options, files: &mut Files, out: &mut dyn Write) -> Outcome
     };
     files.states(std::mem::take(&mut group.states));
     let fleet = Fleet::new(group, options.sort, date);
+    if let Some(folder) = &options.verify {
+        return verify::run(&fleet, folder, options.json, out);
+    }
     if let Some(folder) = &options.cards {
         cards::write(&fleet, folder, files);
     }
@@ -204,6 +216,9 @@ pub fn run(options: &Options, files: &mut Files, out: &mut dyn Write) -> Outcome
 fn name_rows(rows: &[Row], options: &Options, files: &mut Files) -> Outcome {
     if let Some(folder) = &options.cards {
         cards::name(folder, rows.iter().map(Row::station), files);
+    }
+    if let Some(folder) = &options.verify {
+        verify::name(folder, rows, files)?;
     }
     for row in rows {
         for file in &row.asked.files {

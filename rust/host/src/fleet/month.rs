@@ -32,6 +32,12 @@ pub enum Sort {
     Dark,
 }
 
+/// The checks that are told of stations beside each other, by their keys: a log by itself doesn't tell them.
+pub const OF_THE_FLEET: [&str; 2] = [SAME_LOG, OTHER_DAYS];
+
+const SAME_LOG: &str = "same_log";
+const OTHER_DAYS: &str = "other_days";
+
 pub struct Fleet {
     /// In the lease file's order.
     pub kept: Vec<Kept>,
@@ -216,7 +222,7 @@ fn tell_same_logs(kept: &mut [Kept]) {
     }
     for (place, others) in told {
         let text = format!("the log is byte for byte that of station {others} too");
-        kept[place].check(Check::new("same_log", text, None));
+        kept[place].check(Check::new(SAME_LOG, text, None));
     }
 }
 
@@ -251,7 +257,7 @@ fn tell_other_days(kept: &mut [Kept]) {
         let other = apart(card).and_then(|own| common.iter().find(|one| one.0 != own));
         if let Some((_, other)) = other {
             let text = format!("its days have other dates: {}, {other}", dated(card));
-            card.check(Check::new("other_days", text, None));
+            card.check(Check::new(OTHER_DAYS, text, None));
         }
     }
 }

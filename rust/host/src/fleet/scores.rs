@@ -4,15 +4,18 @@ use crate::common::digest;
 use crate::common::failure::{Failure, Outcome};
 use crate::common::visible;
 use crate::fleet::held;
+use crate::fleet::join::OF_THE_JOIN;
 use crate::fleet::kept::Kept;
+use crate::fleet::month::OF_THE_FLEET;
 use crate::input::source::Source;
-use crate::score::asked::{accepted, dates, Card, LeaseLine, Unscored};
+use crate::score::asked::{accepted, dates, Called, Card, LeaseLine, Unscored};
 use crate::score::checks::Check;
 use crate::score::civil::Date;
 use crate::score::issue::Issue;
 use crate::score::month::{verdict_name, Began, Day, Score};
 use boundary::{Edition, Month, Verdict};
 use serde_json::Value;
+use std::borrow::Cow;
 use std::fmt;
 use std::path::PathBuf;
 use std::rc::Rc;
@@ -167,8 +170,53 @@ fn head(summary: &Value) -> Read<(Dated, Issue)> {
         zone: optional(summary, "time_zone")?,
         date: Date::parse(&text(summary, "issued")?)?,
         version: text(summary, "version")?.into(),
+        archive: optional(summary, "archive")?.map(Cow::from),
     };
     Ok(((line, from), issue))
+}
+
+/// What a card says of itself that no log tells, by which it can be made anew.
+pub struct Said {
+    /// The number of its edition.
+    pub edition: u32,
+    pub line: LeaseLine,
+    pub from: Option<Date>,
+    pub issue: Issue,
+    pub called: Called,
+    /// Whether it says that there is a score.
+    pub scored: bool,
+    /// What a fleet's card is to be checked for beside other stations.
+    pub checks: Vec<Check>,
+}
+
+/// The same of its summary, whose figures aren't asked about.
+pub fn said(summary: &Value) -> Read<Said> {
+    let ((line, from), issue) = head(summary)?;
+    let scored = summary.get("unscored").is_none();
+    let inputs = match scored {
+        true => texts(&summary["log"], "inputs")?,
+        false => texts(summary, "inputs")?,
+    };
+    let began = began(&summary["began_from"])?;
+    // What is none isn't one that can be told again, and is found where the figures are compared.
+    let checks = summary["checks"].as_array().into_iter().flatten();
+    let checks = checks.filter_map(|value| check(value).ok());
+    let is_said = |key: &str| OF_THE_FLEET.contains(&key) || OF_THE_JOIN.contains(&key);
+    let checks = checks.filter(|check| is_said(&check.key));
+    // None of them explains a short month.
+    let checks = checks.map(|check| Check::new(&check.key, check.text, None));
+    Ok(Said {
+        edition: short(summary, "edition")?,
+        line,
+        from,
+        issue,
+        called: Called {
+            inputs,
+            state: began.map(|began| began.state),
+        },
+        scored,
+        checks: checks.collect(),
+    })
 }
 
 fn unscored(summary: &Value, told: &Value, (line, from): Dated, issue: Issue) -> Read<Card> {

@@ -9,6 +9,9 @@ use std::borrow::Cow;
 /// The version with its commit.
 pub const VERSION: &str = env!("EGRETFOLD_VERSION");
 
+/// The SHA-256 of the proved archive that this command is linked with.
+pub const ARCHIVE: &str = env!("EGRETFOLD_ARCHIVE_SHA256");
+
 // Named otherwise than the subcommand's own options: clap takes the name for a group
 // of arguments, and each must be unique in a line.
 #[derive(Args)]
@@ -41,6 +44,8 @@ pub struct Issue {
     pub date: Date,
     /// Of the command that scored.
     pub version: Cow<'static, str>,
+    /// The SHA-256 of the proved archive that it is linked with; earlier versions told of none.
+    pub archive: Option<Cow<'static, str>>,
 }
 
 impl Issue {
@@ -69,7 +74,15 @@ impl Issue {
             zone,
             date,
             version: VERSION.into(),
+            archive: Some(ARCHIVE.into()),
         }
+    }
+
+    /// When and by what it is issued, as a card says that.
+    pub fn is_said_by(&mut self, card: &Issue) {
+        self.date = card.date;
+        self.version = card.version.clone();
+        self.archive = card.archive.clone();
     }
 
     /// The card of the sample, which is nobody's.
@@ -128,6 +141,7 @@ impl Issue {
         summary["time_zone"] = json!(self.zone);
         summary["issued"] = json!(self.date.to_string());
         summary["version"] = json!(self.version);
+        summary["archive"] = json!(self.archive);
     }
 }
 

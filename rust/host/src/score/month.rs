@@ -12,6 +12,7 @@ use serde_json::{json, Value};
 use std::fmt;
 
 /// A month, its lease and what is told of the log that it is of.
+#[derive(Clone)]
 pub struct Score {
     /// The edition of the lease rule that it is scored by.
     pub edition: Edition,
@@ -52,6 +53,7 @@ impl Began {
 }
 
 /// A day of the lease.
+#[derive(Clone)]
 pub struct Day {
     pub number: u32,
     pub date: Option<Date>,

@@ -83,6 +83,22 @@ pub fn complained(output: &Output) -> String {
     String::from_utf8(output.stderr.clone()).expect("text")
 }
 
+/// The text without the commit that the command is built from and the archive that it is linked with, which no stored file
+/// can know.
+pub fn without_version(text: &str) -> String {
+    let version = told(&egretfold("-V", b""));
+    let version = version.trim().trim_start_matches("egretfold ");
+    text.replace(version, "VERSION")
+        .replace(&archive(), "ARCHIVE")
+}
+
+/// The SHA-256 of the archive, as `--version` tells it.
+pub fn archive() -> String {
+    let version = told(&egretfold("--version", b""));
+    let digest = version.trim().rsplit(": ").next();
+    digest.expect("the last line has it").to_string()
+}
+
 /// The last line, which is JSON.
 pub fn last_line(text: &str) -> Value {
     let line = text.lines().last().expect("a line");

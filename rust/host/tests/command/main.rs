@@ -1,6 +1,6 @@
 //! The command `egretfold` run as a user runs it: its outputs held against stored
 //! ones, its command line, streams there and back, logs over midnight, months scored and
-//! their cards, fleets of them, states kept in files, stations for years, pictures and surveys, the working by hand, what a desk meets beside the answers, hostile lines and inputs,
+//! their cards, cards verified, fleets of them, states kept in files, stations for years, pictures and surveys, the working by hand, what a desk meets beside the answers, hostile lines and inputs,
 //! and the examples of the documents.
 
 mod card;
@@ -23,5 +23,6 @@ mod replay;
 mod round_trip;
 mod score;
 mod states;
+mod verify;
 mod working;
 mod years;

@@ -12,6 +12,7 @@ use crate::common::replaced::HTML_BEGIN;
 use crate::fleet::month::{station, Fleet};
 use crate::fleet::text;
 use crate::score::asked::Card;
+use crate::score::block;
 use crate::score::issue::VERSION;
 use crate::score::picture::svg::Drawing;
 use crate::score::picture::{self, PATTERNS};
@@ -40,6 +41,7 @@ type Placed<'a> = (usize, &'a Card);
 
 /// The page of one station.
 pub fn of_one(card: &Card) -> String {
+    let card = &block::printed(card);
     let month = picture::title_of(card);
     let title = match card.issue().whose() {
         Some(whose) => format!("{whose}: {month}"),
@@ -56,7 +58,7 @@ pub fn of_one(card: &Card) -> String {
     let parts = [
         notice("Check before sending", checks.collect()),
         strip::of(card),
-        all_cards(&[(0, card)]),
+        section(0, &picture::svg_in_its_page(card)),
     ];
     let issued = card.issue().told();
     page("one", &title, &[told], &issued, &parts.concat())
@@ -188,9 +190,11 @@ fn dark_days(cards: &[Placed]) -> String {
 }
 
 fn all_cards(cards: &[Placed]) -> String {
-    let card = |(place, card): &Placed| {
-        let svg = picture::svg_within(card);
-        format!("<section class=\"card\" id=\"station-{place}\">\n{svg}</section>\n")
-    };
+    let card = |(place, card): &Placed| section(*place, &picture::svg_among_others(card));
     cards.iter().map(card).collect()
+}
+
+/// The drawn card of the station with this place.
+fn section(place: usize, svg: &str) -> String {
+    format!("<section class=\"card\" id=\"station-{place}\">\n{svg}</section>\n")
 }

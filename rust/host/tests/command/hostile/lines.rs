@@ -139,10 +139,11 @@ fn compare_forms(run: &Run, text: &Output) {
         "--plain",
         "--work",
         "--commands",
+        "--verify",
     ];
     let known = [
         "score", "fleet", "replay", "decode", "address", "locate", "flow", "tile", "survey",
-        "picture",
+        "picture", "verify",
     ];
     // Bytes on standard output leave no room for another form.
     let binary = run.is("picture") && run.has("-");

@@ -1,9 +1,10 @@
 //! Hostile inputs and lines, made from a case's number.
 
-use crate::common::sample;
+use crate::common::{root, sample};
 use crate::states::sealed;
 use compare::random::Random;
 use std::ffi::OsString;
+use std::fs;
 use std::os::unix::ffi::OsStringExt;
 
 /// A line of arguments, what stands on standard input, and what is written where the
@@ -157,6 +158,12 @@ const NAMES: [&[u8]; 10] = [
     b"comma,semi;colon",
 ];
 
+/// Station 14's card, which tests hold as it is stored.
+fn stored_card() -> Vec<u8> {
+    let file = root().join("rust/host/tests/pictures/station-14.svg");
+    fs::read(file).expect("the card is there")
+}
+
 pub fn case(random: &mut Random) -> Case {
     let mut made = Made {
         random,
@@ -201,7 +208,8 @@ impl Made<'_> {
     }
 
     fn line(&mut self) {
-        match self.random.below(27) {
+        match self.random.below(29) {
+            27 | 28 => self.verify(),
             23 | 24 => self.survey(),
             25 | 26 => self.picture(),
             0..=5 => self.score(),
@@ -335,11 +343,33 @@ impl Made<'_> {
             &["worst", "lease", "station", "lessee", "silent", "best"],
         );
         self.valued(7, "--html", &["-"]);
+        self.valued(9, "--verify", &["own/", "samples", "no-such"]);
         self.valued(7, "--edition", &["1", "2", "2", "3"]);
         self.valued(
             9,
             "--from-scores",
             &["own/leases.csv", "/dev/null", "no-such"],
+        );
+    }
+
+    /// A stored card as it is or damaged, with its log or another one.
+    fn verify(&mut self) {
+        self.put("verify");
+        self.flag(3, "--json");
+        let mut card = stored_card();
+        for _ in 0..self.random.below(3) {
+            self.damage(&mut card);
+        }
+        self.put("own/card.svg");
+        self.case.files.push(("card.svg".into(), card));
+        match self.random.coin() {
+            true => self.put("samples/station-14.log"),
+            false => self.logs(),
+        }
+        self.valued(
+            12,
+            "--resume",
+            &["samples/station-14-march.state", "-", "no-such"],
         );
     }
 
