@@ -16,7 +16,7 @@ use std::path::{Path, PathBuf};
 const BY: &str = " by egretfold ";
 
 /// The name of a station's card.
-fn name_of(station: &str) -> String {
+pub fn name_of(station: &str) -> String {
     format!("{}.svg", plain(station))
 }
 
@@ -95,14 +95,17 @@ pub fn folder(folder: &Path) -> Outcome {
     })
 }
 
-/// Writes each station's card, in place of an earlier one, and tells of others that stand
-/// there.
-pub fn write(fleet: &Fleet, folder: &Path, files: &mut Files) {
+/// Writes each station's card, in place of an earlier one, and where that is asked tells of others
+/// that stand there.
+pub fn write(fleet: &Fleet, folder: &Path, tells_others: bool, files: &mut Files) {
     let mut names = HashSet::new();
     for card in fleet.cards() {
         let name = folder.join(name_of(station(&card)));
         Replaced::at(&name, Kind::Svg).write(picture::svg(&card), files);
         names.insert(name);
+    }
+    if !tells_others {
+        return;
     }
     for other in others(folder, &names) {
         let other = visible::line(&other.display().to_string());

@@ -2,7 +2,8 @@
 //! values.
 
 use crate::common::failure::Outcome;
-use crate::common::sheet;
+use crate::common::{schema, sheet};
+use crate::fleet::lessees;
 use crate::fleet::month::{station, Fleet};
 use crate::score::asked::Card;
 use crate::score::checks::Check;
@@ -30,11 +31,13 @@ pub fn json(fleet: &Fleet, out: &mut dyn Write) -> Outcome {
                 value["unscored"] = json!({"name": unscored.name(), "why": unscored.why});
             }
         }
-        writeln!(out, "{value}")?;
+        schema::line(out, value)?;
     }
+    lessees::json(&fleet.subtotals, out)?;
     let four = &fleet.four;
     let value = json!({"fleet": {
         "stations": fleet.kept.len(),
+        "told": fleet.count_told(),
         "scored": fleet.scores().count(),
         "served": four.served,
         "owed": four.owed,
@@ -46,8 +49,7 @@ pub fn json(fleet: &Fleet, out: &mut dyn Write) -> Outcome {
         "issued": fleet.date.to_string(),
         "version": VERSION,
     }});
-    writeln!(out, "{value}")?;
-    Ok(())
+    schema::line(out, value)
 }
 
 fn put(score: &Score, value: &mut Value) {

@@ -1,7 +1,9 @@
-//! The lines of `score --json`, read back: a fleet that was scored elsewhere, joined.
+//! The lines of `score --json`, read back: a fleet that was scored elsewhere, joined; and for months
+//! side by side a fleet's own lines too.
 
 use crate::common::digest;
 use crate::common::failure::{Failure, Outcome};
+use crate::common::schema;
 use crate::common::visible;
 use crate::fleet::held;
 use crate::fleet::kept::Kept;
@@ -11,6 +13,7 @@ use crate::score::checks::Check;
 use crate::score::civil::Date;
 use crate::score::issue::Issue;
 use crate::score::month::{verdict_name, Began, Day, Score};
+use crate::score::outline::{Came, Outline, Sums};
 use boundary::{Edition, Month, Verdict};
 use serde_json::Value;
 use std::path::PathBuf;
@@ -21,15 +24,60 @@ const LONGEST: usize = 1 << 29;
 /// A reading's own words for what is wrong.
 type Read<T> = Result<T, String>;
 
+/// What a score's lines come to.
+pub enum Told {
+    /// The days and the summary that `score --json` prints.
+    Card(Card),
+    /// A station's line of `fleet --json`, which has no days.
+    Outline(Outline),
+}
+
 /// The cards that these files tell, in their order.
 pub fn read(files: &[PathBuf]) -> Outcome<Vec<Kept>> {
     let mut cards = Vec::new();
+    each(files, |_, told| match told {
+        Told::Card(card) => {
+            cards.push(Kept::of(card));
+            Ok(())
+        }
+        Told::Outline(_) => Err(
+            "is a line of fleet --json, which has no days; join what score --json prints"
+                .to_string(),
+        ),
+    })?;
+    Ok(cards)
+}
+
+/// The months that these files tell, in their order, by `score --json` or by `fleet --json`.
+pub fn outlines(files: &[PathBuf]) -> Outcome<Vec<Outline>> {
+    let mut outlines = Vec::new();
+    each(files, |place, told| {
+        let outline = match told {
+            Told::Card(card) => Outline::of(&card),
+            Told::Outline(outline) => outline,
+        };
+        outlines.push(Outline {
+            place: place.to_string(),
+            ..outline
+        });
+        Ok(())
+    })?;
+    Ok(outlines)
+}
+
+/// Gives each score to `take`, with its file and line; standard input where no file is named.
+fn each(files: &[PathBuf], mut take: impl FnMut(&str, Told) -> Read<()>) -> Outcome {
+    let standard = [PathBuf::from("-")];
+    let files = match files {
+        [] => &standard,
+        files => files,
+    };
     for file in files {
         // One at a time: there may be a file a station.
         let mut source = Source::open(Some(file))?;
         let bytes = source.all(LONGEST)?;
-        let wrong =
-            |line: usize, cause| Failure::Wrong(format!("{}: line {line}: {cause}", source.name));
+        let place = |line: usize| format!("{}: line {line}", source.name);
+        let wrong = |line: usize, cause| Failure::Wrong(format!("{}: {cause}", place(line)));
         let mut days = Vec::new();
         let mut last = 0;
         for (line, text) in (1..).zip(bytes.split(|byte| *byte == b'\n')) {
@@ -39,12 +87,10 @@ pub fn read(files: &[PathBuf]) -> Outcome<Vec<Kept>> {
             last = line;
             let value: Value = serde_json::from_slice(text)
                 .map_err(|error| wrong(line, format!("is no JSON: {error}")))?;
-            match value.get("summary") {
-                Some(summary) => {
-                    let card = card(summary, &days).map_err(|cause| wrong(line, cause))?;
-                    cards.push(Kept::of(card));
-                    days.clear();
-                }
+            let told = told(&value, &mut days).map_err(|cause| wrong(line, cause))?;
+            match told {
+                Some(told) => take(&place(line), told).map_err(|cause| wrong(line, cause))?,
+                None if is_sum(&value) => {}
                 None => days.push(value),
             }
         }
@@ -53,18 +99,31 @@ pub fn read(files: &[PathBuf]) -> Outcome<Vec<Kept>> {
             return Err(wrong(last, cause.to_string()));
         }
     }
-    Ok(cards)
+    Ok(())
+}
+
+/// What this line ends, with the days before it; nothing where it is a day itself, or a fleet's sum.
+fn told(value: &Value, days: &mut Vec<Value>) -> Read<Option<Told>> {
+    schema::is_known(value)?;
+    if let Some(summary) = value.get("summary") {
+        let card = card(summary, days)?;
+        days.clear();
+        return Ok(Some(Told::Card(card)));
+    }
+    match value.get("lease") {
+        Some(_) if days.is_empty() => Ok(Some(Told::Outline(outline(value)?))),
+        Some(_) => Err("a station's line stands where the days' summary is due".to_string()),
+        None => Ok(None),
+    }
+}
+
+/// A fleet's or a lessee's own line, which its stations' come to.
+fn is_sum(value: &Value) -> bool {
+    value.get("fleet").is_some() || value.get("subtotal").is_some()
 }
 
 fn card(summary: &Value, days: &[Value]) -> Read<Card> {
-    let lease = &summary["lease"];
-    let line = LeaseLine {
-        first_day: short(lease, "first_day")?,
-        days: short(lease, "days")?,
-        owed: short(lease, "owed")?,
-    };
-    let from = optional(lease, "from")?;
-    let from = from.map(|text| Date::parse(&text)).transpose()?;
+    let (line, from) = lease_line(summary)?;
     let issue = Issue {
         station: optional(summary, "station")?,
         lessee: optional(summary, "lessee")?,
@@ -77,6 +136,87 @@ fn card(summary: &Value, days: &[Value]) -> Read<Card> {
     }
 }
 
+fn edition(value: &Value) -> Read<Edition> {
+    let number = short(value, "edition")?;
+    Edition::of(number).map_err(|_| format!("there is no edition {number}"))
+}
+
+/// The lease line with its first date.
+fn lease_line(value: &Value) -> Read<(LeaseLine, Option<Date>)> {
+    let lease = &value["lease"];
+    let line = LeaseLine {
+        first_day: short(lease, "first_day")?,
+        days: short(lease, "days")?,
+        owed: short(lease, "owed")?,
+    };
+    let from = optional(lease, "from")?;
+    let from = from.map(|text| Date::parse(&text)).transpose()?;
+    Ok((line, from))
+}
+
+/// A station's line of `fleet --json`.
+fn outline(value: &Value) -> Read<Outline> {
+    let (line, from) = lease_line(value)?;
+    let came = match value.get("unscored") {
+        Some(told) => {
+            let (refused, why) = why(told)?;
+            Came::Unscored { refused, why }
+        }
+        None => {
+            let lease = accepted(line).map_err(|refused| refused.to_string())?;
+            dates(from, &lease)?;
+            edition(value)?;
+            Came::Scored(sums(value, &line)?)
+        }
+    };
+    Ok(Outline {
+        station: text(value, "station")?,
+        lessee: optional(value, "lessee")?,
+        edition: short(value, "edition")?,
+        line,
+        from,
+        came,
+        place: String::new(),
+    })
+}
+
+/// Sums that days of this lease can come to.
+fn sums(value: &Value, line: &LeaseLine) -> Read<Sums> {
+    let (served, owed) = (long(value, "served")?, long(value, "owed")?);
+    // Dark days were called silent before.
+    let named = |key: &'static str, before: &'static str| match value.get(key) {
+        Some(_) => key,
+        None => before,
+    };
+    let dark = list(value, named("dark", "silent"))?.iter();
+    let dark = dark.map(|day| day.as_u64().and_then(|day| u32::try_from(day).ok()));
+    let dark: Option<Vec<u32>> = dark.collect();
+    let sums = Sums {
+        served,
+        owed,
+        full_days: long(value, "full_days")?,
+        part_days: long(value, "part_days")?,
+        dark: dark.ok_or_else(|| missing("dark"))?,
+        verdict: verdict(served, owed),
+        explained: optional(value, "explained")?,
+    };
+    let is_told = text(value, "verdict")? == verdict_name(sums.verdict)
+        && long(value, named("dark_days", "silent_days"))? == sums.dark.len() as u64;
+    match is_told && sums.are_of(line) {
+        true => Ok(sums),
+        false => Err("its numbers are no month's of this lease".to_string()),
+    }
+}
+
+/// Whether a month was refused, and why there is no score.
+fn why(told: &Value) -> Read<(bool, String)> {
+    let why = told["why"].as_str().ok_or_else(|| missing("why"))?;
+    Ok((
+        text(told, "name")? == Unscored::name_of(true),
+        visible::lines(why),
+    ))
+}
+
 fn unscored(
     summary: &Value,
     told: &Value,
@@ -84,14 +224,15 @@ fn unscored(
     from: Option<Date>,
     issue: Issue,
 ) -> Read<Card> {
+    let (refused, why) = why(told)?;
     let unscored = Unscored {
         edition: short(summary, "edition")?,
         line,
         from,
         inputs: texts(summary, "inputs")?,
         issue,
-        refused: text(told, "name")? == "REFUSED",
-        why: visible::lines(told["why"].as_str().ok_or_else(|| missing("why"))?),
+        refused,
+        why,
         refusal: summary["refusal"].clone(),
         log: summary["log"].clone(),
     };
@@ -120,10 +261,8 @@ fn scored(
     let checks: Read<Vec<Check>> = list(summary, "checks")?.iter().map(check).collect();
     let checks = checks?;
     held::agree(&read, &checks)?;
-    let edition = short(summary, "edition")?;
-    let edition = Edition::of(edition).map_err(|_| format!("there is no edition {edition}"))?;
     let score = Score {
-        edition,
+        edition: edition(summary)?,
         lease,
         inputs: texts(&summary["log"], "inputs")?,
         digest: optional(summary, "sha256")?.map(digested).transpose()?,
@@ -172,11 +311,7 @@ fn day(value: &Value, line: &LeaseLine, place: u32, date: Option<Date>) -> Read<
 fn month(summary: &Value, days: &[Day]) -> Read<Month> {
     let served = days.iter().map(|day| day.served).sum();
     let owed = days.iter().map(|day| day.owed).sum();
-    let verdict = match (served, owed) {
-        (_, 0) => Verdict::NothingOwed,
-        (served, owed) if served == owed => Verdict::Full,
-        _ => Verdict::Short,
-    };
+    let verdict = verdict(served, owed);
     let told = (long(summary, "served")?, long(summary, "owed")?);
     if told != (served, owed) || text(summary, "verdict")? != verdict_name(verdict) {
         return Err("the month isn't what its days come to".to_string());
@@ -187,6 +322,14 @@ fn month(summary: &Value, days: &[Day]) -> Read<Month> {
         owed,
         verdict,
     })
+}
+
+fn verdict(served: u64, owed: u64) -> Verdict {
+    match (served, owed) {
+        (_, 0) => Verdict::NothingOwed,
+        (served, owed) if served == owed => Verdict::Full,
+        _ => Verdict::Short,
+    }
 }
 
 fn check(value: &Value) -> Read<Check> {

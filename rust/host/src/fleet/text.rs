@@ -4,6 +4,7 @@ use crate::common::digits::Digits;
 use crate::common::failure::Outcome;
 use crate::common::text;
 use crate::fleet::kept::Kept;
+use crate::fleet::lessees;
 use crate::fleet::month::{station, Fleet};
 use crate::score::asked::Card;
 use crate::score::month::{Day, Score, Served};
@@ -29,26 +30,15 @@ pub fn tell(fleet: &Fleet, digits: Digits, out: &mut dyn Write) -> Outcome {
     }
     writeln!(out)?;
     table(fleet, digits, out)?;
+    lessees::text(&fleet.subtotals, digits, out)?;
     writeln!(out)?;
     writeln!(out, "{}", four(fleet, digits))?;
     let silent = fleet.told().filter_map(|(_, card)| silent_days(&card));
-    list(out, "silent days:", silent)?;
+    text::list(out, "silent days:", silent)?;
     let checks = fleet.told().flat_map(|(_, card)| checks(&card));
-    list(out, "check before sending:", checks)?;
+    text::list(out, "check before sending:", checks)?;
     let unscored = fleet.told().filter_map(|(_, card)| unscored(&card));
-    list(out, "no score:", unscored)
-}
-
-/// Lines below a heading, where there are any.
-fn list(out: &mut dyn Write, heading: &str, lines: impl Iterator<Item = String>) -> Outcome {
-    for (place, line) in lines.enumerate() {
-        if place == 0 {
-            writeln!(out)?;
-            writeln!(out, "{heading}")?;
-        }
-        writeln!(out, "  {line}")?;
-    }
-    Ok(())
+    text::list(out, "no score:", unscored)
 }
 
 /// The four numbers of the stations that have a score.

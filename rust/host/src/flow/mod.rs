@@ -8,6 +8,7 @@ mod steps;
 use crate::common::failure::{Failure, Outcome};
 use crate::common::files::Files;
 use crate::common::kinds::{SlotNumber, Word};
+use crate::common::schema;
 use crate::common::text;
 use crate::explain::cause::{self, Refused};
 use crate::flow::kills::Kill;
@@ -284,7 +285,7 @@ fn step_all(
             looping,
         };
         match options.json {
-            true => writeln!(out, "{}", row.json())?,
+            true => schema::line(out, row.json())?,
             false => writeln!(out, "{}", row.text())?,
         }
     }
@@ -308,7 +309,7 @@ fn kill_row(
     match kill.make(program, group) {
         Ok(killed) => {
             match options.json {
-                true => writeln!(out, "{}", kill.json(number, killed, group))?,
+                true => schema::line(out, kill.json(number, killed, group))?,
                 false => writeln!(out, "{}", kill.text(number, killed, group))?,
             }
             Ok(Ok(()))
@@ -400,7 +401,7 @@ fn show_report(
         value["active"] = json!(active);
         value["killed"] = json!(Word(group.killed()).to_string());
         value["ended"] = json!(ended);
-        writeln!(out, "{}", json!({ "run": value }))?;
+        schema::line(out, json!({ "run": value }))?;
         return Ok(());
     }
     let what = if ended { "program has" } else { "masks have" };
@@ -448,7 +449,7 @@ fn show_refused(
         if let Some(steps) = in_full {
             value["steps_in_full_mode"] = json!(steps);
         }
-        writeln!(out, "{}", json!({ "run": value }))?;
+        schema::line(out, json!({ "run": value }))?;
     } else {
         writeln!(out, "{step:>4}  {number:>4}  {call}{refused}")?;
         let number = refused.number;

@@ -40,16 +40,17 @@ impl Issue {
     }
 
     pub fn of(station: &Option<String>, lessee: &Option<String>, date: Date) -> Issue {
-        let name = |text: &Option<String>| {
-            let text = text.as_deref().map(str::trim).unwrap_or_default();
-            (!text.is_empty()).then(|| visible::line(text))
-        };
         Issue {
-            station: name(station),
-            lessee: name(lessee),
+            station: name(station.as_deref()),
+            lessee: name(lessee.as_deref()),
             date,
             version: VERSION.into(),
         }
+    }
+
+    /// Whether this is its lessee's name, as a user may write it.
+    pub fn is_leased_to(&self, lessee: &str) -> bool {
+        self.lessee.is_some() && self.lessee == name(Some(lessee))
     }
 
     /// The card of the sample, which is nobody's.
@@ -78,6 +79,12 @@ impl Issue {
         summary["issued"] = json!(self.date.to_string());
         summary["version"] = json!(self.version);
     }
+}
+
+/// A name without blanks around it, where anything is left, and with nothing that a terminal would obey.
+fn name(text: Option<&str>) -> Option<String> {
+    let text = text.map(str::trim).unwrap_or_default();
+    (!text.is_empty()).then(|| visible::line(text))
 }
 
 /// The date of issue that was asked for; the one place that asks for today.

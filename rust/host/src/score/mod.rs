@@ -1,11 +1,12 @@
 //! `egretfold score`: a month of a station's log, scored against its lease line.
 
 pub mod asked;
-mod card;
+pub mod card;
 pub mod checks;
 pub mod civil;
 pub mod issue;
 pub mod month;
+pub mod outline;
 pub mod picture;
 pub mod rows;
 pub mod sample;

@@ -2,7 +2,7 @@
 
 use crate::common::digits::grouped;
 use crate::fleet::month::{station, Fleet};
-use crate::fleet::page::{escaped, link, Placed};
+use crate::fleet::page::{escaped, link, of_card, Shown};
 use crate::score::asked::Card;
 use crate::score::month::{Score, Served};
 
@@ -18,7 +18,7 @@ const HEADS: [(&str, bool); 9] = [
     ("perhaps because", true),
 ];
 
-pub fn table(fleet: &Fleet, cards: &[Placed]) -> String {
+pub fn table(fleet: &Fleet, cards: &[Shown]) -> String {
     let head = |(name, text): &(&str, bool)| {
         let class = if *text { r#" class="text""# } else { "" };
         format!("<th scope=\"col\"{class}>{name}</th>")
@@ -27,7 +27,7 @@ pub fn table(fleet: &Fleet, cards: &[Placed]) -> String {
     let rows: String = cards.iter().map(row).collect();
     let total = total(fleet);
     format!(
-        "<div class=\"wide\">\n<table class=\"stations\">\n<thead><tr>{heads}</tr></thead>\n<tbody>\n{rows}</tbody>\n<tfoot>{total}</tfoot>\n</table>\n</div>\n"
+        "<div class=\"wide\">\n<table class=\"stations sorts\">\n<thead><tr>{heads}</tr></thead>\n<tbody>\n{rows}</tbody>\n<tfoot>{total}</tfoot>\n</table>\n</div>\n"
     )
 }
 
@@ -42,10 +42,10 @@ fn number(shown: &str, value: u64) -> String {
     format!(r#"<td class="number" data-v="{value}">{shown}</td>"#)
 }
 
-fn row(placed: &Placed) -> String {
-    let card = placed.1;
+fn row(shown: &Shown) -> String {
+    let card = shown.card;
     let lessee = card.issue().lessee.as_deref().unwrap_or_default();
-    let begin = words(&link(placed), station(card)) + &words(&escaped(lessee), lessee);
+    let begin = words(&link(shown), station(card)) + &words(&escaped(lessee), lessee);
     let end = match card {
         Card::Scored(score) => scored(score),
         Card::Unscored(unscored) => {
@@ -55,7 +55,8 @@ fn row(placed: &Placed) -> String {
             nothing + &words(&name, unscored.name()) + &words("", "")
         }
     };
-    format!("<tr>{begin}{end}</tr>\n")
+    let by = of_card(card);
+    format!("<tr {by}>{begin}{end}</tr>\n")
 }
 
 fn scored(score: &Score) -> String {
