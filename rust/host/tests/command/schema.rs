@@ -168,7 +168,9 @@ fn stored() -> Vec<(String, Value)> {
     for entry in fs::read_dir(folder).expect("the stored outputs") {
         let text = fs::read_to_string(entry.expect("an entry").path()).expect("text");
         let (head, body) = text.split_once('\n').expect("a line");
-        let mut words = head.split_whitespace().skip(2);
+        // Something may be piped into it.
+        let (_, line) = head.rsplit_once("egretfold ").unwrap_or_default();
+        let mut words = line.split_whitespace();
         let command = words.next().unwrap_or_default().to_string();
         if words.any(|word| word == "--json") {
             lines.extend(objects(body).map(|line| (command.clone(), line)));
