@@ -2,17 +2,18 @@
 
 use crate::common::digits::Digits;
 use crate::common::failure::{Failure, Outcome};
-use crate::common::{schema, sheet};
+use crate::common::schema;
 use crate::fleet::files::name_order;
 use crate::fleet::kept::Kept;
 use crate::fleet::stations::{refused, Group};
 use crate::score::issue::Issue;
-use crate::score::month::{percent, Served};
+use crate::score::month::{put_percent, shown, Percent, Served};
+use crate::score::rows::write_row;
 use boundary::{Edition, Fleet, FleetTold, Verdict};
 use csv::Writer;
 use serde_json::{json, Value};
 use std::collections::BTreeMap;
-use std::io::{self, Write};
+use std::io::Write;
 
 /// A lessee's stations together.
 pub struct Subtotal {
@@ -27,8 +28,8 @@ pub struct Subtotal {
 }
 
 impl Subtotal {
-    pub fn percent(&self) -> Option<String> {
-        percent(self.told.served, self.told.owed)
+    pub fn percent(&self) -> Option<Percent> {
+        Percent::of(self.told.served, self.told.owed)
     }
 
     /// The lessee's name, or a blank.
@@ -37,17 +38,18 @@ impl Subtotal {
     }
 
     fn json(&self) -> Value {
-        json!({
+        let mut value = json!({
             "lessee": self.lessee,
             "stations": self.stations,
             "scored": self.scored,
             "short": self.short,
             "served": self.told.served,
             "owed": self.told.owed,
-            "percent": self.percent(),
             "dark_days": self.told.silent_days,
             "full_days": self.full_days,
-        })
+        });
+        put_percent(self.percent(), &mut value);
+        value
     }
 }
 
@@ -159,7 +161,7 @@ fn row(subtotal: &Subtotal, digits: Digits) -> [String; 8] {
         subtotal.stations.to_string(),
         digits.of(subtotal.told.served),
         digits.of(subtotal.told.owed),
-        subtotal.percent().unwrap_or_else(|| "-".to_string()),
+        shown(subtotal.percent(), "-"),
         subtotal.told.silent_days.to_string(),
         subtotal.full_days.to_string(),
         subtotal.short.to_string(),
@@ -184,25 +186,27 @@ pub fn csv(subtotals: &[Subtotal], out: &mut dyn Write) -> Outcome {
         "served",
         "owed",
         "percent",
+        "percent_text",
         "dark_days",
         "full_days",
     ];
     let mut writer = Writer::from_writer(out);
-    writer.write_record(head).map_err(io::Error::from)?;
+    write_row(&mut writer, &head.map(String::from))?;
     for subtotal in subtotals {
         let told = &subtotal.told;
         let cells = [
-            sheet::written(subtotal.name()).into_owned(),
+            subtotal.name().to_string(),
             subtotal.stations.to_string(),
             subtotal.scored.to_string(),
             subtotal.short.to_string(),
             told.served.to_string(),
             told.owed.to_string(),
-            subtotal.percent().unwrap_or_default(),
+            subtotal.percent().map_or(String::new(), Percent::digits),
+            shown(subtotal.percent(), ""),
             told.silent_days.to_string(),
             subtotal.full_days.to_string(),
         ];
-        writer.write_record(cells).map_err(io::Error::from)?;
+        write_row(&mut writer, &cells)?;
     }
     writer.flush()?;
     Ok(())

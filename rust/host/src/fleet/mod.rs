@@ -7,7 +7,7 @@
 //! as a folder of `cards`; `lessees` has what each lessee's stations come to.
 
 mod cards;
-mod cells;
+pub mod cells;
 mod commands;
 pub mod files;
 mod held;
@@ -29,11 +29,13 @@ use crate::common::edition::{self, EditionOption};
 use crate::common::failure::{Failure, Outcome};
 use crate::common::files::Files;
 use crate::common::replaced::{Goes, Kind};
+use crate::fleet::join::By;
 use crate::fleet::kept::Kept;
 use crate::fleet::leases::{Leases, Row};
 use crate::fleet::month::{Fleet, Only, Sort};
 use crate::fleet::page::linked::{self, Linked};
 use crate::fleet::stations::Group;
+use crate::replay::pieces::RepeatOption;
 use crate::score::civil::Date;
 use crate::score::issue;
 use boundary::Edition;
@@ -73,7 +75,7 @@ pub struct Options {
     #[arg(long, requires = "from_scores", requires = "leases")]
     check_logs: bool,
     /// Print the line of score --json for each station, and read no log
-    #[arg(long, conflicts_with_all = ["from_scores", "json", "csv", "csv_lessees", "plain", "html", "cards", "only"])]
+    #[arg(long, conflicts_with_all = ["from_scores", "json", "csv", "csv_days", "csv_lessees", "plain", "html", "cards", "only"])]
     commands: bool,
     /// Print the lines of those stations alone that have no score in these files, or one that says that the log couldn't
     /// be read
@@ -94,11 +96,14 @@ pub struct Options {
     /// One row of comma-separated values a station
     #[arg(long, conflicts_with = "csv_lessees")]
     csv: bool,
+    /// One row of comma-separated values for each day of each station that has a score
+    #[arg(long, conflicts_with_all = ["json", "csv", "csv_lessees"])]
+    csv_days: bool,
     /// One row of comma-separated values a lessee, of what its stations come to
     #[arg(long, conflicts_with = "only")]
     csv_lessees: bool,
     /// Large numbers without commas between their digits
-    #[arg(long, conflicts_with_all = ["json", "csv", "csv_lessees"])]
+    #[arg(long, conflicts_with_all = ["json", "csv", "csv_days", "csv_lessees"])]
     plain: bool,
     /// Write the month as a page for a browser, into this file; an earlier page of ours there is replaced,
     /// nothing else; - for standard output, in place of the text. With more than 100 stations their cards are files beside it, in the
@@ -119,6 +124,8 @@ pub struct Options {
     #[arg(long, value_name = "YYYY-MM-DD", value_parser = Date::parse)]
     issued: Option<Date>,
     #[command(flatten)]
+    repeat: RepeatOption,
+    #[command(flatten)]
     edition: EditionOption,
 }
 
@@ -138,8 +145,9 @@ impl Options {
 
 pub fn run(options: &Options, files: &mut Files, out: &mut dyn Write) -> Outcome {
     let edition = options.edition.accepted().map_err(edition::refused)?;
-    let form = options.json || options.csv || options.csv_lessees;
-    let form = form.then_some("--json and --csv");
+    let rows = [options.csv, options.csv_days, options.csv_lessees];
+    let for_programs = options.json || rows.contains(&true);
+    let form = for_programs.then_some("--json, --csv, --csv-days and --csv-lessees");
     let html = Goes::asked(options.html.as_deref(), Kind::Html, form)?;
     let date = issue::day_of(options.issued);
     let rows = match &options.leases {
@@ -194,6 +202,7 @@ pub fn run(options: &Options, files: &mut Files, out: &mut dyn Write) -> Outcome
         _ if html.is_standard() => Ok(()),
         Options { json: true, .. } => rows::json(&fleet, out),
         Options { csv: true, .. } => rows::csv(&fleet, out),
+        Options { csv_days: true, .. } => rows::csv_days(&fleet, out),
         Options {
             csv_lessees: true, ..
         } => lessees::csv(&fleet.subtotals, out),
@@ -228,6 +237,9 @@ impl Options {
     /// The lease file's rows, or all that is wrong with them for what is asked.
     fn rows(&self, file: &Path, (edition, date): (Edition, Date)) -> Outcome<Vec<Row>> {
         let mut leases = Leases::read(file, edition, date)?;
+        for row in &mut leases.rows {
+            row.asked.repeats = self.repeat.repeated_pieces;
+        }
         if let Some(folder) = &self.cards_folder(self.count(&leases.rows)) {
             let faults = cards::faults(folder, &leases.rows);
             leases.add_faults(faults);
@@ -268,7 +280,12 @@ impl Options {
 
     /// The scores that came, of the lessee whose stations are asked for.
     fn joined(&self, scored: &[PathBuf], rows: Option<&[Row]>) -> Outcome<Group> {
-        let joined = join::joined(scores::read(scored)?, rows, self.check_logs)?;
+        let by = By {
+            rows,
+            logs: self.check_logs,
+            issued: self.issued,
+        };
+        let joined = join::joined(scores::read(scored)?, &by)?;
         match &self.lessee {
             Some(lessee) => lessees::stations_of(lessee, joined),
             None => Ok(joined),

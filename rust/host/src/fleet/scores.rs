@@ -7,16 +7,19 @@ use crate::common::schema;
 use crate::common::visible;
 use crate::fleet::held;
 use crate::fleet::kept::Kept;
+use crate::fleet::month;
 use crate::input::source::Source;
 use crate::score::asked::{accepted, dates, Card, LeaseLine, Unscored};
 use crate::score::checks::Check;
 use crate::score::civil::Date;
 use crate::score::issue::Issue;
 use crate::score::month::{verdict_name, Began, Day, Score};
-use crate::score::outline::{Came, Outline, Sums};
+use crate::score::outline::{self, Outline, Sums};
 use boundary::{Edition, Month, Verdict};
 use serde_json::Value;
+use std::fmt;
 use std::path::PathBuf;
+use std::rc::Rc;
 
 /// Lines of a hundred thousand stations.
 const LONGEST: usize = 1 << 29;
@@ -24,20 +27,62 @@ const LONGEST: usize = 1 << 29;
 /// A reading's own words for what is wrong.
 type Read<T> = Result<T, String>;
 
+/// Where a score stands among those that are read.
+#[derive(Clone)]
+pub struct Place {
+    file: Rc<str>,
+    line: usize,
+}
+
+impl fmt::Display for Place {
+    fn fmt(&self, f: &mut fmt::Formatter) -> fmt::Result {
+        write!(f, "{}: line {}", self.file, self.line)
+    }
+}
+
+/// A card that came, and the place of its month's line.
+pub struct Came {
+    pub card: Kept,
+    pub place: Place,
+}
+
 /// What a score's lines come to.
-pub enum Told {
+enum Told {
     /// The days and the summary that `score --json` prints.
     Card(Card),
     /// A station's line of `fleet --json`, which has no days.
     Outline(Outline),
 }
 
+impl Told {
+    /// The station's name.
+    fn station(&self) -> &str {
+        match self {
+            Told::Card(card) => month::station(card),
+            Told::Outline(outline) => &outline.station,
+        }
+    }
+}
+
+/// A line of a file.
+struct Line {
+    number: usize,
+    value: Value,
+}
+
+/// What is wrong, and in which line.
+struct Wrong {
+    line: usize,
+    cause: String,
+}
+
 /// The cards that these files tell, in their order.
-pub fn read(files: &[PathBuf]) -> Outcome<Vec<Kept>> {
+pub fn read(files: &[PathBuf]) -> Outcome<Vec<Came>> {
     let mut cards = Vec::new();
-    each(files, |_, told| match told {
+    each(files, |place, told| match told {
         Told::Card(card) => {
-            cards.push(Kept::of(card));
+            let card = Kept::of(card);
+            cards.push(Came { card, place });
             Ok(())
         }
         Told::Outline(_) => Err(
@@ -66,7 +111,7 @@ pub fn outlines(files: &[PathBuf]) -> Outcome<Vec<Outline>> {
 }
 
 /// Gives each score to `take`, with its file and line; standard input where no file is named.
-fn each(files: &[PathBuf], mut take: impl FnMut(&str, Told) -> Read<()>) -> Outcome {
+fn each(files: &[PathBuf], mut take: impl FnMut(Place, Told) -> Read<()>) -> Outcome {
     let standard = [PathBuf::from("-")];
     let files = match files {
         [] => &standard,
@@ -76,43 +121,66 @@ fn each(files: &[PathBuf], mut take: impl FnMut(&str, Told) -> Read<()>) -> Outc
         // One at a time: there may be a file a station.
         let mut source = Source::open(Some(file))?;
         let bytes = source.all(LONGEST)?;
-        let place = |line: usize| format!("{}: line {line}", source.name);
-        let wrong = |line: usize, cause| Failure::Wrong(format!("{}: {cause}", place(line)));
+        let file: Rc<str> = source.name.as_str().into();
+        // The station of the score before.
+        let mut before: Option<String> = None;
         let mut days = Vec::new();
-        let mut last = 0;
-        for (line, text) in (1..).zip(bytes.split(|byte| *byte == b'\n')) {
+        for (number, text) in (1..).zip(bytes.split(|byte| *byte == b'\n')) {
             if text.iter().all(|byte| byte.is_ascii_whitespace()) {
                 continue;
             }
-            last = line;
+            let place = |line: usize| Place {
+                file: file.clone(),
+                line,
+            };
+            let wrong = |wrong: Wrong, days: &[Line]| {
+                let whose = whose(&String::from_utf8_lossy(text), days, before.as_deref());
+                let place = place(wrong.line);
+                Failure::Wrong(format!("{place}: {whose}{}\n  {AGAIN}", wrong.cause))
+            };
+            let here = |cause: String| Wrong {
+                line: number,
+                cause,
+            };
             let value: Value = serde_json::from_slice(text)
-                .map_err(|error| wrong(line, format!("is no JSON: {error}")))?;
-            let told = told(&value, &mut days).map_err(|cause| wrong(line, cause))?;
-            match told {
-                Some(told) => take(&place(line), told).map_err(|cause| wrong(line, cause))?,
+                .map_err(|error| wrong(here(format!("is no JSON: {error}")), &days))?;
+            match told(&value, &days, number).map_err(|cause| wrong(cause, &days))? {
+                Some(told) => {
+                    let station = told.station().to_string();
+                    take(place(number), told).map_err(|cause| wrong(here(cause), &days))?;
+                    days.clear();
+                    before = Some(station);
+                }
                 None if is_sum(&value) => {}
-                None => days.push(value),
+                None => days.push(Line { number, value }),
             }
         }
-        if !days.is_empty() {
-            let cause = "the days are not followed by their summary: the lines are cut; take them away, and score the station again";
-            return Err(wrong(last, cause.to_string()));
+        if let Some(last) = days.last() {
+            let (line, whose) = (last.number, whose("", &days, before.as_deref()));
+            return Err(Failure::Wrong(format!(
+                "{file}: line {line}: {whose}the days are not followed by their summary: the lines are cut\n  {AGAIN}"
+            )));
         }
     }
     Ok(())
 }
 
 /// What this line ends, with the days before it; nothing where it is a day itself, or a fleet's sum.
-fn told(value: &Value, days: &mut Vec<Value>) -> Read<Option<Told>> {
-    schema::is_known(value)?;
+fn told(value: &Value, days: &[Line], line: usize) -> Result<Option<Told>, Wrong> {
+    let wrong = |cause| Wrong { line, cause };
+    schema::is_known(value).map_err(wrong)?;
     if let Some(summary) = value.get("summary") {
-        let card = card(summary, days)?;
-        days.clear();
-        return Ok(Some(Told::Card(card)));
+        return card(summary, days, line).map(Told::Card).map(Some);
     }
     match value.get("lease") {
-        Some(_) if days.is_empty() => Ok(Some(Told::Outline(outline(value)?))),
-        Some(_) => Err("a station's line stands where the days' summary is due".to_string()),
+        Some(_) if days.is_empty() => {
+            let outline = outline(value).map_err(wrong)?;
+            Ok(Some(Told::Outline(outline)))
+        }
+        Some(_) => {
+            let cause = "a station's line stands where the days' summary is due";
+            Err(wrong(cause.to_string()))
+        }
         None => Ok(None),
     }
 }
@@ -122,18 +190,57 @@ fn is_sum(value: &Value) -> bool {
     value.get("fleet").is_some() || value.get("subtotal").is_some()
 }
 
-fn card(summary: &Value, days: &[Value]) -> Read<Card> {
+/// What to do about lines that aren't as they were printed.
+const AGAIN: &str =
+    "take the station's lines away, and score it again: fleet --commands --missing prints its line";
+
+/// Whose lines these are: by the line itself, also where it is cut, else by its days, else by what stands before them.
+fn whose(text: &str, days: &[Line], before: Option<&str>) -> String {
+    let of_line = text.split_once(r#""station":""#).map(|(_, rest)| rest);
+    let of_line = of_line.and_then(|rest| rest.split_once('"'));
+    let of_line = of_line.map(|(name, _)| visible::line(name));
+    let of_days = || {
+        days.iter()
+            .find_map(|day| optional(&day.value, "station").ok()?)
+    };
+    match (of_line.or_else(of_days), before) {
+        (Some(name), _) => format!("station {name}: "),
+        (None, Some(before)) => format!("behind station {before}: "),
+        (None, None) => String::new(),
+    }
+}
+
+/// The card of a month's line and of the days' lines before it, which are held against each other.
+fn card(summary: &Value, days: &[Line], line: usize) -> Result<Card, Wrong> {
+    let of_month = |cause| Wrong { line, cause };
+    let (lease, issue) = head(summary).map_err(of_month)?;
+    match summary.get("unscored") {
+        Some(told) => unscored(summary, told, lease, issue).map_err(of_month),
+        None => {
+            let read = days_of(days, &lease, &issue).map_err(|wrong| match wrong {
+                (Some(line), cause) => Wrong { line, cause },
+                (None, cause) => of_month(cause),
+            })?;
+            scored(summary, read, lease, issue).map_err(of_month)
+        }
+    }
+}
+
+/// A lease line, and its first day's date.
+type Dated = (LeaseLine, Option<Date>);
+
+/// The lease, and whose card it is.
+fn head(summary: &Value) -> Read<(Dated, Issue)> {
     let (line, from) = lease_line(summary)?;
     let issue = Issue {
         station: optional(summary, "station")?,
         lessee: optional(summary, "lessee")?,
+        lease: optional(summary, "lease_number")?,
+        zone: optional(summary, "time_zone")?,
         date: Date::parse(&text(summary, "issued")?)?,
         version: text(summary, "version")?.into(),
     };
-    match summary.get("unscored") {
-        Some(told) => unscored(summary, told, line, from, issue),
-        None => scored(summary, days, line, from, issue),
-    }
+    Ok(((line, from), issue))
 }
 
 fn edition(value: &Value) -> Read<Edition> {
@@ -142,7 +249,7 @@ fn edition(value: &Value) -> Read<Edition> {
 }
 
 /// The lease line with its first date.
-fn lease_line(value: &Value) -> Read<(LeaseLine, Option<Date>)> {
+fn lease_line(value: &Value) -> Read<Dated> {
     let lease = &value["lease"];
     let line = LeaseLine {
         first_day: short(lease, "first_day")?,
@@ -160,13 +267,13 @@ fn outline(value: &Value) -> Read<Outline> {
     let came = match value.get("unscored") {
         Some(told) => {
             let (refused, why) = why(told)?;
-            Came::Unscored { refused, why }
+            outline::Came::Unscored { refused, why }
         }
         None => {
             let lease = accepted(line).map_err(|refused| refused.to_string())?;
             dates(from, &lease)?;
             edition(value)?;
-            Came::Scored(sums(value, &line)?)
+            outline::Came::Scored(sums(value, &line)?)
         }
     };
     Ok(Outline {
@@ -217,13 +324,7 @@ fn why(told: &Value) -> Read<(bool, String)> {
     ))
 }
 
-fn unscored(
-    summary: &Value,
-    told: &Value,
-    line: LeaseLine,
-    from: Option<Date>,
-    issue: Issue,
-) -> Read<Card> {
+fn unscored(summary: &Value, told: &Value, (line, from): Dated, issue: Issue) -> Read<Card> {
     let (refused, why) = why(told)?;
     let unscored = Unscored {
         edition: short(summary, "edition")?,
@@ -239,25 +340,42 @@ fn unscored(
     Ok(Card::Unscored(unscored))
 }
 
-fn scored(
-    summary: &Value,
-    days: &[Value],
-    line: LeaseLine,
-    from: Option<Date>,
-    issue: Issue,
-) -> Read<Card> {
-    let lease = accepted(line).map_err(|refused| refused.to_string())?;
-    let dates = dates(from, &lease)?;
+/// The days, or what is wrong and in which of their lines.
+fn days_of(
+    days: &[Line],
+    (line, from): &Dated,
+    issue: &Issue,
+) -> Result<Vec<Day>, (Option<usize>, String)> {
+    let of_month = |cause| (None, cause);
+    let lease = accepted(*line).map_err(|refused| of_month(refused.to_string()))?;
+    let dates = dates(*from, &lease).map_err(of_month)?;
     if days.len() != dates.len() {
         let (has, due) = (days.len(), dates.len());
-        return Err(format!(
+        return Err(of_month(format!(
             "the lease has {due} days, and {has} lines stand before it"
-        ));
+        )));
     }
     let mut read = Vec::new();
-    for ((place, value), date) in (0..).zip(days).zip(dates) {
-        read.push(day(value, &line, place, date)?);
+    for ((place, told), date) in (0..).zip(days).zip(dates) {
+        let day = day(&told.value, line, place, date);
+        let day = day.and_then(|day| is_of(&told.value, issue).map(|()| day));
+        read.push(day.map_err(|cause| (Some(told.number), cause))?);
     }
+    Ok(read)
+}
+
+/// Lines that name a station are of this one.
+fn is_of(day: &Value, issue: &Issue) -> Read<()> {
+    match (optional(day, "station")?, &issue.station) {
+        (Some(is), Some(due)) if is != *due => Err(format!(
+            "the line is station {is}'s, and its month's line station {due}'s"
+        )),
+        _ => Ok(()),
+    }
+}
+
+fn scored(summary: &Value, read: Vec<Day>, (line, _): Dated, issue: Issue) -> Read<Card> {
+    let lease = accepted(line).map_err(|refused| refused.to_string())?;
     let checks: Read<Vec<Check>> = list(summary, "checks")?.iter().map(check).collect();
     let checks = checks?;
     held::agree(&read, &checks)?;

@@ -7,7 +7,7 @@ use crate::fleet::kept::Kept;
 use crate::fleet::lessees;
 use crate::fleet::month::{station, Fleet};
 use crate::score::asked::Card;
-use crate::score::month::{Day, Score, Served};
+use crate::score::month::{shown, Day, Score, Served};
 use std::io::Write;
 
 /// A row's columns but the last, which is as long as it is.
@@ -21,7 +21,7 @@ struct Row {
     behind: String,
 }
 
-/// A heading, a row a station and the totals, the four numbers in words, the silent days,
+/// A heading, a row a station and the totals, the four numbers in words, the dark days,
 /// and what to check before cards are sent.
 pub fn tell(fleet: &Fleet, digits: Digits, out: &mut dyn Write) -> Outcome {
     writeln!(out, "fleet of {}", fleet.heading())?;
@@ -33,8 +33,8 @@ pub fn tell(fleet: &Fleet, digits: Digits, out: &mut dyn Write) -> Outcome {
     lessees::text(&fleet.subtotals, digits, out)?;
     writeln!(out)?;
     writeln!(out, "{}", four(fleet, digits))?;
-    let silent = fleet.told().filter_map(|(_, card)| silent_days(&card));
-    text::list(out, "silent days:", silent)?;
+    let dark = fleet.told().filter_map(|(_, card)| dark_days(&card));
+    text::list(out, "dark days:", dark)?;
     let checks = fleet.told().flat_map(|(_, card)| checks(&card));
     text::list(out, "check before sending:", checks)?;
     let unscored = fleet.told().filter_map(|(_, card)| unscored(&card));
@@ -49,7 +49,7 @@ pub fn four(fleet: &Fleet, digits: Digits) -> String {
         None => String::new(),
     };
     let (served, owed) = (digits.of(four.served), digits.of(four.owed));
-    let days = text::count(four.silent_days, "silent day");
+    let days = text::count(four.silent_days, "dark day");
     let smallest = match fleet.smallest() {
         Some(station) => format!("smallest part: station {station}"),
         None => "no station owes anything".to_string(),
@@ -58,13 +58,13 @@ pub fn four(fleet: &Fleet, digits: Digits) -> String {
 }
 
 /// "14: 109 to 112 (2026-04-09 to 2026-04-12)".
-fn silent_days(card: &Card) -> Option<String> {
-    let silent = silent(card.score()?);
-    (!silent.is_empty()).then(|| format!("{}: {}", station(card), silent))
+fn dark_days(card: &Card) -> Option<String> {
+    let dark = dark(card.score()?);
+    (!dark.is_empty()).then(|| format!("{}: {}", station(card), dark))
 }
 
-/// The silent days of a month, those in a row as one.
-pub fn silent(score: &Score) -> String {
+/// The dark days of a month, those in a row as one.
+pub fn dark(score: &Score) -> String {
     let mut rows: Vec<(&Day, &Day)> = Vec::new();
     for day in score.days.iter().filter(|day| day.is_dark()) {
         match rows.last_mut() {
@@ -123,12 +123,12 @@ fn table(fleet: &Fleet, digits: Digits, out: &mut dyn Write) -> Outcome {
     let has_lessee = |card: &Kept| card.issue().lessee.is_some();
     let has_lessees = fleet.kept.iter().any(has_lessee);
     for row in all() {
-        let [station, lessee, served, owed, part, silent, full] = &row.columns;
+        let [station, lessee, served, owed, part, dark, full] = &row.columns;
         let lessee = match has_lessees {
             true => format!("  {lessee:<b$}"),
             false => String::new(),
         };
-        let numbers = format!("{served:>c$}  {owed:>d$}  {part:>e$}  {silent:>f$}  {full:>g$}");
+        let numbers = format!("{served:>c$}  {owed:>d$}  {part:>e$}  {dark:>f$}  {full:>g$}");
         let line = format!("{station:<a$}{lessee}  {numbers}  {}", row.behind);
         writeln!(out, "{}", line.trim_end())?;
     }
@@ -137,7 +137,7 @@ fn table(fleet: &Fleet, digits: Digits, out: &mut dyn Write) -> Outcome {
 
 fn head() -> Row {
     let names = [
-        "station", "lessee", "served", "owed", "part", "silent", "full",
+        "station", "lessee", "served", "owed", "part", "dark", "full",
     ];
     Row {
         columns: names.map(String::from),
@@ -151,9 +151,9 @@ fn row(card: &Card, digits: Digits) -> Row {
     let score = match card {
         Card::Scored(score) => score,
         Card::Unscored(unscored) => {
-            let [served, owed, part, silent, full] = [(); 5].map(|()| "-".to_string());
+            let [served, owed, part, dark, full] = [(); 5].map(|()| "-".to_string());
             return Row {
-                columns: [station, lessee, served, owed, part, silent, full],
+                columns: [station, lessee, served, owed, part, dark, full],
                 behind: unscored.name().to_string(),
             };
         }
@@ -168,7 +168,7 @@ fn row(card: &Card, digits: Digits) -> Row {
             lessee,
             digits.of(score.month.served),
             digits.of(score.month.owed),
-            score.percent().unwrap_or_else(|| "-".to_string()),
+            shown(score.percent(), "-"),
             score.count(Served::Dark).to_string(),
             score.count(Served::InFull).to_string(),
         ],
@@ -183,7 +183,7 @@ fn total(fleet: &Fleet, digits: Digits) -> Row {
             String::new(),
             digits.of(fleet.four.served),
             digits.of(fleet.four.owed),
-            fleet.percent().unwrap_or_else(|| "-".to_string()),
+            shown(fleet.percent(), "-"),
             fleet.four.silent_days.to_string(),
             fleet.days(Served::InFull).to_string(),
         ],

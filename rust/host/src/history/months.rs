@@ -6,7 +6,7 @@ use crate::fleet::files::name_order;
 use crate::fleet::stations::refused;
 use crate::history::odds::{self, Odds};
 use crate::history::period::Period;
-use crate::score::month::percent;
+use crate::score::month::Percent;
 use crate::score::outline::{Came, Outline};
 use boundary::{Edition, Fleet, FleetTold};
 use std::cmp::Ordering;
@@ -80,8 +80,9 @@ pub struct Total {
 }
 
 impl Total {
-    pub fn percent(&self) -> Option<String> {
-        self.told.and_then(|told| percent(told.served, told.owed))
+    pub fn percent(&self) -> Option<Percent> {
+        self.told
+            .and_then(|told| Percent::of(told.served, told.owed))
     }
 }
 
@@ -233,7 +234,7 @@ fn change(before: &Month, month: &Month) -> Option<Change> {
     let part = |served: u64, owed: u64| u128::from(served) * u128::from(owed);
     Some(Change {
         since: before.period,
-        was: was.percent()?,
+        was: was.percent()?.to_string(),
         part: part(is.served, was.owed).cmp(&part(was.served, is.owed)),
         dark: is.dark.len() as i64 - was.dark.len() as i64,
     })

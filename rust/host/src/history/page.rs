@@ -9,7 +9,7 @@ use crate::history::period::Period;
 use crate::history::text;
 use crate::score::civil::Date;
 use crate::score::issue::VERSION;
-use crate::score::month::filled;
+use crate::score::month::{self, filled};
 use crate::score::outline::{Came, Sums};
 use crate::score::picture::svg::{Drawing, FULL, INK, PAPER};
 use boundary::Edition;
@@ -108,7 +108,7 @@ fn shown(month: &Month) -> String {
         Some(sums) => sums,
         None => return format!("{odds}<span class=\"none\">{}</span>", month.outline.name()),
     };
-    let part = sums.percent().unwrap_or_else(|| "nothing owed".to_string());
+    let part = month::shown(sums.percent(), "nothing owed");
     let mark = if is_worse(month) { "▼ " } else { "" };
     let dark = match sums.dark.len() {
         0 => String::new(),
@@ -139,7 +139,7 @@ fn told(month: &Month) -> String {
 }
 
 fn total(total: &Total) -> String {
-    let part = total.percent().unwrap_or_else(|| "–".to_string());
+    let part = month::shown(total.percent(), "–");
     let dark = total.told.map_or(0, |told| told.silent_days);
     format!("<td class=\"number\">{part}<br/><span class=\"dark\">{dark} dark</span></td>")
 }

@@ -6,6 +6,7 @@ use crate::history::months::{Change, History, Month, Station, Total};
 use crate::history::odds::Odds;
 use crate::score::civil::Date;
 use crate::score::issue::VERSION;
+use crate::score::month::put_percent;
 use crate::score::outline::Came;
 use crate::score::rows::lease;
 use serde_json::{json, Value};
@@ -47,7 +48,7 @@ fn row(station: &Station, month: &Month) -> Value {
         Came::Scored(sums) => {
             value["served"] = json!(sums.served);
             value["owed"] = json!(sums.owed);
-            value["percent"] = json!(sums.percent());
+            put_percent(sums.percent(), &mut value);
             value["dark_days"] = json!(sums.dark.len());
             value["dark"] = json!(sums.dark);
             value["full_days"] = json!(sums.full_days);
@@ -74,12 +75,13 @@ fn change(change: &Change) -> Value {
 
 fn total_of(total: &Total) -> Value {
     let told = total.told.as_ref();
-    json!({
+    let mut value = json!({
         "month": total.period.to_string(),
         "stations": total.stations,
         "served": told.map(|told| told.served),
         "owed": told.map(|told| told.owed),
-        "percent": total.percent(),
         "dark_days": told.map(|told| told.silent_days),
-    })
+    });
+    put_percent(total.percent(), &mut value);
+    value
 }

@@ -7,6 +7,7 @@ use crate::common::text::{count, list};
 use crate::history::months::{History, Month, Station, Total};
 use crate::history::period::span;
 use crate::score::card::bar;
+use crate::score::month::shown;
 use crate::score::outline::Came;
 use boundary::Edition;
 use std::io::Write;
@@ -119,7 +120,7 @@ fn row(station: &Station, month: &Month, digits: Digits) -> Row {
         Some(sums) => [
             digits.of(sums.served),
             digits.of(sums.owed),
-            sums.percent().unwrap_or_else(|| "-".to_string()),
+            shown(sums.percent(), "-"),
             sums.dark.len().to_string(),
             sums.full_days.to_string(),
         ],
@@ -152,7 +153,7 @@ fn total(total: &Total, digits: Digits) -> Row {
         Some(told) => [
             digits.of(told.served),
             digits.of(told.owed),
-            total.percent().unwrap_or_else(|| "-".to_string()),
+            shown(total.percent(), "-"),
             told.silent_days.to_string(),
         ],
         None => [(); 4].map(|()| "-".to_string()),

@@ -5,6 +5,7 @@
 
 use crate::common::failure::{Failure, Outcome};
 use crate::common::visible;
+use crate::input::archive;
 use crate::input::later::Later;
 use crate::input::packed::{self, Counted};
 use crate::input::progress::Bar;
@@ -29,7 +30,8 @@ pub struct Source {
     reader: Box<dyn Read>,
     /// Whether nothing is read yet.
     fresh: bool,
-    /// Whether what is read is unpacked.
+    /// Whether what is packed is unpacked, and whether it is.
+    unpacks: bool,
     packed: bool,
     /// Bytes read so far, and those of the file that they came from.
     at: u64,
@@ -89,6 +91,7 @@ impl Source {
     pub fn without_unpacking(self) -> Source {
         Source {
             fresh: false,
+            unpacks: false,
             ..self
         }
     }
@@ -113,6 +116,7 @@ impl Source {
             name,
             reader: Box::new(raw.counting(reader)),
             fresh: true,
+            unpacks: true,
             packed: false,
             at: 0,
             raw,
@@ -131,6 +135,7 @@ impl Source {
             let reader = std::mem::replace(&mut self.reader, Box::new(io::empty()));
             (self.packed, self.reader) = packed::unpacked(reader);
         }
+        let is_begin = self.at == 0 && self.unpacks;
         let mut filled = 0;
         while filled < room.len() && self.error.is_none() {
             match self.reader.read(&mut room[filled..]) {
@@ -144,6 +149,10 @@ impl Source {
         self.begin.extend(&room[..missing]);
         self.at += filled as u64;
         self.bar.at(self.raw.bytes());
+        let archive = is_begin.then(|| archive::named(&self.begin)).flatten();
+        if let Some(archive) = archive {
+            return Err(self.wrong(archive.told(self.packed)));
+        }
         match &self.error {
             Some(error) if filled == 0 => Err(self.wrong(self.failed(error))),
             _ => Ok(filled),
@@ -192,7 +201,8 @@ impl Source {
 
     fn failed(&self, error: &io::Error) -> String {
         if self.packed {
-            format!("byte {} of what gzip packed: {error}", self.at)
+            let cause = packed::failed(error);
+            format!("byte {} of what gzip packed: {cause}", self.at)
         } else {
             format!("byte {}: {error}", self.at)
         }

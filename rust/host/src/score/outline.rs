@@ -2,7 +2,7 @@
 
 use crate::score::asked::{Card, LeaseLine, Unscored};
 use crate::score::civil::Date;
-use crate::score::month::{percent, verdict_name, Score, Served};
+use crate::score::month::{verdict_name, Percent, Score, Served};
 use boundary::Verdict;
 
 pub struct Outline {
@@ -92,8 +92,8 @@ impl Sums {
         }
     }
 
-    pub fn percent(&self) -> Option<String> {
-        percent(self.served, self.owed)
+    pub fn percent(&self) -> Option<Percent> {
+        Percent::of(self.served, self.owed)
     }
 
     /// Whether days that are served so can come to these sums under this lease line.

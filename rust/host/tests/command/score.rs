@@ -18,10 +18,10 @@ fn score(log: &str, line: &str) -> Output {
     egretfold(&format!("score {log} {line}"), b"")
 }
 
-/// The rows of `--csv`, without their head, as their values.
+/// The rows of `--csv`, without their head, as their values behind the station's name.
 fn rows(output: &Output) -> Vec<Vec<String>> {
     let text = told(output);
-    let values = |line: &str| line.split(',').map(String::from).collect();
+    let values = |line: &str| line.split(',').skip(1).map(String::from).collect();
     text.lines().skip(1).map(values).collect()
 }
 
@@ -237,10 +237,10 @@ fn day_files_in_their_order_are_one_month() {
     }
     let name = |(place, part): (usize, &Vec<u8>)| folder.write(&place.to_string(), part);
     let names: Vec<String> = parts.iter().enumerate().map(name).collect();
-    assert_eq!(names.len(), 31);
+    assert_eq!(names.len(), 32);
     let output = score(&names.join(" "), APRIL);
     let card = told(&output);
-    let due = format!("score of {} to {}, 31 inputs\n", names[0], names[30]);
+    let due = format!("score of {} to {}, 32 inputs\n", names[0], names[31]);
     assert!(card.starts_with(&due), "{card}");
     let whole = told(&score("samples/station-14.log", APRIL));
     let below = |text: &str| text.split_once('\n').map(|(_, rest)| rest.to_string());
@@ -279,10 +279,12 @@ fn a_refused_word_and_an_unfinished_record_are_told_and_refuse_nothing() {
 /// A log that can't be read to its end has no score.
 #[test]
 fn an_input_that_fails_has_no_card() {
-    let output = score("samples/station-14.log samples", APRIL);
+    let empty = Folder::new("no-log");
+    let empty = empty.0.display();
+    let output = score(&format!("samples/station-14.log {empty}"), APRIL);
     assert_eq!(output.status.code(), Some(2));
     assert_eq!(told(&output), "");
-    assert!(complained(&output).starts_with("egretfold: samples: "));
+    assert!(complained(&output).starts_with(&format!("egretfold: {empty}: ")));
 }
 
 #[test]

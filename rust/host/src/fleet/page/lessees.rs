@@ -4,6 +4,7 @@ use crate::common::digits::grouped;
 use crate::fleet::lessees::{are_told, Subtotal};
 use crate::fleet::month::Fleet;
 use crate::fleet::page::escaped;
+use crate::score::month::shown;
 
 pub fn table(fleet: &Fleet) -> String {
     if !are_told(&fleet.subtotals) {
@@ -36,7 +37,7 @@ fn row(subtotal: &Subtotal) -> String {
         subtotal.stations.to_string(),
         grouped(subtotal.told.served),
         grouped(subtotal.told.owed),
-        subtotal.percent().unwrap_or_else(|| "–".to_string()),
+        shown(subtotal.percent(), "–"),
         subtotal.told.silent_days.to_string(),
         subtotal.full_days.to_string(),
         subtotal.short.to_string(),

@@ -6,6 +6,7 @@ mod glance;
 mod lessees;
 pub mod linked;
 mod stations;
+mod strip;
 
 use crate::common::digits::Digits;
 use crate::common::failure::{Failure, Outcome};
@@ -60,11 +61,15 @@ pub fn of_one(card: &Card) -> String {
         Card::Scored(score) => score.verdict(),
         Card::Unscored(unscored) => unscored.name().to_string(),
     };
-    let shown = [Shown {
-        card,
-        leads: format!("#{}", anchor(0)),
-    }];
-    let parts = [glance::table(&shown, false), card_within(0, card)];
+    let checks = card.score().map_or(&[][..], |score| &score.checks);
+    let checks = checks
+        .iter()
+        .map(|check| format!("<li>{}</li>\n", escaped(&check.text)));
+    let parts = [
+        notice("Check before sending", checks.collect()),
+        strip::of(card),
+        card_within(0, card),
+    ];
     let issued = card.issue().told();
     page("one", &title, &[told], &issued, &parts.concat())
 }
@@ -101,7 +106,7 @@ pub fn html(fleet: &Fleet, files: Option<&Linked>) -> String {
         "<h2>Stations</h2>\n".to_string(),
         stations::table(fleet, &cards),
         lessees::table(fleet),
-        silent_days(&cards),
+        dark_days(&cards),
         match files {
             Some(files) => files.told(),
             None => all_cards().collect(),
@@ -216,15 +221,15 @@ fn checks(shown: &Shown) -> Vec<String> {
         .collect()
 }
 
-fn silent_days(cards: &[Shown]) -> String {
-    let silent = |shown: &Shown| {
-        let text = text::silent(shown.card.score()?);
+fn dark_days(cards: &[Shown]) -> String {
+    let dark = |shown: &Shown| {
+        let text = text::dark(shown.card.score()?);
         (!text.is_empty()).then(|| line(shown, &text))
     };
-    let lines: String = cards.iter().filter_map(silent).collect();
+    let lines: String = cards.iter().filter_map(dark).collect();
     match lines.is_empty() {
         true => String::new(),
-        false => format!("<h2>Silent days</h2>\n<ul>\n{lines}</ul>\n"),
+        false => format!("<h2>Dark days</h2>\n<ul>\n{lines}</ul>\n"),
     }
 }
 
