@@ -3,7 +3,7 @@
 
 use crate::common::digits::grouped;
 use crate::common::edition;
-use crate::fleet::page::{escaped, found_by, notice, page, FIND};
+use crate::fleet::page::{escaped, fits, found_by, notice, page, FIND};
 use crate::history::months::{Change, History, Month, Station, Total};
 use crate::history::period::Period;
 use crate::history::text;
@@ -40,8 +40,9 @@ fn table(history: &History) -> String {
     let rows = history.stations.iter();
     let rows: String = rows.map(|station| row(station, &periods)).collect();
     let totals: String = history.totals.iter().map(total).collect();
+    let fits = fits(history.stations.len());
     format!(
-        "<div class=\"wide\">\n<table class=\"stations months sorts\">\n<thead><tr><th scope=\"col\" class=\"text\">station</th><th scope=\"col\" class=\"text\">lessee</th><th scope=\"col\" class=\"text\">months</th>{heads}</tr></thead>\n<tbody>\n{rows}</tbody>\n<tfoot><tr><td class=\"text\" colspan=\"3\">total</td>{totals}</tr></tfoot>\n</table>\n</div>\n"
+        "<div class=\"wide\">\n<table class=\"stations months sorts{fits}\">\n<thead><tr><th scope=\"col\" class=\"text\">station</th><th scope=\"col\" class=\"text\">lessee</th><th scope=\"col\" class=\"text\">months</th>{heads}</tr></thead>\n<tbody>\n{rows}</tbody>\n<tfoot><tr><td class=\"text\" colspan=\"3\">total</td>{totals}</tr></tfoot>\n</table>\n</div>\n"
     )
 }
 

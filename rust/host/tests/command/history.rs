@@ -189,8 +189,8 @@ fn scores_that_contradict_each_other_are_told() {
     months.put("other", "may", |line| {
         line["served"] = json!(27_000_000);
         line["full_days"] = json!(27);
-        line["silent_days"] = json!(4);
-        line["silent"] = json!([140, 141, 142, 143]);
+        line["dark_days"] = json!(4);
+        line["dark"] = json!([140, 141, 142, 143]);
     });
     let cause = "21: days 131 to 161 are scored twice: 27,000,000 of 31,000,000 served, 4 dark by edition 1, leased to Harbour, from 2026-05-01 (other: line 1), and 28,000,000 of 31,000,000 served, 3 dark by edition 1, leased to Harbour, from 2026-05-01 (may: line 1)";
     is_told(&months, "april may june other", cause);
@@ -293,8 +293,8 @@ fn forged_scores_are_told() {
         (wrong, |line| line["full_days"] = json!(29)),
         (wrong, |line| line["full_days"] = json!(u64::MAX)),
         (wrong, |line| line["part_days"] = json!(u64::MAX)),
-        (wrong, |line| line["silent_days"] = json!(2)),
-        (wrong, |line| line["silent"] = json!([140, 141, 162])),
+        (wrong, |line| line["dark_days"] = json!(2)),
+        (wrong, |line| line["dark"] = json!([140, 141, 162])),
         (wrong, |line| line["verdict"] = json!("full")),
         ("x: line 1: refused 21", |line| {
             line["lease"]["days"] = json!(32)
@@ -377,6 +377,20 @@ fn a_page_is_written_over_no_scores() {
     assert!(page.contains("Month by month"));
     let text = fs::read_to_string(months.folder.0.join("text")).expect("the text");
     assert!(text.starts_with("history of 2 stations over 2 months"));
+}
+
+/// Lines from before dark days were called so, and before there was a schema's number.
+#[test]
+fn earlier_lines_are_read() {
+    let months = Months::new("history-earlier");
+    let due = told(&months.history("april may june"));
+    for month in MONTHS {
+        let text = fs::read_to_string(months.folder.0.join(month)).expect("the scores");
+        let earlier = text.replace("\"dark", "\"silent").replace(",\"schema\":1}", "}");
+        assert_ne!(earlier, text);
+        months.folder.write(month, earlier.as_bytes());
+    }
+    assert_eq!(told(&months.history("april may june")), due);
 }
 
 /// Without dates the days' numbers part the months.

@@ -155,9 +155,10 @@ fn is_of(kinds: &Value, value: &Value) -> bool {
         Value::Array(_) => "array",
         Value::Object(_) => "object",
     };
+    let is_of = |kind: &Value| kind == is || kind == "number" && is == "integer";
     match kinds {
-        Value::Array(kinds) => kinds.iter().any(|kind| kind == is),
-        kind => kind == is || kind == "number" && is == "integer",
+        Value::Array(kinds) => kinds.iter().any(is_of),
+        kind => is_of(kind),
     }
 }
 
@@ -345,9 +346,10 @@ fn wrong_outputs_are_told() {
 #[test]
 fn fields_that_are_missing_or_below_their_least_are_told() {
     let schema = Schema::new();
-    let day = json!({"day": 101, "date": null, "claimed": 5, "served": 5, "owed": 9, "dark": false, "in_log": true, "schema": 1});
+    let day = json!({"station": null, "day": 101, "date": null, "claimed": 5, "served": 5, "owed": 9, "dark": false, "in_log": true, "schema": 1});
     assert_eq!(schema.fault("score", &day), None);
-    for key in ["day", "date", "claimed", "served", "owed", "dark", "in_log"] {
+    for key in [
+        "station", "day", "date", "claimed", "served", "owed", "dark", "in_log"] {
         let mut without = day.clone();
         without.as_object_mut().expect("fields").remove(key);
         assert!(schema.fault("score", &without).is_some(), "{key}");

@@ -1,6 +1,6 @@
 //! The month at a glance: a station a row, a day a cell.
 
-use crate::fleet::page::{escaped, link, of_card, Shown};
+use crate::fleet::page::{escaped, fits, link, of_card, Shown};
 use crate::score::asked::Card;
 use crate::score::month::{Day, Served};
 use crate::score::picture;
@@ -16,8 +16,9 @@ pub fn table(cards: &[Shown], is_light: bool) -> String {
         .iter()
         .map(|shown| row(shown, days, is_light))
         .collect();
+    let fits = fits(cards.len());
     format!(
-        "<div class=\"wide\">\n<table class=\"glance\">\n<thead><tr><th></th>{heads}</tr></thead>\n<tbody>\n{rows}</tbody>\n</table>\n</div>\n{LEGEND}"
+        "<div class=\"wide\">\n<table class=\"glance{fits}\">\n<thead><tr><th></th>{heads}</tr></thead>\n<tbody>\n{rows}</tbody>\n</table>\n</div>\n{LEGEND}"
     )
 }
 

@@ -3,7 +3,7 @@
 use crate::common::digits::grouped;
 use crate::fleet::lessees::{are_told, Subtotal};
 use crate::fleet::month::Fleet;
-use crate::fleet::page::escaped;
+use crate::fleet::page::{escaped, fits};
 use crate::score::month::shown;
 
 pub fn table(fleet: &Fleet) -> String {
@@ -23,8 +23,9 @@ pub fn table(fleet: &Fleet) -> String {
         .map(|name| format!("<th scope=\"col\">{name}</th>"))
         .concat();
     let rows: String = fleet.subtotals.iter().map(row).collect();
+    let fits = fits(fleet.subtotals.len());
     format!(
-        "<h2>Lessees</h2>\n<div class=\"wide\">\n<table class=\"stations\">\n<thead><tr><th scope=\"col\" class=\"text\">lessee</th>{heads}</tr></thead>\n<tbody>\n{rows}</tbody>\n</table>\n</div>\n"
+        "<h2>Lessees</h2>\n<div class=\"wide\">\n<table class=\"stations{fits}\">\n<thead><tr><th scope=\"col\" class=\"text\">lessee</th>{heads}</tr></thead>\n<tbody>\n{rows}</tbody>\n</table>\n</div>\n"
     )
 }
 

@@ -185,6 +185,15 @@ fn link(shown: &Shown) -> String {
     format!(r#"<a href="{leads}">{name}</a>"#)
 }
 
+/// The class of a table that a printed page holds, so that it is kept whole; a longer one goes over pages, under its head.
+pub fn fits(rows: usize) -> &'static str {
+    if rows <= 20 {
+        " whole"
+    } else {
+        ""
+    }
+}
+
 /// Framed lines, where there are any.
 pub fn notice(heading: &str, lines: Vec<String>) -> String {
     match lines.is_empty() {

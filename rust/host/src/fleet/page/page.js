@@ -11,12 +11,9 @@
   var sortable = function (table) {
     var body = table.tBodies[0];
     each(table.tHead.rows[0].cells, function (head, place) {
-      var button = document.createElement("button");
-      button.type = "button";
-      button.textContent = head.textContent;
-      head.textContent = "";
-      head.appendChild(button);
-      button.addEventListener("click", function () {
+      // No button of the browser's: those are not printed where a table's head is repeated.
+      var button = document.createElement("span");
+      var sort = function () {
         var down = head.getAttribute("aria-sort") === "ascending";
         each(table.tHead.rows[0].cells, function (other) { other.removeAttribute("aria-sort"); });
         head.setAttribute("aria-sort", down ? "descending" : "ascending");
@@ -26,6 +23,15 @@
           return down ? -order : order;
         });
         rows.forEach(function (row) { body.appendChild(row); });
+      };
+      button.tabIndex = 0;
+      button.setAttribute("role", "button");
+      button.textContent = head.textContent;
+      head.textContent = "";
+      head.appendChild(button);
+      button.addEventListener("click", sort);
+      button.addEventListener("keydown", function (event) {
+        if (event.key === "Enter" || event.key === " ") { event.preventDefault(); sort(); }
       });
     });
   };

@@ -2,7 +2,7 @@
 
 use crate::common::digits::grouped;
 use crate::fleet::month::{station, Fleet};
-use crate::fleet::page::{escaped, link, of_card, Shown};
+use crate::fleet::page::{escaped, fits, link, of_card, Shown};
 use crate::score::asked::Card;
 use crate::score::month::{self, Score, Served};
 
@@ -25,9 +25,9 @@ pub fn table(fleet: &Fleet, cards: &[Shown]) -> String {
     };
     let heads: String = HEADS.iter().map(head).collect();
     let rows: String = cards.iter().map(row).collect();
-    let total = total(fleet);
+    let (total, fits) = (total(fleet), fits(cards.len()));
     format!(
-        "<div class=\"wide\">\n<table class=\"stations sorts\">\n<thead><tr>{heads}</tr></thead>\n<tbody>\n{rows}</tbody>\n<tfoot>{total}</tfoot>\n</table>\n</div>\n"
+        "<div class=\"wide\">\n<table class=\"stations sorts{fits}\">\n<thead><tr>{heads}</tr></thead>\n<tbody>\n{rows}</tbody>\n<tfoot>{total}</tfoot>\n</table>\n</div>\n"
     )
 }
 

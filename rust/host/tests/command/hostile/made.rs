@@ -391,7 +391,7 @@ impl Made<'_> {
         let part = self.random.between(1, 9);
         let mut value = json!({
             "station": station, "lessee": "Harbour", "edition": edition, "lease": lease, "sha256": null, "checks": [],
-            "served": 10 + part, "owed": 30, "percent": "x", "silent_days": 1, "silent": [first.wrapping_add(2)],
+            "served": 10 + part, "owed": 30, "percent": "x", "dark_days": 1, "dark": [first.wrapping_add(2)],
             "full_days": 1, "part_days": 1, "verdict": "short", "explained": null, "schema": 1,
         });
         if self.random.once_in(3) {
