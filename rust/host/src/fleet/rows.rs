@@ -43,14 +43,14 @@ pub fn json(fleet: &Fleet, out: &mut dyn Write) -> Outcome {
         "scored": fleet.scores().count(),
         "served": four.served,
         "owed": four.owed,
-        "dark_days": four.silent_days,
-        "station": fleet.smallest(),
-        "place": fleet.smallest,
-        "full_days": fleet.days(Served::InFull),
-        "issued": fleet.date.to_string(),
-        "version": VERSION,
     });
     put_percent(fleet.percent(), &mut value);
+    value["dark_days"] = json!(four.silent_days);
+    value["station"] = json!(fleet.smallest());
+    value["place"] = json!(fleet.smallest);
+    value["full_days"] = json!(fleet.days(Served::InFull));
+    value["issued"] = json!(fleet.date.to_string());
+    value["version"] = json!(VERSION);
     schema::line(out, json!({ "fleet": value }))
 }
 

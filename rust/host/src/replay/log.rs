@@ -65,6 +65,8 @@ pub struct Log {
     repeats: bool,
     /// What it goes on from.
     pub resumed: Option<Resumed>,
+    /// The day in which the input at hand began, or the one that stopped the replay.
+    began_in: Option<u32>,
     /// The first bytes of the first input.
     begin: Vec<u8>,
     /// The end of what was read before the piece at hand.
@@ -87,6 +89,7 @@ impl Log {
             takes_repeats: false,
             repeats: false,
             resumed: None,
+            began_in: None,
             begin: Vec::new(),
             tail: Vec::new(),
         }
@@ -206,6 +209,9 @@ impl Log {
         let each = sources.len() > 1 || !pieces.is_empty();
         for (place, mut source) in sources.into_iter().enumerate() {
             self.inputs[place].1 = self.bytes;
+            if self.stop.is_none() {
+                self.began_in = self.replay.status().days.map(|(_, last)| last);
+            }
             let mut own = each.then(Digest::new);
             loop {
                 match source.fill(&mut room)? {
@@ -270,16 +276,19 @@ impl Log {
             .or_else(|| looks::hint(&self.begin, Looks::Log))
     }
 
-    /// What to try where a midnight of a later input isn't the one that is due.
+    /// What to try where the first midnight of a later input isn't the one that is due.
     fn order_hint(&self) -> Option<String> {
         let (place, refused) = self.stop.as_ref()?;
-        let (input, _) = place.input.as_ref().filter(|_| refused.number == 19)?;
-        let number = self.inputs.iter().position(|(name, _)| name == input)?;
+        let number = self
+            .inputs
+            .iter()
+            .rposition(|(_, begin)| *begin <= place.byte)?;
         let (before, _) = self.inputs.get(number.checked_sub(1)?)?;
+        let (input, _) = &self.inputs[number];
         let (_, day) = self.replay.status().days?;
-        Some(format!(
-            "{before} ends in day {day}: give the files in the order of their days; where they are, days between them are missing, \
-             or {input} is another log's"
+        let is_first = refused.number == 19 && self.began_in == Some(day);
+        is_first.then(|| format!(
+            "{before} ends in day {day}: the files aren't in the order of their days, or days between them are missing, or {input} is another log's"
         ))
     }
 

@@ -552,13 +552,21 @@ fn files_in_another_order_than_their_days_are_told() {
     let weeks =
         "samples/station-15/week-1.log samples/station-15/week-3.log samples/station-15/week-2.log";
     let due = "refused 19, midnight of day 115 stands where day 108 is due\n  \
-               samples/station-15/week-1.log ends in day 107: give the files in the order of their days; where they are, \
-               days between them are missing, or samples/station-15/week-3.log is another log's\n";
+               samples/station-15/week-1.log ends in day 107: the files aren't in the order of their days, or days between them are missing, \
+               or samples/station-15/week-3.log is another log's\n";
     for line in [format!("score {weeks} {LEASE}"), format!("replay {weeks}")] {
         let output = egretfold(&line, b"");
         assert_eq!(output.status.code(), Some(1));
         assert!(complained(&output).contains(due), "{}", complained(&output));
     }
+    // A midnight that is lost inside a file says nothing of the files' order.
+    let folder = Folder::new("lost");
+    let week = sample("station-15/week-2.log");
+    let lost = midnights(110..111);
+    let kept = week.chunks(5).filter(|record| *record != lost);
+    let file = folder.write("week-2.log", &kept.collect::<Vec<_>>().concat());
+    let output = egretfold(&format!("replay samples/station-15/week-1.log {file}"), b"");
+    assert!(complained(&output).ends_with("midnight of day 111 stands where day 110 is due\n"));
 }
 
 /// The texts of a card, without what parts them into lines.
