@@ -11,6 +11,7 @@
 //! * `fleet`: a lease file and many logs, read side by side; its forms are the `text`, the
 //!   `rows` for programs, the `page` for browsers and the folder of `cards`;
 //! * `verify`: a card held against its logs, which are scored anew;
+//! * `history`: months' scores side by side, as `text`, as `rows` and as a `page`;
 //! * `decode`: words given to a session by a `walk`; its forms are the `listing` and
 //!   `json`. `encode` is the way back, on one page;
 //! * `replay`: the `log` given to a replay; its forms are in `days`;
@@ -34,6 +35,7 @@ mod encode;
 mod explain;
 mod fleet;
 mod flow;
+mod history;
 mod input;
 mod manual;
 mod picture;
@@ -86,6 +88,9 @@ enum What {
     /// A card held against its logs, which are scored anew
     #[command(after_help = verify::EXAMPLES)]
     Verify(verify::Options),
+    /// Months' scores side by side: what each station was served month by month, and what got worse
+    #[command(after_help = history::EXAMPLES)]
+    History(history::Options),
     /// A stream of command words as a listing
     #[command(after_help = decode::EXAMPLES)]
     Decode(decode::Options),
@@ -183,6 +188,7 @@ fn name(line: &Line, files: &mut Files) {
         Some(What::Score(options)) => options.name(files),
         Some(What::Fleet(options)) => options.name(files),
         Some(What::Verify(options)) => options.name(files),
+        Some(What::History(options)) => options.name(files),
         Some(What::Decode(options)) => options.name(files),
         Some(What::Encode(options)) => options.name(files),
         Some(What::Replay(options)) => options.name(files),
@@ -201,6 +207,7 @@ fn run(line: &Line, files: &mut Files, out: &mut dyn Write) -> Outcome {
         Some(What::Score(options)) => score::run(options, files, out),
         Some(What::Fleet(options)) => fleet::run(options, files, out),
         Some(What::Verify(options)) => verify::run(options, out),
+        Some(What::History(options)) => history::run(options, files, out),
         Some(What::Decode(options)) => decode::run(options, out),
         Some(What::Encode(options)) => encode::run(options, out),
         Some(What::Replay(options)) => replay::run(options, files, out),

@@ -21,7 +21,7 @@ pub fn file(folder: &Path, station: &str) -> PathBuf {
 }
 
 /// The name of a station's card.
-fn name_of(station: &str) -> String {
+pub fn name_of(station: &str) -> String {
     format!("{}.svg", plain(station))
 }
 
@@ -100,14 +100,17 @@ pub fn folder(folder: &Path) -> Outcome {
     })
 }
 
-/// Writes each station's card, in place of an earlier one, and tells of others that stand
-/// there.
-pub fn write(fleet: &Fleet, folder: &Path, files: &mut Files) {
+/// Writes each station's card, in place of an earlier one, and where that is asked tells of others
+/// that stand there.
+pub fn write(fleet: &Fleet, folder: &Path, tells_others: bool, files: &mut Files) {
     let mut names = HashSet::new();
     for card in fleet.cards() {
         let name = file(folder, station(&card));
         Replaced::at(&name, Kind::Svg).write(picture::svg(&card), files);
         names.insert(name);
+    }
+    if !tells_others {
+        return;
     }
     let is_ours = |path: &PathBuf| fs::read_to_string(path).map_or(false, |text| text.contains(BY));
     for other in beside(folder, &names).into_iter().filter(is_ours) {

@@ -99,7 +99,12 @@ pub struct Unscored {
 
 impl Unscored {
     pub fn name(&self) -> &'static str {
-        match self.refused {
+        Unscored::name_of(self.refused)
+    }
+
+    /// What a month is called that was refused, or whose log couldn't be read.
+    pub fn name_of(refused: bool) -> &'static str {
+        match refused {
             true => "REFUSED",
             false => "NOT SCORED",
         }

@@ -62,11 +62,7 @@ impl Issue {
 
     /// By the station's name, the lessee's, the lease's number and the time zone.
     pub fn of(names: [&Option<String>; 4], date: Date) -> Issue {
-        let name = |text: &Option<String>| {
-            let text = text.as_deref().map(str::trim).unwrap_or_default();
-            (!text.is_empty()).then(|| visible::line(text))
-        };
-        let [station, lessee, lease, zone] = names.map(name);
+        let [station, lessee, lease, zone] = names.map(|text| name(text.as_deref()));
         Issue {
             station,
             lessee,
@@ -83,6 +79,11 @@ impl Issue {
         self.date = card.date;
         self.version = card.version.clone();
         self.archive = card.archive.clone();
+    }
+
+    /// Whether this is its lessee's name, as a user may write it.
+    pub fn is_leased_to(&self, lessee: &str) -> bool {
+        self.lessee.is_some() && self.lessee == name(Some(lessee))
     }
 
     /// The card of the sample, which is nobody's.
@@ -143,6 +144,12 @@ impl Issue {
         summary["version"] = json!(self.version);
         summary["archive"] = json!(self.archive);
     }
+}
+
+/// A name without blanks around it, where anything is left, and with nothing that a terminal would obey.
+fn name(text: Option<&str>) -> Option<String> {
+    let text = text.map(str::trim).unwrap_or_default();
+    (!text.is_empty()).then(|| visible::line(text))
 }
 
 /// The date of issue that was asked for; the one place that asks for today.

@@ -2,11 +2,12 @@
 
 pub mod asked;
 pub mod block;
-mod card;
+pub mod card;
 pub mod checks;
 pub mod civil;
 pub mod issue;
 pub mod month;
+pub mod outline;
 pub mod picture;
 pub mod rows;
 pub mod sample;

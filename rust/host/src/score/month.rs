@@ -272,6 +272,11 @@ impl fmt::Display for Percent {
     }
 }
 
+/// A part as people read it, or this where nothing is owed.
+pub fn shown(percent: Option<Percent>, none: &str) -> String {
+    percent.map_or_else(|| none.to_string(), |percent| percent.to_string())
+}
+
 /// Puts a part into JSON: as a number, and as text.
 pub fn put_percent(percent: Option<Percent>, value: &mut Value) {
     value["percent"] = json!(percent.map(Percent::number));

@@ -4,6 +4,7 @@ use crate::common::failure::Outcome;
 use crate::common::kinds::Address;
 use crate::common::names;
 use crate::common::replaced::{PGM_BEGIN, SVG_BEGIN};
+use crate::common::schema;
 use crate::common::settings::{Setting, Value};
 use crate::explain::cause::Refused;
 use crate::score::picture::svg::{Drawing, Style, INK, PAPER};
@@ -88,13 +89,12 @@ impl Survey<'_> {
             let passed: u32 = pairs.iter().map(|byte| u32::from(*byte)).sum();
             let bits: String = pairs.iter().map(|byte| char::from(b'0' + byte)).collect();
             let line = json!({"row": row, "passed": passed, "pairs": bits});
-            writeln!(out, "{line}")?;
+            schema::line(out, line)?;
         }
         let mut value = summary(self.asked);
         value["pairs"] = json!(self.room.len());
         value["passed"] = json!(self.passed);
-        writeln!(out, "{}", json!({ "survey": value }))?;
-        Ok(())
+        schema::line(out, json!({ "survey": value }))
     }
 
     /// A grey picture of a byte a pair, 255 where it passes.
@@ -209,7 +209,7 @@ pub fn refused(
         let mut value = summary(asked);
         value["refused"] = json!(refused.number);
         value["cause"] = json!(refused.cause);
-        writeln!(out, "{}", json!({ "survey": value }))?;
+        schema::line(out, json!({ "survey": value }))?;
     } else {
         head(asked, names, out)?;
         writeln!(out, "  {refused}")?;

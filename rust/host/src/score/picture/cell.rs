@@ -25,7 +25,7 @@ pub fn draw(drawing: &mut Drawing, day: &Day, (x, y): (u32, u32), is_first: bool
     bar(drawing, (x + INSET, y + 31), (102, 14), part, fill);
     mark(drawing, day.kind(), (x + 124, y + 38));
     numbers(drawing, day, (x + INSET, y + 63));
-    drawing.end_day();
+    drawing.end_group();
 }
 
 /// A day in words.

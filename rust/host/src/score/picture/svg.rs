@@ -110,15 +110,22 @@ impl Drawing {
         let _ = writeln!(self.text, "{element}");
     }
 
-    /// The shapes of a day, with words that a viewer shows for them.
-    pub fn begin_day(&mut self, number: u32, told: &str) {
-        let told = Drawing::escaped(told);
-        self.line(format_args!(
-            r#"<g data-day="{number}"><title>{told}</title>"#
-        ));
+    /// Shapes that belong together, with words that a viewer shows for them.
+    pub fn begin_group(&mut self, told: &str) {
+        self.begin("", told);
     }
 
-    pub fn end_day(&mut self) {
+    /// The shapes of a day, likewise.
+    pub fn begin_day(&mut self, number: u32, told: &str) {
+        self.begin(&format!(r#" data-day="{number}""#), told);
+    }
+
+    fn begin(&mut self, marks: &str, told: &str) {
+        let told = Drawing::escaped(told);
+        self.line(format_args!("<g{marks}><title>{told}</title>"));
+    }
+
+    pub fn end_group(&mut self) {
         self.line(format_args!("</g>"));
     }
 
