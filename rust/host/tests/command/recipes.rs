@@ -10,7 +10,9 @@ use std::process::Command;
 /// The lines behind `$` below a heading of docs/FLEET.md, each with what it prints.
 fn lines_of(heading: &str) -> Vec<(String, String)> {
     let text = fs::read_to_string(root().join("docs/FLEET.md")).expect("the document");
-    let (_, section) = text.split_once(&format!("\n{heading}\n")).expect("the section");
+    let (_, section) = text
+        .split_once(&format!("\n{heading}\n"))
+        .expect("the section");
     let section = section.split("\n## ").next().unwrap_or_default();
     let mut lines: Vec<(String, String)> = Vec::new();
     for line in section.lines().filter_map(|line| line.strip_prefix("    ")) {
@@ -41,8 +43,16 @@ fn run(line: &str, folder: &Path) -> String {
     path.push(":");
     path.push(std::env::var_os("PATH").unwrap_or_default());
     let mut shell = Command::new("sh");
-    shell.args(["-c", &format!("cd \"$0\" && {line}")]).arg(folder);
-    let output = with_input({ shell.env("PATH", path); shell }, b"");
+    shell
+        .args(["-c", &format!("cd \"$0\" && {line}")])
+        .arg(folder);
+    let output = with_input(
+        {
+            shell.env("PATH", path);
+            shell
+        },
+        b"",
+    );
     told(&output) + &complained(&output)
 }
 
@@ -62,7 +72,10 @@ fn rows_are_loaded_into_a_database() {
     let rows = fs::read_to_string(folder.0.join("april.csv")).expect("the rows");
     let head = rows.lines().next().unwrap_or_default();
     let (_, columns) = lines[1].0.split_once("days (").expect("the table");
-    let columns: Vec<&str> = columns.split(',').filter_map(|column| column.split_whitespace().next()).collect();
+    let columns: Vec<&str> = columns
+        .split(',')
+        .filter_map(|column| column.split_whitespace().next())
+        .collect();
     assert_eq!(head.split(',').collect::<Vec<_>>(), columns);
     // A month more goes into the same table.
     let count = |due: usize| {

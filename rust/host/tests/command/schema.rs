@@ -349,7 +349,8 @@ fn fields_that_are_missing_or_below_their_least_are_told() {
     let day = json!({"station": null, "day": 101, "date": null, "claimed": 5, "served": 5, "owed": 9, "dark": false, "in_log": true, "schema": 1});
     assert_eq!(schema.fault("score", &day), None);
     for key in [
-        "station", "day", "date", "claimed", "served", "owed", "dark", "in_log"] {
+        "station", "day", "date", "claimed", "served", "owed", "dark", "in_log",
+    ] {
         let mut without = day.clone();
         without.as_object_mut().expect("fields").remove(key);
         assert!(schema.fault("score", &without).is_some(), "{key}");
@@ -381,8 +382,8 @@ fn scores_by_another_schema_are_told() {
             let output = with_input(command, b"");
             assert_eq!(output.status.code(), Some(status), "{line} {number}");
             let errors = String::from_utf8_lossy(&output.stderr).into_owned();
-            let is_told =
-                errors.contains("line 1: is of schema 2, and this egretfold reads schema 1");
+            let is_told = errors
+                .contains("line 1: station 1: is of schema 2, and this egretfold reads schema 1");
             assert_eq!(is_told, status == 2, "{errors}");
         }
     }
