@@ -330,8 +330,9 @@ fn the_exit_status_tells_of_the_worst() {
         assert_eq!(fleet("", line).status.code(), Some(2), "{line}");
     }
     let both = fleet("samples/leases.csv", "--html - --json");
-    assert!(complained(&both)
-        .contains("--html - goes to standard output, and so do --json, --csv and --csv-days"));
+    assert!(complained(&both).contains(
+        "--html - goes to standard output, and so do --json, --csv, --csv-days and --csv-lessees"
+    ));
 }
 
 #[test]

@@ -286,7 +286,7 @@ fn a_station_that_was_tried_again_is_no_contradiction() {
 #[test]
 fn forged_scores_are_told() {
     let months = Months::new("history-forged");
-    let wrong = "x: line 1: its numbers are no month's of this lease";
+    let wrong = "x: line 1: station 21: its numbers are no month's of this lease";
     let changes: [(&str, fn(&mut Value)); 12] = [
         (wrong, |line| line["served"] = json!(28_000_001)),
         (wrong, |line| line["owed"] = json!(31_000_001)),
@@ -296,17 +296,17 @@ fn forged_scores_are_told() {
         (wrong, |line| line["dark_days"] = json!(2)),
         (wrong, |line| line["dark"] = json!([140, 141, 162])),
         (wrong, |line| line["verdict"] = json!("full")),
-        ("x: line 1: refused 21", |line| {
+        ("x: line 1: station 21: refused 21", |line| {
             line["lease"]["days"] = json!(32)
         }),
-        ("x: line 1: there is no edition 3", |line| {
+        ("x: line 1: station 21: there is no edition 3", |line| {
             line["edition"] = json!(3)
         }),
         (
-            "x: line 1: is no line of score --json: served is missing",
+            "x: line 1: station 21: is no line of score --json: served is missing",
             |line| line["served"] = json!(-1),
         ),
-        ("x: line 1: \"May\" is no date", |line| {
+        ("x: line 1: station 21: \"May\" is no date", |line| {
             line["lease"]["from"] = json!("May")
         }),
     ];
@@ -351,7 +351,7 @@ fn forged_scores_are_told() {
         .args(["fleet", "--from-scores"])
         .arg(months.folder.0.join("may"));
     let errors = complained(&with_input(command, b""));
-    assert!(errors.contains("may: line 1: is a line of fleet --json, which has no days; join what score --json prints"), "{errors}");
+    assert!(errors.contains("may: line 1: station 21: is a line of fleet --json, which has no days; join what score --json prints"), "{errors}");
 }
 
 #[test]

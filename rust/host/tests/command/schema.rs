@@ -382,8 +382,8 @@ fn scores_by_another_schema_are_told() {
             let output = with_input(command, b"");
             assert_eq!(output.status.code(), Some(status), "{line} {number}");
             let errors = String::from_utf8_lossy(&output.stderr).into_owned();
-            let is_told =
-                errors.contains("line 1: is of schema 2, and this egretfold reads schema 1");
+            let is_told = errors
+                .contains("line 1: station 1: is of schema 2, and this egretfold reads schema 1");
             assert_eq!(is_told, status == 2, "{errors}");
         }
     }
