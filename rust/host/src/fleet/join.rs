@@ -64,7 +64,7 @@ fn tell_others(cards: &mut [Came], issued: Date) {
     for Came { card, place } in cards {
         let (date, version) = (card.issue().date, card.issue().version.to_string());
         if date != issued {
-            let text = format!("its score was issued on {date}, and others on {issued}: {place}");
+            let text = format!("its score was issued on {date}, where {issued} is due: {place}");
             card.check(Check::new(OTHER_ISSUE, text, None));
         }
         if version != VERSION {

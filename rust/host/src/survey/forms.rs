@@ -8,7 +8,7 @@ use crate::common::schema;
 use crate::common::settings::{Setting, Value};
 use crate::explain::cause::Refused;
 use crate::score::picture::svg::{Drawing, Style, INK, PAPER};
-use crate::score::picture::FONTS;
+use crate::score::picture::{FONTS, NO_WIDER};
 use crate::survey::Asked;
 use serde_json::json;
 use std::fmt::Write as _;
@@ -115,7 +115,7 @@ impl Survey<'_> {
         let whole_height = height + 2 * MARGIN + CAPTION_LINE * caption.len();
         let title = &caption[0];
         let mut text = format!(
-            r##"{SVG_BEGIN}xmlns="http://www.w3.org/2000/svg" width="{whole_width}" height="{whole_height}" viewBox="0 0 {whole_width} {whole_height}" {FONTS} role="img">
+            r##"{SVG_BEGIN}xmlns="http://www.w3.org/2000/svg" width="{whole_width}" height="{whole_height}" viewBox="0 0 {whole_width} {whole_height}" {FONTS} {NO_WIDER} role="img">
 <title>{title}</title>
 <rect width="{whole_width}" height="{whole_height}" fill="{PAPER}"/>
 <svg x="{MARGIN}" y="{MARGIN}" width="{width}" height="{height}" viewBox="0 0 {columns} {rows}" shape-rendering="crispEdges">

@@ -50,6 +50,9 @@ const HEAD_LETTERS: usize = 62;
 /// Common fonts, of which each machine has one.
 pub const FONTS: &str = r#"font-family="DejaVu Sans, Verdana, Arial, Helvetica, sans-serif""#;
 
+/// A picture by itself is seen whole on a narrow screen, and as large as it is drawn on others.
+pub const NO_WIDER: &str = r#"style="max-width:100%;height:auto""#;
+
 const TITLE: Style = Style::of(32, INK).bold();
 const PLAIN: Style = Style::of(15, INK);
 const SMALL: Style = Style::of(12, PALE_INK);
@@ -144,7 +147,7 @@ impl Framed {
             high if high <= PAPER_HEIGHT => (PAPER_WIDTH, high),
             _ => (scaled(PAPER_HEIGHT, WIDTH, self.height), PAPER_HEIGHT),
         };
-        let size = format!(r#" width="{width}mm" height="{height}mm""#);
+        let size = format!(r#" width="{width}mm" height="{height}mm" {NO_WIDER}"#);
         self.svg(&size, block, PATTERNS)
     }
 
