@@ -195,10 +195,11 @@ fn months() -> Vec<(String, Vec<u8>)> {
                 false => Log::new(),
             };
             for date in 1..=*days {
-                log = match date == 1 && place > joins {
-                    true => log.words(rest),
-                    false => log.midnight(first + date - 1).words(rest),
-                };
+                // April's and May's last midnights stand in the files before.
+                if date > 1 || place == joins {
+                    log = log.midnight(first + date - 1);
+                }
+                log = log.words(rest);
                 rest = &[];
                 log = match (station, place, date) {
                     (21, 1, 10..=12) => log.words(&[WAIT_FOR_IDLE, 0]),

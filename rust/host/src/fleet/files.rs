@@ -55,9 +55,10 @@ fn is_dash(name: &str) -> bool {
 pub fn in_folders(paths: &[PathBuf]) -> Named {
     let mut named = Named::default();
     for path in paths {
-        match path.is_dir() {
-            true => named.take_found(shown_in(path), path.clone()),
-            false => named.files.push(path.clone()),
+        if path.is_dir() {
+            named.take_found(shown_in(path), path.clone());
+        } else {
+            named.files.push(path.clone());
         }
     }
     named

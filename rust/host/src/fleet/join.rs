@@ -114,9 +114,13 @@ fn tell_other_leases(cards: &mut [Came]) {
     }
 }
 
-/// A card's lease in words.
+/// A card's lease in words, without what it owes.
 fn lease(card: &Kept) -> String {
     let (line, from) = card.lease();
+    days_of(&line, from)
+}
+
+fn days_of(line: &LeaseLine, from: Option<Date>) -> String {
     let days = text::count(u64::from(line.days), "day");
     let from = from.map_or(String::new(), |from| format!(" ({from})"));
     format!("{days} from day {}{from} on", line.first_day)
@@ -244,14 +248,8 @@ fn of_another(card: &Kept, row: &Row) -> Option<String> {
     } = &row.asked;
     let (is, is_from) = card.lease();
     let told = |is: &Option<String>| is.clone().unwrap_or_else(|| "none".to_string());
-    let days = |line: &LeaseLine, from: Option<Date>| {
-        let from = from.map_or(String::new(), |from| format!(" ({from})"));
-        let days = text::count(u64::from(line.days), "day");
-        format!(
-            "{days} from day {}{from} on, {} owed a day",
-            line.first_day, line.owed
-        )
-    };
+    let days =
+        |line: &LeaseLine, from| format!("{}, {} owed a day", days_of(line, from), line.owed);
     let of_card = card.issue();
     let pairs = [
         ("lessee", &of_card.lessee, &issue.lessee),

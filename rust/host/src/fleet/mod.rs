@@ -44,9 +44,10 @@ use std::path::{Path, PathBuf};
 /// Printed behind the help text.
 pub const EXAMPLES: &str = "\
 The lease file has a row a station, as a spreadsheet writes it, below a row of names: station, log,
-first day, days, owed; lessee, first date and state may stand there too. A log is a file, several parted
-by semicolons, a folder of daily files in name order, or a pattern with * and ?, from the lease
-file's folder on. All that is wrong with the file is told at once, before any log is read.
+first day, days, owed; lessee, first date, state, lease (its number) and time zone may stand there
+too. A log is a file, several parted by semicolons, a folder of daily files in name order, or a
+pattern with * and ?, from the lease file's folder on. All that is wrong with the file is told at
+once, before any log is read.
 A state is a file to go on from, as --save-states saved it, or the folder that it is in; where it is blank the log
 is read from nothing.
 A station whose log is refused or can't be read is told in its row, and the others are scored.
@@ -59,6 +60,7 @@ nobody's, 2 one is unreadable.
 Examples, from the repository's root:
   egretfold fleet samples/leases.csv
   egretfold fleet samples/leases.csv --sort station --csv
+  egretfold fleet samples/leases.csv --csv-days
   egretfold fleet samples/leases.csv --html april.html --cards cards
   egretfold fleet samples/leases.csv --verify cards
   egretfold fleet samples/leases.csv --commands | sh >scores; egretfold fleet samples/leases.csv --from-scores scores";

@@ -9,46 +9,46 @@ pub struct Archive {
     instead: &'static str,
 }
 
-const TAR: Archive = Archive {
-    what: "a tar archive",
-    instead: "take its files out by tar -x, and give those",
-};
-const SHEET: Archive = Archive {
-    what: "a spreadsheet's own file (xlsx or ods)",
-    instead: "save it as CSV in UTF-8 in the spreadsheet, and give that",
-};
-const ZIP: Archive = Archive {
-    what: "a zip archive",
-    instead: "take its files out by unzip, and give those",
-};
+const fn archive(what: &'static str, instead: &'static str) -> Archive {
+    Archive { what, instead }
+}
+
+const TAR: Archive = archive(
+    "a tar archive",
+    "take its files out by tar -x, and give those",
+);
+const ZIP: Archive = archive(
+    "a zip archive",
+    "take its files out by unzip, and give those",
+);
+const SHEET: Archive = archive(
+    "a spreadsheet's own file (xlsx or ods)",
+    "save it as CSV in UTF-8 in the spreadsheet, and give that",
+);
 
 /// By how they begin.
 const BEGINS: [(&[u8], Archive); 5] = [
     (
         b"\xFD7zXZ\0",
-        packed("packed by xz", "unpack it by xz -d, or pack it by gzip"),
+        archive("packed by xz", "unpack it by xz -d, or pack it by gzip"),
     ),
     (
         b"BZh",
-        packed(
+        archive(
             "packed by bzip2",
             "unpack it by bzip2 -d, or pack it by gzip",
         ),
     ),
     (
         b"\x28\xB5\x2F\xFD",
-        packed("packed by zstd", "unpack it by zstd -d, or pack it by gzip"),
+        archive("packed by zstd", "unpack it by zstd -d, or pack it by gzip"),
     ),
     (
         b"7z\xBC\xAF\x27\x1C",
-        packed("a 7z archive", "take its files out by 7z x, and give those"),
+        archive("a 7z archive", "take its files out by 7z x, and give those"),
     ),
     (b"PK\x03\x04", ZIP),
 ];
-
-const fn packed(what: &'static str, instead: &'static str) -> Archive {
-    Archive { what, instead }
-}
 
 /// What begins with these bytes, where that isn't read.
 pub fn named(begin: &[u8]) -> Option<Archive> {

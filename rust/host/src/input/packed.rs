@@ -18,9 +18,10 @@ pub fn unpacked(mut reader: Box<dyn Read>) -> (bool, Box<dyn Read>) {
     let _ = reader.by_ref().take(limit).read_to_end(&mut begin);
     let packed = begin == MAGIC;
     let whole = Cursor::new(begin).chain(reader);
-    match packed {
-        true => (true, Box::new(Members::new(Box::new(whole)))),
-        false => (false, Box::new(whole)),
+    if packed {
+        (true, Box::new(Members::new(Box::new(whole))))
+    } else {
+        (false, Box::new(whole))
     }
 }
 

@@ -9,8 +9,10 @@ use crate::input::archive;
 use crate::input::later::Later;
 use crate::input::packed::{self, Counted};
 use crate::input::progress::Bar;
+use nix::unistd::isatty;
 use std::fs::{self, File};
 use std::io::{self, Read, Write};
+use std::os::unix::io::AsRawFd;
 use std::path::{Path, PathBuf};
 
 /// Bytes that are read at once: a whole number of words.
@@ -66,15 +68,16 @@ impl Source {
             return Err(Failure::Wrong(format!("{name}: is {what}")));
         }
         let length = Some(about.len());
-        Ok(match about.is_file() {
-            true => Source::new(name, Box::new(Later::new(path, &about)), length),
+        Ok(if about.is_file() {
+            Source::new(name, Box::new(Later::new(path, &about)), length)
+        } else {
             // A pipe can't be opened twice.
-            false => Source::new(name, Box::new(file), length),
+            Source::new(name, Box::new(file), length)
         })
     }
 
     fn standard() -> Source {
-        if atty::is(atty::Stream::Stdin) {
+        if isatty(io::stdin().as_raw_fd()).unwrap_or(false) {
             // Where standard error is closed, nobody wonders.
             let _ = writeln!(
                 io::stderr(),
@@ -173,9 +176,10 @@ impl Source {
     /// The whole input, of which that much is taken.
     pub fn all(&mut self, most: usize) -> Outcome<Vec<u8>> {
         let all = self.up_to(most as u64)?;
-        match all.len() > most {
-            true => Err(self.wrong(format!("is longer than {most} bytes"))),
-            false => Ok(all),
+        if all.len() > most {
+            Err(self.wrong(format!("is longer than {most} bytes")))
+        } else {
+            Ok(all)
         }
     }
 
@@ -188,20 +192,19 @@ impl Source {
             return Err(self.wrong(longer));
         }
         let dump = self.up_to(most)?;
-        match dump.len() as u64 > MOST_MEMORY {
-            true => Err(self.wrong(longer)),
-            false => Ok(dump),
+        if dump.len() as u64 > MOST_MEMORY {
+            Err(self.wrong(longer))
+        } else {
+            Ok(dump)
         }
     }
 
     fn failed(&self, error: &io::Error) -> String {
-        match self.packed {
-            true => format!(
-                "byte {} of what gzip packed: {}",
-                self.at,
-                packed::failed(error)
-            ),
-            false => format!("byte {}: {error}", self.at),
+        if self.packed {
+            let cause = packed::failed(error);
+            format!("byte {} of what gzip packed: {cause}", self.at)
+        } else {
+            format!("byte {}: {error}", self.at)
         }
     }
 

@@ -51,6 +51,7 @@ earlier: it keeps that one alone.
 
 Examples, from the repository's root:
   egretfold score samples/station-14.log --first-day 101 --days 30 --owed 14000000
+  egretfold score samples/station-15 --first-day 101 --days 30 --owed 14,000,000
   egretfold score samples/station-14.log --first-day 101 --days 30 --owed 56000000 --edition 2
   egretfold score samples/full-month.log --first-day 131 --days 31 --owed 14000000 --from 2026-05-01 --csv
   egretfold score samples/station-14.log --first-day 101 --days 30 --owed 14000000 --from 2026-04-01 --svg april.svg --station 14 --lessee 'the harbour'

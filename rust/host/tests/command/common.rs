@@ -20,6 +20,18 @@ pub fn egretfold(arguments: &str, input: &[u8]) -> Output {
     with_input(command, input)
 }
 
+/// Runs a line of the shell, where `egretfold` is this build's.
+pub fn shell(line: &str) -> Output {
+    let built = Path::new(env!("CARGO_BIN_EXE_egretfold")).parent();
+    let built = built.expect("it stands in a folder").display();
+    let path = std::env::var("PATH").unwrap_or_default();
+    let mut shell = Command::new("sh");
+    shell
+        .args(["-c", line])
+        .env("PATH", format!("{built}:{path}"));
+    with_input(shell, b"")
+}
+
 pub fn with_input(mut command: Command, input: &[u8]) -> Output {
     command
         .current_dir(root())
@@ -71,13 +83,26 @@ pub fn complained(output: &Output) -> String {
     String::from_utf8(output.stderr.clone()).expect("text")
 }
 
-/// The text without the commit that the command is built from and the archive that it is linked with, which no stored file
-/// can know.
-pub fn without_version(text: &str) -> String {
-    let version = told(&egretfold("-V", b""));
-    let version = version.trim().trim_start_matches("egretfold ");
-    text.replace(version, "VERSION")
-        .replace(&archive(), "ARCHIVE")
+/// What no stored file can know: the commit that the command is built from, and the archive that it is linked with.
+pub struct Unknown {
+    version: String,
+    archive: String,
+}
+
+impl Unknown {
+    pub fn now() -> Unknown {
+        let version = told(&egretfold("-V", b""));
+        Unknown {
+            version: version.trim().trim_start_matches("egretfold ").to_string(),
+            archive: archive(),
+        }
+    }
+
+    /// The text with a word in the place of each.
+    pub fn taken_from(&self, text: &str) -> String {
+        let text = text.replace(&self.version, "VERSION");
+        text.replace(&self.archive, "ARCHIVE")
+    }
 }
 
 /// The SHA-256 of the archive, as `--version` tells it.
