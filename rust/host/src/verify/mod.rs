@@ -36,7 +36,8 @@ Exit status: 0 verified, 1 the card differs, 2 the card or a log can't be read, 
 Examples, from the repository's root:
   egretfold score samples/station-14.log --first-day 101 --days 30 --owed 14000000 --svg april.svg
   egretfold verify april.svg samples/station-14.log
-  egretfold verify april.svg samples/station-14-april.log --resume samples/station-14-march.state";
+  egretfold score samples/station-14-april.log --resume samples/station-14-march.state --first-day 101 --days 30 --owed 14000000 --html april.html
+  egretfold verify april.html samples/station-14-april.log --resume samples/station-14-march.state";
 
 #[derive(Args)]
 pub struct Options {

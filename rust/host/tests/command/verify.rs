@@ -2,8 +2,7 @@
 //! and the recipes of docs/CARD.md.
 
 use crate::common::{
-    archive, complained, egretfold, last_line, root, sample, told, with_input, without_version,
-    Folder,
+    archive, complained, egretfold, last_line, root, sample, told, with_input, Folder, Unknown,
 };
 use serde_json::Value;
 use std::fs;
@@ -60,7 +59,7 @@ fn a_card_is_verified_in_each_form() {
             (0, ""),
             "{form}"
         );
-        let text = without_version(&told(&output));
+        let text = Unknown::now().taken_from(&told(&output));
         for line in [
             "  Station 14, leased to Harbour\n",
             "  30 days from day 101 (2026-04-01) on, 14,000,000 elements owed a day, edition 1\n",
