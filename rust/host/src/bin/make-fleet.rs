@@ -75,7 +75,7 @@ fn log(numbers: &mut Numbers, bytes: usize) -> Vec<u8> {
         let rest = words.saturating_sub(4 * frames as usize + 1) / 2;
         log = log.words(&[WAIT_FOR_IDLE, 0].repeat(rest));
     }
-    // Which closes the last day.
+    // The last day is over.
     log.midnight(FIRST_DAY + DAYS).bytes
 }
 

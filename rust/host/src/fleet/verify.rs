@@ -3,6 +3,7 @@
 
 use crate::common::failure::{Failure, Outcome};
 use crate::common::files::Files;
+use crate::common::schema;
 use crate::common::text;
 use crate::common::visible;
 use crate::fleet::cards;
@@ -118,12 +119,12 @@ pub fn run(fleet: &Fleet, folder: &Path, as_json: bool, out: &mut dyn Write) -> 
     let heading = heading(&looked);
     if as_json {
         for one in &looked {
-            writeln!(out, "{}", one.json())?;
+            schema::line(out, one.json())?;
         }
         let count = |name: &str| json!(counted(&looked, name));
         let counts = NAMES.iter().map(|name| (name.to_string(), count(name)));
         let counts: serde_json::Map<String, Value> = counts.collect();
-        writeln!(out, "{}", json!({ "cards": counts }))?;
+        schema::line(out, json!({ "cards": counts }))?;
     } else {
         for one in &looked {
             let station = one.station.as_deref().unwrap_or("-");

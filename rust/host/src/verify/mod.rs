@@ -8,6 +8,7 @@ pub mod given;
 use crate::common::digits::grouped;
 use crate::common::failure::{Failure, Outcome};
 use crate::common::files::Files;
+use crate::common::schema;
 use crate::common::text;
 use crate::common::visible;
 use crate::fleet::files::{self, Named};
@@ -140,7 +141,7 @@ pub fn run(options: &Options, out: &mut dyn Write) -> Outcome {
         differences: &differences,
     };
     match options.json {
-        true => writeln!(out, "{}", verified.json())?,
+        true => schema::line(out, verified.json())?,
         false => verified.text(out)?,
     }
     match differences.len() {

@@ -488,6 +488,12 @@ fn files_of_other_programs_are_named() {
             complained(&output)
         );
     }
+    // Also where a state is packed.
+    let state = gzip(&sample("station-14-march.state"));
+    let state = folder.write("cut.state.gz", &state[..state.len() / 2]);
+    let line = format!("replay samples/station-14-april.log --resume {state}");
+    let due = format!("{state}: the packed file is cut{again}");
+    assert_told(&egretfold(&line, b""), &due);
     // Two that gzip packed, one behind the other, are one log.
     let (one, other) = log.split_at(1_000);
     let both = folder.write("both.gz", &[gzip(one), gzip(other)].concat());

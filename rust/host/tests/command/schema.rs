@@ -213,6 +213,16 @@ fn history() -> String {
     told(&egretfold(&format!("history --json {file}"), b""))
 }
 
+/// A month's cards, each verified, and one of them by itself.
+fn verified() -> [(&'static str, String); 2] {
+    let folder = Folder::new("schema-cards");
+    let cards = folder.0.display();
+    egretfold(&format!("fleet samples/leases.csv --cards {cards}"), b"");
+    let all = format!("fleet samples/leases.csv --verify {cards} --json");
+    let one = format!("verify {cards}/14.svg samples/station-14.log --json");
+    [("fleet", all), ("verify", one)].map(|(command, line)| (command, told(&egretfold(&line, b""))))
+}
+
 /// All of them, by their subcommands.
 fn all() -> Vec<(String, Value)> {
     let mut lines = stored();
@@ -223,6 +233,9 @@ fn all() -> Vec<(String, Value)> {
     }
     let history = history();
     lines.extend(objects(&history).map(|line| ("history".to_string(), line)));
+    for (command, text) in verified() {
+        lines.extend(objects(&text).map(|line| (command.to_string(), line)));
+    }
     lines
 }
 
