@@ -1,5 +1,5 @@
 -- Document 01, "Worked addresses and steps": "The C cases are proved together, one statement over a list".
--- proofs/Demands.antt has the proof. Assumes nothing.
+-- proofs/Demands/Cases.antt has the proof. Assumes nothing.
 use mathlib.Core.Path.{_≡_}
 use mathlib.Core.Bool.{Bool, true, false}
 use mathlib.Core.List.{List, [], _∷_}

@@ -24,7 +24,8 @@ pub extern "C" fn egretfold_session_begin(
     stream::begin(own, tallies, shared, edition)
 }
 
-// One word: whether it completed a command, and that command's header and parameters; 1 to 9 or 17.
+// One word: whether it completed a command, and that command's header and parameters; 1 to 9, 17, or 20 where the cells are a
+// party's of a pair.
 #[no_mangle]
 pub extern "C" fn egretfold_session_word(
     own: &mut [u32; state::OWN_CELLS],

@@ -25,7 +25,7 @@ use Rattle.replay.specs.Step.{taken, refused, Stepped, opening, taking, isKind,
 use Rattle.replay.specs.Step.{withWords, afterWord, afterMidnight, midnightStep}
 use Rattle.log.specs.Bytes.{recordStep, openStep, byteStep}
 use Rattle.log.specs.Feed.{Fed, ahead, proceed, replayOf, recordBytes, wordRecords, notedFirst, afterWords}
-use Rattle.log.specs.Asked.{Gathered, Words32}
+use Rattle.log.specs.Asked.{Gathered, Words32, wordAt}
 
 -- a running replay without an open record
 pub record Ready (r : Replay) : Type 0 where
@@ -241,6 +241,9 @@ pub gathered-none : (bs words : List ℕ) → Gathered bs 0 words
 gathered-none bs words =
     record { fit = omega arith; room = omega arith; bounded = λ k h. absurd (omega arith); records = unfold wordRecords in refl }
 
+pub gathered-as : (bs words : List ℕ) (m n : ℕ) → m ≡ n → Gathered bs m words → Gathered bs n words
+gathered-as bs words m n e g = subst (λ (k : ℕ). Gathered bs k words) e g
+
 five : (l : List ℕ) (k : ℕ) → k + 5 ≤ length l →
     drop k l ≡ getD l k 0 ∷ getD l (k + 1) 0 ∷ getD l (k + 2) 0 ∷ getD l (k + 3) 0 ∷ getD l (k + 4) 0 ∷ drop (k + 5) l
 five l k h =
@@ -265,10 +268,12 @@ module _ (bytes words : List ℕ) (at n : ℕ) (g : Gathered (drop at bytes) n w
   abbrev i : ℕ
   i = at + 5 * n
 
-  pub gathered-more : (a b c d w : ℕ) → n < length words → i + 5 ≤ length bytes → getD bytes i 0 ≡ 1 → a ≡ getD bytes (i + 1) 0 →
-      b ≡ getD bytes (i + 2) 0 → c ≡ getD bytes (i + 3) 0 → d ≡ getD bytes (i + 4) 0 → a < 256 → b < 256 → c < 256 → d < 256 →
-      w ≡ numberFrom a b c d → Gathered (drop at bytes) (n + 1) (set words n w)
-  gathered-more a b c d w less long kind ea eb ec ed ha hb hc hd ew =
+  abbrev byte : ℕ → ℕ
+  byte k = getD bytes (i + k) 0
+
+  pub gathered-more : (w : ℕ) → n < length words → i + 5 ≤ length bytes → getD bytes i 0 ≡ 1 → byte 1 < 256 → byte 2 < 256 → byte 3 < 256 →
+      byte 4 < 256 → w ≡ wordAt bytes i → Gathered (drop at bytes) (n + 1) (set words n w)
+  gathered-more w less long kind ha hb hc hd ew =
       record {
         fit = omega (arith, length-drop at bytes);
         room = rw length-set (omega arith);
@@ -279,11 +284,11 @@ module _ (bytes words : List ℕ) (at n : ℕ) (g : Gathered (drop at bytes) n w
             ap (λ (t : List ℕ). t ++ drop (5 * (n + 1)) (drop at bytes)) (sym front);
       }
     where
-      word-bytes : recordBytes 1 w ≡ 1 ∷ a ∷ b ∷ c ∷ d ∷ []
-      word-bytes = ap (recordBytes 1) ew ∙ bytes-back a b c d ha hb hc hd
+      word-bytes : recordBytes 1 w ≡ 1 ∷ byte 1 ∷ byte 2 ∷ byte 3 ∷ byte 4 ∷ []
+      word-bytes = ap (recordBytes 1) ew ∙ bytes-back (byte 1) (byte 2) (byte 3) (byte 4) ha hb hc hd
 
-      listed : getD bytes i 0 ∷ getD bytes (i + 1) 0 ∷ getD bytes (i + 2) 0 ∷ getD bytes (i + 3) 0 ∷ getD bytes (i + 4) 0 ∷ [] ≡ recordBytes 1 w
-      listed = (λ j. kind j ∷ sym ea j ∷ sym eb j ∷ sym ec j ∷ sym ed j ∷ []) ∙ sym word-bytes
+      listed : getD bytes i 0 ∷ byte 1 ∷ byte 2 ∷ byte 3 ∷ byte 4 ∷ [] ≡ recordBytes 1 w
+      listed = (λ j. kind j ∷ byte 1 ∷ byte 2 ∷ byte 3 ∷ byte 4 ∷ []) ∙ sym word-bytes
 
       rest : drop (5 * n) (drop at bytes) ≡ recordBytes 1 w ++ drop (5 * (n + 1)) (drop at bytes)
       rest =

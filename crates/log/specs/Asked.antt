@@ -2,7 +2,7 @@
 use mathlib.Core.Path.{_≡_}
 use mathlib.Core.Bool.{Bool, true, false}
 use mathlib.Core.List.{List, _++_}
-use Prim.Native.Nat.{ℕ, _*_, _≤_, _<_}
+use Prim.Native.Nat.{ℕ, _+_, _*_, _≤_, _<_}
 use lib.ListN.{length, take, drop, getD}
 use Rattle.refusal.specs.Crossing.{statusOf}
 use Rattle.state.specs.Start.{isEdition, editionTold}
@@ -11,7 +11,7 @@ use Rattle.state.specs.Cells.{Sized}
 use Rattle.session.specs.Feed.{firstStatus}
 use Rattle.session.specs.Answers.{firstOf}
 use Rattle.session.specs.Answers as session
-use Rattle.replay.specs.Step.{Reply, taken, Stepped}
+use Rattle.replay.specs.Step.{Reply, taken, Stepped, numberFrom}
 use Rattle.replay.specs.State.{newReplay, marksLength}
 use Rattle.replay.specs.Places.{logLength, stoppedByPlace, countPlace}
 use Rattle.replay.specs.Own.{Answered}
@@ -91,6 +91,24 @@ pub record Gathered (bs : List ℕ) (n : ℕ) (words : List ℕ) : Type 0 where
   pub room : n ≤ length words
   pub bounded : (k : ℕ) → k < n → getD words k 0 < 4294967296
   pub records : bs ≡ wordRecords (take n words) ++ drop (5 * n) bs
+
+-- the word of the record at a place
+abbrev pub wordAt : List ℕ → ℕ → ℕ
+wordAt bytes i =
+    numberFrom (getD bytes (i + 1) 0) (getD bytes (i + 2) 0) (getD bytes (i + 3) 0) (getD bytes (i + 4) 0)
+
+-- some words are gathered from a place on; so many more records lie in the bytes, and there is room for their words
+pub record MoreAsked (bytes : List ℕ) (at : ℕ) (words : List ℕ) (gathered next : ℕ) : Type 0 where
+  pub so-far : Gathered (drop at bytes) gathered words
+  pub within : at + 5 * (gathered + next) ≤ length bytes
+  pub room : gathered + next ≤ batch
+  pub words-length : length words ≡ batch
+
+-- the words that are gathered then, which are no more than was asked for
+pub record MoreGathered (bytes : List ℕ) (at gathered next n : ℕ) (words : List ℕ) : Type 0 where
+  pub all : Gathered (drop at bytes) n words
+  pub most : n ≤ gathered + next
+  pub words-length : length words ≡ batch
 
 -- a running replay without an open record
 pub record Idle (log : List ℕ) : Type 0 where

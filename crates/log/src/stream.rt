@@ -7,7 +7,7 @@ use session::stream;
 use session::stream::First;
 ghost use mathlib.Core.Path.{_≡_};
 ghost use mathlib.Core.List.{[], _∷_};
-ghost use Prim.Native.Nat.{_<_, _≤_};
+ghost use Prim.Native.Nat.{_+_, _*_, _<_, _≤_};
 ghost use lib.ListN.{length, drop};
 ghost use Rattle.refusal.specs.Number.{numberOf};
 ghost use Rattle.replay.specs.Places.{logLength};
@@ -15,7 +15,7 @@ ghost use Rattle.log.specs.Bytes.{byteStep, openStep};
 ghost use Rattle.log.specs.Feed.{replayOf};
 ghost use Rattle.replay.specs.Cells.{ReplayGiven, replayIn};
 ghost use Rattle.replay.specs.Step.{StopNumber};
-ghost use Rattle.log.specs.Asked.{Became, Begins, ByteLeft, batch, Gathered, Grew, OpenAsked, PieceLeft, RecordsLeft, WordsAsked, WordsLeft};
+ghost use Rattle.log.specs.Asked.{Became, Begins, ByteLeft, batch, Gathered, Grew, MoreAsked, MoreGathered, OpenAsked, PieceLeft, RecordsLeft, WordsAsked, WordsLeft, wordAt};
 ghost use Rattle.replay.specs.Own.{replyOf};
 
 // Words of records that are fed to the session in one piece: so many that a piece's beginning and end cost little beside them.
@@ -154,31 +154,64 @@ fn read_byte(
     open_byte(log, marks, own, tallies, shared, byte)
 }
 
+// The word of the record at a place.
+fn word_at(bytes: &[u8], i: usize) -> u32
+    requires { ⌜ i + 5 ≤ length (now bytes) ⌝ }
+    ensures { λ r. ⌜ r ≡ wordAt (now (bytes .entry)) i ⌝ }
+{
+    bytes::number(
+        wide(bytes[i + 1]),
+        wide(bytes[i + 2]),
+        wide(bytes[i + 3]),
+        wide(bytes[i + 4]),
+    )
+}
+
+// How many records lie whole in so many bytes, but no more than are gathered at once. With fewer a piece would take longer, and
+// its answer would be the same: so the contract has only the two bounds.
+fn records_in(bytes: usize) -> usize
+    ensures { λ n. ⌜ (5 * n ≤ bytes) × (n ≤ batch) ⌝ }
+{
+    let whole = bytes / RECORD;
+    if whole < BATCH { whole } else { BATCH }
+}
+
+// Adds to the words that were gathered from a place on those of the next records, up to so many, before the first that is of
+// another kind; how many words there are then.
+fn gather_next(bytes: &[u8], at: usize, words: &mut [u32], gathered: usize, next: usize) -> usize
+    requires { ⌜ MoreAsked (now bytes) at (now words) gathered next ⌝ }
+    ensures { λ n. ⌜ MoreGathered (now (bytes .entry)) at gathered next n (now (words .exit)) ⌝ }
+{
+    let mut k: usize = 0;
+    while k < next {
+        let n = gathered + k;
+        let i = at + RECORD * n;
+        if bytes[i] != WORD_KIND {
+            return n;
+        }
+        words[n] = word_at(bytes, i);
+        k = k + 1;
+    }
+    gathered + k
+}
+
 // The words of the records of kind 1 that lie whole in a piece from a place on, one after the other, as many as there is room
-// for; and how many they are.
-fn gather(bytes: &[u8], at: usize, words: &mut [u32; BATCH]) -> usize
+// for; and how many they are. Eight at a time, since so many are gathered without a loop.
+fn gather(bytes: &[u8], at: usize, words: &mut [u32]) -> usize
     requires { ⌜ (at ≤ length (now bytes)) × (length (now words) ≡ batch) ⌝ }
     ensures gathered { λ n. ⌜ Gathered (drop at (now (bytes .entry))) n (now (words .exit)) ⌝ }
     ensures room { λ _. ⌜ length (now (words .exit)) ≡ batch ⌝ }
 {
+    let most = records_in(bytes.len() - at);
     let mut n: usize = 0;
-    while n < BATCH {
-        let i = at + RECORD * n;
-        if bytes.len() - i < RECORD {
-            return n;
+    while 8 <= most - n {
+        let next = gather_next(bytes, at, words, n, 8);
+        if next < n + 8 {
+            return next;
         }
-        if bytes[i] != WORD_KIND {
-            return n;
-        }
-        words[n] = bytes::number(
-            wide(bytes[i + 1]),
-            wide(bytes[i + 2]),
-            wide(bytes[i + 3]),
-            wide(bytes[i + 4]),
-        );
-        n = n + 1;
+        n = next;
     }
-    n
+    gather_next(bytes, at, words, n, most - n)
 }
 
 // Records of words that lie whole in a piece from a place on are read at once; how many they were. None where a record is
@@ -190,9 +223,11 @@ fn take_records(
     shared: &mut [u32; state::SHARED_CELLS],
     bytes: &[u8],
     at: usize,
+    words: &mut [u32],
 ) -> usize
-    requires { ⌜ WordsAsked (now log) (now own) (now tallies) (now shared) × (at ≤ length (now bytes)) ⌝ }
-    ensures { λ n. ⌜ RecordsLeft (drop at (now (bytes .entry))) (now (log .entry)) (now (own .entry)) (now (tallies .entry)) (now (shared .entry)) n (now (log .exit)) (now (own .exit)) (now (tallies .exit)) (now (shared .exit)) ⌝ }
+    requires { ⌜ WordsAsked (now log) (now own) (now tallies) (now shared) × ((at ≤ length (now bytes)) × (length (now words) ≡ batch)) ⌝ }
+    ensures read { λ n. ⌜ RecordsLeft (drop at (now (bytes .entry))) (now (log .entry)) (now (own .entry)) (now (tallies .entry)) (now (shared .entry)) n (now (log .exit)) (now (own .exit)) (now (tallies .exit)) (now (shared .exit)) ⌝ }
+    ensures room { λ _. ⌜ length (now (words .exit)) ≡ batch ⌝ }
 {
     if bytes.len() - at < RECORD {
         return 0;
@@ -203,8 +238,7 @@ fn take_records(
     if log[own::COUNT] != 0 {
         return 0;
     }
-    let mut words: [u32; BATCH] = [0; BATCH];
-    let n = gather(bytes, at, &mut words);
+    let n = gather(bytes, at, words);
     if 0 < n {
         take_words(log, own, tallies, shared, &words[..n]);
     }
@@ -279,8 +313,9 @@ pub fn feed(
 {
     let mut i: usize = 0;
     let mut refusal = First::Nothing;
+    let mut words: [u32; BATCH] = [0; BATCH];
     while i < bytes.len() {
-        let records = take_records(log, own, tallies, shared, bytes, i);
+        let records = take_records(log, own, tallies, shared, bytes, i, &mut words);
         if 0 < records {
             i = i + RECORD * records;
             continue;

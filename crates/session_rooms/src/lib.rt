@@ -1,5 +1,5 @@
-// Words of a session over numbers: a word's or a piece's answer as a status, 0 or a refusal's number (1 to 9 or 17), with its
-// numbers in a room that the caller lends.
+// Words of a session over numbers: a word's or a piece's answer as a status, 0 or a refusal's number (1 to 9, 17, or 20 where
+// the cells are a party's of a pair), with its numbers in a room that the caller lends.
 use command::commands;
 use command::table;
 use session::stream;
@@ -17,7 +17,8 @@ pub const COMMAND_NUMBERS: usize = 6;
 
 pub const PIECE_NUMBERS: usize = 2;
 
-// One word: whether it completed a command, and that command's header and parameters; 1 to 9 or 17.
+// One word: whether it completed a command, and that command's header and parameters; 1 to 9, 17, or 20 where the cells are a
+// party's of a pair.
 pub fn word(
     own: &mut [u32; state::OWN_CELLS],
     tallies: &mut [u64; state::TALLIES],

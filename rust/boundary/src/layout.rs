@@ -1,7 +1,7 @@
 //! Layouts and addresses: a layout judged, a pair translated to its address
 //! and run, and an address located back.
 
-use crate::{answer, lent, Answer};
+use crate::{accepted, lent, Answer};
 
 /// A layout as a caller describes it. Any numbers may stand in it: a call
 /// refuses those that document 01 doesn't accept.
@@ -28,7 +28,7 @@ pub struct Window {
 #[inline]
 pub fn layout(layout: &Layout) -> Answer<Window> {
     let mut window = [0; 2];
-    answer(lent::layout(layout, &mut window))?;
+    accepted(lent::layout(layout, &mut window))?;
     Ok(Window {
         step: window[0],
         span: window[1],
@@ -57,7 +57,7 @@ pub struct Translated {
 #[inline]
 pub fn translate(layout: &Layout, x: u32, y: u32) -> Answer<Translated> {
     let mut address = [0; 2];
-    answer(lent::translate(layout, x, y, &mut address))?;
+    accepted(lent::translate(layout, x, y, &mut address))?;
     Ok(Translated {
         address: address[0],
         run: address[1],
@@ -77,6 +77,6 @@ pub fn translate(layout: &Layout, x: u32, y: u32) -> Answer<Translated> {
 #[inline]
 pub fn locate(layout: &Layout, address: u32) -> Answer<(u32, u32, u32)> {
     let mut pair = [0; 3];
-    answer(lent::locate(layout, address, &mut pair))?;
+    accepted(lent::locate(layout, address, &mut pair))?;
     Ok((pair[0], pair[1], pair[2]))
 }

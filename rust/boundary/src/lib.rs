@@ -101,6 +101,21 @@ fn answer(number: u32) -> Answer<()> {
     }
 }
 
+/// The same for calls that then make a value of what stands in a room: what a refusal needs stands apart, so that it
+/// isn't in the way of accepted calls.
+#[inline]
+fn accepted(number: u32) -> Answer<()> {
+    #[cold]
+    #[inline(never)]
+    fn rare(number: u32) -> Refusal {
+        refused(number)
+    }
+    match number {
+        0 => Ok(()),
+        number => Err(rare(number)),
+    }
+}
+
 /// A returned number that isn't 0. The library returns no other numbers than those
 /// that [`Refusal`] has, which tools/declarations holds against its source.
 #[inline]

@@ -3,7 +3,7 @@
 //! disturb the other.
 
 use crate::lengths::{OWN, SHARED, TALLIES};
-use crate::{answer, lent, Answer, Command, Edition, Fed, Reply, View};
+use crate::{accepted, answer, lent, Answer, Command, Edition, Fed, Reply, View};
 
 /// Whose a word is.
 #[derive(Clone, Copy, Debug, PartialEq, Eq)]
@@ -131,7 +131,7 @@ impl Pair {
     #[inline]
     pub fn word(&mut self, party: Party, word: u32) -> Answer<Reply> {
         let mut room = [0; 6];
-        answer(lent::pair_word(self, party, word, &mut room))?;
+        accepted(lent::pair_word(self, party, word, &mut room))?;
         Ok(Command::completed(&room).map_or(Reply::Open, Reply::Done))
     }
 
@@ -155,7 +155,7 @@ impl Pair {
     #[inline]
     pub fn feed_both(&mut self, words: &[u32], parties: &[u32]) -> Answer<[Fed; 2]> {
         let mut fed = [0; 6];
-        answer(lent::pair_feed(self, words, parties, &mut fed))?;
+        accepted(lent::pair_feed(self, words, parties, &mut fed))?;
         let [taken, commands, first, other_taken, other_commands, other_first] = fed;
         let told = |taken, commands, first: u64| Fed {
             taken,

@@ -2,7 +2,7 @@
 //! they leave, and the tallies.
 
 use crate::lengths::{OWN, SHARED, TALLIES};
-use crate::{answer, lent, Answer, Command, Edition, Owned, Refusal, View};
+use crate::{accepted, answer, lent, Answer, Command, Edition, Owned, Refusal, View};
 
 /// A session's state, of one party that owns every number. Its arrays are private, so that it is always one that the
 /// library gave out. It may be cloned and both copies used.
@@ -68,7 +68,7 @@ impl Session {
     #[inline]
     pub fn word(&mut self, word: u32) -> Answer<Reply> {
         let mut room = [0; 6];
-        answer(lent::session_word(self, word, &mut room))?;
+        accepted(lent::session_word(self, word, &mut room))?;
         Ok(Command::completed(&room).map_or(Reply::Open, Reply::Done))
     }
 
@@ -168,7 +168,7 @@ impl Session {
         let mut passed = [0];
         let pair = (x, y);
         let number = lent::conditional_test(self, value, pair, memory, first, &mut passed);
-        answer(number)?;
+        accepted(number)?;
         Ok(passed[0] != 0)
     }
 
@@ -188,7 +188,7 @@ impl Session {
         let mut passed = [0];
         let number =
             lent::conditional_survey(self, value, domain, memory, first, room, &mut passed);
-        answer(number)?;
+        accepted(number)?;
         Ok(passed[0])
     }
 }

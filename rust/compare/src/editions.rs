@@ -8,15 +8,12 @@ use std::fmt::Debug;
 
 /// Half of the cases are under each edition. The mark counts them.
 pub fn any(case: &mut Case) -> Edition {
-    match case.random.coin() {
-        true => {
-            case.tally.mark("cases under edition 1");
-            Edition::First
-        }
-        false => {
-            case.tally.mark("cases under edition 2");
-            Edition::Second
-        }
+    if case.random.coin() {
+        case.tally.mark("cases under edition 1");
+        Edition::First
+    } else {
+        case.tally.mark("cases under edition 2");
+        Edition::Second
     }
 }
 

@@ -125,10 +125,7 @@ fn narrow(station: &Given) -> Option<Lease> {
 /// Groups of stations, joined in their order, are the stations one by one.
 fn grown(case: &mut Case, edition: Edition) -> Agreement {
     let groups = case.random.between(1, 4);
-    let most = match case.random.once_in(16) {
-        true => 60,
-        false => 8,
-    };
+    let most = if case.random.once_in(16) { 60 } else { 8 };
     // Whether months come by their numbers too, of which no log is kept.
     let numbers = case.random.coin();
     let mut all: Option<Both> = None;
@@ -138,18 +135,15 @@ fn grown(case: &mut Case, edition: Edition) -> Agreement {
         let mut group = Both::new(edition);
         for _ in 0..case.random.between(0, most) {
             disturbed(case, edition, &mut group)?;
-            match numbers && case.random.coin() {
-                true => {
-                    let month = month(&mut case.random);
-                    group.add_month(case, month)?;
-                    whole.add_month(case, month)?;
-                }
-                false => {
-                    let station = fleets::station(&mut case.random);
-                    group.add(case, edition, &station)?;
-                    whole.add(case, edition, &station)?;
-                    stations.push(station);
-                }
+            if numbers && case.random.coin() {
+                let month = month(&mut case.random);
+                group.add_month(case, month)?;
+                whole.add_month(case, month)?;
+            } else {
+                let station = fleets::station(&mut case.random);
+                group.add(case, edition, &station)?;
+                whole.add(case, edition, &station)?;
+                stations.push(station);
             }
         }
         match &mut all {
@@ -165,27 +159,30 @@ fn grown(case: &mut Case, edition: Edition) -> Agreement {
         &whole.product,
     )?;
     count(case, &told, groups);
-    match numbers {
-        true => Ok(()),
-        false => as_reported(case, edition, &stations, &told),
+    if numbers {
+        Ok(())
+    } else {
+        as_reported(case, edition, &stations, &told)
     }
 }
 
 /// Stations around the 64th, and far behind it, whose part is the smallest or that alone owe anything: those before them are full or owe
 /// nothing.
 fn late(case: &mut Case, edition: Edition) -> Agreement {
-    let before = match case.random.coin() {
-        true => case.random.between(62, 66),
-        false => case.random.between(0, 200),
+    let before = if case.random.coin() {
+        case.random.between(62, 66)
+    } else {
+        case.random.between(0, 200)
     };
     let owed = u64::from(case.random.below(2)) * MOST_OWED;
     let short = case.random.one_of(&[0, 0, 1, MOST_OWED]);
     let mut all = Both::new(edition);
     let mut group = Both::new(edition);
     for number in 0..before + case.random.between(0, 3) {
-        let month = match number >= before {
-            true => [owed - short.min(owed), owed, 0],
-            false => [owed, owed, 0],
+        let month = if number >= before {
+            [owed - short.min(owed), owed, 0]
+        } else {
+            [owed, owed, 0]
         };
         group.add_month(case, month)?;
         if case.random.once_in(20) {

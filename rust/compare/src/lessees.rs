@@ -300,12 +300,13 @@ const NOTHING_FED: boundary::Fed = boundary::Fed {
 
 /// 3 for a bit above the numbers that there are, and for an edition, before all else; the arrays stay as they are.
 fn refused_begin(case: &mut Case, edition: Edition, pair: &Pair) -> Agreement {
-    let (number, owners) = match case.random.coin() {
-        true => (edition.number(), mixture::wrong_owners(&mut case.random)),
-        false => (
+    let (number, owners) = if case.random.coin() {
+        (edition.number(), mixture::wrong_owners(&mut case.random))
+    } else {
+        (
             editions::none(&mut case.random),
             mixture::owners(&mut case.random),
-        ),
+        )
     };
     let asked = || format!("a begin of {owners:X?} under edition {number}");
     let Owners { inputs, outputs } = owners;

@@ -32,9 +32,10 @@ struct Three {
 
 pub fn run(case: &mut Case) -> Agreement {
     let edition = editions::any(case);
-    let log = match case.random.once_in(16) {
-        true => years(&mut case.random),
-        false => records::any(&mut case.random),
+    let log = if case.random.once_in(16) {
+        years(&mut case.random)
+    } else {
+        records::any(&mut case.random)
     };
     let mut three = Three::new(edition);
     let length = case.random.one_of(&[1, 7, 64, 1_000]);

@@ -3,6 +3,7 @@
 
 use crate::common::failure::Outcome;
 use clap::{Arg, Args, Command};
+use roff::{bold, roman, Roff};
 use std::io::Write;
 
 /// Printed behind the help text.
@@ -16,24 +17,25 @@ pub struct Options {}
 
 pub fn run(mut line: Command, out: &mut dyn Write) -> Outcome {
     line.build();
-    let mut page = Page::default();
     let about = line.get_about().map(ToString::to_string);
     let about = about.unwrap_or_default();
-    let version = line.get_version().unwrap_or_default();
-    page.macro_line(&format!("TH EGRETFOLD 1 \"\" \"egretfold {version}\""));
-    page.section("NAME");
-    page.text(&format!("egretfold - {about}"));
-    page.section("SYNOPSIS");
-    page.text(&usage(&line));
-    page.section("OPTIONS");
+    let version = format!("egretfold {}", line.get_version().unwrap_or_default());
+    let mut page = Roff::new();
+    // Two quotation marks: there is no date.
+    page.control("TH", ["EGRETFOLD", "1", "\"\"", &version]);
+    page.control("SH", ["NAME"]);
+    page.text([roman(format!("egretfold - {about}"))]);
+    page.control("SH", ["SYNOPSIS"]);
+    page.text([roman(usage(&line))]);
+    page.control("SH", ["OPTIONS"]);
     arguments(&mut page, &line, true);
-    page.section("COMMANDS");
+    page.control("SH", ["COMMANDS"]);
     for command in shown(&line) {
         describe(&mut page, command);
     }
-    page.section("NOTES");
+    page.control("SH", ["NOTES"]);
     after(&mut page, &line);
-    out.write_all(page.text.as_bytes())?;
+    page.to_writer(out)?;
     Ok(())
 }
 
@@ -48,28 +50,28 @@ fn usage(line: &Command) -> String {
     text.trim_start_matches("Usage: ").to_string()
 }
 
-fn describe(page: &mut Page, command: &Command) {
-    page.macro_line(&format!("SS {}", command.get_name()));
+fn describe(page: &mut Roff, command: &Command) {
+    page.control("SS", [command.get_name()]);
     if let Some(about) = command.get_about() {
-        page.text(&format!("{about}."));
+        page.text([roman(format!("{about}."))]);
     }
-    page.paragraph();
-    page.text(&usage(command));
+    page.control("PP", []);
+    page.text([roman(usage(command))]);
     arguments(page, command, false);
     after(page, command);
 }
 
 /// The arguments. Those that every subcommand has stand with the whole line's.
-fn arguments(page: &mut Page, command: &Command, of_all: bool) {
+fn arguments(page: &mut Roff, command: &Command, of_all: bool) {
     for argument in command.get_arguments() {
         let help = argument.get_id() == "help" || argument.get_id() == "version";
         if help || (argument.is_global_set() && !of_all) {
             continue;
         }
-        page.macro_line("TP");
-        page.bold(&name(argument));
         let help = argument.get_help().map(ToString::to_string);
-        page.text(&(help.unwrap_or_default() + &default(argument)));
+        page.control("TP", []);
+        page.text([bold(name(argument))]);
+        page.text([roman(help.unwrap_or_default() + &default(argument))]);
     }
 }
 
@@ -82,9 +84,10 @@ fn name(argument: &Arg) -> String {
     let value = argument.get_value_names().filter(|_| takes);
     let value = value.map(|names| names.iter().map(|name| format!(" {name}")).collect());
     let value: String = value.unwrap_or_default();
-    match names.is_empty() {
-        true => value.trim_start().to_string(),
-        false => names.join(", ") + &value,
+    if names.is_empty() {
+        value.trim_start().to_string()
+    } else {
+        names.join(", ") + &value
     }
 }
 
@@ -97,62 +100,11 @@ fn default(argument: &Arg) -> String {
 }
 
 /// What stands behind the help text, line for line.
-fn after(page: &mut Page, command: &Command) {
+fn after(page: &mut Roff, command: &Command) {
     if let Some(after) = command.get_after_help() {
-        page.paragraph();
-        page.macro_line("nf");
-        page.text(&after.to_string());
-        page.macro_line("fi");
-    }
-}
-
-/// A page in the language of man.
-#[derive(Default)]
-struct Page {
-    text: String,
-}
-
-impl Page {
-    fn macro_line(&mut self, line: &str) {
-        self.text += &format!(".{line}\n");
-    }
-
-    fn section(&mut self, name: &str) {
-        self.macro_line(&format!("SH {name}"));
-    }
-
-    fn paragraph(&mut self) {
-        self.macro_line("PP");
-    }
-
-    fn bold(&mut self, text: &str) {
-        self.text += &format!("\\fB{}\\fR\n", escaped(text));
-    }
-
-    fn text(&mut self, text: &str) {
-        for line in text.lines() {
-            self.text += &format!("{}\n", escaped(line));
-        }
-    }
-}
-
-/// A line that man takes for text alone.
-fn escaped(line: &str) -> String {
-    let line = line.replace('\\', "\\e").replace('-', "\\-");
-    match line.starts_with(['.', '\'']) {
-        true => format!("\\&{line}"),
-        false => line,
-    }
-}
-
-#[cfg(test)]
-mod tests {
-    use super::escaped;
-
-    #[test]
-    fn no_line_is_taken_for_a_macro() {
-        assert_eq!(escaped(".SH a\\b"), "\\&.SH a\\eb");
-        assert_eq!(escaped("--svg 'x'"), "\\-\\-svg 'x'");
-        assert_eq!(escaped("'x'"), "\\&'x'");
+        page.control("PP", []);
+        page.control("nf", []);
+        page.text([roman(after.to_string())]);
+        page.control("fi", []);
     }
 }

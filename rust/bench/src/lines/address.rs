@@ -27,6 +27,10 @@ pub fn add(table: &mut Table) {
     for layout in layouts(false).into_iter().chain(layouts(true)) {
         locate_line(table, &layout);
     }
+    for layout in [layouts(false)[2], layouts(true)[2]] {
+        translate_of_c(table, &layout);
+        locate_of_c(table, &layout);
+    }
 }
 
 fn translate_line(
@@ -84,6 +88,55 @@ fn locate_line(table: &mut Table, layout: &Layout) {
             let answers = addresses.iter().map(|&at| boundary::locate(&lent, at));
             answers.map(pair_sum).sum()
         },
+        || {
+            let answers = addresses.iter().map(|&at| locate(layout, at));
+            answers.map(pair_sum).sum()
+        },
+    );
+}
+
+/// The same as a C program calls it: the room lies outside of the loop, and the number is looked at as it is.
+fn translate_of_c(table: &mut Table, layout: &Layout) {
+    let (kind, size) = (kind(layout), layout.size);
+    let name = format!("translate, {kind}, size {size}, as C calls it, a call");
+    if !table.wants(&name) {
+        return;
+    }
+    let lent = lent(layout);
+    let pairs = pairs(layout, 5);
+    let mut room = [0; 2];
+    let mut asked = |x, y| match boundary::lent::translate(&lent, x, y, &mut room) {
+        0 => u64::from(room[0]),
+        number => u64::from(number),
+    };
+    table.line(
+        &name,
+        pairs.len(),
+        || pairs.iter().map(|&(x, y)| asked(x, y)).sum(),
+        || {
+            let answers = pairs.iter().map(|&(x, y)| translate(layout, x, y));
+            answers.map(either).sum()
+        },
+    );
+}
+
+fn locate_of_c(table: &mut Table, layout: &Layout) {
+    let (kind, size) = (kind(layout), layout.size);
+    let name = format!("locate, {kind}, size {size}, as C calls it, a call");
+    if !table.wants(&name) {
+        return;
+    }
+    let lent = lent(layout);
+    let addresses = addresses(layout, 6);
+    let mut room = [0; 3];
+    let mut asked = |at| match boundary::lent::locate(&lent, at, &mut room) {
+        0 => room.iter().copied().map(u64::from).sum(),
+        number => u64::from(number),
+    };
+    table.line(
+        &name,
+        addresses.len(),
+        || addresses.iter().map(|&at| asked(at)).sum(),
         || {
             let answers = addresses.iter().map(|&at| locate(layout, at));
             answers.map(pair_sum).sum()

@@ -82,9 +82,10 @@ impl LayoutOptions {
 
     /// An address as the user gives it.
     pub fn address(&self, text: &str) -> Result<u32, String> {
-        match self.decimal {
-            true => numbers::count(text),
-            false => numbers::word(text),
+        if self.decimal {
+            numbers::count(text)
+        } else {
+            numbers::word(text)
         }
     }
 }

@@ -129,9 +129,10 @@ fn one(
     let at = Address(address);
     match boundary::locate(layout, address) {
         Ok((x, y, place)) => {
-            let work = match options.work {
-                true => Some(working(layout, address, (x, y, place))?),
-                false => None,
+            let work = if options.work {
+                Some(working(layout, address, (x, y, place))?)
+            } else {
+                None
             };
             if options.json {
                 let mut value = json!({"address": at.to_string(), "x": x, "y": y, "place": place});

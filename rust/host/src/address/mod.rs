@@ -84,9 +84,10 @@ fn one(
 ) -> Outcome<Told> {
     match boundary::translate(layout, x, y) {
         Ok(at) => {
-            let work = match options.work {
-                true => Some(working(layout, x, y, at)?),
-                false => None,
+            let work = if options.work {
+                Some(working(layout, x, y, at)?)
+            } else {
+                None
             };
             let Translated { address, run } = at;
             if options.json {

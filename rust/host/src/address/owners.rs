@@ -92,9 +92,10 @@ pub fn answer(
 fn owners(read: &Read, address: u32) -> Vec<Owner<'_>> {
     let owner = |(name, layout, store)| {
         let (x, y, place) = boundary::locate(&layout, address).ok()?;
-        let domain = match store {
-            true => Domain::NoMatter,
-            false => domain(read, x, y),
+        let domain = if store {
+            Domain::NoMatter
+        } else {
+            domain(read, x, y)
         };
         Some(Owner {
             name,

@@ -262,9 +262,10 @@ fn show_row(
     out: &mut dyn Write,
 ) -> Outcome {
     for (across, number) in (0..).zip(numbers) {
-        let shown = match marked == Some((across, down)) {
-            true => format!("[{number}]"),
-            false => number.to_string(),
+        let shown = if marked == Some((across, down)) {
+            format!("[{number}]")
+        } else {
+            number.to_string()
         };
         write!(out, "{shown:>6}")?;
     }

@@ -91,9 +91,10 @@ impl Bit {
 /// What the pitch is cut to a multiple of: 32/s elements or the tile's width.
 pub fn unit(layout: &Layout) -> Option<u32> {
     let tile = tile_of(layout.size)?;
-    Some(match layout.tiled {
-        true => tile.width,
-        false => 32 / tile.size,
+    Some(if layout.tiled {
+        tile.width
+    } else {
+        32 / tile.size
     })
 }
 

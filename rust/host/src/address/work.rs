@@ -59,9 +59,10 @@ fn row_step(lines: &mut Working, layout: &Layout) -> Option<u32> {
     let unit = tiles::unit(layout)?;
     let step = tiles::row_step(layout)?;
     let pitch = layout.pitch;
-    let of = match layout.tiled {
-        true => format!("the tile's width, {unit}"),
-        false => format!("32 / {} = {unit}", layout.size),
+    let of = if layout.tiled {
+        format!("the tile's width, {unit}")
+    } else {
+        format!("32 / {} = {unit}", layout.size)
     };
     put(
         lines,
@@ -88,14 +89,13 @@ fn window(lines: &mut Working, layout: &Layout) -> Option<()> {
     let step = row_step(lines, layout).filter(|step| *step > 0)?;
     let (height, size) = (layout.height, layout.size);
     let span = tiles::span(layout).filter(|span| *span > 0)?;
-    let text = match layout.tiled {
-        true => {
-            let tile = tiles::tile_of(size)?;
-            let in_row = tiles_in_row(lines, tile, step);
-            let rows = span / u64::from(TILE_BYTES) / u64::from(in_row);
-            format!("{rows} rows of tiles * {in_row} * {TILE_BYTES} bytes = {span}")
-        }
-        false => format!("H * E * s = {height} * {step} * {size} bytes = {span}"),
+    let text = if layout.tiled {
+        let tile = tiles::tile_of(size)?;
+        let in_row = tiles_in_row(lines, tile, step);
+        let rows = span / u64::from(TILE_BYTES) / u64::from(in_row);
+        format!("{rows} rows of tiles * {in_row} * {TILE_BYTES} bytes = {span}")
+    } else {
+        format!("H * E * s = {height} * {step} * {size} bytes = {span}")
     };
     put(lines, "span", text);
     let (base, end) = (Address(layout.base), u64::from(layout.base) + span);
@@ -107,17 +107,19 @@ fn window(lines: &mut Working, layout: &Layout) -> Option<()> {
 pub fn there(layout: &Layout, x: u32, y: u32) -> Option<There> {
     let mut lines = Working::default();
     let step = row_step(&mut lines, layout)?;
-    let offset = match layout.tiled {
-        true => tiled_there(&mut lines, layout, step, x, y)?,
-        false => linear_there(&mut lines, layout, step, x, y),
+    let offset = if layout.tiled {
+        tiled_there(&mut lines, layout, step, x, y)?
+    } else {
+        linear_there(&mut lines, layout, step, x, y)
     };
     let address = u64::from(layout.base) + offset;
     let base = Address(layout.base);
     let sum = format!("base {base} + {offset} = {address:08X} = {address}, place 0 of the element");
     put(&mut lines, "address", sum);
-    let run = match layout.tiled {
-        true => tiled_run(&mut lines, layout, step, (x, y), address)?,
-        false => linear_run(&mut lines, step, x),
+    let run = if layout.tiled {
+        tiled_run(&mut lines, layout, step, (x, y), address)?
+    } else {
+        linear_run(&mut lines, step, x)
     };
     Some(There {
         address,
@@ -158,14 +160,13 @@ fn tiled_run(
     let run = group - x % group;
     let left = format!("{group} - {x} mod {group} = {run}");
     let next = x + run;
-    let ends = match next < step {
-        true => {
-            let at = u64::from(layout.base)
-                + tiled_there(&mut Working::default(), layout, step, next, y)?;
-            let due = address + u64::from(run) * u64::from(layout.size);
-            format!("({next}, {y}) is at {at:08X}, not at {due:08X}")
-        }
-        false => "the row ends there".to_string(),
+    let ends = if next < step {
+        let at =
+            u64::from(layout.base) + tiled_there(&mut Working::default(), layout, step, next, y)?;
+        let due = address + u64::from(run) * u64::from(layout.size);
+        format!("({next}, {y}) is at {at:08X}, not at {due:08X}")
+    } else {
+        "the row ends there".to_string()
     };
     put(lines, "", format!("{left}: {ends}"));
     Some(run)
@@ -266,9 +267,10 @@ pub fn back(layout: &Layout, address: u32) -> Option<Back> {
         "offset",
         format!("{at} - base {base} = {offset}"),
     );
-    let (x, y) = match layout.tiled {
-        true => tiled_back(&mut lines, layout, step, offset)?,
-        false => linear_back(&mut lines, layout, step, offset)?,
+    let (x, y) = if layout.tiled {
+        tiled_back(&mut lines, layout, step, offset)?
+    } else {
+        linear_back(&mut lines, layout, step, offset)?
     };
     let (size, place) = (layout.size, offset % layout.size);
     put(

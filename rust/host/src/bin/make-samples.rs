@@ -72,7 +72,7 @@ const ALL_ON: [u32; 2] = [SET_OUT_MASK, 0xFFFF];
 /// that serves no day. From the ninth to the twelfth the log goes on without a frame. On
 /// the evening of the 19th the second camera is masked off; on the 20th the cameras are
 /// set up again, which leaves the mask as it is; the mask is taken away by a command that
-/// the next midnight cuts. Three more midnights cut a start.
+/// the next midnight cuts. Three more midnights cut a start. The midnight behind the last day closes it.
 fn station_14() -> Log {
     let mut log = Log::new().words(&CAMERAS).frames(1);
     // What a midnight cut off a command.
@@ -91,7 +91,7 @@ fn station_14() -> Log {
         };
         (log, rest) = (day, cut);
     }
-    log
+    log.midnight(station::FIRST_DAY + station::DAYS)
 }
 
 /// The month before, full: 31 days, with the set-up before its first midnight.
@@ -110,14 +110,14 @@ fn april() -> Vec<u8> {
     station_14().bytes.split_off(set_up)
 }
 
-/// The month after, full: 31 days.
+/// The month after, full: 31 days, and the midnight that closes them.
 fn full_month() -> Log {
     let first = station::FIRST_DAY + station::DAYS;
     let mut log = Log::new().words(&CAMERAS);
     for day in first..first + 31 {
         log = log.midnight(day).frames(FRAMES);
     }
-    log
+    log.midnight(first + 31)
 }
 
 /// Station 15's April, full, a file a week: the first has the set-up.
@@ -126,6 +126,9 @@ fn station_15() -> Vec<Vec<u8>> {
     let mut weeks = Vec::new();
     for date in 1..=station::DAYS {
         log = log.midnight(station::FIRST_DAY + date - 1).frames(FRAMES);
+        if date == station::DAYS {
+            log = log.midnight(station::FIRST_DAY + date);
+        }
         if date % 7 == 0 || date == station::DAYS {
             weeks.push(std::mem::take(&mut log.bytes));
         }
@@ -147,7 +150,7 @@ fn june() -> Log {
         };
         log = log.frames(FRAMES);
     }
-    log
+    log.midnight(first + 30)
 }
 
 /// A February in which the station wasn't leased, with two frames to try it.
@@ -160,7 +163,7 @@ fn nothing_owed() -> Log {
             log = log.frames(2);
         }
     }
-    log
+    log.midnight(first + 28)
 }
 
 /// Station 14's month with one record lost on its way: the midnight of the 17th.
@@ -176,7 +179,8 @@ fn damaged() -> Vec<u8> {
 /// A frame in the morning and one in the evening.
 const TWO_FRAMES: usize = 2;
 
-/// Three months of two stations, a file a month, of which each goes on where the one before ended: April, May and June.
+/// Three months of two stations, a file a month, of which each goes on where the one before ended: April, May and June. A file
+/// ends with the midnight that closes its last day, so that the next one begins inside a day.
 /// Station 21 is set up in April, and from May 10 to 12 it is dark. A midnight cuts a start at April's end, so that the
 /// last frame ends in May. Station 22 is set up in May; from June 20 on its second camera is masked off.
 fn months() -> Vec<(String, Vec<u8>)> {
@@ -191,7 +195,11 @@ fn months() -> Vec<(String, Vec<u8>)> {
                 false => Log::new(),
             };
             for date in 1..=*days {
-                log = log.midnight(first + date - 1).words(rest);
+                // April's and May's last midnights stand in the files before.
+                if date > 1 || place == joins {
+                    log = log.midnight(first + date - 1);
+                }
+                log = log.words(rest);
                 rest = &[];
                 log = match (station, place, date) {
                     (21, 1, 10..=12) => log.words(&[WAIT_FOR_IDLE, 0]),
@@ -204,6 +212,7 @@ fn months() -> Vec<(String, Vec<u8>)> {
                 };
             }
             first += days;
+            log = log.midnight(first);
             if place >= joins {
                 files.push((format!("{station}-{month}.log"), log.bytes));
             }

@@ -127,9 +127,10 @@ impl Stream {
             ))
         };
         let told: Vec<String> = totals.iter().filter_map(refused).collect();
-        match told.is_empty() {
-            true => Ok(()),
-            false => Err(Failure::Refused(told.join("\n")).hinted(totals[0].hint.clone())),
+        if told.is_empty() {
+            Ok(())
+        } else {
+            Err(Failure::Refused(told.join("\n")).hinted(totals[0].hint.clone()))
         }
     }
 }

@@ -285,12 +285,13 @@ pub fn two(
     }
     ended.map_err(|failure| failure.hinted(words.hint()))?;
     let named = parties.count()?;
-    match count == named {
-        true => Ok(totals),
-        false => Err(Failure::wrong(format!(
+    if count == named {
+        Ok(totals)
+    } else {
+        Err(Failure::wrong(format!(
             "{}: {count} words, and the parties of {named} are named",
             words.name()
-        ))),
+        )))
     }
 }
 
@@ -418,9 +419,10 @@ impl Walk {
         view: View,
         form: &mut dyn Form,
     ) -> Outcome {
-        let now = match form.wants_settings() {
-            true => settings::all(view),
-            false => Vec::new(),
+        let now = if form.wants_settings() {
+            settings::all(view)
+        } else {
+            Vec::new()
         };
         let mark = |setting: &Setting| (setting.clone(), !self.last.contains(setting));
         let marked: Vec<(Setting, bool)> = now.iter().map(mark).collect();

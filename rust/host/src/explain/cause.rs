@@ -194,10 +194,7 @@ pub fn of_word(number: impl Into<u32>, party: View, open: &[u32]) -> Option<Stri
 
 /// 20: at a header that sets what is party 0's, or at a number of the other party's.
 fn another_owns(party: View, line: &Line, number: Option<u32>) -> Option<String> {
-    let owner = match party.owned().common {
-        true => 1,
-        false => 0,
-    };
+    let owner = u8::from(party.owned().common);
     let kind = line.parameters.first()?.name();
     Some(match number {
         Some(number) => format!("{kind} {number} is party {owner}'s"),

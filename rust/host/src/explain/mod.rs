@@ -33,9 +33,10 @@ pub fn run(options: &Options, out: &mut dyn Write) -> Outcome {
             "explain {number}: refusals have the numbers {known}"
         ))
     })?;
-    match options.json {
-        true => writeln!(out, "{}", as_json(refusal))?,
-        false => one(refusal, out)?,
+    if options.json {
+        writeln!(out, "{}", as_json(refusal))?;
+    } else {
+        one(refusal, out)?;
     }
     Ok(())
 }

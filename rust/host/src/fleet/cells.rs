@@ -28,6 +28,11 @@ pub fn count(text: &str, delimiter: u8) -> Result<u32, String> {
     }
 }
 
+/// A count on a command line, as a file whose values commas part has it.
+pub fn grouped(text: &str) -> Result<u32, String> {
+    count(text, b',')
+}
+
 #[cfg(test)]
 mod tests {
     use super::count;

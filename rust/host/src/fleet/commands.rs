@@ -73,6 +73,8 @@ fn line(row: &Row) -> String {
         ("--from", asked.from.map(|date| date.to_string())),
         ("--station", asked.issue.station.clone()),
         ("--lessee", asked.issue.lessee.clone()),
+        ("--lease", asked.issue.lease.clone()),
+        ("--time-zone", asked.issue.zone.clone()),
         ("--issued", Some(asked.issue.date.to_string())),
         ("--resume", asked.resume.as_deref().map(named)),
         ("--save", row.save.as_deref().map(named)),
@@ -80,6 +82,9 @@ fn line(row: &Row) -> String {
         if let Some(value) = value {
             put(option, value);
         }
+    }
+    if asked.repeats {
+        words.push("--repeated-pieces".into());
     }
     words.push("--".into());
     words.extend(asked.files.iter().map(|file| quoted(&named(file))));

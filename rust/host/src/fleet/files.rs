@@ -1,11 +1,13 @@
 //! The files of a log as a lease file names them: one, a list, a folder of daily files
 //! in name order, or a pattern.
 
+use crate::common::visible;
 use crate::input::source;
 use glob::{MatchOptions, Pattern};
 use std::cmp::Ordering;
 use std::ffi::OsString;
 use std::fs;
+use std::io::{self, Write};
 use std::path::{Component, Path, PathBuf};
 
 /// What parts the names of a list.
@@ -49,14 +51,47 @@ fn is_dash(name: &str) -> bool {
     source::is_standard(Some(Path::new(name)))
 }
 
+/// These files, with those of a folder in its place.
+pub fn in_folders(paths: &[PathBuf]) -> Named {
+    let mut named = Named::default();
+    for path in paths {
+        if path.is_dir() {
+            named.take_found(shown_in(path), path.clone());
+        } else {
+            named.files.push(path.clone());
+        }
+    }
+    named
+}
+
+/// What stands in a folder and isn't hidden.
+fn shown_in(folder: &Path) -> Vec<PathBuf> {
+    entries(folder, |name| !name.starts_with('.'))
+}
+
 impl Named {
     fn take(&mut self, name: &str, folder: &Path) -> Result<(), String> {
         let path = folder.join(name);
         let found = match path.exists() {
-            true if path.is_dir() => entries(&path, |name| !name.starts_with('.')),
+            true if path.is_dir() => shown_in(&path),
             true => vec![path.clone()],
             false => matching(name, folder)?,
         };
+        self.take_found(found, path);
+        few(&self.files)
+    }
+
+    /// Tells of what is passed over.
+    pub fn tell_passed(&self) {
+        for path in &self.passed {
+            let path = visible::line(&path.display().to_string());
+            // Where standard error is closed, the files must do.
+            let _ = writeln!(io::stderr(), "{path} is no file and is passed over");
+        }
+    }
+
+    /// Takes the files that were found by a name, or the name itself where there is none, so that it is missed.
+    fn take_found(&mut self, found: Vec<PathBuf>, path: PathBuf) {
         let before = self.files.len();
         let is_whole = found == [path.clone()];
         for path in found {
@@ -69,7 +104,6 @@ impl Named {
         if self.files.len() == before {
             self.files.push(apart_from_input(path));
         }
-        few(&self.files)
     }
 }
 

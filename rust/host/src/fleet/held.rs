@@ -4,6 +4,7 @@
 use crate::common::digest::{self, Digest, Finished};
 use crate::common::failure::{Failure, Outcome};
 use crate::fleet::leases::Row;
+use crate::fleet::scores::Place;
 use crate::input::source::{Source, PIECE};
 use crate::score::checks::Check;
 use crate::score::month::Day;
@@ -13,7 +14,7 @@ use std::io::{self, Write};
 const NOT_THERE: [&str; 2] = ["not_covered", "no_midnight"];
 
 /// A score's inputs are its row's files.
-pub fn files(row: &Row, inputs: &[String]) -> Outcome {
+pub fn files(row: &Row, inputs: &[String], place: &Place) -> Outcome {
     let due = row.asked.names();
     if inputs == due {
         return Ok(());
@@ -25,13 +26,13 @@ pub fn files(row: &Row, inputs: &[String]) -> Outcome {
         None => format!("{} of them, where {} are due", inputs.len(), due.len()),
     };
     Err(Failure::Wrong(format!(
-        "station {station} is scored of other files than those of line {line}: {cause}\n  \
+        "{place}: station {station} is scored of other files than those of line {line}: {cause}\n  \
          join in the folder, and with the lease file, that --commands had"
     )))
 }
 
 /// The log's bytes, where they can be read here, are those that were scored.
-pub fn digest(row: &Row, scored: Option<Finished>) -> Outcome {
+pub fn digest(row: &Row, scored: Option<Finished>, place: &Place) -> Outcome {
     let station = row.station();
     let (read, scored) = match (sha256(row), scored) {
         (Ok(read), Some(scored)) => (read, scored),
@@ -44,7 +45,7 @@ pub fn digest(row: &Row, scored: Option<Finished>) -> Outcome {
             return Ok(());
         }
         (_, None) => {
-            let told = format!("station {station} is scored without a digest of its log");
+            let told = format!("{place}: station {station} is scored without a digest of its log");
             return Err(Failure::Wrong(told));
         }
         (Err(failure), _) => return Err(failure),
@@ -53,7 +54,7 @@ pub fn digest(row: &Row, scored: Option<Finished>) -> Outcome {
     match read == scored {
         true => Ok(()),
         false => Err(Failure::Wrong(format!(
-            "station {station} is scored of other bytes than its log has: SHA-256 {}, where {} is due",
+            "{place}: station {station} is scored of other bytes than its log has: SHA-256 {}, where {} is due",
             told(scored),
             told(read)
         ))),

@@ -93,6 +93,13 @@ impl Kept {
         }
     }
 
+    /// Puts a check to those of a card that has a score.
+    pub fn check(&mut self, check: Check) {
+        if let Kept::Scored(scored) = self {
+            scored.checks.push(check);
+        }
+    }
+
     /// The number of its edition.
     pub fn edition(&self) -> u32 {
         match self {
@@ -200,7 +207,8 @@ mod tests {
         let lease = Lease::new(first_day, 30, 14_000_000).expect("a lease");
         let dates = asked::dates(from, &lease).expect("dates");
         let month = log.replay.score(&lease).expect("a month");
-        let issue = Issue::of(&Some("14".to_string()), &None, Date::today());
+        let station = Some("14".to_string());
+        let issue = Issue::of([&station, &None, &None, &None], Date::today());
         Score::new(lease, dates, month, &log, issue)
     }
 

@@ -13,7 +13,6 @@ use crate::score::issue::Issue;
 use boundary::{Edition, Lease};
 use csv::{ByteRecord, ReaderBuilder};
 use std::collections::HashMap;
-use std::io::{self, Write};
 use std::path::{Path, PathBuf};
 
 /// More than any fleet's: this is no lease file.
@@ -41,8 +40,10 @@ const DAYS: usize = 4;
 const OWED: usize = 5;
 const FIRST_DATE: usize = 6;
 const STATE: usize = 7;
+const LEASE: usize = 8;
+const ZONE: usize = 9;
 
-const COLUMNS: [Column; 8] = [
+const COLUMNS: [Column; 10] = [
     column(&["station"], true),
     column(&["lessee"], false),
     column(&["log", "logs", "log file", "log files"], true),
@@ -51,6 +52,8 @@ const COLUMNS: [Column; 8] = [
     column(&["owed", "owed a day"], true),
     column(&["first date", "from"], false),
     column(&["state"], false),
+    column(&["lease", "lease number"], false),
+    column(&["time zone", "timezone"], false),
 ];
 
 /// A station's row.
@@ -149,12 +152,15 @@ impl Leases {
             .delimiter(delimiter)
             .from_reader(text);
         let mut header: Option<Header> = None;
+        let mut lines = LineCount::of(text);
         for record in reader.byte_records() {
             let record = match record {
                 Ok(record) => record,
                 Err(error) => return self.faults.push(fault(0, "", error)),
             };
-            let line = record.position().map_or(0, |position| position.line());
+            let line = record
+                .position()
+                .map_or(0, |position| lines.at(position.byte()));
             if record
                 .iter()
                 .all(|value| value.trim_ascii_blanks().is_empty())
@@ -213,7 +219,7 @@ impl Leases {
                 .map(|value| spelled(&String::from_utf8_lossy(value)));
             let like = like
                 .rev()
-                .find(|other| !is_known(other) && is_like(other, name));
+                .find(|other| !is_known(other) && likest(other) == Some(name));
             match (place, like) {
                 (None, Some(like)) => {
                     let cause = format!("there is none; {like:?} may be it");
@@ -258,6 +264,36 @@ fn delimiter(text: &[u8]) -> u8 {
         .unwrap_or(b',')
 }
 
+/// The lines of a text, counted as its places grow. A line ends as spreadsheets have it: with both bytes, or with one of them.
+struct LineCount<'a> {
+    text: &'a [u8],
+    at: usize,
+    line: u64,
+}
+
+impl LineCount<'_> {
+    fn of(text: &[u8]) -> LineCount<'_> {
+        LineCount {
+            text,
+            at: 0,
+            line: 1,
+        }
+    }
+
+    /// The line of a record. The library lets it begin among the line ends before it, where its own count of lines is too low.
+    fn at(&mut self, byte: u64) -> u64 {
+        let is_end = |byte: &u8| matches!(byte, b'\n' | b'\r');
+        let begin = self.text.iter().skip(byte as usize);
+        let begin = byte as usize + begin.take_while(|byte| is_end(byte)).count();
+        for place in self.at..begin {
+            let two = (self.text[place], self.text.get(place + 1));
+            self.line += u64::from(is_end(&two.0) && two != (b'\r', Some(&b'\n')));
+        }
+        self.at = begin;
+        self.line
+    }
+}
+
 /// A column's name as it is compared: small letters, and one blank between words.
 fn spelled(name: &str) -> String {
     let words = name.split(|letter: char| !letter.is_alphanumeric());
@@ -269,10 +305,14 @@ fn is_known(name: &str) -> bool {
     COLUMNS.iter().any(|column| column.names.contains(&name))
 }
 
-/// Whether a name that no column has may be meant for this one.
-fn is_like(name: &str, column: &str) -> bool {
+/// The column that a name which none has may be meant for.
+fn likest(name: &str) -> Option<&'static str> {
     const LIKE: f64 = 0.8;
-    !name.is_empty() && strsim::jaro_winkler(name, column) > LIKE
+    let columns = COLUMNS.iter().map(|column| column.names[0]);
+    let columns = columns.map(|column| (strsim::jaro_winkler(name, column), column));
+    let likest = columns.max_by(|one, other| one.0.total_cmp(&other.0));
+    let likest = likest.filter(|(like, _)| !name.is_empty() && *like > LIKE);
+    likest.map(|(_, column)| column)
 }
 
 struct Header {
@@ -347,7 +387,7 @@ impl Reading<'_> {
             return None;
         }
         let station = self.needed(STATION);
-        let lessee = self.value(LESSEE);
+        let [lessee, number, zone] = [LESSEE, LEASE, ZONE].map(|column| self.value(column));
         let files = self.files(folder);
         let numbers = [FIRST_DAY, DAYS, OWED].map(|column| self.number(column));
         let from = self.date();
@@ -367,8 +407,9 @@ impl Reading<'_> {
             from,
             resume: self.state(folder, station.as_deref()),
             saves: false,
+            repeats: false,
             files: files.unwrap_or_default(),
-            issue: Issue::of(&station, &lessee, issued),
+            issue: Issue::of([&station, &lessee, &number, &zone], issued),
         };
         let lease = self.lease(&asked)?;
         let line = self.line;
@@ -386,11 +427,7 @@ impl Reading<'_> {
             Ok(named) => named,
             Err(cause) => return self.wrong(LOG, cause),
         };
-        for path in &named.passed {
-            let path = visible::line(&path.display().to_string());
-            // Where standard error is closed, the files must do.
-            let _ = writeln!(io::stderr(), "{path} is no file and is passed over");
-        }
+        named.tell_passed();
         Some(named.files)
     }
 

@@ -7,9 +7,9 @@
 //! as a folder of `cards`.
 
 mod cards;
-mod cells;
+pub mod cells;
 mod commands;
-mod files;
+pub mod files;
 mod held;
 mod join;
 mod kept;
@@ -28,9 +28,11 @@ use crate::common::edition::{self, EditionOption};
 use crate::common::failure::{Failure, Outcome};
 use crate::common::files::Files;
 use crate::common::replaced::{Goes, Kind};
+use crate::fleet::join::By;
 use crate::fleet::kept::Kept;
 use crate::fleet::leases::{Leases, Row};
 use crate::fleet::month::{Fleet, Sort};
+use crate::replay::pieces::RepeatOption;
 use crate::score::civil::Date;
 use crate::score::issue;
 use boundary::Edition;
@@ -41,9 +43,10 @@ use std::path::{Path, PathBuf};
 /// Printed behind the help text.
 pub const EXAMPLES: &str = "\
 The lease file has a row a station, as a spreadsheet writes it, below a row of names: station, log,
-first day, days, owed; lessee, first date and state may stand there too. A log is a file, several parted
-by semicolons, a folder of daily files in name order, or a pattern with * and ?, from the lease
-file's folder on. All that is wrong with the file is told at once, before any log is read.
+first day, days, owed; lessee, first date, state, lease (its number) and time zone may stand there
+too. A log is a file, several parted by semicolons, a folder of daily files in name order, or a
+pattern with * and ?, from the lease file's folder on. All that is wrong with the file is told at
+once, before any log is read.
 A state is a file to go on from, as --save-states saved it, or the folder that it is in; where it is blank the log
 is read from nothing.
 A station whose log is refused or can't be read is told in its row, and the others are scored.
@@ -53,6 +56,7 @@ lease file.
 Examples, from the repository's root:
   egretfold fleet samples/leases.csv
   egretfold fleet samples/leases.csv --sort station --csv
+  egretfold fleet samples/leases.csv --csv-days
   egretfold fleet samples/leases.csv --html april.html --cards cards
   egretfold fleet samples/leases.csv --commands | sh >scores; egretfold fleet samples/leases.csv --from-scores scores";
 
@@ -69,7 +73,7 @@ pub struct Options {
     #[arg(long, requires = "from_scores", requires = "leases")]
     check_logs: bool,
     /// Print the line of score --json for each station, and read no log
-    #[arg(long, conflicts_with_all = ["from_scores", "json", "csv", "plain", "html", "cards"])]
+    #[arg(long, conflicts_with_all = ["from_scores", "json", "csv", "csv_days", "plain", "html", "cards"])]
     commands: bool,
     /// Print the lines of those stations alone that have no score in these files, or one that says that the log couldn't
     /// be read
@@ -84,8 +88,11 @@ pub struct Options {
     /// One row of comma-separated values a station
     #[arg(long)]
     csv: bool,
-    /// Large numbers without commas between their digits
+    /// One row of comma-separated values for each day of each station that has a score
     #[arg(long, conflicts_with_all = ["json", "csv"])]
+    csv_days: bool,
+    /// Large numbers without commas between their digits
+    #[arg(long, conflicts_with_all = ["json", "csv", "csv_days"])]
     plain: bool,
     /// Write the month as a page for a browser, whole in this file; an earlier page of ours there is replaced,
     /// nothing else; - for standard output, in place of the text
@@ -101,6 +108,8 @@ pub struct Options {
     /// The date of issue; today (UTC) where none is given
     #[arg(long, value_name = "YYYY-MM-DD", value_parser = Date::parse)]
     issued: Option<Date>,
+    #[command(flatten)]
+    repeat: RepeatOption,
     #[command(flatten)]
     edition: EditionOption,
 }
@@ -121,7 +130,8 @@ impl Options {
 
 pub fn run(options: &Options, files: &mut Files, out: &mut dyn Write) -> Outcome {
     let edition = options.edition.accepted().map_err(edition::refused)?;
-    let form = (options.json || options.csv).then_some("--json and --csv");
+    let for_programs = options.json || options.csv || options.csv_days;
+    let form = for_programs.then_some("--json, --csv and --csv-days");
     let html = Goes::asked(options.html.as_deref(), Kind::Html, form)?;
     let date = issue::day_of(options.issued);
     let rows = match &options.leases {
@@ -141,11 +151,14 @@ pub fn run(options: &Options, files: &mut Files, out: &mut dyn Write) -> Outcome
         return commands::tell(&rows, out);
     }
     let joined = match &options.from_scores {
-        Some(scored) => Some(join::joined(
-            scores::read(scored)?,
-            rows.as_deref(),
-            options.check_logs,
-        )?),
+        Some(scored) => {
+            let by = By {
+                rows: rows.as_deref(),
+                logs: options.check_logs,
+                issued: options.issued,
+            };
+            Some(join::joined(scores::read(scored)?, &by)?)
+        }
         None => None,
     };
     let stations = joined.as_ref().map(|joined| joined.cards.len());
@@ -176,6 +189,7 @@ pub fn run(options: &Options, files: &mut Files, out: &mut dyn Write) -> Outcome
         _ if html.is_standard() => Ok(()),
         (true, _) => rows::json(&fleet, out),
         (_, true) => rows::csv(&fleet, out),
+        _ if options.csv_days => rows::csv_days(&fleet, out),
         _ => text::tell(&fleet, Digits::plain(options.plain), out),
     });
     let outcome = fleet.outcome().map_err(|failure| {
@@ -206,6 +220,9 @@ impl Options {
     /// The lease file's rows, or all that is wrong with them for what is asked.
     fn rows(&self, file: &Path, (edition, date): (Edition, Date)) -> Outcome<Vec<Row>> {
         let mut leases = Leases::read(file, edition, date)?;
+        for row in &mut leases.rows {
+            row.asked.repeats = self.repeat.repeated_pieces;
+        }
         if let Some(folder) = &self.cards {
             let faults = cards::faults(folder, &leases.rows);
             leases.add_faults(faults);

@@ -10,10 +10,11 @@ use crate::fleet::stations::Group;
 use crate::score::asked::Card;
 use crate::score::checks::Check;
 use crate::score::civil::Date;
-use crate::score::month::{percent, Served};
+use crate::score::month::{Percent, Served};
 use boundary::{Edition, FleetTold, Verdict};
 use clap::ValueEnum;
 use std::cmp::Ordering;
+use std::collections::HashMap;
 
 /// The order in which stations are told.
 #[derive(Clone, Copy, Debug, PartialEq, Eq, ValueEnum)]
@@ -26,8 +27,9 @@ pub enum Sort {
     Station,
     /// By their lessees' names
     Lessee,
-    /// The most silent days first
-    Silent,
+    /// The most dark days first
+    #[value(alias = "silent")]
+    Dark,
 }
 
 pub struct Fleet {
@@ -47,6 +49,7 @@ impl Fleet {
     pub fn new(group: Group, sort: Sort, date: Date) -> Fleet {
         let mut kept = group.cards;
         tell_same_logs(&mut kept);
+        tell_other_days(&mut kept);
         let mut order: Vec<usize> = (0..kept.len()).collect();
         // Stable, so that what is equal stays in the file's order.
         order.sort_by(|one, other| by(sort, &kept[*one], &kept[*other]));
@@ -87,8 +90,8 @@ impl Fleet {
         Edition::of(number).ok().map(edition::rule)
     }
 
-    pub fn percent(&self) -> Option<String> {
-        percent(self.four.served, self.four.owed)
+    pub fn percent(&self) -> Option<Percent> {
+        Percent::of(self.four.served, self.four.owed)
     }
 
     /// The name of the station with the smallest part.
@@ -156,13 +159,13 @@ fn by(sort: Sort, one: &Kept, other: &Kept) -> Ordering {
     fn lessee(card: &Kept) -> &str {
         card.issue().lessee.as_deref().unwrap_or_default()
     }
-    let silent = |card: &Kept| card.scored().map(|score| score.count(Served::Dark));
+    let dark = |card: &Kept| card.scored().map(|score| score.count(Served::Dark));
     match sort {
         Sort::Lease => Ordering::Equal,
         Sort::Station => name_order(one.station(), other.station()),
         Sort::Lessee => name_order(lessee(one), lessee(other)),
         // None comes before all numbers, so it is told last, which here is first.
-        Sort::Silent => match (silent(one), silent(other)) {
+        Sort::Dark => match (dark(one), dark(other)) {
             (None, None) => Ordering::Equal,
             (None, _) => Ordering::Less,
             (_, None) => Ordering::Greater,
@@ -212,11 +215,53 @@ fn tell_same_logs(kept: &mut [Kept]) {
         rest = behind;
     }
     for (place, others) in told {
-        if let Kept::Scored(score) = &mut kept[place] {
-            let text = format!("the log is byte for byte that of station {others} too");
-            score.checks.push(Check::new("same_log", text, None));
+        let text = format!("the log is byte for byte that of station {others} too");
+        kept[place].check(Check::new("same_log", text, None));
+    }
+}
+
+/// Stations whose days have other dates than those of others: a number or a date of theirs may be another's. They are held
+/// against what most stations share; where no two share anything, each counts days of its own.
+fn tell_other_days(kept: &mut [Kept]) {
+    // How far its dates stand from its days' numbers, the same for all stations that count days alike.
+    let apart = |card: &Kept| {
+        let (line, from) = card.lease();
+        Some(i64::from(from?.number()) - i64::from(line.first_day))
+    };
+    let mut counts: HashMap<i64, usize> = HashMap::new();
+    for apart in kept.iter().filter_map(apart) {
+        *counts.entry(apart).or_default() += 1;
+    }
+    let most = counts.values().copied().max().unwrap_or(0);
+    let two_stations = most == 1 && counts.len() == 2;
+    if most < 2 && !two_stations {
+        return;
+    }
+    // Of each way to count that is as common as any, the first station.
+    let mut common: Vec<(i64, String)> = Vec::new();
+    for card in kept.iter() {
+        match apart(card) {
+            Some(apart) if counts[&apart] == most && common.iter().all(|one| one.0 != apart) => {
+                common.push((apart, dated(card)));
+            }
+            _ => {}
         }
     }
+    for card in kept.iter_mut() {
+        let other = apart(card).and_then(|own| common.iter().find(|one| one.0 != own));
+        if let Some((_, other)) = other {
+            let text = format!("its days have other dates: {}, {other}", dated(card));
+            card.check(Check::new("other_days", text, None));
+        }
+    }
+}
+
+/// "day 101 of station 14 is 2026-04-01", where it has a date.
+fn dated(card: &Kept) -> String {
+    let (line, from) = card.lease();
+    let (first, station) = (line.first_day, card.station());
+    let from = from.map_or(String::new(), |from| from.to_string());
+    format!("day {first} of station {station} is {from}")
 }
 
 /// The first names beside this one's, and how many more there are.

@@ -2,16 +2,15 @@
 //! values.
 
 use crate::common::failure::Outcome;
-use crate::common::sheet;
 use crate::fleet::month::{station, Fleet};
 use crate::score::asked::Card;
 use crate::score::checks::Check;
 use crate::score::issue::VERSION;
-use crate::score::month::{Score, Served};
-use crate::score::rows::lease;
+use crate::score::month::{put_percent, Percent, Score, Served};
+use crate::score::rows::{day_values, lease, write_row, DAY_COLUMNS};
 use csv::Writer;
 use serde_json::{json, Value};
-use std::io::{self, Write};
+use std::io::Write;
 
 /// A line for each station, and one for the fleet.
 pub fn json(fleet: &Fleet, out: &mut dyn Write) -> Outcome {
@@ -20,6 +19,8 @@ pub fn json(fleet: &Fleet, out: &mut dyn Write) -> Outcome {
         let mut value = json!({
             "station": station(card),
             "lessee": card.issue().lessee,
+            "lease_number": card.issue().lease,
+            "time_zone": card.issue().zone,
             "edition": card.edition(),
             "lease": lease(&card.line(), card.from()),
         });
@@ -33,26 +34,26 @@ pub fn json(fleet: &Fleet, out: &mut dyn Write) -> Outcome {
         writeln!(out, "{value}")?;
     }
     let four = &fleet.four;
-    let value = json!({"fleet": {
+    let mut value = json!({
         "stations": fleet.kept.len(),
         "scored": fleet.scores().count(),
         "served": four.served,
         "owed": four.owed,
-        "percent": fleet.percent(),
-        "silent_days": four.silent_days,
-        "station": fleet.smallest(),
-        "place": fleet.smallest,
-        "full_days": fleet.days(Served::InFull),
-        "issued": fleet.date.to_string(),
-        "version": VERSION,
-    }});
-    writeln!(out, "{value}")?;
+    });
+    put_percent(fleet.percent(), &mut value);
+    value["dark_days"] = json!(four.silent_days);
+    value["station"] = json!(fleet.smallest());
+    value["place"] = json!(fleet.smallest);
+    value["full_days"] = json!(fleet.days(Served::InFull));
+    value["issued"] = json!(fleet.date.to_string());
+    value["version"] = json!(VERSION);
+    writeln!(out, "{}", json!({ "fleet": value }))?;
     Ok(())
 }
 
 fn put(score: &Score, value: &mut Value) {
     let checks: Vec<Value> = score.checks.iter().map(Check::json).collect();
-    let silent = score.days.iter().filter(|day| day.is_dark());
+    let dark = score.days.iter().filter(|day| day.is_dark());
     value["sha256"] = json!(score.digest);
     if let Some(began) = &score.began {
         value["began_from"] = began.json();
@@ -60,9 +61,9 @@ fn put(score: &Score, value: &mut Value) {
     value["checks"] = json!(checks);
     value["served"] = json!(score.month.served);
     value["owed"] = json!(score.month.owed);
-    value["percent"] = json!(score.percent());
-    value["silent_days"] = json!(score.count(Served::Dark));
-    value["silent"] = json!(silent.map(|day| day.number).collect::<Vec<u32>>());
+    put_percent(score.percent(), value);
+    value["dark_days"] = json!(score.count(Served::Dark));
+    value["dark"] = json!(dark.map(|day| day.number).collect::<Vec<u32>>());
     value["full_days"] = json!(score.count(Served::InFull));
     value["part_days"] = json!(score.count(Served::InPart));
     value["verdict"] = json!(score.verdict_name());
@@ -81,25 +82,45 @@ pub fn csv(fleet: &Fleet, out: &mut dyn Write) -> Outcome {
         "served",
         "owed",
         "percent",
-        "silent_days",
+        "percent_text",
+        "dark_days",
         "full_days",
         "part_days",
         "verdict",
         "explained",
     ];
     let mut writer = Writer::from_writer(out);
-    writer.write_record(head).map_err(io::Error::from)?;
+    write_row(&mut writer, &head.map(String::from))?;
     for (_, card) in fleet.told() {
-        let row = row(&card);
-        let cells = row.iter().map(|text| sheet::written(text));
-        let cells = cells.map(|cell| cell.into_owned().into_bytes());
-        writer.write_record(cells).map_err(io::Error::from)?;
+        write_row(&mut writer, &row(&card))?;
     }
     writer.flush()?;
     Ok(())
 }
 
-fn row(card: &Card) -> [String; 14] {
+/// A head and a row for each day of each station that has a score.
+pub fn csv_days(fleet: &Fleet, out: &mut dyn Write) -> Outcome {
+    let row = |whose: [String; 2], values: [String; 8]| [&whose[..], &values[..]].concat();
+    let mut writer = Writer::from_writer(out);
+    let head = row(
+        ["station", "lessee"].map(String::from),
+        DAY_COLUMNS.map(String::from),
+    );
+    write_row(&mut writer, &head)?;
+    for (_, card) in fleet.told() {
+        let lessee = card.issue().lessee.clone().unwrap_or_default();
+        let whose = [station(&card).to_string(), lessee];
+        if let Card::Scored(score) = &card {
+            for day in &score.days {
+                write_row(&mut writer, &row(whose.clone(), day_values(score, day)))?;
+            }
+        }
+    }
+    writer.flush()?;
+    Ok(())
+}
+
+fn row(card: &Card) -> [String; 15] {
     let line = card.line();
     let begin = [
         station(card).to_string(),
@@ -113,7 +134,10 @@ fn row(card: &Card) -> [String; 14] {
         Card::Scored(score) => [
             score.month.served.to_string(),
             score.month.owed.to_string(),
-            score.percent().unwrap_or_default(),
+            score.percent().map_or(String::new(), Percent::digits),
+            score
+                .percent()
+                .map_or(String::new(), |percent| percent.to_string()),
             score.count(Served::Dark).to_string(),
             score.count(Served::InFull).to_string(),
             score.count(Served::InPart).to_string(),
@@ -121,12 +145,12 @@ fn row(card: &Card) -> [String; 14] {
             score.explanation().unwrap_or_default(),
         ],
         Card::Unscored(unscored) => {
-            let [a, b, c, d, e, f] = [(); 6].map(|()| String::new());
+            let [a, b, c, d, e, f, g] = [(); 7].map(|()| String::new());
             let why = unscored.why.replace('\n', ";");
-            [a, b, c, d, e, f, unscored.name().to_string(), why]
+            [a, b, c, d, e, f, g, unscored.name().to_string(), why]
         }
     };
     let [a, b, c, d, e, f] = begin;
-    let [g, h, i, j, k, l, m, n] = end;
-    [a, b, c, d, e, f, g, h, i, j, k, l, m, n]
+    let [g, h, i, j, k, l, m, n, o] = end;
+    [a, b, c, d, e, f, g, h, i, j, k, l, m, n, o]
 }

@@ -13,7 +13,9 @@ use crate::score::issue::Issue;
 use crate::score::month::{verdict_name, Began, Day, Score};
 use boundary::{Edition, Month, Verdict};
 use serde_json::Value;
+use std::fmt;
 use std::path::PathBuf;
+use std::rc::Rc;
 
 /// Lines of a hundred thousand stations.
 const LONGEST: usize = 1 << 29;
@@ -21,42 +23,135 @@ const LONGEST: usize = 1 << 29;
 /// A reading's own words for what is wrong.
 type Read<T> = Result<T, String>;
 
+/// Where a score stands among those that are joined.
+#[derive(Clone)]
+pub struct Place {
+    file: Rc<str>,
+    line: usize,
+}
+
+impl fmt::Display for Place {
+    fn fmt(&self, f: &mut fmt::Formatter) -> fmt::Result {
+        write!(f, "{}: line {}", self.file, self.line)
+    }
+}
+
+/// A card that came, and the place of its month's line.
+pub struct Came {
+    pub card: Kept,
+    pub place: Place,
+}
+
+/// A line of a file.
+struct Line {
+    number: usize,
+    value: Value,
+}
+
+/// What is wrong, and in which line.
+struct Wrong {
+    line: usize,
+    cause: String,
+}
+
 /// The cards that these files tell, in their order.
-pub fn read(files: &[PathBuf]) -> Outcome<Vec<Kept>> {
+pub fn read(files: &[PathBuf]) -> Outcome<Vec<Came>> {
     let mut cards = Vec::new();
     for file in files {
         // One at a time: there may be a file a station.
         let mut source = Source::open(Some(file))?;
         let bytes = source.all(LONGEST)?;
-        let wrong =
-            |line: usize, cause| Failure::Wrong(format!("{}: line {line}: {cause}", source.name));
+        let file: Rc<str> = source.name.as_str().into();
         let mut days = Vec::new();
-        let mut last = 0;
-        for (line, text) in (1..).zip(bytes.split(|byte| *byte == b'\n')) {
+        for (number, text) in (1..).zip(bytes.split(|byte| *byte == b'\n')) {
             if text.iter().all(|byte| byte.is_ascii_whitespace()) {
                 continue;
             }
-            last = line;
-            let value: Value = serde_json::from_slice(text)
-                .map_err(|error| wrong(line, format!("is no JSON: {error}")))?;
+            let told = |wrong: Wrong, days: &[Line]| {
+                let line = wrong.line;
+                let place = Place {
+                    file: file.clone(),
+                    line,
+                };
+                let whose = whose(&String::from_utf8_lossy(text), days, cards.last());
+                Failure::Wrong(format!("{place}: {whose}{}\n  {AGAIN}", wrong.cause))
+            };
+            let value: Value = serde_json::from_slice(text).map_err(|error| {
+                let cause = format!("is no JSON: {error}");
+                told(
+                    Wrong {
+                        line: number,
+                        cause,
+                    },
+                    &days,
+                )
+            })?;
             match value.get("summary") {
                 Some(summary) => {
-                    let card = card(summary, &days).map_err(|cause| wrong(line, cause))?;
-                    cards.push(Kept::of(card));
+                    let card = card(summary, &days, number).map_err(|wrong| told(wrong, &days))?;
+                    cards.push(Came {
+                        card: Kept::of(card),
+                        place: Place {
+                            file: file.clone(),
+                            line: number,
+                        },
+                    });
                     days.clear();
                 }
-                None => days.push(value),
+                None => days.push(Line { number, value }),
             }
         }
-        if !days.is_empty() {
-            let cause = "the days are not followed by their summary: the lines are cut; take them away, and score the station again";
-            return Err(wrong(last, cause.to_string()));
+        if let Some(last) = days.last() {
+            let (line, whose) = (last.number, whose("", &days, cards.last()));
+            return Err(Failure::Wrong(format!(
+                "{file}: line {line}: {whose}the days are not followed by their summary: the lines are cut\n  {AGAIN}"
+            )));
         }
     }
     Ok(cards)
 }
 
-fn card(summary: &Value, days: &[Value]) -> Read<Card> {
+/// What to do about lines that aren't as they were printed.
+const AGAIN: &str =
+    "take the station's lines away, and score it again: fleet --commands --missing prints its line";
+
+/// Whose lines these are: by the line itself, also where it is cut, else by its days, else by what stands before them.
+fn whose(text: &str, days: &[Line], before: Option<&Came>) -> String {
+    let of_line = text.split_once(r#""station":""#).map(|(_, rest)| rest);
+    let of_line = of_line.and_then(|rest| rest.split_once('"'));
+    let of_line = of_line.map(|(name, _)| visible::line(name));
+    let of_days = || {
+        days.iter()
+            .find_map(|day| optional(&day.value, "station").ok()?)
+    };
+    match (of_line.or_else(of_days), before) {
+        (Some(name), _) => format!("station {name}: "),
+        (None, Some(before)) => format!("behind station {}: ", before.card.station()),
+        (None, None) => String::new(),
+    }
+}
+
+/// The card of a month's line and of the days' lines before it, which are held against each other.
+fn card(summary: &Value, days: &[Line], line: usize) -> Result<Card, Wrong> {
+    let of_month = |cause| Wrong { line, cause };
+    let (lease, issue) = head(summary).map_err(of_month)?;
+    match summary.get("unscored") {
+        Some(told) => unscored(summary, told, lease, issue).map_err(of_month),
+        None => {
+            let read = days_of(days, &lease, &issue).map_err(|wrong| match wrong {
+                (Some(line), cause) => Wrong { line, cause },
+                (None, cause) => of_month(cause),
+            })?;
+            scored(summary, read, lease, issue).map_err(of_month)
+        }
+    }
+}
+
+/// A lease line, and its first day's date.
+type Dated = (LeaseLine, Option<Date>);
+
+/// The lease, and whose card it is.
+fn head(summary: &Value) -> Read<(Dated, Issue)> {
     let lease = &summary["lease"];
     let line = LeaseLine {
         first_day: short(lease, "first_day")?,
@@ -68,22 +163,15 @@ fn card(summary: &Value, days: &[Value]) -> Read<Card> {
     let issue = Issue {
         station: optional(summary, "station")?,
         lessee: optional(summary, "lessee")?,
+        lease: optional(summary, "lease_number")?,
+        zone: optional(summary, "time_zone")?,
         date: Date::parse(&text(summary, "issued")?)?,
         version: text(summary, "version")?.into(),
     };
-    match summary.get("unscored") {
-        Some(told) => unscored(summary, told, line, from, issue),
-        None => scored(summary, days, line, from, issue),
-    }
+    Ok(((line, from), issue))
 }
 
-fn unscored(
-    summary: &Value,
-    told: &Value,
-    line: LeaseLine,
-    from: Option<Date>,
-    issue: Issue,
-) -> Read<Card> {
+fn unscored(summary: &Value, told: &Value, (line, from): Dated, issue: Issue) -> Read<Card> {
     let unscored = Unscored {
         edition: short(summary, "edition")?,
         line,
@@ -98,25 +186,42 @@ fn unscored(
     Ok(Card::Unscored(unscored))
 }
 
-fn scored(
-    summary: &Value,
-    days: &[Value],
-    line: LeaseLine,
-    from: Option<Date>,
-    issue: Issue,
-) -> Read<Card> {
-    let lease = accepted(line).map_err(|refused| refused.to_string())?;
-    let dates = dates(from, &lease)?;
+/// The days, or what is wrong and in which of their lines.
+fn days_of(
+    days: &[Line],
+    (line, from): &Dated,
+    issue: &Issue,
+) -> Result<Vec<Day>, (Option<usize>, String)> {
+    let of_month = |cause| (None, cause);
+    let lease = accepted(*line).map_err(|refused| of_month(refused.to_string()))?;
+    let dates = dates(*from, &lease).map_err(of_month)?;
     if days.len() != dates.len() {
         let (has, due) = (days.len(), dates.len());
-        return Err(format!(
+        return Err(of_month(format!(
             "the lease has {due} days, and {has} lines stand before it"
-        ));
+        )));
     }
     let mut read = Vec::new();
-    for ((place, value), date) in (0..).zip(days).zip(dates) {
-        read.push(day(value, &line, place, date)?);
+    for ((place, told), date) in (0..).zip(days).zip(dates) {
+        let day = day(&told.value, line, place, date);
+        let day = day.and_then(|day| is_of(&told.value, issue).map(|()| day));
+        read.push(day.map_err(|cause| (Some(told.number), cause))?);
     }
+    Ok(read)
+}
+
+/// Lines that name a station are of this one.
+fn is_of(day: &Value, issue: &Issue) -> Read<()> {
+    match (optional(day, "station")?, &issue.station) {
+        (Some(is), Some(due)) if is != *due => Err(format!(
+            "the line is station {is}'s, and its month's line station {due}'s"
+        )),
+        _ => Ok(()),
+    }
+}
+
+fn scored(summary: &Value, read: Vec<Day>, (line, _): Dated, issue: Issue) -> Read<Card> {
+    let lease = accepted(line).map_err(|refused| refused.to_string())?;
     let checks: Read<Vec<Check>> = list(summary, "checks")?.iter().map(check).collect();
     let checks = checks?;
     held::agree(&read, &checks)?;

@@ -62,8 +62,8 @@ impl Group {
     pub fn take(&mut self, card: Kept) -> Answer<()> {
         if let Kept::Scored(scored) = &card {
             let Total { served, owed, .. } = scored.total;
-            let silent = scored.count(Served::Dark) as u64;
-            self.report.add_month(served, owed, silent)?;
+            let dark = scored.count(Served::Dark) as u64;
+            self.report.add_month(served, owed, dark)?;
         }
         self.cards.push(card);
         Ok(())

@@ -6,7 +6,7 @@ use crate::common::text;
 use crate::fleet::kept::Kept;
 use crate::fleet::month::{station, Fleet};
 use crate::score::asked::Card;
-use crate::score::month::{Day, Score, Served};
+use crate::score::month::{Day, Percent, Score, Served};
 use std::io::Write;
 
 /// A row's columns but the last, which is as long as it is.
@@ -20,7 +20,7 @@ struct Row {
     behind: String,
 }
 
-/// A heading, a row a station and the totals, the four numbers in words, the silent days,
+/// A heading, a row a station and the totals, the four numbers in words, the dark days,
 /// and what to check before cards are sent.
 pub fn tell(fleet: &Fleet, digits: Digits, out: &mut dyn Write) -> Outcome {
     writeln!(out, "fleet of {}", fleet.heading())?;
@@ -31,8 +31,8 @@ pub fn tell(fleet: &Fleet, digits: Digits, out: &mut dyn Write) -> Outcome {
     table(fleet, digits, out)?;
     writeln!(out)?;
     writeln!(out, "{}", four(fleet, digits))?;
-    let silent = fleet.told().filter_map(|(_, card)| silent_days(&card));
-    list(out, "silent days:", silent)?;
+    let dark = fleet.told().filter_map(|(_, card)| dark_days(&card));
+    list(out, "dark days:", dark)?;
     let checks = fleet.told().flat_map(|(_, card)| checks(&card));
     list(out, "check before sending:", checks)?;
     let unscored = fleet.told().filter_map(|(_, card)| unscored(&card));
@@ -59,7 +59,7 @@ pub fn four(fleet: &Fleet, digits: Digits) -> String {
         None => String::new(),
     };
     let (served, owed) = (digits.of(four.served), digits.of(four.owed));
-    let days = text::count(four.silent_days, "silent day");
+    let days = text::count(four.silent_days, "dark day");
     let smallest = match fleet.smallest() {
         Some(station) => format!("smallest part: station {station}"),
         None => "no station owes anything".to_string(),
@@ -68,13 +68,13 @@ pub fn four(fleet: &Fleet, digits: Digits) -> String {
 }
 
 /// "14: 109 to 112 (2026-04-09 to 2026-04-12)".
-fn silent_days(card: &Card) -> Option<String> {
-    let silent = silent(card.score()?);
-    (!silent.is_empty()).then(|| format!("{}: {}", station(card), silent))
+fn dark_days(card: &Card) -> Option<String> {
+    let dark = dark(card.score()?);
+    (!dark.is_empty()).then(|| format!("{}: {}", station(card), dark))
 }
 
-/// The silent days of a month, those in a row as one.
-pub fn silent(score: &Score) -> String {
+/// The dark days of a month, those in a row as one.
+pub fn dark(score: &Score) -> String {
     let mut rows: Vec<(&Day, &Day)> = Vec::new();
     for day in score.days.iter().filter(|day| day.is_dark()) {
         match rows.last_mut() {
@@ -133,12 +133,12 @@ fn table(fleet: &Fleet, digits: Digits, out: &mut dyn Write) -> Outcome {
     let has_lessee = |card: &Kept| card.issue().lessee.is_some();
     let has_lessees = fleet.kept.iter().any(has_lessee);
     for row in all() {
-        let [station, lessee, served, owed, part, silent, full] = &row.columns;
+        let [station, lessee, served, owed, part, dark, full] = &row.columns;
         let lessee = match has_lessees {
             true => format!("  {lessee:<b$}"),
             false => String::new(),
         };
-        let numbers = format!("{served:>c$}  {owed:>d$}  {part:>e$}  {silent:>f$}  {full:>g$}");
+        let numbers = format!("{served:>c$}  {owed:>d$}  {part:>e$}  {dark:>f$}  {full:>g$}");
         let line = format!("{station:<a$}{lessee}  {numbers}  {}", row.behind);
         writeln!(out, "{}", line.trim_end())?;
     }
@@ -147,7 +147,7 @@ fn table(fleet: &Fleet, digits: Digits, out: &mut dyn Write) -> Outcome {
 
 fn head() -> Row {
     let names = [
-        "station", "lessee", "served", "owed", "part", "silent", "full",
+        "station", "lessee", "served", "owed", "part", "dark", "full",
     ];
     Row {
         columns: names.map(String::from),
@@ -161,9 +161,9 @@ fn row(card: &Card, digits: Digits) -> Row {
     let score = match card {
         Card::Scored(score) => score,
         Card::Unscored(unscored) => {
-            let [served, owed, part, silent, full] = [(); 5].map(|()| "-".to_string());
+            let [served, owed, part, dark, full] = [(); 5].map(|()| "-".to_string());
             return Row {
-                columns: [station, lessee, served, owed, part, silent, full],
+                columns: [station, lessee, served, owed, part, dark, full],
                 behind: unscored.name().to_string(),
             };
         }
@@ -178,12 +178,16 @@ fn row(card: &Card, digits: Digits) -> Row {
             lessee,
             digits.of(score.month.served),
             digits.of(score.month.owed),
-            score.percent().unwrap_or_else(|| "-".to_string()),
+            part(score.percent()),
             score.count(Served::Dark).to_string(),
             score.count(Served::InFull).to_string(),
         ],
         behind: format!("{}{explained}", score.verdict_name()),
     }
+}
+
+fn part(percent: Option<Percent>) -> String {
+    percent.map_or_else(|| "-".to_string(), |percent| percent.to_string())
 }
 
 fn total(fleet: &Fleet, digits: Digits) -> Row {
@@ -193,7 +197,7 @@ fn total(fleet: &Fleet, digits: Digits) -> Row {
             String::new(),
             digits.of(fleet.four.served),
             digits.of(fleet.four.owed),
-            fleet.percent().unwrap_or_else(|| "-".to_string()),
+            part(fleet.percent()),
             fleet.four.silent_days.to_string(),
             fleet.days(Served::InFull).to_string(),
         ],

@@ -92,9 +92,10 @@ pub fn short(group: &Group) -> String {
         Loop::Rep { count } => format!("R{count}"),
     };
     let open: Vec<String> = group.loops().open.iter().map(one).collect();
-    match open.is_empty() {
-        true => "-".to_string(),
-        false => open.join(" "),
+    if open.is_empty() {
+        "-".to_string()
+    } else {
+        open.join(" ")
     }
 }
 

@@ -81,9 +81,10 @@ impl Options {
     }
 
     fn mode(&self) -> Mode {
-        match self.partial {
-            true => Mode::Partial,
-            false => Mode::Full,
+        if self.partial {
+            Mode::Partial
+        } else {
+            Mode::Full
         }
     }
 }
@@ -205,11 +206,12 @@ fn all_masks(options: &Options) -> Outcome<Vec<(u32, u32)>> {
 /// Asked while they are read, so that a list without an end is not kept.
 fn few_enough(once: &[(u32, u32)], options: &Options) -> Outcome {
     let steps = once.len().saturating_mul(options.repeat as usize);
-    match steps > MOST_STEPS {
-        true => Err(Failure::Wrong(format!(
+    if steps > MOST_STEPS {
+        Err(Failure::Wrong(format!(
             "masks for over {MOST_STEPS} steps, which are the most"
-        ))),
-        false => Ok(()),
+        )))
+    } else {
+        Ok(())
     }
 }
 
@@ -283,9 +285,10 @@ fn step_all(
             group: &group,
             looping,
         };
-        match options.json {
-            true => writeln!(out, "{}", row.json())?,
-            false => writeln!(out, "{}", row.text())?,
+        if options.json {
+            writeln!(out, "{}", row.json())?;
+        } else {
+            writeln!(out, "{}", row.text())?;
         }
     }
     for kill in kills {
@@ -307,9 +310,10 @@ fn kill_row(
     let number = SlotNumber(group.position());
     match kill.make(program, group) {
         Ok(killed) => {
-            match options.json {
-                true => writeln!(out, "{}", kill.json(number, killed, group))?,
-                false => writeln!(out, "{}", kill.text(number, killed, group))?,
+            if options.json {
+                writeln!(out, "{}", kill.json(number, killed, group))?;
+            } else {
+                writeln!(out, "{}", kill.text(number, killed, group))?;
             }
             Ok(Ok(()))
         }

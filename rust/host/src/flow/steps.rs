@@ -102,13 +102,14 @@ impl Row<'_> {
 
     /// The open loops and aL, where the row tells of them.
     fn loops(&self) -> String {
-        match self.looping {
-            true => format!(
+        if self.looping {
+            format!(
                 "{:<11}  {:>3}  ",
                 loops::short(self.group),
                 self.group.loops().al
-            ),
-            false => String::new(),
+            )
+        } else {
+            String::new()
         }
     }
 
@@ -122,9 +123,10 @@ impl Row<'_> {
 
     fn returns(&self) -> String {
         let returns: Vec<String> = self.group.returns().iter().map(u32::to_string).collect();
-        match returns.is_empty() {
-            true => "-".to_string(),
-            false => returns.join(" "),
+        if returns.is_empty() {
+            "-".to_string()
+        } else {
+            returns.join(" ")
         }
     }
 

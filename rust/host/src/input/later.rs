@@ -34,12 +34,11 @@ impl Later {
 
     fn opened(&self) -> io::Result<File> {
         let file = File::open(&self.path)?;
-        match mark(&file.metadata()?) == self.mark {
-            true => Ok(file),
-            false => {
-                let told = "another file stands there since it was named";
-                Err(io::Error::new(io::ErrorKind::Other, told))
-            }
+        if mark(&file.metadata()?) == self.mark {
+            Ok(file)
+        } else {
+            let told = "another file stands there since it was named";
+            Err(io::Error::new(io::ErrorKind::Other, told))
         }
     }
 }

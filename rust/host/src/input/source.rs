@@ -5,11 +5,14 @@
 
 use crate::common::failure::{Failure, Outcome};
 use crate::common::visible;
+use crate::input::archive;
 use crate::input::later::Later;
 use crate::input::packed::{self, Counted};
 use crate::input::progress::Bar;
+use nix::unistd::isatty;
 use std::fs::{self, File};
 use std::io::{self, Read, Write};
+use std::os::unix::io::AsRawFd;
 use std::path::{Path, PathBuf};
 
 /// Bytes that are read at once: a whole number of words.
@@ -27,7 +30,8 @@ pub struct Source {
     reader: Box<dyn Read>,
     /// Whether nothing is read yet.
     fresh: bool,
-    /// Whether what is read is unpacked.
+    /// Whether what is packed is unpacked, and whether it is.
+    unpacks: bool,
     packed: bool,
     /// Bytes read so far, and those of the file that they came from.
     at: u64,
@@ -64,15 +68,16 @@ impl Source {
             return Err(Failure::Wrong(format!("{name}: is {what}")));
         }
         let length = Some(about.len());
-        Ok(match about.is_file() {
-            true => Source::new(name, Box::new(Later::new(path, &about)), length),
+        Ok(if about.is_file() {
+            Source::new(name, Box::new(Later::new(path, &about)), length)
+        } else {
             // A pipe can't be opened twice.
-            false => Source::new(name, Box::new(file), length),
+            Source::new(name, Box::new(file), length)
         })
     }
 
     fn standard() -> Source {
-        if atty::is(atty::Stream::Stdin) {
+        if isatty(io::stdin().as_raw_fd()).unwrap_or(false) {
             // Where standard error is closed, nobody wonders.
             let _ = writeln!(
                 io::stderr(),
@@ -86,6 +91,7 @@ impl Source {
     pub fn without_unpacking(self) -> Source {
         Source {
             fresh: false,
+            unpacks: false,
             ..self
         }
     }
@@ -110,6 +116,7 @@ impl Source {
             name,
             reader: Box::new(raw.counting(reader)),
             fresh: true,
+            unpacks: true,
             packed: false,
             at: 0,
             raw,
@@ -128,6 +135,7 @@ impl Source {
             let reader = std::mem::replace(&mut self.reader, Box::new(io::empty()));
             (self.packed, self.reader) = packed::unpacked(reader);
         }
+        let is_begin = self.at == 0 && self.unpacks;
         let mut filled = 0;
         while filled < room.len() && self.error.is_none() {
             match self.reader.read(&mut room[filled..]) {
@@ -141,6 +149,10 @@ impl Source {
         self.begin.extend(&room[..missing]);
         self.at += filled as u64;
         self.bar.at(self.raw.bytes());
+        let archive = is_begin.then(|| archive::named(&self.begin)).flatten();
+        if let Some(archive) = archive {
+            return Err(self.wrong(archive.told(self.packed)));
+        }
         match &self.error {
             Some(error) if filled == 0 => Err(self.wrong(self.failed(error))),
             _ => Ok(filled),
@@ -164,9 +176,10 @@ impl Source {
     /// The whole input, of which that much is taken.
     pub fn all(&mut self, most: usize) -> Outcome<Vec<u8>> {
         let all = self.up_to(most as u64)?;
-        match all.len() > most {
-            true => Err(self.wrong(format!("is longer than {most} bytes"))),
-            false => Ok(all),
+        if all.len() > most {
+            Err(self.wrong(format!("is longer than {most} bytes")))
+        } else {
+            Ok(all)
         }
     }
 
@@ -179,16 +192,19 @@ impl Source {
             return Err(self.wrong(longer));
         }
         let dump = self.up_to(most)?;
-        match dump.len() as u64 > MOST_MEMORY {
-            true => Err(self.wrong(longer)),
-            false => Ok(dump),
+        if dump.len() as u64 > MOST_MEMORY {
+            Err(self.wrong(longer))
+        } else {
+            Ok(dump)
         }
     }
 
     fn failed(&self, error: &io::Error) -> String {
-        match self.packed {
-            true => format!("byte {} of what gzip packed: {error}", self.at),
-            false => format!("byte {}: {error}", self.at),
+        if self.packed {
+            let cause = packed::failed(error);
+            format!("byte {} of what gzip packed: {cause}", self.at)
+        } else {
+            format!("byte {}: {error}", self.at)
         }
     }
 

@@ -127,6 +127,7 @@ pub fn run(options: &Options, files: &mut Files, out: &mut dyn Write) -> Outcome
             "- is standard output, and so is --json's: name a file for one of them",
         ));
     }
+    named_for_its_form(options)?;
     let place = place(options)?;
     let (moved, form, bytes) = match work(options) {
         Ok(done) => done,
@@ -165,6 +166,27 @@ fn one_standard_input(options: &Options) -> Outcome {
         _ => Err(Failure::wrong(
             "only one of --memory, --in and --stream can be standard input",
         )),
+    }
+}
+
+/// Names of forms that other programs write.
+const OTHERS: [&str; 8] = ["png", "jpg", "jpeg", "gif", "tif", "tiff", "bmp", "webp"];
+
+/// A picture by a name that says another form would be opened as that, and fail there.
+fn named_for_its_form(options: &Options) -> Outcome {
+    let picture = options.out.as_deref().or(options.r#in.as_deref());
+    let form = picture.and_then(|path| path.extension()?.to_str());
+    let form = form.map(str::to_lowercase).unwrap_or_default();
+    match (picture, OTHERS.contains(&&*form)) {
+        (Some(picture), true) => {
+            let (name, form) = (picture.display().to_string(), form.to_uppercase());
+            Err(Failure::Wrong(format!(
+                "{}: is named as {form} is, and pictures here are PGM, PPM or raw\n  \
+                 name it .pgm or .ppm; netpbm's pnmtopng, pngtopnm and the like turn one into the other",
+                visible::line(&name)
+            )))
+        }
+        _ => Ok(()),
     }
 }
 

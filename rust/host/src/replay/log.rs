@@ -7,11 +7,13 @@ use crate::explain::cause::{self, Refused};
 use crate::input::looks::{self, Looks};
 use crate::input::source::{Source, PIECE};
 use crate::replay::kept::{shortened, Kept, Piece, BACK, MOST_MIDNIGHTS, RECORD};
+use crate::replay::pieces::Pieces;
 use crate::replay::resumed::{Resumed, Whose};
 use boundary::{Edition, LogStatus, Replay};
 use std::fmt;
 
 const WORD: u8 = 1;
+const MIDNIGHT: u8 = 2;
 
 /// The refusal of words past the 1,000,000,000th of a session.
 const NO_MORE_WORDS: u32 = 17;
@@ -58,8 +60,13 @@ pub struct Log {
     digest: Option<Digest>,
     /// The inputs read, each by itself, where a state is to tell of them.
     files: Option<Vec<Piece>>,
+    /// Whether inputs with the same bytes are meant, and whether some came that aren't.
+    takes_repeats: bool,
+    repeats: bool,
     /// What it goes on from.
     pub resumed: Option<Resumed>,
+    /// The day in which the input at hand began, or the one that stopped the replay.
+    began_in: Option<u32>,
     /// The first bytes of the first input.
     begin: Vec<u8>,
     /// The end of what was read before the piece at hand.
@@ -79,7 +86,10 @@ impl Log {
             stop: None,
             digest: None,
             files: None,
+            takes_repeats: false,
+            repeats: false,
             resumed: None,
+            began_in: None,
             begin: Vec::new(),
             tail: Vec::new(),
         }
@@ -120,6 +130,14 @@ impl Log {
     pub fn for_a_state(self) -> Log {
         Log {
             files: Some(Vec::new()),
+            ..self
+        }
+    }
+
+    /// The same where inputs with the same bytes may be meant.
+    pub fn taking_repeats(self, takes_repeats: bool) -> Log {
+        Log {
+            takes_repeats,
             ..self
         }
     }
@@ -186,10 +204,14 @@ impl Log {
         let named = |source: &Source| (source.name.clone(), u64::MAX);
         self.inputs.extend(sources.iter().map(named));
         let mut room = vec![0; PIECE];
+        let mut pieces = Pieces::of(self.resumed.as_ref());
         // One by itself is all of it.
-        let each = self.files.is_some() && sources.len() > 1;
+        let each = sources.len() > 1 || !pieces.is_empty();
         for (place, mut source) in sources.into_iter().enumerate() {
             self.inputs[place].1 = self.bytes;
+            if self.stop.is_none() {
+                self.began_in = self.replay.status().days.map(|(_, last)| last);
+            }
             let mut own = each.then(Digest::new);
             loop {
                 match source.fill(&mut room)? {
@@ -201,8 +223,15 @@ impl Log {
                     }
                 }
             }
-            if let (Some(own), Some(files)) = (&own, &mut self.files) {
-                files.push(Piece::of(own));
+            if let Some(own) = &own {
+                let told = pieces.meet(Piece::of(own), &source.name);
+                self.repeats = told.is_some() && !self.takes_repeats;
+                if let Some(told) = told.filter(|_| self.repeats) {
+                    return Err(Failure::Wrong(told));
+                }
+                if let Some(files) = &mut self.files {
+                    files.push(Piece::of(own));
+                }
             }
             if place == 0 {
                 self.begin = source.begin().to_vec();
@@ -211,10 +240,10 @@ impl Log {
         Ok(())
     }
 
-    /// Whether the inputs begin with all that came before the state: they are refused, and
+    /// Whether the inputs begin with all that came before the state, or one of them came twice: they are refused, and
     /// what was read is no log.
     pub fn is_again(&self) -> bool {
-        self.resumed.as_ref().map_or(false, Resumed::is_again)
+        self.repeats || self.resumed.as_ref().map_or(false, Resumed::is_again)
     }
 
     fn ask_again(&self) -> Outcome {
@@ -242,7 +271,32 @@ impl Log {
         }
         let goes_on = self.resumed.as_ref().zip(stop);
         let goes_on = goes_on.and_then(|(resumed, refused)| resumed.hint(refused.number));
-        goes_on.or_else(|| looks::hint(&self.begin, Looks::Log))
+        self.order_hint()
+            .or(goes_on)
+            .or_else(|| looks::hint(&self.begin, Looks::Log))
+    }
+
+    /// What to try where the first midnight of a later input isn't the one that is due.
+    fn order_hint(&self) -> Option<String> {
+        let (place, refused) = self.stop.as_ref()?;
+        let number = self
+            .inputs
+            .iter()
+            .rposition(|(_, begin)| *begin <= place.byte)?;
+        let (before, _) = self.inputs.get(number.checked_sub(1)?)?;
+        let (input, _) = &self.inputs[number];
+        let (_, day) = self.replay.status().days?;
+        let is_first = refused.number == 19 && self.began_in == Some(day);
+        is_first.then(|| format!(
+            "{before} ends in day {day}: the files aren't in the order of their days, or days between them are missing, or {input} is another log's"
+        ))
+    }
+
+    /// Whether its last record is a midnight, so that the last day has only begun.
+    pub fn ends_with_midnight(&self) -> bool {
+        let kind = self.tail.len().checked_sub(RECORD as usize);
+        let kind = kind.and_then(|at| self.tail.get(at));
+        self.replay.status().unfinished == 0 && kind == Some(&MIDNIGHT)
     }
 
     fn piece(&mut self, piece: &[u8]) {

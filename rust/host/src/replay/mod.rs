@@ -5,6 +5,7 @@ pub mod days;
 mod first;
 pub mod kept;
 pub mod log;
+pub mod pieces;
 pub mod resumed;
 mod wrong;
 
@@ -13,6 +14,7 @@ use crate::common::edition::{self, EditionOption};
 use crate::common::failure::{Failure, Outcome};
 use crate::common::files::Files;
 use crate::input::source::Source;
+use crate::replay::pieces::RepeatOption;
 use crate::replay::resumed::{StateOptions, Whose};
 use clap::Args;
 use std::io::Write;
@@ -50,6 +52,8 @@ pub struct Options {
     #[arg(long, conflicts_with_all = ["json", "csv"])]
     plain: bool,
     #[command(flatten)]
+    repeat: RepeatOption,
+    #[command(flatten)]
     state: StateOptions,
     #[command(flatten)]
     edition: EditionOption,
@@ -66,7 +70,8 @@ impl Options {
 pub fn run(options: &Options, files: &mut Files, out: &mut dyn Write) -> Outcome {
     let edition = options.edition.accepted().map_err(edition::refused)?;
     let saved = options.state.place()?;
-    let mut log = options.state.begin(edition)?;
+    let log = options.state.begin(edition)?;
+    let mut log = log.taking_repeats(options.repeat.repeated_pieces);
     let ended = log.read(Source::open_all(&options.files)?);
     if log.is_again() {
         return ended;

@@ -216,8 +216,9 @@ pub struct Resumed {
     date: Option<Date>,
     /// How many bytes of the log came before.
     pub bytes: u64,
-    /// What came behind the save before.
+    /// What came behind the save before: all of it, and file by file.
     month: Piece,
+    pub files: Vec<Piece>,
     /// The days that it knows, and whether earlier ones are forgotten.
     days: Option<(u32, u32)>,
     forgets: bool,
@@ -238,6 +239,7 @@ impl Resumed {
             date: kept.date,
             bytes: kept.consumed,
             month: kept.month.clone(),
+            files: kept.files.clone(),
             days: status.days,
             forgets: kept.forgotten > 0,
             unfinished: status.unfinished,

@@ -42,6 +42,8 @@ pub struct Asked {
     pub resume: Option<PathBuf>,
     /// Whether a state is saved at its end.
     pub saves: bool,
+    /// Whether inputs with the same bytes are meant.
+    pub repeats: bool,
     pub files: Vec<PathBuf>,
     pub issue: Issue,
 }
@@ -218,6 +220,7 @@ impl Asked {
         if self.saves {
             log = log.for_a_state();
         }
+        log = log.taking_repeats(self.repeats);
         log.read(Source::open_all(&self.files)?)?;
         Ok(log)
     }

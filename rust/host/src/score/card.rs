@@ -16,7 +16,13 @@ pub fn text(score: &Score, digits: Digits, out: &mut dyn Write) -> Outcome {
     if let Some(whose) = score.issue.whose() {
         writeln!(out, "{whose}")?;
     }
+    if let Some(number) = score.issue.lease() {
+        writeln!(out, "{number}")?;
+    }
     writeln!(out, "{}", lease(score, digits))?;
+    if score.issue.zone.is_some() {
+        writeln!(out, "{}", score.issue.days())?;
+    }
     writeln!(out, "{}", edition::rule(score.edition))?;
     for line in score.digests() {
         writeln!(out, "{line}")?;

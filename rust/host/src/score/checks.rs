@@ -23,6 +23,7 @@ pub fn all(log: &Log, lease: &Lease, days: &[Day]) -> Vec<Check> {
     let mut checks = Vec::new();
     empty(log, &mut checks);
     covered(log, days, &mut checks);
+    closed(log, days, &mut checks);
     refused(log, days, &mut checks);
     outside(log, lease, &mut checks);
     dated(log, days, &mut checks);
@@ -91,6 +92,22 @@ fn covered(log: &Log, days: &[Day], checks: &mut Vec<Check>) {
         "not_covered",
         format!("the log covers {covers}, and {among} of the lease's {due} days {verb} among them"),
         Some("the log doesn't cover the lease"),
+    ));
+}
+
+/// A last day that goes on behind the log's end: its midnight hasn't come. A log that ends inside a record is told as that.
+fn closed(log: &Log, days: &[Day], checks: &mut Vec<Check>) {
+    let status = log.replay.status();
+    let ends_in = status.days.map(|(_, last)| last);
+    let day = match days.last() {
+        Some(day) if ends_in == Some(day.number) && status.unfinished == 0 => day,
+        _ => return,
+    };
+    let number = day.number;
+    checks.push(Check::new(
+        "not_closed",
+        format!("day {number} isn't closed by a midnight: what came later isn't in this log"),
+        (day.served < day.owed).then_some("the log ends inside the last day"),
     ));
 }
 
@@ -169,6 +186,9 @@ fn outside(log: &Log, lease: &Lease, checks: &mut Vec<Check>) {
         Some(brought) => brought + 1,
         None => first,
     };
+    // The midnight that closes the lease's last day begins another one, of which nothing came yet.
+    let closes = last == lease.last_day().saturating_add(1) && log.ends_with_midnight();
+    let last = if closes { last - 1 } else { last };
     let before = (lease.first_day() > first).then(|| (first, last.min(lease.first_day() - 1)));
     let after = (lease.last_day() < last).then(|| (first.max(lease.last_day() + 1), last));
     let parts: Vec<(u32, u32)> = before.into_iter().chain(after).collect();

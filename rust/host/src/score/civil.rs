@@ -134,11 +134,15 @@ impl Date {
 
     /// Its place in `WEEKDAYS`. 0001-01-01 was a Monday by this calendar's rules.
     pub fn weekday(self) -> usize {
+        self.number() as usize % 7
+    }
+
+    /// How many days after 0001-01-01 it is.
+    pub fn number(self) -> u32 {
         let years = self.year - 1;
         let leap_days = years / 4 - years / 100 + years / 400;
         let months: u32 = (1..self.month).map(|m| days_of_month(self.year, m)).sum();
-        let days = 365 * years + leap_days + months + (self.day - 1);
-        days as usize % 7
+        365 * years + leap_days + months + (self.day - 1)
     }
 
     pub fn month_name(self) -> &'static str {

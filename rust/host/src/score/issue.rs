@@ -19,6 +19,12 @@ pub struct IssueOptions {
     /// The lessee's name, for the card
     #[arg(long, value_name = "NAME")]
     lessee: Option<String>,
+    /// The lease's number, for the card
+    #[arg(long, value_name = "NUMBER")]
+    lease: Option<String>,
+    /// The time zone whose midnights part the days, for the card; where none is given, it says that the station counts them
+    #[arg(long, value_name = "ZONE")]
+    time_zone: Option<String>,
     /// The card's date of issue; today (UTC) where none is given
     #[arg(long, value_name = "YYYY-MM-DD", value_parser = Date::parse)]
     issued: Option<Date>,
@@ -28,6 +34,10 @@ pub struct IssueOptions {
 pub struct Issue {
     pub station: Option<String>,
     pub lessee: Option<String>,
+    /// The lease's number.
+    pub lease: Option<String>,
+    /// The time zone of the days.
+    pub zone: Option<String>,
     pub date: Date,
     /// Of the command that scored.
     pub version: Cow<'static, str>,
@@ -36,17 +46,27 @@ pub struct Issue {
 impl Issue {
     pub fn new(options: &IssueOptions) -> Issue {
         let date = day_of(options.issued);
-        Issue::of(&options.station, &options.lessee, date)
+        let names = [
+            &options.station,
+            &options.lessee,
+            &options.lease,
+            &options.time_zone,
+        ];
+        Issue::of(names, date)
     }
 
-    pub fn of(station: &Option<String>, lessee: &Option<String>, date: Date) -> Issue {
+    /// By the station's name, the lessee's, the lease's number and the time zone.
+    pub fn of(names: [&Option<String>; 4], date: Date) -> Issue {
         let name = |text: &Option<String>| {
             let text = text.as_deref().map(str::trim).unwrap_or_default();
             (!text.is_empty()).then(|| visible::line(text))
         };
+        let [station, lessee, lease, zone] = names.map(name);
         Issue {
-            station: name(station),
-            lessee: name(lessee),
+            station,
+            lessee,
+            lease,
+            zone,
             date,
             version: VERSION.into(),
         }
@@ -54,7 +74,7 @@ impl Issue {
 
     /// The card of the sample, which is nobody's.
     pub fn nobody() -> Issue {
-        Issue::of(&None, &None, Date::today())
+        Issue::of([&None; 4], Date::today())
     }
 
     /// "Station 14, leased to the harbour", as far as they are given.
@@ -67,6 +87,35 @@ impl Issue {
         }
     }
 
+    /// The same in one text, or where that has more letters, in one for the station and one for the lessee.
+    pub fn whose_within(&self, most: usize) -> Vec<String> {
+        let parts = [
+            self.station
+                .as_ref()
+                .map(|station| format!("Station {station}")),
+            self.lessee
+                .as_ref()
+                .map(|lessee| format!("Leased to {lessee}")),
+        ];
+        match self.whose() {
+            Some(whose) if whose.chars().count() <= most => vec![whose],
+            _ => parts.into_iter().flatten().collect(),
+        }
+    }
+
+    /// "Lease L-17", where it has a number.
+    pub fn lease(&self) -> Option<String> {
+        self.lease.as_ref().map(|number| format!("Lease {number}"))
+    }
+
+    /// Whose midnights part the days.
+    pub fn days(&self) -> String {
+        match &self.zone {
+            Some(zone) => format!("days in the time zone {zone}"),
+            None => "days as the station counts them".to_string(),
+        }
+    }
+
     /// "Issued 2026-05-02 by egretfold 0.1.0".
     pub fn told(&self) -> String {
         format!("Issued {} by egretfold {}", self.date, self.version)
@@ -75,6 +124,8 @@ impl Issue {
     pub fn put(&self, summary: &mut Value) {
         summary["station"] = json!(self.station);
         summary["lessee"] = json!(self.lessee);
+        summary["lease_number"] = json!(self.lease);
+        summary["time_zone"] = json!(self.zone);
         summary["issued"] = json!(self.date.to_string());
         summary["version"] = json!(self.version);
     }

@@ -16,10 +16,12 @@ use crate::common::edition::{self, EditionOption};
 use crate::common::failure::{Failure, Outcome};
 use crate::common::files::Files;
 use crate::common::replaced::{Goes, Kind};
-use crate::fleet::page;
+use crate::fleet::files::{self, Named};
+use crate::fleet::{cells, page};
 use crate::input::numbers;
 use crate::input::source::Source;
 use crate::replay::log::Log;
+use crate::replay::pieces::RepeatOption;
 use crate::replay::resumed::StateOptions;
 use crate::score::asked::{accepted, dates, month_of, Asked, Card, LeaseLine};
 use crate::score::civil::Date;
@@ -48,6 +50,7 @@ earlier: it keeps that one alone.
 
 Examples, from the repository's root:
   egretfold score samples/station-14.log --first-day 101 --days 30 --owed 14000000
+  egretfold score samples/station-15 --first-day 101 --days 30 --owed 14,000,000
   egretfold score samples/station-14.log --first-day 101 --days 30 --owed 56000000 --edition 2
   egretfold score samples/full-month.log --first-day 131 --days 31 --owed 14000000 --from 2026-05-01 --csv
   egretfold score samples/station-14.log --first-day 101 --days 30 --owed 14000000 --from 2026-04-01 --svg april.svg --station 14 --lessee 'the harbour'
@@ -55,7 +58,8 @@ Examples, from the repository's root:
 
 #[derive(Args)]
 pub struct Options {
-    /// The log; several files in their order are one log; standard input for - or where none is given
+    /// The log; several files in their order are one log, and so are a folder's, in name order; standard input for - or where
+    /// none is given
     #[arg(value_name = "LOG")]
     files: Vec<PathBuf>,
     /// The number of the lease's first day
@@ -64,8 +68,8 @@ pub struct Options {
     /// How many days the lease has, 1 to 31
     #[arg(long, value_name = "N", value_parser = numbers::count, allow_negative_numbers = true)]
     days: u32,
-    /// Elements owed a day, 0 to 100000000
-    #[arg(long, value_name = "K", value_parser = numbers::count, allow_negative_numbers = true)]
+    /// Elements owed a day, 0 to 100000000, or as 14,000,000
+    #[arg(long, value_name = "K", value_parser = cells::grouped, allow_negative_numbers = true)]
     owed: u32,
     /// The first day's date, to show dates beside the days' numbers
     #[arg(long, value_name = "YYYY-MM-DD", value_parser = Date::parse)]
@@ -91,6 +95,8 @@ pub struct Options {
     #[arg(long, requires = "json")]
     engine: bool,
     #[command(flatten)]
+    repeat: RepeatOption,
+    #[command(flatten)]
     state: StateOptions,
     #[command(flatten)]
     edition: EditionOption,
@@ -101,13 +107,20 @@ pub struct Options {
 impl Options {
     /// Names the files of the line.
     pub fn name(&self, files: &mut Files) {
-        files.reads_all("LOG", &self.files);
+        files.reads_all("LOG", &self.logs().files);
         self.state.name(files);
         files.writes("--svg", self.svg.as_deref());
         files.writes("--html", self.html.as_deref());
     }
 
+    /// The log's files, those of folders among them.
+    fn logs(&self) -> Named {
+        files::in_folders(&self.files)
+    }
+
     fn asked(&self) -> Asked {
+        let logs = self.logs();
+        logs.tell_passed();
         Asked {
             edition: self.edition.number,
             line: LeaseLine {
@@ -118,7 +131,8 @@ impl Options {
             from: self.from,
             resume: self.state.resume.clone(),
             saves: self.state.saves(),
-            files: self.files.clone(),
+            repeats: self.repeat.repeated_pieces,
+            files: logs.files,
             issue: Issue::new(&self.issue),
         }
     }

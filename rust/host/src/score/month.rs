@@ -9,6 +9,7 @@ use crate::score::civil::Date;
 use crate::score::issue::Issue;
 use boundary::{Edition, Lease, Month, ScoredDay, Verdict};
 use serde_json::{json, Value};
+use std::fmt;
 
 /// A month, its lease and what is told of the log that it is of.
 pub struct Score {
@@ -207,8 +208,8 @@ impl Score {
     }
 
     /// The part of what is owed that is served, in percent.
-    pub fn percent(&self) -> Option<String> {
-        percent(self.month.served, self.month.owed)
+    pub fn percent(&self) -> Option<Percent> {
+        Percent::of(self.month.served, self.month.owed)
     }
 }
 
@@ -233,15 +234,46 @@ pub fn verdict_name(verdict: Verdict) -> &'static str {
     }
 }
 
-/// A part in percent with two places, cut down, so that only all of it is 100; none
-/// where nothing is owed.
-pub fn percent(served: u64, owed: u64) -> Option<String> {
-    if served == owed && owed > 0 {
-        return Some("100 %".to_string());
+/// A part in percent with two places, cut down, so that only all of it is 100.
+#[derive(Clone, Copy)]
+pub struct Percent {
+    hundredths: u32,
+}
+
+impl Percent {
+    /// None where nothing is owed.
+    pub fn of(served: u64, owed: u64) -> Option<Percent> {
+        // So wide that a fleet's sums can't wrap.
+        let hundredths = (u128::from(served) * 10_000).checked_div(u128::from(owed))?;
+        Some(Percent {
+            hundredths: u32::try_from(hundredths).ok()?,
+        })
     }
-    // So wide that a fleet's sums can't wrap.
-    let hundredths = (u128::from(served) * 10_000).checked_div(u128::from(owed))?;
-    Some(format!("{}.{:02} %", hundredths / 100, hundredths % 100))
+
+    /// "85.08", and "100" for all of it.
+    pub fn digits(self) -> String {
+        match self.hundredths {
+            10_000 => "100".to_string(),
+            part => format!("{}.{:02}", part / 100, part % 100),
+        }
+    }
+
+    /// For programs: as a number.
+    pub fn number(self) -> f64 {
+        f64::from(self.hundredths) / 100.0
+    }
+}
+
+impl fmt::Display for Percent {
+    fn fmt(&self, f: &mut fmt::Formatter) -> fmt::Result {
+        write!(f, "{} %", self.digits())
+    }
+}
+
+/// Puts a part into JSON: as a number, and as text.
+pub fn put_percent(percent: Option<Percent>, value: &mut Value) {
+    value["percent"] = json!(percent.map(Percent::number));
+    value["percent_text"] = json!(percent.map(|percent| percent.to_string()));
 }
 
 /// How much of a bar's width the served part of what is owed fills: all of it only
@@ -256,7 +288,7 @@ pub fn filled(served: u64, owed: u64, width: u64, least: u64) -> u64 {
 
 #[cfg(test)]
 mod tests {
-    use super::{filled, percent};
+    use super::{filled, Percent};
 
     #[test]
     fn a_percentage_is_cut_down_and_only_all_of_it_is_100() {
@@ -270,7 +302,8 @@ mod tests {
             (MOST - 1, MOST, Some("99.99 %")),
             (MOST, MOST, Some("100 %")),
         ] {
-            assert_eq!(percent(served, owed).as_deref(), text);
+            let percent = Percent::of(served, owed).map(|percent| percent.to_string());
+            assert_eq!(percent.as_deref(), text);
         }
     }
 

@@ -2,12 +2,14 @@
 //! values.
 
 use crate::common::failure::Outcome;
+use crate::common::sheet;
 use crate::score::asked::{Card, LeaseLine, Unscored};
 use crate::score::checks::Check;
 use crate::score::civil::Date;
-use crate::score::month::{Score, Served};
+use crate::score::month::{put_percent, Day, Score, Served};
+use csv::Writer;
 use serde_json::{json, Value};
-use std::io::Write;
+use std::io::{self, Write};
 
 /// A line for each day, and one for the month; that one alone where there is no score.
 pub fn json(card: &Card, out: &mut dyn Write) -> Outcome {
@@ -25,6 +27,7 @@ pub fn json(card: &Card, out: &mut dyn Write) -> Outcome {
 fn days(score: &Score, out: &mut dyn Write) -> Outcome {
     for day in &score.days {
         let value = json!({
+            "station": score.issue.station,
             "day": day.number,
             "date": day.date.map(|date| date.to_string()),
             "claimed": day.claimed,
@@ -54,7 +57,7 @@ fn summary(score: &Score) -> Value {
     summary["checks"] = json!(checks);
     summary["served"] = json!(score.month.served);
     summary["owed"] = json!(score.month.owed);
-    summary["percent"] = json!(score.percent());
+    put_percent(score.percent(), &mut summary);
     summary["verdict"] = json!(score.verdict_name());
     summary["full_days"] = json!(score.count(Served::InFull));
     summary["part_days"] = json!(score.count(Served::InPart));
@@ -86,19 +89,50 @@ pub fn lease(line: &LeaseLine, from: Option<Date>) -> Value {
     json!({"first_day": line.first_day, "days": line.days, "owed": line.owed, "from": from})
 }
 
-/// A head and a row a day; numbers and dates need no quotes.
+/// The columns of a day behind those that say whose it is, and where the date stands among them.
+pub const DAY_COLUMNS: [&str; 8] = [
+    "day", "date", "claimed", "served", "owed", "dark", "in_log", "edition",
+];
+const DATE: usize = 1;
+
+/// A day's values, in the columns' order.
+pub fn day_values(score: &Score, day: &Day) -> [String; 8] {
+    [
+        day.number.to_string(),
+        day.date.map_or(String::new(), |date| date.to_string()),
+        day.claimed.to_string(),
+        day.served.to_string(),
+        day.owed.to_string(),
+        day.is_dark().to_string(),
+        day.in_log.to_string(),
+        score.edition.number().to_string(),
+    ]
+}
+
+/// Writes a row, in which no value is run as a formula.
+pub fn write_row<W: Write>(writer: &mut Writer<W>, values: &[String]) -> Outcome {
+    let cells = values
+        .iter()
+        .map(|text| sheet::written(text).into_owned().into_bytes());
+    writer.write_record(cells).map_err(io::Error::from)?;
+    Ok(())
+}
+
+/// A head and a row a day, with the station, and with the date where dates are known.
 pub fn csv(score: &Score, out: &mut dyn Write) -> Outcome {
-    let date = score.dates().map_or("", |_| "date,");
-    writeln!(out, "day,{date}claimed,served,owed,dark,in_log,edition")?;
-    let edition = score.edition.number();
+    let dated = score.dates().is_some();
+    let row = |whose: &str, values: &[String]| -> Vec<String> {
+        let kept = values.iter().enumerate();
+        let kept = kept.filter(|(place, _)| dated || *place != DATE);
+        let kept = kept.map(|(_, value)| value.clone());
+        std::iter::once(whose.to_string()).chain(kept).collect()
+    };
+    let mut writer = Writer::from_writer(out);
+    write_row(&mut writer, &row("station", &DAY_COLUMNS.map(String::from)))?;
+    let station = score.issue.station.as_deref().unwrap_or_default();
     for day in &score.days {
-        let date = day.date.map_or(String::new(), |date| format!("{date},"));
-        let (claimed, served, owed) = (day.claimed, day.served, day.owed);
-        let (number, dark, in_log) = (day.number, day.is_dark(), day.in_log);
-        writeln!(
-            out,
-            "{number},{date}{claimed},{served},{owed},{dark},{in_log},{edition}"
-        )?;
+        write_row(&mut writer, &row(station, &day_values(score, day)))?;
     }
+    writer.flush()?;
     Ok(())
 }

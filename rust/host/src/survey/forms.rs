@@ -6,6 +6,8 @@ use crate::common::names;
 use crate::common::replaced::{PGM_BEGIN, SVG_BEGIN};
 use crate::common::settings::{Setting, Value};
 use crate::explain::cause::Refused;
+use crate::score::picture::svg::{Drawing, Style, INK, PAPER};
+use crate::score::picture::FONTS;
 use crate::survey::Asked;
 use serde_json::json;
 use std::fmt::Write as _;
@@ -17,6 +19,11 @@ const WIDEST: usize = 96;
 /// The side of an SVG picture, at most, and that of one pair.
 const SIDE: usize = 960;
 const LARGEST_PAIR: usize = 16;
+
+/// Around an SVG picture, from a line of its caption to the next, and the width that these need.
+const MARGIN: usize = 16;
+const CAPTION_LINE: usize = 20;
+const CAPTION_WIDTH: usize = 560;
 
 /// The names of the stream and the dump.
 pub struct Names<'a> {
@@ -98,16 +105,20 @@ impl Survey<'_> {
         bytes
     }
 
-    /// A dark square for each pair that passes, those side by side as one.
+    /// A dark square for each pair that passes, those side by side as one, in a frame, with a caption below it.
     pub fn svg(&self) -> String {
         let (columns, rows) = (self.columns(), self.rows().count());
         let pair = (SIDE / columns.max(rows)).clamp(1, LARGEST_PAIR);
         let (width, height) = (columns * pair, rows * pair);
-        let (passed, pairs) = (self.passed, self.room.len());
+        let caption = self.caption();
+        let whole_width = width.max(CAPTION_WIDTH) + 2 * MARGIN;
+        let whole_height = height + 2 * MARGIN + CAPTION_LINE * caption.len();
+        let title = &caption[0];
         let mut text = format!(
-            r##"{SVG_BEGIN}xmlns="http://www.w3.org/2000/svg" width="{width}" height="{height}" viewBox="0 0 {columns} {rows}" shape-rendering="crispEdges" role="img">
-<title>{passed} of {pairs} pairs pass</title>
-<rect width="{columns}" height="{rows}" fill="#ffffff"/>
+            r##"{SVG_BEGIN}xmlns="http://www.w3.org/2000/svg" width="{whole_width}" height="{whole_height}" viewBox="0 0 {whole_width} {whole_height}" {FONTS} role="img">
+<title>{title}</title>
+<rect width="{whole_width}" height="{whole_height}" fill="{PAPER}"/>
+<svg x="{MARGIN}" y="{MARGIN}" width="{width}" height="{height}" viewBox="0 0 {columns} {rows}" shape-rendering="crispEdges">
 "##
         );
         for (y, row) in self.rows().enumerate() {
@@ -115,13 +126,46 @@ impl Survey<'_> {
                 // Writing to a string can't fail.
                 let _ = writeln!(
                     text,
-                    r##"<rect x="{x}" y="{y}" width="{run}" height="1" fill="#1a1a1a"/>"##
+                    r##"<rect x="{x}" y="{y}" width="{run}" height="1" fill="{INK}"/>"##
                 );
             }
         }
         text += "</svg>\n";
-        text
+        let mut around = Drawing::default();
+        // Around the pairs, not over them.
+        let (x, y) = (MARGIN as u32 - 1, MARGIN as u32 - 1);
+        let size = (width as u32 + 2, height as u32 + 2);
+        let frame = format!(r#"fill="none" stroke="{INK}" stroke-width="2""#);
+        around.rect((x, y), size, &frame);
+        for (place, line) in (1..).zip(&caption) {
+            let y = MARGIN + height + 4 + CAPTION_LINE * place;
+            around.text((x, y as u32), line, &Style::of(14, INK));
+        }
+        text + &around.elements() + "</svg>\n"
     }
+
+    /// What the picture shows, a line each: how many pairs pass, of which domain, and what is asked of them.
+    fn caption(&self) -> Vec<String> {
+        let (passed, pairs) = (self.passed, self.room.len());
+        let [i0, j0, i1, j1] = self.asked.domain;
+        let mut caption = vec![
+            format!("{passed} of {pairs} pairs pass"),
+            format!("domain ({i0}, {j0}) to ({i1}, {j1}); a dark square is a pair that passes"),
+        ];
+        caption.extend(test(self.asked).map(|test| format!("test {test}")));
+        caption
+    }
+}
+
+/// The test with the value that it is asked with, where one is set.
+fn test(asked: &Asked) -> Option<String> {
+    let (value, number) = (asked.value, asked.session.test()?);
+    let named = names::conditional_test(number);
+    let name = named.map_or("unknown", |test| test.name);
+    Some(match named.and_then(|test| test.sign) {
+        Some(sign) => format!("{number}, {name}: {value} {sign} b"),
+        None => format!("{number}, {name}, whatever b is"),
+    })
 }
 
 /// What is asked of what.
@@ -135,14 +179,8 @@ fn head(asked: &Asked, names: &Names, out: &mut dyn Write) -> Outcome {
         };
         writeln!(out, "  buffer  {}", setting.words())?;
     }
-    let value = asked.value;
-    if let Some(number) = asked.session.test() {
-        let named = names::conditional_test(number);
-        let name = named.map_or("unknown", |test| test.name);
-        match named.and_then(|test| test.sign) {
-            Some(sign) => writeln!(out, "  test    {number}, {name}: {value} {sign} b")?,
-            None => writeln!(out, "  test    {number}, {name}, whatever b is")?,
-        }
+    if let Some(test) = test(asked) {
+        writeln!(out, "  test    {test}")?;
     }
     let (at, length) = (Address(asked.at), asked.dump.len());
     writeln!(out, "  memory  {length} bytes from {at} on")?;

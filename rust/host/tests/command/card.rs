@@ -45,8 +45,8 @@ fn a_card_says_whose_it_is_and_what_it_is_of() {
         ">Station 14 &lt;north&gt;, leased to Harbour &amp; Sons</text>",
         ">Log station-14.log</text>",
         ">85.08 %: 25 days in full, 1 in part, 4 dark</text>",
-        ">signed</text>",
-        ">place and date</text>",
+        ">lessor: signature, place and date</text>",
+        ">lessee: signature, place and date</text>",
         &format!(">Issued 2026-05-02 by {}</text>", version.trim()),
         &format!(">SHA-256 of the log's bytes: {digest}</text>"),
     ] {
@@ -61,7 +61,8 @@ fn a_card_says_whose_it_is_and_what_it_is_of() {
     let summary = &last_line(&told(&json))["summary"];
     assert_eq!(summary["sha256"], digest);
     assert_eq!(summary["issued"], "2026-05-02");
-    assert_eq!(summary["percent"], "85.08 %");
+    assert_eq!(summary["percent"], 85.08);
+    assert_eq!(summary["percent_text"], "85.08 %");
     assert_eq!(summary["checks"], Value::Array(vec![]));
 }
 
@@ -87,18 +88,6 @@ fn the_digest_is_of_the_logs_bytes() {
         digest(egretfold(&format!("score - {line}"), &packed)),
         whole
     );
-}
-
-#[test]
-fn a_long_name_keeps_its_begin_and_its_end() {
-    let folder = Folder::new("long-name");
-    let name = format!("begin-{}-end.log", "x".repeat(200));
-    let log = folder.write(&name, &sample("station-14.log"));
-    let file = folder.0.join("a.svg").display().to_string();
-    egretfold(&format!("score {log} {APRIL} --svg {file}"), b"");
-    let card = card(&file);
-    assert!(card.contains(">Log begin-xx") && card.contains("xx-end.log</text>"));
-    assert!(!card.contains(&"x".repeat(100)));
 }
 
 /// What holds of this log and lease: on the terminal, in JSON, on the card, beside the
@@ -151,7 +140,8 @@ fn what_holds_is_told_above_the_verdict() {
         "short: of 30 days, 25 served in full, 1 in part, 4 dark"
     );
     // Another month's log.
-    let (texts, verdict) = checked(&month, "--first-day 131 --days 30 --owed 1");
+    let month = &month[..month.len() - 5];
+    let (texts, verdict) = checked(month, "--first-day 131 --days 30 --owed 1");
     assert_eq!(
         texts,
         [
@@ -164,7 +154,7 @@ fn what_holds_is_told_above_the_verdict() {
         "{verdict}"
     );
     // A day too early, and a lease inside the log.
-    let (texts, _) = checked(&month, "--first-day 100 --days 30 --owed 1");
+    let (texts, _) = checked(month, "--first-day 100 --days 30 --owed 1");
     assert_eq!(
         texts,
         [
@@ -172,7 +162,7 @@ fn what_holds_is_told_above_the_verdict() {
             "the log has 1 day outside the lease: 130",
         ]
     );
-    let (texts, _) = checked(&month, "--first-day 105 --days 2 --owed 1");
+    let (texts, _) = checked(month, "--first-day 105 --days 2 --owed 1");
     assert_eq!(
         texts,
         ["the log has 28 days outside the lease: 101 to 104 and 107 to 130"]
@@ -253,7 +243,7 @@ fn an_empty_file_among_several_is_told() {
 #[test]
 fn rows_tell_which_days_the_log_has() {
     let output = egretfold(
-        "score samples/station-14.log --first-day 129 --days 3 --owed 1 --csv",
+        "score samples/station-14.log --first-day 130 --days 3 --owed 1 --csv",
         b"",
     );
     let text = told(&output);
@@ -268,6 +258,9 @@ fn rows_tell_which_days_the_log_has() {
 #[test]
 fn a_card_without_a_score_says_so() {
     let folder = Folder::new("unscored");
+    let empty = folder.0.join("egretfold-empty-log");
+    fs::create_dir(&empty).expect("a folder");
+    let empty = empty.display().to_string();
     for (log, lease, name, why, status) in [
         (
             "samples/damaged.log",
@@ -290,7 +283,13 @@ fn a_card_without_a_score_says_so() {
             "no-such.log: No such file",
             2,
         ),
-        ("samples", APRIL, "NOT SCORED", "samples: is a folder", 2),
+        (
+            &*empty,
+            APRIL,
+            "NOT SCORED",
+            "egretfold-empty-log: is an empty folder",
+            2,
+        ),
     ] {
         for earlier in [
             Some(&b"<svg data-by=\"egretfold\" of a full month"[..]),
@@ -311,11 +310,12 @@ fn a_card_without_a_score_says_so() {
                 assert!(card.contains(shown), "{log}: {shown}");
             }
             assert!(
-                !card.contains("samples/") && !card.contains(">signed<"),
+                !card.contains("samples/") && !card.contains("signature"),
                 "{log}"
             );
         }
     }
+    fs::remove_dir(&empty).expect("it goes");
     assert_eq!(fs::read_dir(&folder.0).expect("the folder").count(), 1);
     // A log in a card's place stays a log.
     let log = folder.write("a.log", &sample("damaged.log"));

@@ -20,6 +20,18 @@ pub fn egretfold(arguments: &str, input: &[u8]) -> Output {
     with_input(command, input)
 }
 
+/// Runs a line of the shell, where `egretfold` is this build's.
+pub fn shell(line: &str) -> Output {
+    let built = Path::new(env!("CARGO_BIN_EXE_egretfold")).parent();
+    let built = built.expect("it stands in a folder").display();
+    let path = std::env::var("PATH").unwrap_or_default();
+    let mut shell = Command::new("sh");
+    shell
+        .args(["-c", line])
+        .env("PATH", format!("{built}:{path}"));
+    with_input(shell, b"")
+}
+
 pub fn with_input(mut command: Command, input: &[u8]) -> Output {
     command
         .current_dir(root())

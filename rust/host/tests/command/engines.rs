@@ -118,9 +118,10 @@ fn a_name_comes_through_every_engine() {
     let stations = Stations::new("engines", &names);
     stations.agree(SH);
     stations.agree(ARRAY);
-    match has_parallel() {
-        true => stations.agree(PARALLEL),
-        false => eprintln!("there is no GNU parallel here, so its part wasn't run"),
+    if has_parallel() {
+        stations.agree(PARALLEL);
+    } else {
+        eprintln!("there is no GNU parallel here, so its part wasn't run");
     }
 }
 

@@ -133,12 +133,15 @@ fn a_spreadsheet_runs_no_cell_and_our_reader_reads_it_back() {
     folder.write("a.log", &sample("three-days.log"));
     let quoted = |name: &str| format!("\"{name}\"");
     // As a sheet has them: where the first apostrophe is the sheet's, one more stands there.
-    let cell = |name: &str| match name
-        .trim_start_matches('\'')
-        .starts_with(['=', '+', '-', '@'])
-    {
-        true => quoted(&format!("'{name}")),
-        false => quoted(name),
+    let cell = |name: &str| {
+        if name
+            .trim_start_matches('\'')
+            .starts_with(['=', '+', '-', '@'])
+        {
+            quoted(&format!("'{name}"))
+        } else {
+            quoted(name)
+        }
     };
     let rows: String = RUN
         .iter()

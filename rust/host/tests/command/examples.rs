@@ -2,9 +2,8 @@
 //! with the program that starts anew at each midnight, and, indented alike below it,
 //! what it prints. Each is run as it stands.
 
-use crate::common::{complained, egretfold, root, told, with_input};
+use crate::common::{complained, egretfold, root, shell, told};
 use std::fs;
-use std::process::Command;
 
 /// The line that runs station 14's log anew at each midnight.
 const ANEW: &str =
@@ -44,15 +43,8 @@ fn examples(text: &str) -> Vec<Example> {
 }
 
 fn run(example: &Example) -> String {
-    let program = env!("CARGO_BIN_EXE_egretfold");
-    let anew = env!("CARGO_BIN_EXE_anew-each-midnight");
-    let line = example
-        .line
-        .replace("./egretfold", program)
-        .replace(ANEW, anew);
-    let mut shell = Command::new("sh");
-    shell.args(["-c", &line]);
-    let output = with_input(shell, b"");
+    let line = example.line.replace("./egretfold", "egretfold");
+    let output = shell(&line.replace(ANEW, "anew-each-midnight"));
     told(&output) + &complained(&output)
 }
 
@@ -87,6 +79,24 @@ fn the_first_page_is_short() {
     let text = fs::read_to_string(root().join("README.md")).expect("the document is there");
     let lines = text.lines().count();
     assert!(lines <= 120, "README.md has {lines} lines");
+}
+
+/// An editor shows them whole. A row of docs/AUDIT.md is one line, which tools/audit reads.
+#[test]
+fn the_documents_lines_are_short() {
+    let docs = fs::read_dir(root().join("docs")).expect("the documents are there");
+    let docs = docs.map(|entry| entry.expect("an entry").path());
+    let first = ["README.md", "CONTRIBUTING.md", "CHANGELOG.md"].map(|name| root().join(name));
+    let documents = first.into_iter().chain(docs);
+    for file in documents.filter(|file| file.extension().map_or(false, |kind| kind == "md")) {
+        let text = fs::read_to_string(&file).expect("text");
+        for (number, line) in (1..).zip(text.lines()) {
+            let row = file.ends_with("AUDIT.md") && line.starts_with('|');
+            let length = line.chars().count();
+            let place = format!("{}:{number}", file.display());
+            assert!(row || length <= 170, "{place} has {length} characters");
+        }
+    }
 }
 
 #[test]

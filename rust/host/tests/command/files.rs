@@ -499,11 +499,14 @@ fn cards_of_one_name_are_told_before_any_is_written() {
     }
 }
 
-/// A log that is given twice is read twice: nothing is lost by that.
+/// A log that is given twice is read twice where that is asked for: nothing is lost by that.
 #[test]
 fn inputs_may_be_one_file() {
     let folder = folder("twice");
-    let twice = shell(&folder, "egretfold replay y.log ./y.log --csv");
+    let twice = shell(
+        &folder,
+        "egretfold replay y.log ./y.log --csv --repeated-pieces",
+    );
     assert_eq!(twice.status.code(), Some(1));
     assert!(
         complained(&twice).contains("refused 19"),

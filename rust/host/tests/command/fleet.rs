@@ -258,14 +258,14 @@ fn a_bad_log_is_told_in_its_row_and_the_rest_is_scored() {
         (&whole["station"], &whole["place"]),
         (&"7".into(), &6.into())
     );
-    assert_eq!(whole["silent_days"], 34);
+    assert_eq!(whole["dark_days"], 34);
     let text = told(&fleet(&file, ""));
     assert!(
         text.starts_with("fleet of 7 stations: 2 short, 1 REFUSED, 4 NOT SCORED\n"),
         "{text}"
     );
     assert!(
-        text.contains("\n5        357,372,800  420,000,000  85.08 %       4    25  short\n"),
+        text.contains("\n5        357,372,800  420,000,000  85.08 %     4    25  short\n"),
         "{text}"
     );
 }
@@ -329,9 +329,8 @@ fn the_exit_status_tells_of_the_worst() {
         assert_eq!(fleet("", line).status.code(), Some(2), "{line}");
     }
     let both = fleet("samples/leases.csv", "--html - --json");
-    assert!(
-        complained(&both).contains("--html - goes to standard output, and so do --json and --csv")
-    );
+    assert!(complained(&both)
+        .contains("--html - goes to standard output, and so do --json, --csv and --csv-days"));
 }
 
 #[test]
@@ -346,7 +345,7 @@ fn stations_are_told_in_the_order_that_is_asked_for() {
     assert_eq!(order("--sort lease"), ["14", "15", "16", "17", "18"]);
     assert_eq!(order("--sort station"), ["14", "15", "16", "17", "18"]);
     assert_eq!(order("--sort lessee"), ["14", "16", "15", "18", "17"]);
-    assert_eq!(order("--sort silent"), ["16", "18", "17", "14", "15"]);
+    assert_eq!(order("--sort dark"), ["16", "18", "17", "14", "15"]);
 }
 
 /// The forms of one fleet say the same.
@@ -366,7 +365,7 @@ fn the_forms_agree() {
             .lines()
             .find(|line| line.starts_with(&format!("{name} ")));
         let line = line.expect("a line for each station");
-        for key in ["served", "owed", "silent_days", "full_days"] {
+        for key in ["served", "owed", "dark_days", "full_days"] {
             if let Some(number) = station[key].as_u64() {
                 assert!(row.contains(&format!(",{number},")), "{row} {key}");
                 assert!(line.contains(&format!(" {number} ")), "{line} {key}");
@@ -381,7 +380,7 @@ fn the_forms_agree() {
         }
     }
     let (served, owed) = (&whole["served"], &whole["owed"]);
-    let four = format!("served {served} of {owed} elements owed (92.53 %), 31 silent days, smallest part: station 17");
+    let four = format!("served {served} of {owed} elements owed (92.53 %), 31 dark days, smallest part: station 17");
     assert!(text.contains(&four), "{text}");
 }
 
@@ -751,7 +750,7 @@ fn the_lines_without_a_score_are_printed_again() {
         (
             parts[1].replace("\"days\":30", "\"days\":31"),
             "",
-            "line 31: the lease has 31 days, and 30 lines stand before it",
+            "line 31: station 2: the lease has 31 days, and 30 lines stand before it",
         ),
         (
             parts[2].replace("\"owed\":14000000", "\"owed\":5"),
@@ -814,7 +813,7 @@ fn scores_that_are_not_whole_are_told() {
             "samples/leases.csv",
             "station 18 is scored for another lease than that of line 6",
         ),
-        (lines[..2_000].to_string(), "", "line 19: is no JSON: "),
+        (lines[..2_000].to_string(), "", "station 14: is no JSON: "),
         (
             parts[0]
                 .lines()
@@ -822,7 +821,7 @@ fn scores_that_are_not_whole_are_told() {
                 .map(|line| format!("{line}\n"))
                 .collect(),
             "",
-            "line 9: the days are not followed by their summary: the lines are cut",
+            "line 9: station 14: the days are not followed by their summary: the lines are cut",
         ),
         (
             parts[0]
@@ -831,7 +830,7 @@ fn scores_that_are_not_whole_are_told() {
                 .map(|line| format!("{line}\n"))
                 .collect(),
             "",
-            "line 30: the lease has 30 days, and 29 lines stand before it",
+            "line 30: station 14: the lease has 30 days, and 29 lines stand before it",
         ),
         (
             parts[0].replacen(
@@ -840,22 +839,22 @@ fn scores_that_are_not_whole_are_told() {
                 1,
             ),
             "",
-            "line 31: the month isn't what its days come to",
+            "line 31: station 14: the month isn't what its days come to",
         ),
         (
             parts[0].replacen("\"served\":14000000", "\"served\":14000001", 1),
             "",
-            "line 31: the line of day 101 isn't this lease's",
+            "line 1: station 14: the line of day 101 isn't this lease's",
         ),
         (
             parts[0].replace("\"verdict\":\"short\"", "\"verdict\":\"full\""),
             "",
-            "line 31: the month isn't what its days come to",
+            "line 31: station 14: the month isn't what its days come to",
         ),
         (
             parts[0].replace("\"sha256\":\"", "\"sha256\":5,\"x\":\""),
             "",
-            "line 31: is no line of score --json: sha256 is missing, or of another kind",
+            "line 31: station 14: is no line of score --json: sha256 is missing, or of another kind",
         ),
         (
             "{\"day\":null,\"runs\":0}\n{\"summary\":{}}\n".to_string(),
@@ -923,7 +922,7 @@ fn many_stations_are_joined() {
     let settings = &sample("three-days.log")[..65];
     let start = &sample("three-days.log")[65..75];
     let mut rows = String::new();
-    let (mut served, mut owed, mut silent) = (0, 0, 0);
+    let (mut served, mut owed, mut dark) = (0, 0, 0);
     let mut smallest: Option<(u64, u64, usize)> = None;
     for station in 0..150_usize {
         let mut log = settings.to_vec();
@@ -943,7 +942,7 @@ fn many_stations_are_joined() {
         folder.write(&format!("{station}.log"), &log);
         served += own_served;
         owed += 3 * due;
-        silent += days;
+        dark += days;
         let is_less = |(least, of, _): (u64, u64, usize)| own_served * of < least * 3 * due;
         if due > 0 && smallest.map_or(true, is_less) {
             smallest = Some((own_served, 3 * due, station));
@@ -959,7 +958,7 @@ fn many_stations_are_joined() {
         assert_eq!(stations.len(), 150);
         assert_eq!(whole["served"], served, "{threads} workers");
         assert_eq!(whole["owed"], owed);
-        assert_eq!(whole["silent_days"], silent);
+        assert_eq!(whole["dark_days"], dark);
         assert_eq!(whole["station"], format!("s{station}"));
         assert_eq!(whole["place"], station);
     }
@@ -990,7 +989,7 @@ fn memory_does_not_grow_with_the_logs() {
     assert_eq!(output.status.code(), Some(3), "{}", complained(&output));
     let (_, whole) = lines(&output);
     assert_eq!(
-        (&whole["silent_days"], &whole["station"]),
+        (&whole["dark_days"], &whole["station"]),
         (&6.into(), &"0".into())
     );
 }

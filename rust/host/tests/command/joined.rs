@@ -87,6 +87,12 @@ fn scores_are_of_their_rows_files() {
     });
     // Two stations' scores exchanged.
     joined.is_told("is scored", |scores| {
+        for line in &mut scores[..5] {
+            line["station"] = json!("2");
+        }
+        for line in &mut scores[6..9] {
+            line["station"] = json!("1");
+        }
         scores[5]["summary"]["station"] = json!("2");
         scores[9]["summary"]["station"] = json!("1");
     });
@@ -96,27 +102,36 @@ fn scores_are_of_their_rows_files() {
 fn scores_that_contradict_themselves_are_told() {
     let joined = Joined::new("joined-days");
     joined.is_told(
-        "line 6: day 102 claims 1728, and the log doesn't have it",
+        "line 6: station 1: day 102 claims 1728, and the log doesn't have it",
         |scores| {
             scores[1]["in_log"] = json!(false);
         },
     );
-    joined.is_told("line 6: the checks don't say what the days say", |scores| {
-        scores[5]["summary"]["checks"] = json!([]);
-    });
-    joined.is_told("line 6: the checks don't say what the days say", |scores| {
-        scores[3]["in_log"] = json!(true);
-        scores[4]["in_log"] = json!(true);
-    });
     joined.is_told(
-        "line 6: the days that the log has don't stand in a row",
+        "line 6: station 1: the checks don't say what the days say",
+        |scores| {
+            scores[5]["summary"]["checks"] = json!([]);
+        },
+    );
+    joined.is_told(
+        "line 6: station 1: the checks don't say what the days say",
+        |scores| {
+            scores[3]["in_log"] = json!(true);
+            scores[4]["in_log"] = json!(true);
+        },
+    );
+    joined.is_told(
+        "line 6: station 1: the days that the log has don't stand in a row",
         |scores| {
             scores[4]["in_log"] = json!(true);
         },
     );
-    joined.is_told("line 6: the line of day 104 isn't this lease's", |scores| {
-        scores[3]["dark"] = json!(false);
-    });
+    joined.is_told(
+        "line 4: station 1: the line of day 104 isn't this lease's",
+        |scores| {
+            scores[3]["dark"] = json!(false);
+        },
+    );
 }
 
 #[test]

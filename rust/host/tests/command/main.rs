@@ -7,6 +7,7 @@ mod card;
 mod causes;
 mod common;
 mod desk;
+mod desk_checks;
 mod engines;
 mod entries;
 mod examples;

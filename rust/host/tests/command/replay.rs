@@ -78,9 +78,10 @@ fn a_refusal_names_its_file_where_there_are_several() {
                 assert_eq!(cut_up[key][same], whole[key][same], "{key}, cut at {cut}");
             }
             let byte = whole[key]["byte"].as_u64().expect("a byte") as usize;
-            let (file, at) = match byte < cut {
-                true => (&files[0], byte),
-                false => (&files[1], byte - cut),
+            let (file, at) = if byte < cut {
+                (&files[0], byte)
+            } else {
+                (&files[1], byte - cut)
             };
             assert_eq!(cut_up[key]["input"], *file, "cut at {cut}");
             assert_eq!(cut_up[key]["input_byte"], at, "cut at {cut}");
@@ -197,10 +198,11 @@ fn a_stop_has_its_cause() {
             told(&output)
         );
         // What to do is known of a midnight too many.
-        let hint = match due.ends_with("may come") {
-            true => "  give the files of some months with --save FILE, and the later ones with --resume FILE: \
-                     a state keeps its last midnight alone, so that 399 more may come\n",
-            false => "",
+        let hint = if due.ends_with("may come") {
+            "  give the files of some months with --save FILE, and the later ones with --resume FILE: \
+                     a state keeps its last midnight alone, so that 399 more may come\n"
+        } else {
+            ""
         };
         let complaint = format!("egretfold: standard input: {due}\n{hint}");
         assert_eq!(complained(&output), complaint);

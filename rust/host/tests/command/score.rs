@@ -18,10 +18,10 @@ fn score(log: &str, line: &str) -> Output {
     egretfold(&format!("score {log} {line}"), b"")
 }
 
-/// The rows of `--csv`, without their head, as their values.
+/// The rows of `--csv`, without their head, as their values behind the station's name.
 fn rows(output: &Output) -> Vec<Vec<String>> {
     let text = told(output);
-    let values = |line: &str| line.split(',').map(String::from).collect();
+    let values = |line: &str| line.split(',').skip(1).map(String::from).collect();
     text.lines().skip(1).map(values).collect()
 }
 
@@ -114,13 +114,14 @@ fn the_forms_agree() {
             // One number for all days, which JSON has in the summary alone.
             object["edition"] = summary["edition"].clone();
             let dated = object["date"].is_string();
-            let keys: &[&str] = match dated {
-                true => &[
+            let keys: &[&str] = if dated {
+                &[
                     "day", "date", "claimed", "served", "owed", "dark", "in_log", "edition",
-                ],
-                false => &[
+                ]
+            } else {
+                &[
                     "day", "claimed", "served", "owed", "dark", "in_log", "edition",
-                ],
+                ]
             };
             let values: Vec<String> = keys
                 .iter()
@@ -236,10 +237,10 @@ fn day_files_in_their_order_are_one_month() {
     }
     let name = |(place, part): (usize, &Vec<u8>)| folder.write(&place.to_string(), part);
     let names: Vec<String> = parts.iter().enumerate().map(name).collect();
-    assert_eq!(names.len(), 31);
+    assert_eq!(names.len(), 32);
     let output = score(&names.join(" "), APRIL);
     let card = told(&output);
-    let due = format!("score of {} to {}, 31 inputs\n", names[0], names[30]);
+    let due = format!("score of {} to {}, 32 inputs\n", names[0], names[31]);
     assert!(card.starts_with(&due), "{card}");
     let whole = told(&score("samples/station-14.log", APRIL));
     let below = |text: &str| text.split_once('\n').map(|(_, rest)| rest.to_string());
@@ -278,10 +279,12 @@ fn a_refused_word_and_an_unfinished_record_are_told_and_refuse_nothing() {
 /// A log that can't be read to its end has no score.
 #[test]
 fn an_input_that_fails_has_no_card() {
-    let output = score("samples/station-14.log samples", APRIL);
+    let empty = Folder::new("no-log");
+    let empty = empty.0.display();
+    let output = score(&format!("samples/station-14.log {empty}"), APRIL);
     assert_eq!(output.status.code(), Some(2));
     assert_eq!(told(&output), "");
-    assert!(complained(&output).starts_with("egretfold: samples: "));
+    assert!(complained(&output).starts_with(&format!("egretfold: {empty}: ")));
 }
 
 #[test]
@@ -401,36 +404,11 @@ fn a_picture_that_cannot_be_written_leaves_the_earlier_one() {
     assert_eq!(fs::read_dir(&folder.0).expect("the folder").count(), 1);
 }
 
-/// Walks through the elements: names that open and close, attributes in quotes, and
-/// no `<` or bare `&` elsewhere. Gives how many elements there are.
+/// Reads it as XML. Gives how many elements there are.
 pub fn well_formed(text: &str) -> usize {
-    let mut open: Vec<&str> = Vec::new();
-    let mut count = 0;
-    for part in text.split('<').skip(1) {
-        let (tag, behind) = part.split_once('>').expect("a tag ends");
-        assert_eq!(tag.matches('"').count() % 2, 0, "{tag}");
-        for text in [tag, behind] {
-            for entity in text.split('&').skip(1) {
-                let named = ["amp;", "lt;", "gt;", "quot;"];
-                assert!(
-                    named.iter().any(|name| entity.starts_with(name)),
-                    "{entity}"
-                );
-            }
-        }
-        match tag.strip_prefix('/') {
-            Some(name) => assert_eq!(open.pop(), Some(name)),
-            None => {
-                count += 1;
-                let name = tag.split(' ').next().expect("a name");
-                if !tag.ends_with('/') {
-                    open.push(name);
-                }
-            }
-        }
-    }
-    assert!(open.is_empty(), "{open:?}");
-    count
+    let document = roxmltree::Document::parse(text).unwrap_or_else(|why| panic!("{why}: {text}"));
+    let elements = document.descendants().filter(|node| node.is_element());
+    elements.count()
 }
 
 #[test]

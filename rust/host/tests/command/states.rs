@@ -247,10 +247,11 @@ fn april_is_scored_from_marchs_state_as_from_both_months() {
         let card = told(&egretfold(&line, b""));
         for (named, name) in [
             ("SHA-256 of the log's bytes: ", "station-14-april.log"),
-            ("station-14-march.state: ", "station-14-march.state"),
+            ("station-14-march.state:", "station-14-march.state"),
         ] {
-            let due = format!("{named}{}", sha256(name));
-            assert!(card.contains(&due), "{form}: {due}");
+            // The second one goes on in the next line where it is drawn.
+            let due = [named, &sha256(name)];
+            assert!(due.iter().all(|due| card.contains(due)), "{form}: {due:?}");
         }
     }
     // The days are those of the month whose set-up stands in its own log.
@@ -290,11 +291,11 @@ fn a_state_tells_of_each_file_and_of_the_state_before() {
     // What the first one says of the station and of dates goes on.
     assert_eq!(
         (&two["station"], &two["last_day"], &two["last_date"]),
-        (&json!("14"), &json!(130), &json!("2026-04-30"))
+        (&json!("14"), &json!(131), &json!("2026-05-01"))
     );
     assert_eq!(
         (&two["midnights"], &two["kept_day"], &two["edition"]),
-        (&json!(61), &json!(130), &json!(1))
+        (&json!(62), &json!(131), &json!(1))
     );
     assert_eq!(two["began_from"], sha256(&first));
     assert_eq!(

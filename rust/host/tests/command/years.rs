@@ -76,13 +76,13 @@ fn leases(folder: &Folder, month: usize, first_day: u32) -> String {
 
 /// What the fleet tells of a month, which the second program has of the whole log.
 fn row(month: &Month) -> Value {
-    let silent = month.days.iter().filter(|day| day.served == 0);
-    let silent: Vec<u32> = silent.map(|day| day.number).collect();
+    let dark = month.days.iter().filter(|day| day.served == 0);
+    let dark: Vec<u32> = dark.map(|day| day.number).collect();
     let full = |day: &&second::score::ScoredDay| day.served == u64::from(CLAIM);
     json!({
         "served": month.served,
         "owed": month.owed,
-        "silent": silent,
+        "dark": dark,
         "full_days": month.days.iter().filter(full).count(),
         "verdict": match month.verdict {
             Verdict::Full => "full",
@@ -151,7 +151,8 @@ fn a_fleet_goes_on_for_years() {
             );
             let is_end = |check: &&Value| {
                 let key = check["check"].as_str();
-                matches!(key, Some("open_command" | "unfinished_record")) || check["text"] == next
+                let ends = ["not_closed", "open_command", "unfinished_record"];
+                key.map_or(false, |key| ends.contains(&key)) || check["text"] == next
             };
             let checks = line["checks"].as_array().expect("a list").iter();
             let other = checks.clone().find(|check| !is_end(check));

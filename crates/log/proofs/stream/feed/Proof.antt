@@ -6,53 +6,49 @@ use borrow.Author.Needs.{needs}
 use lib.ListN.{length}
 use native.Mathlib.Omega.{arith}
 use Prim.Native.Nat.{_-_}
-use mathlib.Core.Path.{_≡_, refl}
+use mathlib.Core.Path.{_≡_, refl, sym}
+use Rattle.log.specs.Asked.{batch}
 use Rattle.log.proofs.stream.feed.Statement.{statement}
 use Rattle.log.proofs.stream.feed.Tie as tie
 
 abbrev Inv-loop : tie.InvT-loop
-Inv-loop log₀ marks₀ own₀ tallies₀ shared₀ bytes i₀ refusal₀ log marks own tallies shared i refusal =
-    Fold (replayIn log₀ marks₀ own₀ tallies₀ shared₀) bytes log marks own tallies shared i × (refusal ≡ Nothing)
+Inv-loop log₀ marks₀ own₀ tallies₀ shared₀ bytes i₀ refusal₀ words₀ log marks own tallies shared i refusal words =
+    Fold (replayIn log₀ marks₀ own₀ tallies₀ shared₀) bytes log marks own tallies shared i × ((refusal ≡ Nothing) × (length words ≡ batch))
 
 abbrev μ-loop : tie.MeasureT-loop
-μ-loop log₀ marks₀ own₀ tallies₀ shared₀ bytes i₀ refusal₀ log marks own tallies shared i refusal = length bytes - i
+μ-loop log₀ marks₀ own₀ tallies₀ shared₀ bytes i₀ refusal₀ words₀ log marks own tallies shared i refusal words = length bytes - i
 
 loop-holds : tie.Need-loop-holds Inv-loop μ-loop
-loop-holds c = (fold-begins _ _ _ _ _ _ (c .before .pre), refl)
+loop-holds c = (fold-begins _ _ _ _ _ _ (c .before .pre), (refl, search needs))
+
+slice-aggregate-take-records : tie.Need-slice-aggregate-take-records Inv-loop μ-loop
+slice-aggregate-take-records c = sym (c .before .before .before .before .before .before .loop .inv .1 .1)
 
 take-records-requires : tie.Need-take-records-requires Inv-loop μ-loop
 take-records-requires c κs =
-    let at-loop = c .before .before .before .before .before in
-    (asked _ _ _ _ _ _ _ _ (at-loop .loop .inv .0), at-loop .loop .inv .0 .within)
+    let loop = c .before .before .before .before .before .before .loop in
+    (asked _ _ _ _ _ _ _ _ (loop .inv .0), (loop .inv .0 .within, loop .inv .1 .1))
 
 mul-i : tie.Need-mul-i Inv-loop μ-loop
 mul-i c = omega (
   arith,
-  (fold-records _ _ _ _ _ _ _ _ (c .before .before .before .before .before .before .before .loop .inv .0) _ _ _ _ _
-      (c .if1 .taken) (c .before .take-records .ensures)) .within,
+  (fold-records _ _ _ _ _ _ _ _ (c .before .before .before .before .before .before .before .before .before .loop .inv .0) _ _ _ _ _ (c .if1 .taken) (c .before .before .take-records .ensures .0)) .within,
 )
 
 add-i : tie.Need-add-i Inv-loop μ-loop
 add-i c = omega (
   arith,
-  (fold-records _ _ _ _ _ _ _ _ (c .before .before .before .before .before .before .before .loop .inv .0) _ _ _ _ _
-      (c .if1 .taken) (c .before .take-records .ensures)) .within,
+  (fold-records _ _ _ _ _ _ _ _ (c .before .before .before .before .before .before .before .before .before .loop .inv .0) _ _ _ _ _ (c .if1 .taken) (c .before .before .take-records .ensures .0)) .within,
 )
 
 loop-less : tie.Need-loop-less Inv-loop μ-loop
-loop-less c =
-    let at-take-records = c .before in
-    let at-loop-test = at-take-records .before .before .before .before .before in
-    omega (arith, c .if1 .taken, at-loop-test .loop-test .taken)
+loop-less c = omega (arith, c .if1 .taken, c .before .before .before .before .before .before .before .before .loop-test .taken)
 
 loop-again : tie.Need-loop-again Inv-loop μ-loop
 loop-again c =
-    let at-take-records = c .before in
-    let at-loop-test = at-take-records .before .before .before .before .before in
-    let at-loop = at-loop-test .before in (
-      (fold-records _ _ _ _ _ _ _ _ (at-loop .loop .inv .0) _ _ _ _ _ (c .if1 .taken) (at-take-records .take-records .ensures)),
-      at-loop .loop .inv .1,
-    )
+    let loop = c .before .before .before .before .before .before .before .before .before .loop in
+    let records = c .before .before .take-records .ensures in
+    (fold-records _ _ _ _ _ _ _ _ (loop .inv .0) _ _ _ _ _ (c .if1 .taken) (records .0), (loop .inv .1 .0, records .1))
 
 shared-slice-read-wide : tie.Need-shared-slice-read-wide Inv-loop μ-loop
 shared-slice-read-wide c = search needs
@@ -62,14 +58,8 @@ wide-requires c κs = search needs
 
 read-byte-requires : tie.Need-read-byte-requires Inv-loop μ-loop
 read-byte-requires c κs =
-    let at-read-byte-arg2 = c .before .before .before .before .before in
-    let at-if1 = at-read-byte-arg2 .before .before in
-    let at-take-records = at-if1 .before in
-    let at-loop-test = at-take-records .before .before .before .before .before in
-    let at-loop = at-loop-test .before in (
-      (fold-same _ _ _ _ _ _ _ _ (at-loop .loop .inv .0) _ _ _ _ _ (at-if1 .if1 .left) (at-take-records .take-records .ensures)) .given,
-      c .wide .ensures .1,
-    )
+    let same = fold-same _ _ _ _ _ _ _ _ (c .before .before .before .before .before .before .before .before .before .before .before .before .before .before .before .before .loop .inv .0) _ _ _ _ _ (c .before .before .before .before .before .before .before .if1 .left) (c .before .before .before .before .before .before .before .before .before .take-records .ensures .0) in
+    (same .given, c .wide .ensures .1)
 
 enum-known-answer : tie.Need-enum-known-answer Inv-loop μ-loop
 enum-known-answer c = search needs
@@ -78,33 +68,31 @@ enum-told : tie.Need-enum-told Inv-loop μ-loop
 enum-told c = search needs
 
 add-i-2 : tie.Need-add-i-2 Inv-loop μ-loop
-add-i-2 c = search needs
+add-i-2 c = omega (arith, c .before .before .before .before .before .before .before .before .before .before .before .before .before .before .before .before .before .before .loop-test .taken, c .before .before .before .before .before .before .before .before .before .before .before .before .before .before .before .before .before .before .before .before .before .good)
 
 loop-less-2 : tie.Need-loop-less-2 Inv-loop μ-loop
 loop-less-2 c = search needs
 
 loop-again-2 : tie.Need-loop-again-2 Inv-loop μ-loop
 loop-again-2 c =
-    let at-read-byte = c .before .before in
-    let at-wide = at-read-byte .before in
-    let at-read-byte-arg2 = at-wide .before .before .before .before .before in
-    let at-if1 = at-read-byte-arg2 .before .before in
-    let at-take-records = at-if1 .before in
-    let at-loop-test = at-take-records .before .before .before .before .before in
-    let at-loop = at-loop-test .before in
-    let fold-same-here =
-    fold-same _ _ _ _ _ _ _ _ (at-loop .loop .inv .0) _ _ _ _ _ (at-if1 .if1 .left) (at-take-records .take-records .ensures) in (
-      fold-goes _ _ _ _ _ _ _ _ fold-same-here (at-loop-test .loop-test .taken) _ _ _ _ _ _ _ (at-wide .wide .ensures .0)
-          (at-wide .wide .ensures .1) (c .enum-told .given .1) (at-read-byte .read-byte .ensures),
-      at-loop .loop .inv .1,
+    let loop = c .before .before .before .before .before .before .before .before .before .before .before .before .before .before .before .before .before .before .before .loop in
+    let records = c .before .before .before .before .before .before .before .before .before .before .before .before .take-records .ensures in
+    let byte = c .before .before .before .wide .ensures in
+    let same = fold-same _ _ _ _ _ _ _ _ (loop .inv .0) _ _ _ _ _ (c .before .before .before .before .before .before .before .before .before .before .if1 .left) (records .0) in (
+      fold-goes _ _ _ _ _ _ _ _ same (c .before .before .before .before .before .before .before .before .before .before .before .before .before .before .before .before .before .before .loop-test .taken) _ _ _ _ _ _ _ (byte .0) (byte .1) (c .enum-told .given .1)
+          (c .before .before .read-byte .ensures),
+      (loop .inv .1 .0, records .1),
     )
 
 returns : tie.Need-returns Inv-loop μ-loop
-returns c = fold-ends _ _ _ _ _ _ _ _ (c .before .loop .inv .0) (c .loop-test .left) _ (c .before .loop .inv .1)
+returns c = fold-ends _ _ _ _ _ _ _ _ (c .before .loop .inv .0) (c .loop-test .left) _ (c .before .loop .inv .1 .0)
 
 returns-2 : tie.Need-returns-2 Inv-loop μ-loop
-returns-2 c = fold-refused _ _ _ _ _ _ _ _
-    (fold-same _ _ _ _ _ _ _ _ (c .before .before .before .before .before .before .before .before .before .before .before .before .before .before .before .before .before .before .loop .inv .0) _ _ _ _ _ (c .before .before .before .before .before .before .before .before .before .before .before .if1 .left) (c .before .before .before .before .before .before .before .before .before .before .before .before .take-records .ensures)) (c .before .before .before .before .before .before .before .before .before .before .before .before .before .before .before .before .before .loop-test .taken) _ _ _ _ _ _ _ _ (c .before .before .before .before .wide .ensures .0) (c .before .before .before .before .wide .ensures .1) (c .before .answer .given .1) (c .before .before .before .read-byte .ensures)
+returns-2 c =
+    let byte = c .before .before .before .before .wide .ensures in
+    let same = fold-same _ _ _ _ _ _ _ _ (c .before .before .before .before .before .before .before .before .before .before .before .before .before .before .before .before .before .before .before .before .loop .inv .0) _ _ _ _ _ (c .before .before .before .before .before .before .before .before .before .before .before .if1 .left) (c .before .before .before .before .before .before .before .before .before .before .before .before .before .take-records .ensures .0) in
+    fold-refused _ _ _ _ _ _ _ _ same (c .before .before .before .before .before .before .before .before .before .before .before .before .before .before .before .before .before .before .before .loop-test .taken) _ _ _ _ _ _ _ _ (byte .0) (byte .1) (c .before .answer .given .1)
+    (c .before .before .before .read-byte .ensures)
 
 pub feed-spec : {M : Type 1} → statement M
 feed-spec =
@@ -113,6 +101,7 @@ feed-spec =
     Inv-loop
     μ-loop
     loop-holds
+    slice-aggregate-take-records
     take-records-requires
     mul-i
     add-i

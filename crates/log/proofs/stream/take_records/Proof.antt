@@ -1,6 +1,7 @@
 -- `log::stream::take_records` meets its contract. Assumes nothing.
 use lib.Seq.{length-take-le}
-use mathlib.Core.Path.{sym}
+use mathlib.Core.Path.{sym, _∙_}
+use native.Mathlib.Omega.{arith}
 use Rattle.log.specs.Asked.{unread}
 use Rattle.log.proofs.Feeding.{records-left, none-left}
 use borrow.Author.Needs.{needs}
@@ -11,47 +12,47 @@ sub-if1 : tie.Need-sub-if1
 sub-if1 c = search needs
 
 returns : tie.Need-returns
-returns c = unread
+returns c = (unread, c .before .before .before .pre .1 .1)
 
 element-copy-out-if2 : tie.Need-element-copy-out-if2
 element-copy-out-if2 c = search needs
 
 returns-2 : tie.Need-returns-2
-returns-2 c = unread
+returns-2 c = (unread, c .before .before .before .before .before .pre .1 .1)
 
 element-copy-out-if3 : tie.Need-element-copy-out-if3
 element-copy-out-if3 c = search needs
 
 returns-3 : tie.Need-returns-3
-returns-3 c = unread
+returns-3 c = (unread, c .before .before .before .before .before .before .before .pre .1 .1)
 
 gather-requires : tie.Need-gather-requires
 gather-requires c κs = search needs
 
-array-share-prefix-words : tie.Need-array-share-prefix-words
-array-share-prefix-words c = search needs
+slice-reshare-prefix-take-words : tie.Need-slice-reshare-prefix-take-words
+slice-reshare-prefix-take-words c = omega (arith, c .before .before .before .before .before .before .before .gather .ensures .0 .room)
 
 slice-aggregate-take-words : tie.Need-slice-aggregate-take-words
-slice-aggregate-take-words c =
-    let at-if4 = c .before .before .before .before .before in
-    let at-gather = at-if4 .before in
-    sym (length-take-le _ _ (at-gather .gather .ensures .0 .room))
+slice-aggregate-take-words c = sym (length-take-le _ _ (c .before .before .before .before .before .before .before .before .gather .ensures .0 .room))
 
 take-words-requires : tie.Need-take-words-requires
 take-words-requires c κs = search needs
 
+same-length : tie.Need-same-length
+same-length c = c .before .before .before .before .before .before .before .before .before .gather .ensures .1 ∙ sym (c .before .before .before .before .before .before .before .before .before .before .before .before .before .before .before .before .before .before .pre .1 .1)
+
 returns-4 : tie.Need-returns-4
 returns-4 c =
-    let at-words2 = c .before in
-    let at-if4 = at-words2 .before .before .before .before .before in
-    let at-gather = at-if4 .before in
-    let at-if3 = at-gather .before .before in
-    let at-if2 = at-if3 .before .before in
-    records-left _ _ _ _ _ _ _ _ _ _ _ (record { running = at-if2 .if2 .left; unopened = at-if3 .if3 .left })
-    (at-gather .gather .ensures .0) (c .take-words .ensures)
+    let gathered = c .before .before .before .before .before .before .before .before .before .gather .ensures in (
+      records-left _ _ _ _ _ _ _ _ _ _ _ (record { running = c .before .before .before .before .before .before .before .before .before .before .before .before .before .if2 .left; unopened = c .before .before .before .before .before .before .before .before .before .before .before .if3 .left }) (gathered .0) (c .take-words .ensures),
+      gathered .1,
+    )
+
+same-length-2 : tie.Need-same-length-2
+same-length-2 c = c .before .before .before .gather .ensures .1 ∙ sym (c .before .before .before .before .before .before .before .before .before .before .before .before .pre .1 .1)
 
 returns-5 : tie.Need-returns-5
-returns-5 c = none-left _ _ _ _ _ _ (c .if4 .left)
+returns-5 c = (none-left _ _ _ _ _ _ (c .if4 .left), c .before .before .before .gather .ensures .1)
 
 pub take-records-spec : {M : Type 1} → statement M
 take-records-spec =
@@ -64,8 +65,10 @@ take-records-spec =
     element-copy-out-if3
     returns-3
     gather-requires
-    array-share-prefix-words
+    slice-reshare-prefix-take-words
     slice-aggregate-take-words
     take-words-requires
+    same-length
     returns-4
+    same-length-2
     returns-5)

@@ -43,21 +43,29 @@ fn row(placed: &Placed, days: u32) -> String {
 }
 
 fn cell(day: &Day) -> String {
-    let title = escaped(&picture::told(day));
-    let part = |served: u64, owed: u64| served * 100 / owed;
-    match day.kind() {
-        Served::InFull => format!(r#"<td class="f" title="{title}">·</td>"#),
-        Served::InPart => {
-            let part = part(day.served, day.owed);
-            format!(r#"<td class="p" style="--part:{part}%" title="{title}">{part}</td>"#)
-        }
-        Served::Dark if day.in_log => format!(r#"<td class="d" title="{title}">×</td>"#),
-        Served::Dark => format!(r#"<td class="d" title="{title}">?</td>"#),
-        Served::NothingOwed => format!(r#"<td class="o" title="{title}">–</td>"#),
-    }
+    let (look, mark) = mark(day);
+    format!("<td {look}>{mark}</td>")
 }
 
-const LEGEND: &str = r#"<p class="legend">
+/// How a day looks, as attributes of what stands for it, and its mark.
+pub fn mark(day: &Day) -> (String, String) {
+    let title = escaped(&picture::told(day));
+    let part = |served: u64, owed: u64| served * 100 / owed;
+    let (class, more, mark) = match day.kind() {
+        Served::InFull => ("f", String::new(), "·".to_string()),
+        Served::InPart => {
+            let part = part(day.served, day.owed);
+            let style = format!(r#" style="--part:{part}%""#);
+            ("p", style, part.to_string())
+        }
+        Served::Dark if day.in_log => ("d", String::new(), "×".to_string()),
+        Served::Dark => ("d", String::new(), "?".to_string()),
+        Served::NothingOwed => ("o", String::new(), "–".to_string()),
+    };
+    (format!(r#"class="{class}"{more} title="{title}""#), mark)
+}
+
+pub const LEGEND: &str = r#"<p class="legend">
 <span><i class="d">×</i> dark: nothing served of what is owed</span>
 <span><i class="d">?</i> dark: the log has no such day</span>
 <span><i class="p" style="--part:52%">52</i> served in part, in percent</span>

@@ -4,6 +4,7 @@
 
 mod glance;
 mod stations;
+mod strip;
 
 use crate::common::digits::Digits;
 use crate::common::failure::{Failure, Outcome};
@@ -48,8 +49,15 @@ pub fn of_one(card: &Card) -> String {
         Card::Scored(score) => score.verdict(),
         Card::Unscored(unscored) => unscored.name().to_string(),
     };
-    let cards = [(0, card)];
-    let parts = [glance::table(&cards), all_cards(&cards)];
+    let checks = card.score().map_or(&[][..], |score| &score.checks);
+    let checks = checks
+        .iter()
+        .map(|check| format!("<li>{}</li>\n", escaped(&check.text)));
+    let parts = [
+        notice("Check before sending", checks.collect()),
+        strip::of(card),
+        all_cards(&[(0, card)]),
+    ];
     let issued = card.issue().told();
     page("one", &title, &[told], &issued, &parts.concat())
 }
@@ -73,7 +81,7 @@ pub fn html(fleet: &Fleet) -> String {
         glance::table(&cards),
         "<h2>Stations</h2>\n".to_string(),
         stations::table(fleet, &cards),
-        silent_days(&cards),
+        dark_days(&cards),
         all_cards(&cards),
     ];
     let issued = format!("Issued {} by egretfold {VERSION}", fleet.date);
@@ -167,15 +175,15 @@ fn checks(placed: &Placed) -> Vec<String> {
         .collect()
 }
 
-fn silent_days(cards: &[Placed]) -> String {
-    let silent = |placed: &Placed| {
-        let text = text::silent(placed.1.score()?);
+fn dark_days(cards: &[Placed]) -> String {
+    let dark = |placed: &Placed| {
+        let text = text::dark(placed.1.score()?);
         (!text.is_empty()).then(|| line(placed, &text))
     };
-    let lines: String = cards.iter().filter_map(silent).collect();
+    let lines: String = cards.iter().filter_map(dark).collect();
     match lines.is_empty() {
         true => String::new(),
-        false => format!("<h2>Silent days</h2>\n<ul>\n{lines}</ul>\n"),
+        false => format!("<h2>Dark days</h2>\n<ul>\n{lines}</ul>\n"),
     }
 }
 

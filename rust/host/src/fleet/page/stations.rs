@@ -4,7 +4,7 @@ use crate::common::digits::grouped;
 use crate::fleet::month::{station, Fleet};
 use crate::fleet::page::{escaped, link, Placed};
 use crate::score::asked::Card;
-use crate::score::month::{Score, Served};
+use crate::score::month::{Percent, Score, Served};
 
 const HEADS: [(&str, bool); 9] = [
     ("station", true),
@@ -12,7 +12,7 @@ const HEADS: [(&str, bool); 9] = [
     ("served", false),
     ("owed", false),
     ("part", false),
-    ("silent days", false),
+    ("dark days", false),
     ("full days", false),
     ("verdict", true),
     ("perhaps because", true),
@@ -63,8 +63,8 @@ fn scored(score: &Score) -> String {
     // Parts are sorted by ten places, more than a part of any two months needs to differ.
     let part = (u128::from(served) * 10_000_000_000).checked_div(u128::from(owed));
     let part = part.map_or(u64::MAX >> 12, |part| part as u64);
-    let percent = score.percent().unwrap_or_else(|| "–".to_string());
-    let (silent, full) = (score.count(Served::Dark), score.count(Served::InFull));
+    let percent = shown(score.percent());
+    let (dark, full) = (score.count(Served::Dark), score.count(Served::InFull));
     let verdict = score.verdict_name();
     let because = score.explanation().unwrap_or_default();
     let class = if verdict == "short" { "short" } else { "" };
@@ -73,7 +73,7 @@ fn scored(score: &Score) -> String {
         number(&grouped(served), served),
         number(&grouped(owed), owed),
         number(&percent, part),
-        number(&silent.to_string(), silent as u64),
+        number(&dark.to_string(), dark as u64),
         number(&full.to_string(), full as u64),
         words(&shown, verdict),
         words(&escaped(&because), &because),
@@ -81,9 +81,13 @@ fn scored(score: &Score) -> String {
     .concat()
 }
 
+fn shown(percent: Option<Percent>) -> String {
+    percent.map_or_else(|| "–".to_string(), |percent| percent.to_string())
+}
+
 fn total(fleet: &Fleet) -> String {
     let four = &fleet.four;
-    let percent = fleet.percent().unwrap_or_else(|| "–".to_string());
+    let percent = shown(fleet.percent());
     let numbers = [
         grouped(four.served),
         grouped(four.owed),

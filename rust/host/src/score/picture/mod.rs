@@ -14,9 +14,11 @@ use crate::common::replaced::SVG_BEGIN;
 use crate::common::text;
 use crate::score::asked::Card;
 use crate::score::civil::{Date, WEEKDAYS};
+use crate::score::issue::Issue;
 use crate::score::month::{self, Score, Served};
 use crate::score::picture::cell::bar;
 pub use crate::score::picture::cell::told;
+use crate::score::picture::foot::Foot;
 use crate::score::picture::notice::Notice;
 use crate::score::picture::svg::{Drawing, Style, FULL, INK, PALE_INK, PAPER, PART};
 use boundary::Verdict;
@@ -38,6 +40,14 @@ const ROW: u32 = cell::HEIGHT + 6;
 const TOP: u32 = 210;
 /// From the notice to what is below it.
 const GAP: u32 = 8;
+/// Lines below the title that there is room for beside the totals, from one to the next, and the letters of one that surely
+/// fit: a letter is taken to be as wide as a digit in a wide font.
+const HEAD_LINES: usize = 3;
+const HEAD_LINE: u32 = 24;
+const HEAD_LETTERS: usize = 62;
+
+/// Common fonts, of which each machine has one.
+pub const FONTS: &str = r#"font-family="DejaVu Sans, Verdana, Arial, Helvetica, sans-serif""#;
 
 const TITLE: Style = Style::of(32, INK).bold();
 const PLAIN: Style = Style::of(15, INK);
@@ -67,33 +77,33 @@ fn calendar(score: &Score) -> Framed {
         .map(|check| check.text.clone())
         .collect();
     let notice = (!texts.is_empty()).then(|| Notice::new("Check before sending", &texts));
+    let lines = head_lines(&score.issue, lease(score), &score.inputs);
     // What is to be checked stands above all else.
-    let down = notice
+    let above = notice
         .as_ref()
         .map_or(0, |notice| notice.height() + 2 * GAP);
+    let top = above + TOP + more_lines(&lines);
     // The weekday of the first day, where dates are known.
     let begin = score.dates().map_or(0, |(first, _)| first.weekday());
     let rows = (begin + score.days.len() + COLUMNS - 1) / COLUMNS;
-    let below = down + TOP + ROW * rows as u32;
-    let height = below + 22 + foot::HEIGHT;
+    let legend_at = top + ROW * rows as u32 + 22;
+    let foot = Foot::of(score);
+    let height = legend_at + foot.height();
     let mut drawing = Drawing::default();
     drawing.rect((0, 0), (WIDTH, height), &format!(r#"fill="{PAPER}""#));
     if let Some(notice) = &notice {
         notice.draw(&mut drawing, 2 * GAP);
     }
-    head(&mut drawing, score, down);
-    weekdays(&mut drawing, score, down);
+    head(&mut drawing, score, &lines, above);
+    weekdays(&mut drawing, score, top);
     for (place, day) in score.days.iter().enumerate() {
         let at = begin + place;
         let x = LEFT + COLUMN * (at % COLUMNS) as u32;
-        let y = down + TOP + ROW * (at / COLUMNS) as u32;
+        let y = top + ROW * (at / COLUMNS) as u32;
         cell::draw(&mut drawing, day, (x, y), place == 0);
     }
-    legend(&mut drawing, score, below + 22);
-    foot::issue(&mut drawing, &score.issue, below + 22);
-    let digest = score.digest.as_deref();
-    foot::digests(&mut drawing, digest, score.began.as_ref(), below + 22);
-    foot::sign(&mut drawing, below + 22);
+    legend(&mut drawing, score, legend_at);
+    foot.draw(&mut drawing, legend_at);
     Framed {
         title: title(score),
         told: score.verdict(),
@@ -138,11 +148,9 @@ impl Framed {
         let title = Drawing::escaped(&self.title);
         let told = Drawing::escaped(&self.told);
         let view = format!(r#"viewBox="0 0 {WIDTH} {}""#, self.height);
-        // Common fonts, of which each machine has one.
-        let fonts = r#"font-family="DejaVu Sans, Verdana, Arial, Helvetica, sans-serif""#;
         let elements = &self.elements;
         format!(
-            r##"{SVG_BEGIN}xmlns="http://www.w3.org/2000/svg"{size} {view} {fonts} role="img">
+            r##"{SVG_BEGIN}xmlns="http://www.w3.org/2000/svg"{size} {view} {FONTS} role="img">
 <title>{title}</title>
 <desc>{told}</desc>
 {patterns}{elements}</svg>
@@ -183,40 +191,60 @@ fn days_of(score: &Score) -> String {
     }
 }
 
-/// Title, whose it is, lease and log on the left, verdict, totals and days on the
-/// right, and a bar of the whole month below them; all so far down.
-fn head(drawing: &mut Drawing, score: &Score, down: u32) {
+/// The lease line in words.
+fn lease(score: &Score) -> String {
     let owed = grouped(u64::from(score.lease.owed()));
     let lease = match score.dates() {
         Some(_) => format!("{}, {owed} elements owed a day", days_of(score)),
         None => format!("{owed} elements owed a day"),
     };
-    let lease = format!("{lease}, edition {}", score.edition.number());
-    let log = format!("Log {}", month::log_name(&score.inputs, file_name));
-    drawing.text((LEFT, down + 58), &title(score), &TITLE);
-    let lines = [score.issue.whose(), Some(lease), Some(log)];
-    for (y, line) in (88..).step_by(24).zip(lines.iter().flatten()) {
-        let style = PLAIN.at_most(580);
-        drawing.text((LEFT, down + y), &within(line, 80), &style);
+    format!("{lease}, edition {}", score.edition.number())
+}
+
+/// What stands below a card's title: whose it is, the lease and the log. What is too long for a line goes on in the next one.
+fn head_lines(issue: &Issue, lease: String, inputs: &[String]) -> Vec<String> {
+    let log = format!("Log {}", month::log_name(inputs, file_name));
+    let mut texts = issue.whose_within(HEAD_LETTERS);
+    texts.extend(issue.lease());
+    texts.extend([lease, log]);
+    let lines = texts.iter().flat_map(|text| wrapped(text, HEAD_LETTERS));
+    lines.collect()
+}
+
+/// How far more lines than a card has room for move down what is below them.
+fn more_lines(lines: &[String]) -> u32 {
+    HEAD_LINE * lines.len().saturating_sub(HEAD_LINES) as u32
+}
+
+/// Draws the lines below the title, so far down.
+fn draw_lines(drawing: &mut Drawing, lines: &[String], above: u32) {
+    for (place, line) in (0..).zip(lines) {
+        drawing.text((LEFT, above + 88 + HEAD_LINE * place), line, &PLAIN);
     }
-    verdict(drawing, score, down);
+}
+
+/// The title and its lines on the left, verdict, totals and days on the right, and a bar of the whole month below them.
+fn head(drawing: &mut Drawing, score: &Score, lines: &[String], above: u32) {
+    drawing.text((LEFT, above + 58), &title(score), &TITLE);
+    draw_lines(drawing, lines, above);
+    verdict(drawing, score, above);
     let (served, owed) = (score.month.served, score.month.owed);
     let total = format!("{} of {} elements served", grouped(served), grouped(owed));
     let right = PLAIN.to_the_left();
-    drawing.text((RIGHT, down + 112), &total, &right.bold());
-    drawing.text((RIGHT, down + 136), &in_days(score), &right);
+    drawing.text((RIGHT, above + 112), &total, &right.bold());
+    drawing.text((RIGHT, above + 136), &in_days(score), &right);
     let fill = match score.month.verdict {
         Verdict::Full => FULL,
         _ => PART,
     };
-    let size = (RIGHT - LEFT, 12);
-    bar(drawing, (LEFT, down + 148), size, (served, owed), fill);
+    let at = (LEFT, above + 148 + more_lines(lines));
+    bar(drawing, at, (RIGHT - LEFT, 12), (served, owed), fill);
 }
 
 /// "85.08 %: 25 days in full, 1 in part, 4 dark".
 fn in_days(score: &Score) -> String {
     let percent = match score.percent() {
-        Some(percent) => percent,
+        Some(percent) => percent.to_string(),
         None => return "nothing owed".to_string(),
     };
     let full = text::count(score.count(Served::InFull) as u64, "day");
@@ -226,19 +254,7 @@ fn in_days(score: &Score) -> String {
 
 /// A file's name without the folders that it is in.
 pub fn file_name(path: &str) -> String {
-    let name = path.rsplit('/').next().unwrap_or(path);
-    within(name, 60)
-}
-
-/// A text, or so many letters of its begin and its end.
-fn within(text: &str, most: usize) -> String {
-    let letters: Vec<char> = text.chars().collect();
-    if letters.len() <= most {
-        return text.to_string();
-    }
-    let (begin, end) = (most / 2, letters.len() - (most - most / 2));
-    let (begin, end) = (&letters[..begin], &letters[end..]);
-    begin.iter().chain(&['…']).chain(end).collect()
+    path.rsplit('/').next().unwrap_or(path).to_string()
 }
 
 /// A text in lines of at most so many letters, broken at blanks; a word that is longer
@@ -262,7 +278,7 @@ fn wrapped(text: &str, most: usize) -> Vec<String> {
 }
 
 /// The verdict in a frame; only a full month's is filled.
-fn verdict(drawing: &mut Drawing, score: &Score, down: u32) {
+fn verdict(drawing: &mut Drawing, score: &Score, above: u32) {
     let framed = |look: &str| format!(r#"fill="{PAPER}" stroke="{INK}" {look}"#);
     let (width, ink, look) = match score.month.verdict {
         Verdict::Full => (120, PAPER, format!(r#"fill="{FULL}""#)),
@@ -276,17 +292,18 @@ fn verdict(drawing: &mut Drawing, score: &Score, down: u32) {
     let x = RIGHT - width;
     let name = score.verdict_name().to_uppercase();
     let style = Style::of(26, ink).bold().in_the_middle();
-    drawing.rect((x, down + 30), (width, 46), &look);
-    drawing.text((x + width / 2, down + 62), &name, &style);
+    drawing.rect((x, above + 30), (width, 46), &look);
+    drawing.text((x + width / 2, above + 62), &name, &style);
 }
 
-fn weekdays(drawing: &mut Drawing, score: &Score, down: u32) {
+/// The names of the weekdays above the cells, which begin there.
+fn weekdays(drawing: &mut Drawing, score: &Score, top: u32) {
     if score.dates().is_none() {
         return;
     }
     for (place, name) in WEEKDAYS.iter().enumerate() {
         let x = LEFT + COLUMN * place as u32 + cell::WIDTH / 2;
-        drawing.text((x, down + TOP - 12), name, &PLAIN.bold().in_the_middle());
+        drawing.text((x, top - 12), name, &PLAIN.bold().in_the_middle());
     }
 }
 
@@ -311,12 +328,10 @@ fn legend(drawing: &mut Drawing, score: &Score, y: u32) {
 
 #[cfg(test)]
 mod tests {
-    use super::{file_name, within, wrapped};
+    use super::{file_name, wrapped};
 
     #[test]
-    fn a_long_name_keeps_its_begin_and_its_end() {
-        assert_eq!(within("station.log", 11), "station.log");
-        assert_eq!(within("é-station-14.log", 11), "é-sta…14.log");
+    fn a_file_is_named_without_its_folders() {
         assert_eq!(file_name("/a/b/station.log"), "station.log");
         assert_eq!(file_name("standard input"), "standard input");
     }

@@ -4,38 +4,37 @@
 use crate::common::digits::grouped;
 use crate::common::text;
 use crate::score::asked::Unscored;
-use crate::score::month;
+use crate::score::picture::foot::Foot;
 use crate::score::picture::notice::Notice;
 use crate::score::picture::svg::{Drawing, Style, INK, PAPER};
 use crate::score::picture::{
-    file_name, foot, month_of, within, Framed, LEFT, PLAIN, RIGHT, TITLE, WIDTH,
+    draw_lines, head_lines, month_of, more_lines, Framed, LEFT, RIGHT, TITLE, WIDTH,
 };
 
 pub fn drawn(unscored: &Unscored) -> Framed {
     let told = without_folders(&unscored.why, &unscored.inputs);
     let why: Vec<String> = told.lines().map(|line| line.trim().into()).collect();
     let notice = Notice::new("There is no score, because", &why);
-    let below = 160 + notice.height();
-    let height = below + foot::UNSIGNED_HEIGHT;
+    let owed = grouped(u64::from(unscored.line.owed));
+    let (days, edition) = (days(unscored), unscored.edition);
+    let lease = format!("{days}, {owed} elements owed a day, edition {edition}");
+    let lines = head_lines(&unscored.issue, lease, &unscored.inputs);
+    let notice_at = 150 + more_lines(&lines);
+    let below = notice_at + notice.height();
+    let foot = Foot::unsigned(&unscored.issue);
+    let height = below + foot.height();
     let mut drawing = Drawing::default();
     drawing.rect((0, 0), (WIDTH, height), &format!(r#"fill="{PAPER}""#));
     let title = title(unscored);
     drawing.text((LEFT, 58), &title, &TITLE.at_most(600));
-    let owed = grouped(u64::from(unscored.line.owed));
-    let (days, edition) = (days(unscored), unscored.edition);
-    let lease = format!("{days}, {owed} elements owed a day, edition {edition}");
-    let log = format!("Log {}", month::log_name(&unscored.inputs, file_name));
-    let lines = [unscored.issue.whose(), Some(lease), Some(log)];
-    for (y, line) in (88..).step_by(24).zip(lines.iter().flatten()) {
-        drawing.text((LEFT, y), &within(line, 80), &PLAIN.at_most(620));
-    }
+    draw_lines(&mut drawing, &lines, 0);
     let width = 280;
     let look = format!(r#"fill="{INK}" stroke="{INK}" stroke-width="4""#);
     let style = Style::of(26, PAPER).bold().in_the_middle();
     drawing.rect((RIGHT - width, 30), (width, 46), &look);
     drawing.text((RIGHT - width / 2, 62), unscored.name(), &style);
-    notice.draw(&mut drawing, 150);
-    foot::issue(&mut drawing, &unscored.issue, below + 16);
+    notice.draw(&mut drawing, notice_at);
+    foot.draw(&mut drawing, below);
     Framed {
         title,
         told: format!("{}: {told}", unscored.name()),

@@ -5,7 +5,7 @@
 use super::{ended, Scene};
 use crate::common::sample;
 use std::collections::BTreeMap;
-use std::fs::{self, File};
+use std::fs::{self, File, Metadata};
 use std::os::unix::fs::{symlink, MetadataExt};
 use std::path::Path;
 use std::process::{Command, Stdio};
@@ -28,6 +28,9 @@ const FILES: [(&str, &str); 15] = [
     ("i.parties", "intruder.parties"),
     ("t.txt", "several.txt"),
 ];
+
+/// Names of standard input.
+const STANDARD: [&str; 4] = ["-", "/dev/stdin", "/dev/fd/0", "/proc/self/fd/0"];
 
 /// Names that may be given to an output beside those of the files.
 const OTHERS: [&str; 9] = [
@@ -105,14 +108,11 @@ impl Line<'_, '_> {
             self.put(option);
         }
         let free = self.standard.is_none() && self.scene.random.once_in(6);
-        let alias = match free {
-            true => {
-                self.standard = Some(name.to_string());
-                let standard = ["-", "/dev/stdin", "/dev/fd/0", "/proc/self/fd/0"];
-                // A state isn't read from there, by that name.
-                self.scene.random.one_of(&standard).to_string()
-            }
-            false => self.alias(name),
+        let alias = if free {
+            self.standard = Some(name.to_string());
+            self.scene.random.one_of(&STANDARD).to_string()
+        } else {
+            self.alias(name)
         };
         self.words.push(alias);
         self.read.push(name.to_string());
@@ -237,12 +237,11 @@ impl Line<'_, '_> {
         self.reads("--stream", "s.ctm");
         self.reads("--memory", "m.mem");
         self.flag(2, "--replace");
-        match self.scene.random.coin() {
-            true => self.writes(1, "--out"),
-            false => {
-                self.reads("--in", "p.ppm");
-                self.writes(1, "--to");
-            }
+        if self.scene.random.coin() {
+            self.writes(1, "--out");
+        } else {
+            self.reads("--in", "p.ppm");
+            self.writes(1, "--to");
         }
     }
 
@@ -284,8 +283,15 @@ impl Line<'_, '_> {
     }
 }
 
-/// What stands in a folder and those in it: each file's number and bytes.
-fn all(folder: &Path) -> BTreeMap<String, (u64, Vec<u8>)> {
+/// A file, by whatever name: its device and number.
+type Id = (u64, u64);
+
+fn id(about: &Metadata) -> Id {
+    (about.dev(), about.ino())
+}
+
+/// What stands in a folder and those in it: each file and its bytes.
+fn all(folder: &Path) -> BTreeMap<String, (Id, Vec<u8>)> {
     let mut files = BTreeMap::new();
     for (folder, before) in [(folder.to_path_buf(), ""), (folder.join("cards"), "cards/")] {
         for entry in fs::read_dir(&folder).expect("the folder").flatten() {
@@ -293,7 +299,7 @@ fn all(folder: &Path) -> BTreeMap<String, (u64, Vec<u8>)> {
             if about.is_file() {
                 let bytes = fs::read(entry.path()).expect("it is read");
                 let name = format!("{before}{}", entry.file_name().to_string_lossy());
-                files.insert(name, (about.ino(), bytes));
+                files.insert(name, (id(&about), bytes));
             }
         }
     }
@@ -307,6 +313,17 @@ fn behind(folder: &Path, name: &str) -> Option<String> {
     let folder = fs::canonicalize(folder).expect("the folder");
     let name = path.strip_prefix(&folder).ok()?;
     Some(name.display().to_string())
+}
+
+/// The very file that --resume names; the command takes no state from -.
+fn resumed(folder: &Path, words: &[String], standard: Option<&str>) -> Option<Id> {
+    let place = words.iter().position(|word| word == "--resume")?;
+    let name = match words.get(place + 1)?.as_str() {
+        "-" => return None,
+        name if STANDARD.contains(&name) => standard?,
+        name => name,
+    };
+    fs::metadata(folder.join(name)).ok().map(|about| id(&about))
 }
 
 pub fn drive(scene: &mut Scene) {
@@ -334,6 +351,7 @@ pub fn drive(scene: &mut Scene) {
         .iter()
         .filter_map(|(option, name)| Some((*option, behind(folder, name)?)))
         .collect();
+    let state = resumed(folder, &words, standard.as_deref());
     let mut command = Command::new(program);
     command.args(&words).current_dir(folder);
     command.stdin(match &standard {
@@ -346,13 +364,14 @@ pub fn drive(scene: &mut Scene) {
         let mut targets = targets.iter();
         targets.any(|(option, target)| target == name && (of.is_empty() || of.contains(option)))
     };
-    let numbers: Vec<u64> = read.iter().map(|name| before[name].0).collect();
-    for (name, (number, bytes)) in &before {
+    let read: Vec<Id> = read.iter().map(|name| before[name].0).collect();
+    for (name, (file, bytes)) in &before {
         let stays = after.get(name).map_or(false, |(_, is)| is == bytes);
-        // A state may be replaced by the one that follows it, by whichever of its names.
-        let follows = name.ends_with("march.state") && is_target(name, &["--save"]);
+        // A state may be replaced by the one that follows it, which --save alone writes over the very file that is resumed.
+        let mut writers = targets.iter().filter(|(_, target)| target == name);
+        let follows = state == Some(*file) && writers.all(|(option, _)| *option == "--save");
         assert!(
-            stays || follows || !numbers.contains(number),
+            stays || follows || !read.contains(file),
             "{name} is read, and was changed"
         );
         assert!(stays || is_target(name, &[]), "{name} was changed");

@@ -95,9 +95,10 @@ fn lines_of(lines: &[Value]) -> Vec<u8> {
 /// The fields of a line, a day's or a month's.
 fn fields(line: &mut Value) -> &mut Map<String, Value> {
     let line = line.as_object_mut().expect("an object");
-    match line.contains_key("summary") {
-        true => line["summary"].as_object_mut().expect("an object"),
-        false => line,
+    if line.contains_key("summary") {
+        line["summary"].as_object_mut().expect("an object")
+    } else {
+        line
     }
 }
 
@@ -105,9 +106,10 @@ fn fields(line: &mut Value) -> &mut Map<String, Value> {
 fn another_number(random: &mut Random, lines: &mut [Value]) -> (String, bool) {
     let place = random.below(lines.len() as u32) as usize;
     let fields = fields(&mut lines[place]);
-    let key = match fields.contains_key("day") {
-        true => random.one_of(&OF_A_DAY),
-        false => random.one_of(&OF_A_MONTH),
+    let key = if fields.contains_key("day") {
+        random.one_of(&OF_A_DAY)
+    } else {
+        random.one_of(&OF_A_MONTH)
     };
     let owed = fields["owed"].as_u64().expect("a number");
     let was = fields[key].as_u64().expect("a number");
@@ -159,9 +161,10 @@ fn doubled_field(random: &mut Random, lines: &[Value]) -> (Vec<u8>, String) {
         ("day", "1"),
         ("lease", "{}"),
     ]);
-    match random.coin() {
-        true => text.insert_str(1, &format!("\"{key}\":{value},")),
-        false => text.insert_str(text.len() - 1, &format!(",\"{key}\":{value}")),
+    if random.coin() {
+        text.insert_str(1, &format!("\"{key}\":{value},"));
+    } else {
+        text.insert_str(text.len() - 1, &format!(",\"{key}\":{value}"));
     }
     let mut bytes = lines_of(&lines[..place]);
     bytes.extend(format!("{text}\n").bytes());
@@ -216,9 +219,10 @@ fn packed(random: &mut Random, bytes: &[u8]) -> Vec<u8> {
     let mut packer = GzEncoder::new(Vec::new(), Compression::fast());
     packer.write_all(bytes).expect("room");
     let packed = packer.finish().expect("room");
-    match random.once_in(4) {
-        true => damaged(random, &packed),
-        false => packed,
+    if random.once_in(4) {
+        damaged(random, &packed)
+    } else {
+        packed
     }
 }
 
@@ -246,9 +250,10 @@ pub fn scores(scene: &mut Scene) {
     let whole = SCORES.map(|line| run(scene, line).stdout).concat();
     let forged = forged(&mut scene.random, &whole);
     scene.is_about(&(&forged.what, String::from_utf8_lossy(&forged.bytes)));
-    let bytes = match scene.random.once_in(4) {
-        true => packed(&mut scene.random, &forged.bytes),
-        false => forged.bytes,
+    let bytes = if scene.random.once_in(4) {
+        packed(&mut scene.random, &forged.bytes)
+    } else {
+        forged.bytes
     };
     put(scene, "scores", &bytes);
     let line = "fleet leases.csv --from-scores scores --issued 2026-05-02";
@@ -326,9 +331,10 @@ fn another_line(random: &mut Random, file: &[u8]) -> (Vec<u8>, String, bool) {
         .collect();
     let key = &keys[random.below(keys.len() as u32) as usize];
     let is_held = HELD.contains(&&**key);
-    value[key] = match is_held {
-        true => another_value(random, &value[key]),
-        false => random_text(random),
+    value[key] = if is_held {
+        another_value(random, &value[key])
+    } else {
+        random_text(random)
     };
     let what = format!("{key} now {}", value[key]);
     let line = format!("{value}\n").into_bytes();

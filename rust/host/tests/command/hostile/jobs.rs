@@ -198,24 +198,24 @@ pub fn full(scene: &mut Scene) {
     let job = Job::of(scene);
     let folder = scene.folder;
     let blocks = scene.random.one_of(&[0, 0, 1, 2, 4, 8, 16, 24, 32, 64]);
-    let line = match scene.random.once_in(3) {
+    let line = if scene.random.once_in(3) {
         // The answer can't be written, the rest can.
-        true => {
-            let mut words: Vec<&str> = job.line.split_whitespace().collect();
-            let at = words
-                .iter()
-                .position(|word| *word == "--output")
-                .expect("it has one");
-            words[at + 1] = "/dev/full";
-            words.join(" ")
-        }
-        false => job.line.to_string(),
+        let mut words: Vec<&str> = job.line.split_whitespace().collect();
+        let at = words
+            .iter()
+            .position(|word| *word == "--output")
+            .expect("it has one");
+        words[at + 1] = "/dev/full";
+        words.join(" ")
+    } else {
+        job.line.to_string()
     };
     scene.is_about(&(&line, blocks));
     let mut shell = command(OsStr::new("sh"), "", folder);
-    let limited = match line == job.line {
-        true => format!("ulimit -f {blocks}; exec \"$@\""),
-        false => "exec \"$@\"".to_string(),
+    let limited = if line == job.line {
+        format!("ulimit -f {blocks}; exec \"$@\"")
+    } else {
+        "exec \"$@\"".to_string()
     };
     shell
         .args(["-c", &limited, "sh"])

@@ -225,9 +225,10 @@ impl Made<'_> {
             ("--owed", "14000000"),
         ] {
             self.put(option);
-            let number = match self.random.once_in(6) {
-                true => self.random.one_of(&NUMBERS),
-                false => good,
+            let number = if self.random.once_in(6) {
+                self.random.one_of(&NUMBERS)
+            } else {
+                good
             };
             self.put(number);
         }
@@ -373,9 +374,12 @@ impl Made<'_> {
                 name
             }
         };
-        let mut number = |good: &str| match self.random.once_in(9) {
-            true => self.random.one_of(&NUMBERS).to_string(),
-            false => good.to_string(),
+        let mut number = |good: &str| {
+            if self.random.once_in(9) {
+                self.random.one_of(&NUMBERS).to_string()
+            } else {
+                good.to_string()
+            }
         };
         let numbers = [number("101"), number("30"), number("14,000,000")];
         let date = self
@@ -420,13 +424,12 @@ impl Made<'_> {
 
     fn layout(&mut self) {
         self.valued(2, "--base", &WORDS);
-        match self.random.once_in(4) {
-            true => self.valued(1, "--format", &WORDS),
-            false => {
-                self.numbered(1, "--pitch");
-                self.valued(1, "--size", &["1", "2", "4", "8", "16", "16", "3", "0x4"]);
-                self.flag(2, "--tiled");
-            }
+        if self.random.once_in(4) {
+            self.valued(1, "--format", &WORDS);
+        } else {
+            self.numbered(1, "--pitch");
+            self.valued(1, "--size", &["1", "2", "4", "8", "16", "16", "3", "0x4"]);
+            self.flag(2, "--tiled");
         }
         self.numbered(1, "--height");
         self.flag(8, "--decimal");
@@ -446,15 +449,14 @@ impl Made<'_> {
 
     fn locate(&mut self) {
         self.put("locate");
-        match self.random.coin() {
-            true => self.layout(),
-            false => {
-                self.put("--stream");
-                self.file(&SAMPLES);
-                self.flag(3, "--hex");
-                self.numbered(5, "--words");
-                self.flag(2, "--json");
-            }
+        if self.random.coin() {
+            self.layout();
+        } else {
+            self.put("--stream");
+            self.file(&SAMPLES);
+            self.flag(3, "--hex");
+            self.numbered(5, "--words");
+            self.flag(2, "--json");
         }
         for _ in 0..self.random.below(4) {
             let word = self.random.one_of(&WORDS);
@@ -468,9 +470,10 @@ impl Made<'_> {
         self.put("--stream");
         self.file(&STREAMS);
         self.put("--memory");
-        match self.random.once_in(6) {
-            true => self.put("-"),
-            false => self.file(&MEMORY),
+        if self.random.once_in(6) {
+            self.put("-");
+        } else {
+            self.file(&MEMORY);
         }
         self.put("--at");
         let at = self.at();
@@ -526,9 +529,10 @@ impl Made<'_> {
             self.valued(1, "--out", &["/dev/null", "/dev/null", "-", "samples"]);
         } else {
             self.put("--in");
-            match self.random.once_in(4) {
-                true => self.put("-"),
-                false => self.file(&PICTURES),
+            if self.random.once_in(4) {
+                self.put("-");
+            } else {
+                self.file(&PICTURES);
             }
             self.valued(1, "--to", &["/dev/null", "/dev/null", "-", "samples"]);
         }
@@ -538,9 +542,10 @@ impl Made<'_> {
 
     /// The address of a dump's first byte: the camera's mostly.
     fn at(&mut self) -> &'static str {
-        match self.random.once_in(4) {
-            true => self.random.one_of(&WORDS),
-            false => "800",
+        if self.random.once_in(4) {
+            self.random.one_of(&WORDS)
+        } else {
+            "800"
         }
     }
 
@@ -596,9 +601,10 @@ impl Made<'_> {
     }
 
     fn any_input(&mut self) {
-        match self.random.coin() {
-            true => self.file(&SAMPLES),
-            false => self.put("-"),
+        if self.random.coin() {
+            self.file(&SAMPLES);
+        } else {
+            self.put("-");
         }
         self.case.input = self.bytes(&SAMPLES);
     }
