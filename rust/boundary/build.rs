@@ -4,9 +4,9 @@
 //! same prefix's lib.
 
 use std::env;
-use std::fs;
+use std::fs::{self, File};
 use std::path::{Path, PathBuf};
-use std::process::exit;
+use std::process::{exit, Command};
 
 const ARCHIVE: &str = "libegretfold.a";
 /// Where `./install` puts this crate, below its prefix.
@@ -27,8 +27,29 @@ fn main() {
     println!("cargo:rustc-env=EGRETFOLD_ARCHIVE={}", archive.display());
     let kit = kit(&folder);
     println!("cargo:rustc-env=EGRETFOLD_KIT={kit}");
-    // For the build script of a crate that uses this one: DEP_EGRETFOLD_KIT.
+    // For the build script of a crate that uses this one: DEP_EGRETFOLD_KIT and DEP_EGRETFOLD_SHA256.
     println!("cargo:kit={kit}");
+    println!("cargo:sha256={}", sha256(&archive));
+}
+
+/// The archive's SHA-256 in hex, by coreutils, so that this crate needs no other.
+fn sha256(archive: &Path) -> String {
+    // From standard input: behind a name with a backslash it would escape the line.
+    let told = File::open(archive).and_then(|file| Command::new("sha256sum").stdin(file).output());
+    let told = match told {
+        Ok(told) => String::from_utf8_lossy(&told.stdout).into_owned(),
+        Err(error) => {
+            eprintln!(
+                "sha256sum could not be run on {}: {error}",
+                archive.display()
+            );
+            exit(1)
+        }
+    };
+    told.split_whitespace()
+        .next()
+        .unwrap_or_default()
+        .to_string()
 }
 
 /// The kit that proved the archive, by the record that tools/prepare puts beside it

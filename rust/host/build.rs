@@ -1,6 +1,6 @@
 //! The version that the command tells: the package's, and the commit that it is
-//! built from where git knows one, with a + where files have changed since; and the
-//! kit that proved what it is linked with.
+//! built from where git knows one, with a + where files have changed since; the kit
+//! that proved what it is linked with; and the SHA-256 of that archive.
 
 use std::env;
 use std::process::Command;
@@ -26,6 +26,8 @@ fn main() {
         kit => kit,
     };
     println!("cargo:rustc-env=EGRETFOLD_PROVED_WITH={kit}");
+    let archive = env::var("DEP_EGRETFOLD_SHA256").unwrap_or_default();
+    println!("cargo:rustc-env=EGRETFOLD_ARCHIVE_SHA256={archive}");
 }
 
 fn changed() -> &'static str {

@@ -7,25 +7,29 @@ use Prim.Native.Nat.{ℕ, _+_, _-_, _*_, _/_, _%_, _<_, _≤_, _^_}
 use native.Mathlib.Nat.{mul-div-cancel, mul-le-mul, le-of-mul-le-mul-right, lt-of-mul-lt-mul-right}
 use native.Mathlib.Omega.{arith}
 use lib.Dec.{leb, ltb, eqb}
-use borrow.Author.Tests.{lt-ltb, le-ltb, le-leb, eq-eqb, ne-eqb, eqb-true, eqb-false, leb-true, leb-false}
+use lib.ListN.{getD}
+use borrow.Author.Tests.{lt-ltb, le-ltb, le-leb, eq-eqb, ne-eqb, eqb-true, eqb-false, ltb-true, ltb-false, leb-true, leb-false}
 use Rattle.laws.specs.Choice.{_and_, pick, placeOf}
 use Rattle.laws.proofs.Choice.{pick-yes, pick-no, and-intro, and-left, and-right, and-no-left, and-no-right, Tested, tested, holds, fails}
 use Rattle.refusal.specs.Told.{Told, gives, refuses}
+use Rattle.refusal.specs.Crossing.{Crosses, statusOf, roomOf}
 use Rattle.layout.specs.Sizes.{sizes, isSize, widthOf}
 use Rattle.layout.proofs.Sizes.{no-size}
 use Rattle.laws.proofs.Table.{NoneOf}
-use Rattle.layout.specs.Layout.{wellFormed, windowRule, strideOf}
+use Rattle.layout.specs.Layout.{wellFormed, spanOf, windowRule, strideOf}
 use Rattle.layout.specs.declared.Layout.{Layout}
 use Rattle.layout.proofs.Window.{form-size, size-most, rule-bounds}
 use Rattle.layout.proofs.Rows.{Ruled, ruled, unruled}
 use Rattle.address.specs.Asked.{PairAsked, StepAsked}
 use Rattle.address.specs.Offset.{offsetOf, xOf, yOf, bytePlace}
+use Rattle.address.specs.Owner.{StrideTaken, ownerOf}
 use Rattle.address.specs.Address.{stepOf, ifAccepted, inside, addressOf, runOf, translateOf, backOf, locateOf, layoutOf, refusedAs, toldNumber}
 use Rattle.address.specs.Inverse.{Accepted, Inside}
 use Rattle.address.specs.Run.{runNumber}
 use Rattle.address.proofs.Offsets.{blocks}
+use Rattle.address.proofs.Windows as windows
 use Rattle.address.proofs.Windows.{tiles-pos}
-use Rattle.address.proofs.Inverse.{grid, answered, below-base, from-base, inverse}
+use Rattle.address.proofs.Inverse.{grid, room, answered, below-base, from-base, inverse}
 use Rattle.address.proofs.Runs.{clash, run-number, longest}
 
 told-apart : {v : List ℕ} {n : ℕ} → gives v ≡ refuses n → ⊥
@@ -159,15 +163,16 @@ pub sizeless-form : (base pitch s : ℕ) → isSize s ≡ false → wellFormed b
 unfolding wellFormed
 sizeless-form base pitch s z = and-no-right _ (and-no-right _ (and-no-right _ z))
 
+-- the rest of a `match` on the size
+pub none-form : (base pitch s : ℕ) → NoneOf Unit sizes s → wellFormed base pitch s ≡ false
+none-form base pitch s r = no-form base pitch s (no-size s (r .0 .0 .0 .0 .1) (r .0 .0 .0 .1) (r .0 .0 .1) (r .0 .1) (r .1))
+
 pub sizeless :
     (base pitch height s : ℕ) (tiled : Bool) (x y : ℕ) → NoneOf Unit sizes s →
     toldNumber (refusedAs 3) ≡ translateOf (layoutOf base pitch height s tiled) x y
 unfolding translateOf
 sizeless base pitch height s tiled x y r =
-    told-refused 3 ∙
-    sym
-    (malformed (layoutOf base pitch height s tiled) _
-    (no-form base pitch s (no-size s (r .0 .0 .0 .0 .1) (r .0 .0 .0 .1) (r .0 .0 .1) (r .0 .1) (r .1))))
+    told-refused 3 ∙ sym (malformed (layoutOf base pitch height s tiled) _ (none-form base pitch s r))
 
 -- an accepted layout, with its row step in elements
 pub record Taken (l : Layout) (e : ℕ) : Type 0 where
@@ -273,26 +278,131 @@ module _ (l : Layout) (e : ℕ) (t : Taken l e) where
               ap₂ (λ (a n : ℕ). gives (a ∷ n ∷ [])) (sym is-address) (sym is-run) ∙
               sym (inverse l (t .accepted) .there x y within)
 
-  module _ (a : ℕ) where
-    pub below : a < l .base .0 → locateOf l a ≡ refuses 12
-    below k = below-base l (t .accepted) a k
+  -- what stands behind the span is past the last row
+  behind : (o : ℕ) → spanOf (l .tiled) (l .size) (stepOf l) (l .height) ≤ o → l .height ≤ yOf (l .tiled) (l .size) (stepOf l) o
+  behind o far = go (tested (ltb (yOf (l .tiled) (l .size) (stepOf l) o) (l .height)))
+    where
+      go : Tested (ltb (yOf (l .tiled) (l .size) (stepOf l) o) (l .height)) → l .height ≤ yOf (l .tiled) (l .size) (stepOf l) o
+      go (holds k) =
+          absurd
+          (omega (
+            arith,
+            far,
+            windows.within (l .tiled) (l .size) (stepOf l) (l .height) (xOf (l .tiled) (l .size) (stepOf l) o)
+                (yOf (l .tiled) (l .size) (stepOf l) o) (grid l (t .accepted))
+                (windows.back-column (l .tiled) (l .size) (stepOf l) o (grid l (t .accepted))) (ltb-true _ _ k),
+            windows.back (l .tiled) (l .size) (stepOf l) o (grid l (t .accepted)),
+            windows.back-place (l .size) o size,
+          ))
+      go (fails k) = ltb-false _ _ k
 
-    module _ (x y : ℕ) (k : l .base .0 ≤ a) (ex : x ≡ xOf (l .tiled) (l .size) e (a - l .base .0)) (ey : y ≡ yOf (l .tiled) (l .size) e (a - l .base .0)) where
-      at-offset : locateOf l a ≡ backOf l (a - l .base .0)
-      at-offset = ap (locateOf l) {y = l .base .0 + (a - l .base .0)} (omega arith) ∙ from-base l (t .accepted) (a - l .base .0)
+  -- an address is as far behind the base as it stands, modulo 2^32: one below the base is behind the span
+  pub at-distance :
+      (a o : ℕ) → o < 2 ^ 32 → l .base .0 < 2 ^ 32 → (o + l .base .0) % 2 ^ 32 ≡ a → locateOf l a ≡ backOf l o
+  unfolding backOf
+  at-distance a o small low wraps = go (tested (ltb (o + l .base .0) (2 ^ 32)))
+    where
+      go : Tested (ltb (o + l .base .0) (2 ^ 32)) → locateOf l a ≡ backOf l o
+      go (holds k) =
+          let near : o + l .base .0 < 2 ^ 32 = ltb-true _ _ k in
+          ap (locateOf l) {x = a} {y = l .base .0 + o} (omega arith) ∙ from-base l (t .accepted) o
+      go (fails k) =
+          let far : 2 ^ 32 ≤ o + l .base .0 = ltb-false _ _ k in
+          below-base l (t .accepted) a (omega arith) ∙
+          sym (pick-no _ _ (le-ltb _ _ (behind o (omega (arith, room l (t .accepted))))))
 
-      same-y : y ≡ yOf (l .tiled) (l .size) (stepOf l) (a - l .base .0)
-      same-y = rw (t .step) at ey
+-- the owner of a byte by the stride, one law a return
+module _ (tiled : Bool) (s r h o : ℕ) where
+  pub owner-ruleless : r < 1 → ownerOf tiled s r h o ≡ refuses 6
+  unfolding ownerOf
+  owner-ruleless k = pick-yes _ _ (lt-ltb _ _ k)
 
-      same-x : x ≡ xOf (l .tiled) (l .size) (stepOf l) (a - l .base .0)
-      same-x = rw (t .step) at ex
+  module _ (k : 1 ≤ r) (x y : ℕ) (ex : x ≡ xOf tiled s (r / s) o) (ey : y ≡ yOf tiled s (r / s) o) where
+    pub owner-past : h ≤ y → ownerOf tiled s r h o ≡ refuses 12
+    unfolding ownerOf
+    owner-past below = pick-no _ _ (le-ltb _ _ k) ∙ pick-no _ _ (le-ltb _ _ (rw ey at below))
 
-      pub past : l .height ≤ y → locateOf l a ≡ refuses 12
-      unfolding backOf
-      past h = at-offset ∙ pick-no _ _ (le-ltb _ _ (rw same-y at h))
+    pub owner-found : (place : ℕ) → place ≡ bytePlace s o → y < h → ownerOf tiled s r h o ≡ gives (x ∷ y ∷ place ∷ [])
+    unfolding ownerOf
+    owner-found place ep above = pick-no _ _ (le-ltb _ _ k) ∙ pick-yes _ _ (lt-ltb _ _ (rw ey at above)) ∙ rw (ex, ey, ep)
 
-      pub located :
-          (place : ℕ) → place ≡ bytePlace (l .size) (a - l .base .0) → y < l .height →
-          locateOf l a ≡ gives (x ∷ y ∷ place ∷ [])
-      unfolding backOf
-      located place ep h = at-offset ∙ pick-yes _ _ (lt-ltb _ _ (rw same-y at h)) ∙ rw (same-x, same-y, ep)
+-- the owner of a byte by the layout's stride
+module _ (l : Layout) (f : wellFormed (l .base .0) (l .pitch) (l .size) ≡ true) (r : ℕ) (er : r ≡ strideIn l) where
+  pub stride-taken : StrideTaken (l .tiled) (l .size) r
+  stride-taken =
+      record {
+        size = form-size (l .base .0) (l .pitch) (l .size) f;
+        asked = λ k. (step-asked l _ (taken l f r er k), whole l f r er k);
+      }
+
+  pub owned :
+      (a o : ℕ) → o < 2 ^ 32 → l .base .0 < 2 ^ 32 → (o + l .base .0) % 2 ^ 32 ≡ a →
+      ownerOf (l .tiled) (l .size) r (l .height) o ≡ locateOf l a
+  unfolding ownerOf locateOf backOf
+  owned a o small low wraps = go (tested (ltb r 1))
+    where
+      go : Tested (ltb r 1) → ownerOf (l .tiled) (l .size) r (l .height) o ≡ locateOf l a
+      go (holds k) = pick-yes _ _ k ∙ sym (ruleless l _ f r er (ltb-true _ _ k))
+      go (fails k) =
+          let here = taken l f r er (ltb-false _ _ k) in
+          pick-no _ _ k ∙ rw (here .step) (sym (at-distance l _ here a o small low wraps))
+
+-- what the way back tells: a pair and a place, or 3, 6 or 12
+data Tells (t : Told) : Type 0 where
+  pair : (x y place : ℕ) → t ≡ gives (x ∷ y ∷ place ∷ []) → Tells t
+  three : t ≡ refuses 3 → Tells t
+  six : t ≡ refuses 6 → Tells t
+  twelve : t ≡ refuses 12 → Tells t
+
+tells : (l : Layout) (a : ℕ) → Tells (locateOf l a)
+unfolding locateOf ifAccepted backOf
+tells l a =
+    go (tested (form l)) (tested (rule l)) (tested (leb (l .base .0) a))
+    (tested (ltb (yOf (l .tiled) (l .size) (stepOf l) (a - l .base .0)) (l .height)))
+  where
+    go :
+        Tested (form l) → Tested (rule l) → Tested (leb (l .base .0) a) →
+        Tested (ltb (yOf (l .tiled) (l .size) (stepOf l) (a - l .base .0)) (l .height)) → Tells (locateOf l a)
+    go (fails f) w b h = three (pick-no _ _ f)
+    go (holds f) (fails w) b h = six (pick-yes _ _ f ∙ pick-no _ _ w)
+    go (holds f) (holds w) (fails b) h = twelve (pick-yes _ _ f ∙ pick-yes _ _ w ∙ pick-no _ _ b)
+    go (holds f) (holds w) (holds b) (fails h) = twelve (pick-yes _ _ f ∙ pick-yes _ _ w ∙ pick-yes _ _ b ∙ pick-no _ _ h)
+    go (holds f) (holds w) (holds b) (holds h) =
+        pair _ _ _ (pick-yes _ _ f ∙ pick-yes _ _ w ∙ pick-yes _ _ b ∙ pick-yes _ _ h)
+
+-- and so what status and room tell
+module _ (l : Layout) (a r : ℕ) (before after : List ℕ) (c : Crosses (locateOf l a) r before after) where
+  status-of : {n : ℕ} → locateOf l a ≡ refuses n → r ≡ n
+  status-of e = c .status ∙ ap statusOf e
+
+  given : {v : List ℕ} → locateOf l a ≡ gives v → r ≡ 0
+  given e = c .status ∙ ap statusOf e
+
+  pub pair-told : r ≡ 0 → gives (getD after 0 0 ∷ getD after 1 0 ∷ getD after 2 0 ∷ []) ≡ locateOf l a
+  pair-told z = go (tells l a)
+    where
+      go : Tells (locateOf l a) → gives (getD after 0 0 ∷ getD after 1 0 ∷ getD after 2 0 ∷ []) ≡ locateOf l a
+      go (pair x y k e) =
+          ap (λ (v : List ℕ). gives (getD v 0 0 ∷ getD v 1 0 ∷ getD v 2 0 ∷ [])) (c .room ∙ ap (λ (u : Told). roomOf u before) e) ∙
+          sym e
+      go (three e) = absurd (omega (arith, z, status-of e))
+      go (six e) = absurd (omega (arith, z, status-of e))
+      go (twelve e) = absurd (omega (arith, z, status-of e))
+
+  pub refusal-told : (r ≡ 0 → ⊥) → refuses r ≡ locateOf l a
+  refusal-told some = go (tells l a)
+    where
+      go : Tells (locateOf l a) → refuses r ≡ locateOf l a
+      go (pair x y k e) = absurd (some (given e))
+      go (three e) = ap refuses (status-of e) ∙ sym e
+      go (six e) = ap refuses (status-of e) ∙ sym e
+      go (twelve e) = ap refuses (status-of e) ∙ sym e
+
+  pub twelve-left : (r ≡ 0 → ⊥) → (r ≡ 3 → ⊥) → (r ≡ 6 → ⊥) → refuses 12 ≡ locateOf l a
+  twelve-left some not-three not-six = go (tells l a)
+    where
+      go : Tells (locateOf l a) → refuses 12 ≡ locateOf l a
+      go (pair x y k e) = absurd (some (given e))
+      go (three e) = absurd (not-three (status-of e))
+      go (six e) = absurd (not-six (status-of e))
+      go (twelve e) = sym e

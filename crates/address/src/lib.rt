@@ -3,6 +3,7 @@
 // 3, 6, 12.
 pub mod block;
 pub mod offset;
+pub mod owner;
 pub mod run;
 
 use layout::ByteAddress;
@@ -201,28 +202,24 @@ pub fn translate(layout: Layout, x: u32, y: u32) -> Translated
 pub fn locate(layout: Layout, address: ByteAddress) -> Located
     ensures { λ r. ⌜ toldLocated r ≡ locateOf layout (address .0) ⌝ }
 {
-    let base = layout.base.0;
-    let size = layout.size;
-    let tiled = layout.tiled;
-    if !layout::well_formed(base, layout.pitch, size) {
-        return Located::Refused(Refusal::Malformed);
-    }
-    let stride = layout::window_stride(base, layout.pitch, layout.height, size, tiled);
-    if stride < 1 {
-        return Located::Refused(Refusal::WindowRule);
-    }
-    if address.0 < base {
-        return Located::Refused(Refusal::Unowned);
-    }
-    let o = address.0 - base;
-    let pair = offset::back(tiled, size, stride, o);
-    if layout.height <= pair.y {
-        return Located::Refused(Refusal::Unowned);
-    }
-    let place = offset::byte_place(size, o);
-    Located::Pair {
-        x: pair.x,
-        y: pair.y,
-        place,
+    let mut room = [0; owner::NUMBERS];
+    let status = owner::locate(
+        layout.base.0,
+        layout.pitch,
+        layout.height,
+        layout.size,
+        layout.tiled,
+        address.0,
+        &mut room,
+    );
+    match status {
+        0 => Located::Pair {
+            x: room[0],
+            y: room[1],
+            place: room[2],
+        },
+        3 => Located::Refused(Refusal::Malformed),
+        6 => Located::Refused(Refusal::WindowRule),
+        _ => Located::Refused(Refusal::Unowned),
     }
 }

@@ -95,18 +95,12 @@ fn tiled_back(size: u32, stride: u32, o: u32) -> Pair
     }
 }
 
-// How many whole elements stand before an offset.
+// How many whole elements stand before an offset. A size is a power of two, so a shift divides by it.
 fn elements(size: u32, o: u32) -> u32
     requires { ⌜ isSize size ≡ true ⌝ }
     ensures { λ r. ⌜ r ≡ o / size ⌝ }
 {
-    match size {
-        1 => o,
-        2 => o / 2,
-        4 => o / 4,
-        8 => o / 8,
-        _ => o / 16,
-    }
+    o >> u32::trailing_zeros(size)
 }
 
 // The pair of an offset; its row may be past the window's last.

@@ -1,6 +1,6 @@
 // Layouts and addresses over numbers: each answer is a status, 0 or a refusal's number, with its values in a room that the caller
 // lends. A refusal touches no room: 3, 6, 10 or 12.
-use address::Located;
+use address::owner;
 use layout::ByteAddress;
 use layout::Judged;
 use layout::Layout;
@@ -14,7 +14,7 @@ pub const LAYOUT_NUMBERS: usize = 2;
 
 pub const ADDRESS_NUMBERS: usize = 2;
 
-pub const PLACE_NUMBERS: usize = 3;
+pub const PLACE_NUMBERS: usize = owner::NUMBERS;
 
 // The row step and the span of a layout; 3 or 6.
 pub fn judge(
@@ -95,18 +95,5 @@ pub fn locate(
 ) -> u32
     ensures { λ r. ⌜ Crosses (locateOf (layoutOf base pitch height size tiled) address) r (now (room .entry)) (now (room .exit)) ⌝ }
 {
-    let layout = Layout {
-        base: ByteAddress(base),
-        pitch,
-        height,
-        size,
-        tiled,
-    };
-    match address::locate(layout, ByteAddress(address)) {
-        Located::Refused(why) => refusal::number(why),
-        Located::Pair { x, y, place } => {
-            *room = [x, y, place];
-            0
-        }
-    }
+    owner::locate(base, pitch, height, size, tiled, address, room)
 }

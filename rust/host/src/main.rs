@@ -10,6 +10,8 @@
 //!   `station` 14's month;
 //! * `fleet`: a lease file and many logs, read side by side; its forms are the `text`, the
 //!   `rows` for programs, the `page` for browsers and the folder of `cards`;
+//! * `verify`: a card held against its logs, which are scored anew;
+//! * `history`: months' scores side by side, as `text`, as `rows` and as a `page`;
 //! * `decode`: words given to a session by a `walk`; its forms are the `listing` and
 //!   `json`. `encode` is the way back, on one page;
 //! * `replay`: the `log` given to a replay; its forms are in `days`;
@@ -33,12 +35,14 @@ mod encode;
 mod explain;
 mod fleet;
 mod flow;
+mod history;
 mod input;
 mod manual;
 mod picture;
 mod replay;
 mod score;
 mod survey;
+mod verify;
 
 use clap::{CommandFactory, Parser, Subcommand};
 use common::failure::{Failure, Outcome};
@@ -53,7 +57,9 @@ use std::process::ExitCode;
 const LONG_VERSION: &str = concat!(
     env!("EGRETFOLD_VERSION"),
     "\nproved with ",
-    env!("EGRETFOLD_PROVED_WITH")
+    env!("EGRETFOLD_PROVED_WITH"),
+    "\nSHA-256 of the proved archive: ",
+    env!("EGRETFOLD_ARCHIVE_SHA256")
 );
 
 const AFTER: &str = "\
@@ -79,6 +85,12 @@ enum What {
     /// A month of many stations, scored against their lease lines
     #[command(after_help = fleet::EXAMPLES)]
     Fleet(fleet::Options),
+    /// A card held against its logs, which are scored anew
+    #[command(after_help = verify::EXAMPLES)]
+    Verify(verify::Options),
+    /// Months' scores side by side: what each station was served month by month, and what got worse
+    #[command(after_help = history::EXAMPLES)]
+    History(history::Options),
     /// A stream of command words as a listing
     #[command(after_help = decode::EXAMPLES)]
     Decode(decode::Options),
@@ -175,6 +187,8 @@ fn name(line: &Line, files: &mut Files) {
     match &line.what {
         Some(What::Score(options)) => options.name(files),
         Some(What::Fleet(options)) => options.name(files),
+        Some(What::Verify(options)) => options.name(files),
+        Some(What::History(options)) => options.name(files),
         Some(What::Decode(options)) => options.name(files),
         Some(What::Encode(options)) => options.name(files),
         Some(What::Replay(options)) => options.name(files),
@@ -192,6 +206,8 @@ fn run(line: &Line, files: &mut Files, out: &mut dyn Write) -> Outcome {
         None => score::sample::run(out),
         Some(What::Score(options)) => score::run(options, files, out),
         Some(What::Fleet(options)) => fleet::run(options, files, out),
+        Some(What::Verify(options)) => verify::run(options, out),
+        Some(What::History(options)) => history::run(options, files, out),
         Some(What::Decode(options)) => decode::run(options, out),
         Some(What::Encode(options)) => encode::run(options, out),
         Some(What::Replay(options)) => replay::run(options, files, out),

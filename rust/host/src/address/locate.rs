@@ -7,6 +7,7 @@ use crate::address::work::{self, Working};
 use crate::common::failure::{Failure, Outcome};
 use crate::common::files::Files;
 use crate::common::kinds::Address;
+use crate::common::schema;
 use crate::explain::cause;
 use crate::input::lines::Lines;
 use crate::input::numbers;
@@ -139,7 +140,7 @@ fn one(
                 if let Some(work) = work {
                     value["work"] = work.json();
                 }
-                writeln!(out, "{value}")?;
+                schema::line(out, value)?;
             } else {
                 writeln!(out, "{at}  ({x}, {y}) place {place}")?;
                 work.map_or(Ok(()), |work| work.show(layout, out))?;
@@ -155,7 +156,7 @@ fn one(
                 if let Some(work) = work {
                     value["work"] = work.json();
                 }
-                writeln!(out, "{value}")?;
+                schema::line(out, value)?;
             } else {
                 writeln!(out, "{at}  {refused}")?;
                 work.map_or(Ok(()), |work| work.show(layout, out))?;

@@ -13,6 +13,7 @@ use crate::address::work::Working;
 use crate::common::failure::{Failure, Outcome};
 use crate::common::files::Files;
 use crate::common::kinds::Address;
+use crate::common::schema;
 use crate::explain::cause;
 use crate::input::lines::Lines;
 use crate::input::numbers;
@@ -96,7 +97,7 @@ fn one(
                 if let Some(work) = work {
                     value["work"] = work.json();
                 }
-                writeln!(out, "{value}")?;
+                schema::line(out, value)?;
             } else {
                 let shown = Address(address);
                 writeln!(out, "({x}, {y})  {shown}  {address}  run {run}")?;
@@ -113,7 +114,7 @@ fn one(
                 if let Some(work) = work {
                     value["work"] = work.json();
                 }
-                writeln!(out, "{value}")?;
+                schema::line(out, value)?;
             } else {
                 writeln!(out, "({x}, {y})  {refused}")?;
                 work.map_or(Ok(()), |work| work.show(layout, out))?;

@@ -2,6 +2,7 @@
 
 use crate::common::failure::{Failure, Outcome};
 use crate::common::kinds::Address;
+use crate::common::schema;
 use crate::common::settings::{self, Setting, Value};
 use crate::decode::settled;
 use crate::explain::cause;
@@ -71,7 +72,7 @@ pub fn answer(
             value["refused"] = json!(refused.number);
             value["cause"] = json!(refused.cause);
         }
-        writeln!(out, "{value}")?;
+        schema::line(out, value)?;
     } else {
         for owner in &owners {
             writeln!(out, "{at}  {}", owner.words())?;

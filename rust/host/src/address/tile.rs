@@ -2,6 +2,7 @@
 
 use crate::address::tiles::{tile_of, Tile, TILE_BYTES};
 use crate::common::failure::{Failure, Outcome};
+use crate::common::schema;
 use crate::input::numbers;
 use boundary::Layout;
 use clap::Args;
@@ -71,7 +72,7 @@ pub fn run(options: &Options, out: &mut dyn Write) -> Outcome {
         row.saturating_mul(tile.height),
     )?;
     if options.json {
-        writeln!(out, "{}", drawn.json()?)?;
+        schema::line(out, drawn.json()?)?;
         return Ok(());
     }
     let (wide, high) = drawn.block();

@@ -75,7 +75,8 @@ fn log(numbers: &mut Numbers, bytes: usize) -> Vec<u8> {
         let rest = words.saturating_sub(4 * frames as usize + 1) / 2;
         log = log.words(&[WAIT_FOR_IDLE, 0].repeat(rest));
     }
-    log.bytes
+    // The last day is over.
+    log.midnight(FIRST_DAY + DAYS).bytes
 }
 
 /// The log without this midnight.

@@ -17,16 +17,17 @@ pub struct EditionOption {
 }
 
 impl EditionOption {
-    /// The edition, or 3, which comes before all else.
     pub fn accepted(&self) -> Result<Edition, Refused> {
-        let number = self.number;
-        Edition::of(number).map_err(|refusal| {
-            cause::refused(
-                refusal,
-                Some(format!("edition {number} is neither 1 nor 2")),
-            )
-        })
+        accepted(self.number)
     }
+}
+
+/// The edition of this number, or 3, which comes before all else.
+pub fn accepted(number: u32) -> Result<Edition, Refused> {
+    Edition::of(number).map_err(|refusal| {
+        let cause = format!("edition {number} is neither 1 nor 2");
+        cause::refused(refusal, Some(cause))
+    })
 }
 
 /// What is told of an edition that was refused.

@@ -13,6 +13,7 @@ pub mod kinds;
 pub mod names;
 pub mod output;
 pub mod replaced;
+pub mod schema;
 pub mod settings;
 pub mod sheet;
 pub mod text;

@@ -31,6 +31,18 @@ pub fn paragraph(out: &mut dyn Write, head: &str, text: &str) -> Outcome {
     Ok(())
 }
 
+/// Lines below a heading, where there are any.
+pub fn list(out: &mut dyn Write, heading: &str, lines: impl Iterator<Item = String>) -> Outcome {
+    for (place, line) in lines.enumerate() {
+        if place == 0 {
+            writeln!(out)?;
+            writeln!(out, "{heading}")?;
+        }
+        writeln!(out, "  {line}")?;
+    }
+    Ok(())
+}
+
 /// "1 word", "2 words".
 pub fn count(number: u64, what: &str) -> String {
     match number {

@@ -5,6 +5,7 @@ use crate::address::tiles;
 use crate::common::failure::Outcome;
 use crate::common::kinds::{Address, Position, Word};
 use crate::common::names::{FormatWord, Kind};
+use crate::common::schema;
 use crate::common::settings::{self, Setting, Value as SettingValue};
 use crate::decode::walk::{Came, Form, Output, Ready, Seen, Start, Totals};
 use boundary::{Format, Layout, Party};
@@ -42,8 +43,7 @@ impl Form for Json<'_> {
             _ => {}
         }
         put_party(&mut value, seen.party);
-        writeln!(self.out, "{value}")?;
-        Ok(())
+        schema::line(self.out, value)
     }
 
     fn start(&mut self, start: &Start) -> Outcome {
@@ -69,8 +69,7 @@ impl Form for Json<'_> {
             "settings": settings,
         });
         put_party(&mut value, start.party);
-        writeln!(self.out, "{value}")?;
-        Ok(())
+        schema::line(self.out, value)
     }
 
     fn end(&mut self, totals: &Totals) -> Outcome {
@@ -105,8 +104,7 @@ impl Form for Json<'_> {
             "ready": ready(&totals.ready),
         }});
         put_party(&mut value["summary"], totals.party);
-        writeln!(self.out, "{value}")?;
-        Ok(())
+        schema::line(self.out, value)
     }
 
     fn ready(&mut self, party: Option<Party>, position: Position, change: &Ready) -> Outcome {
@@ -116,8 +114,7 @@ impl Form for Json<'_> {
         let mut value = ready(change);
         value["position"] = json!(position.0);
         put_party(&mut value, party);
-        writeln!(self.out, "{value}")?;
-        Ok(())
+        schema::line(self.out, value)
     }
 }
 

@@ -2,6 +2,7 @@
 
 use crate::common::failure::{Failure, Outcome};
 use crate::common::kinds::Position;
+use crate::common::schema;
 use crate::common::settings::Setting;
 use crate::decode::walk::{self, Quiet};
 use crate::input::source::Source;
@@ -40,7 +41,7 @@ pub fn read(
         if as_json {
             let refusal =
                 json!({"position": at, "refused": refused.number, "cause": refused.cause});
-            writeln!(out, "{}", json!({ "stream": refusal }))?;
+            schema::line(out, json!({ "stream": refusal }))?;
         } else {
             writeln!(
                 out,

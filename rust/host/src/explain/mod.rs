@@ -4,6 +4,7 @@ pub mod cause;
 mod refusals;
 
 use crate::common::failure::{Failure, Outcome};
+use crate::common::schema;
 use crate::common::text;
 use crate::explain::refusals::Refusal;
 use crate::input::numbers;
@@ -34,7 +35,7 @@ pub fn run(options: &Options, out: &mut dyn Write) -> Outcome {
         ))
     })?;
     if options.json {
-        writeln!(out, "{}", as_json(refusal))?;
+        schema::line(out, as_json(refusal))?;
     } else {
         one(refusal, out)?;
     }
@@ -44,7 +45,7 @@ pub fn run(options: &Options, out: &mut dyn Write) -> Outcome {
 fn list(json: bool, out: &mut dyn Write) -> Outcome {
     for refusal in &refusals::ALL {
         if json {
-            writeln!(out, "{}", as_json(refusal))?;
+            schema::line(out, as_json(refusal))?;
         } else {
             let head = format!("{:2}  ", refusal.number);
             text::paragraph(out, &head, refusal.cause)?;

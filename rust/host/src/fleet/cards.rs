@@ -15,8 +15,13 @@ use std::path::{Path, PathBuf};
 /// How a card of ours names itself.
 const BY: &str = " by egretfold ";
 
+/// The file of a station's card in a folder.
+pub fn file(folder: &Path, station: &str) -> PathBuf {
+    folder.join(name_of(station))
+}
+
 /// The name of a station's card.
-fn name_of(station: &str) -> String {
+pub fn name_of(station: &str) -> String {
     format!("{}.svg", plain(station))
 }
 
@@ -56,7 +61,7 @@ pub fn faults(folder: &Path, rows: &[Row]) -> Vec<Fault> {
         faults.push(fault(rows[place].line, "station", cause));
     }
     for row in rows {
-        let name = folder.join(name_of(row.station()));
+        let name = file(folder, row.station());
         if let Err(Failure::Wrong(cause)) = Replaced::new(&name, Kind::Svg) {
             faults.push(fault(row.line, "station", cause));
         }
@@ -79,7 +84,7 @@ pub fn are_apart(stations: &[&str]) -> Outcome {
 /// Names the cards of these stations among the files of the line.
 pub fn name<'a>(folder: &Path, stations: impl Iterator<Item = &'a str>, files: &mut Files) {
     for station in stations {
-        files.writes("--cards", Some(&folder.join(name_of(station))));
+        files.writes("--cards", Some(&file(folder, station)));
     }
 }
 
@@ -95,16 +100,20 @@ pub fn folder(folder: &Path) -> Outcome {
     })
 }
 
-/// Writes each station's card, in place of an earlier one, and tells of others that stand
-/// there.
-pub fn write(fleet: &Fleet, folder: &Path, files: &mut Files) {
+/// Writes each station's card, in place of an earlier one, and where that is asked tells of others
+/// that stand there.
+pub fn write(fleet: &Fleet, folder: &Path, tells_others: bool, files: &mut Files) {
     let mut names = HashSet::new();
     for card in fleet.cards() {
-        let name = folder.join(name_of(station(&card)));
+        let name = file(folder, station(&card));
         Replaced::at(&name, Kind::Svg).write(picture::svg(&card), files);
         names.insert(name);
     }
-    for other in others(folder, &names) {
+    if !tells_others {
+        return;
+    }
+    let is_ours = |path: &PathBuf| fs::read_to_string(path).map_or(false, |text| text.contains(BY));
+    for other in beside(folder, &names).into_iter().filter(is_ours) {
         let other = visible::line(&other.display().to_string());
         // Where standard error is closed, the cards must do.
         let _ = writeln!(
@@ -114,15 +123,13 @@ pub fn write(fleet: &Fleet, folder: &Path, files: &mut Files) {
     }
 }
 
-/// Cards that stand there and are none of these.
-fn others(folder: &Path, names: &HashSet<PathBuf>) -> Vec<PathBuf> {
+/// Pictures that stand there and are none of these.
+pub fn beside(folder: &Path, names: &HashSet<PathBuf>) -> Vec<PathBuf> {
     let entries = fs::read_dir(folder).into_iter().flatten().flatten();
     let entries = entries.map(|entry| folder.join(entry.file_name()));
     let is_svg = |path: &PathBuf| path.extension().map_or(false, |end| end == "svg");
-    let is_ours = |path: &PathBuf| fs::read_to_string(path).map_or(false, |text| text.contains(BY));
     let mut others: Vec<PathBuf> = entries
         .filter(|path| is_svg(path) && !names.contains(path))
-        .filter(is_ours)
         .collect();
     others.sort();
     others

@@ -5,6 +5,7 @@ use crate::common::text;
 use crate::fleet::held;
 use crate::fleet::kept::Kept;
 use crate::fleet::leases::Row;
+use crate::fleet::month::OF_THE_FLEET;
 use crate::fleet::scores::Came;
 use crate::fleet::stations::{refused, Group};
 use crate::score::asked::{Asked, LeaseLine};
@@ -13,6 +14,13 @@ use crate::score::civil::Date;
 use crate::score::issue::VERSION;
 use boundary::Edition;
 use std::collections::HashMap;
+
+/// The checks that are told of scores as they are joined, by their keys: no log tells them.
+pub const OF_THE_JOIN: [&str; 3] = [OTHER_ISSUE, OTHER_VERSION, OTHER_LEASE];
+
+const OTHER_ISSUE: &str = "other_issue";
+const OTHER_VERSION: &str = "other_version";
+const OTHER_LEASE: &str = "other_lease";
 
 /// What scores are joined by.
 pub struct By<'a> {
@@ -56,16 +64,27 @@ fn tell_others(cards: &mut [Came], issued: Date) {
     for Came { card, place } in cards {
         let (date, version) = (card.issue().date, card.issue().version.to_string());
         if date != issued {
-            let text = format!("its score was issued on {date}, and others on {issued}: {place}");
-            card.check(Check::new("other_issue", text, None));
+            let text = format!("its score was issued on {date}, where {issued} is due: {place}");
+            card.check(Check::new(OTHER_ISSUE, text, None));
         }
         if version != VERSION {
             let text = format!(
                 "its score was printed by egretfold {version}, and is joined by {VERSION}: {place}"
             );
-            card.check(Check::new("other_version", text, None));
+            card.check(Check::new(OTHER_VERSION, text, None));
         }
     }
+}
+
+/// Puts what was told as a card's score was joined among the checks that are told anew, behind those of its log.
+pub fn say_again(checks: &mut Vec<Check>, said: &[Check]) {
+    let of_the_fleet = |check: &Check| OF_THE_FLEET.contains(&&*check.key);
+    let place = checks.iter().position(of_the_fleet);
+    let place = place.unwrap_or(checks.len());
+    let said = said
+        .iter()
+        .filter(|check| OF_THE_JOIN.contains(&&*check.key));
+    checks.splice(place..place, said.cloned());
 }
 
 /// Scores of other days than most: without a lease file nobody else knows that they are another month's.
@@ -91,7 +110,7 @@ fn tell_other_leases(cards: &mut [Came]) {
             lease(&came.card),
             came.place
         );
-        came.card.check(Check::new("other_lease", text, None));
+        came.card.check(Check::new(OTHER_LEASE, text, None));
     }
 }
 

@@ -409,6 +409,7 @@ impl Reading<'_> {
             saves: false,
             repeats: false,
             files: files.unwrap_or_default(),
+            called: None,
             issue: Issue::of([&station, &lessee, &number, &zone], issued),
         };
         let lease = self.lease(&asked)?;

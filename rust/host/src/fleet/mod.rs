@@ -4,7 +4,8 @@
 //! side by `stations`, and added to the product's report. `commands` gives the lines for
 //! scoring elsewhere, `scores` reads what they print, and `join` holds it against the lease
 //! file. A `month` of cards, each `kept` small, is told as `text`, as `rows`, as a `page` and
-//! as a folder of `cards`.
+//! as a folder of `cards`, which `verify` holds against their logs; `lessees` has what each
+//! lessee's stations come to.
 
 mod cards;
 pub mod cells;
@@ -14,13 +15,15 @@ mod held;
 mod join;
 mod kept;
 mod leases;
+mod lessees;
 pub mod month;
 pub mod page;
 mod rows;
-mod scores;
+pub mod scores;
 mod states;
-mod stations;
+pub mod stations;
 pub mod text;
+mod verify;
 mod workers;
 
 use crate::common::digits::Digits;
@@ -31,7 +34,9 @@ use crate::common::replaced::{Goes, Kind};
 use crate::fleet::join::By;
 use crate::fleet::kept::Kept;
 use crate::fleet::leases::{Leases, Row};
-use crate::fleet::month::{Fleet, Sort};
+use crate::fleet::month::{Fleet, Only, Sort};
+use crate::fleet::page::linked::{self, Linked};
+use crate::fleet::stations::Group;
 use crate::replay::pieces::RepeatOption;
 use crate::score::civil::Date;
 use crate::score::issue;
@@ -52,12 +57,17 @@ is read from nothing.
 A station whose log is refused or can't be read is told in its row, and the others are scored.
 Exit status: 0 all full or nothing owed, 3 one is short, 1 one has no score, 2 a wrong command line or
 lease file.
+With --verify each card is verified, differs, or is unreadable, missing or nobody's, as egretfold verify --help tells, and its
+lease line and names are held against the lease file's. Exit status: 0 all are verified, 1 one differs, is missing or is
+nobody's, 2 one is unreadable.
 
 Examples, from the repository's root:
   egretfold fleet samples/leases.csv
   egretfold fleet samples/leases.csv --sort station --csv
   egretfold fleet samples/leases.csv --csv-days
   egretfold fleet samples/leases.csv --html april.html --cards cards
+  egretfold fleet samples/leases.csv --verify cards
+  egretfold fleet samples/leases.csv --lessee Harbour --only short
   egretfold fleet samples/leases.csv --commands | sh >scores; egretfold fleet samples/leases.csv --from-scores scores";
 
 #[derive(Args)]
@@ -73,7 +83,7 @@ pub struct Options {
     #[arg(long, requires = "from_scores", requires = "leases")]
     check_logs: bool,
     /// Print the line of score --json for each station, and read no log
-    #[arg(long, conflicts_with_all = ["from_scores", "json", "csv", "csv_days", "plain", "html", "cards"])]
+    #[arg(long, conflicts_with_all = ["from_scores", "json", "csv", "csv_days", "csv_lessees", "plain", "html", "cards", "only"])]
     commands: bool,
     /// Print the lines of those stations alone that have no score in these files, or one that says that the log couldn't
     /// be read
@@ -82,25 +92,42 @@ pub struct Options {
     /// The order of the stations
     #[arg(long, value_enum, default_value_t = Sort::Worst)]
     sort: Sort,
-    /// One JSON object a station and for the fleet, a line each
-    #[arg(long, conflicts_with = "csv")]
+    /// The stations of this lessee alone; where no scores are joined, no other log is read
+    #[arg(long, value_name = "NAME")]
+    lessee: Option<String>,
+    /// Tell these stations alone; totals, cards and exit status are of all
+    #[arg(long, value_enum, value_name = "KIND")]
+    only: Option<Only>,
+    /// One JSON object a station, a lessee and for the fleet, a line each
+    #[arg(long, conflicts_with_all = ["csv", "csv_lessees"])]
     json: bool,
     /// One row of comma-separated values a station
-    #[arg(long)]
+    #[arg(long, conflicts_with = "csv_lessees")]
     csv: bool,
     /// One row of comma-separated values for each day of each station that has a score
-    #[arg(long, conflicts_with_all = ["json", "csv"])]
+    #[arg(long, conflicts_with_all = ["json", "csv", "csv_lessees"])]
     csv_days: bool,
+    /// One row of comma-separated values a lessee, of what its stations come to
+    #[arg(long, conflicts_with = "only")]
+    csv_lessees: bool,
     /// Large numbers without commas between their digits
-    #[arg(long, conflicts_with_all = ["json", "csv", "csv_days"])]
+    #[arg(long, conflicts_with_all = ["json", "csv", "csv_days", "csv_lessees"])]
     plain: bool,
-    /// Write the month as a page for a browser, whole in this file; an earlier page of ours there is replaced,
-    /// nothing else; - for standard output, in place of the text
+    /// Write the month as a page for a browser, into this file; an earlier page of ours there is replaced,
+    /// nothing else; - for standard output, in place of the text. With more than 100 stations their cards are files beside it, in the
+    /// folder of --cards, or of april.html in april-cards
     #[arg(long, value_name = "FILE")]
     html: Option<PathBuf>,
+    /// Keep all cards in the page, however many stations there are
+    #[arg(long, requires = "html")]
+    one_file: bool,
     /// Draw each station's card into this folder, in place of its earlier one
     #[arg(long, value_name = "DIR")]
     cards: Option<PathBuf>,
+    /// Hold each station's card in this folder, which --cards wrote, against its log, which is scored anew
+    #[arg(long, value_name = "FOLDER", requires = "leases",
+        conflicts_with_all = ["from_scores", "commands", "csv", "csv_days", "plain", "html", "cards", "save_states", "sort", "issued"])]
+    verify: Option<PathBuf>,
     /// Save each station's state at its log's end in this folder, by the station's name, for the column state of the next
     /// month's lease file; an earlier state of the same station there is replaced, nothing else
     #[arg(long, value_name = "FOLDER", conflicts_with = "from_scores")]
@@ -130,8 +157,9 @@ impl Options {
 
 pub fn run(options: &Options, files: &mut Files, out: &mut dyn Write) -> Outcome {
     let edition = options.edition.accepted().map_err(edition::refused)?;
-    let for_programs = options.json || options.csv || options.csv_days;
-    let form = for_programs.then_some("--json, --csv and --csv-days");
+    let rows = [options.csv, options.csv_days, options.csv_lessees];
+    let for_programs = options.json || rows.contains(&true);
+    let form = for_programs.then_some("--json, --csv, --csv-days and --csv-lessees");
     let html = Goes::asked(options.html.as_deref(), Kind::Html, form)?;
     let date = issue::day_of(options.issued);
     let rows = match &options.leases {
@@ -148,25 +176,20 @@ pub fn run(options: &Options, files: &mut Files, out: &mut dyn Write) -> Outcome
             Some(scored) => join::missing(scores::read(scored)?, rows)?,
             None => rows,
         };
-        return commands::tell(&rows, out);
+        return commands::tell(&options.asked_for(rows), out);
     }
     let joined = match &options.from_scores {
-        Some(scored) => {
-            let by = By {
-                rows: rows.as_deref(),
-                logs: options.check_logs,
-                issued: options.issued,
-            };
-            Some(join::joined(scores::read(scored)?, &by)?)
-        }
+        Some(scored) => Some(options.joined(scored, rows.as_deref())?),
         None => None,
     };
+    let asked_for = rows.as_deref().map(|rows| options.count(rows));
     let stations = joined.as_ref().map(|joined| joined.cards.len());
-    let stations = stations.max(rows.as_ref().map(Vec::len)).unwrap_or(0);
+    let stations = stations.or(asked_for).unwrap_or(0);
     if options.html.is_some() {
         page::holds(stations)?;
     }
-    if let Some(folder) = &options.cards {
+    let folder = options.cards_folder(stations);
+    if let Some(folder) = &folder {
         if let (Some(joined), None) = (&joined, &rows) {
             let stations: Vec<&str> = joined.cards.iter().map(Kept::station).collect();
             cards::are_apart(&stations)?;
@@ -177,19 +200,27 @@ pub fn run(options: &Options, files: &mut Files, out: &mut dyn Write) -> Outcome
     }
     let mut group = match joined {
         Some(joined) => joined,
-        None => stations::read(edition, rows.unwrap_or_default())?,
+        None => stations::read(edition, options.asked_for(rows.unwrap_or_default()))?,
     };
     files.states(std::mem::take(&mut group.states));
-    let fleet = Fleet::new(group, options.sort, date);
-    if let Some(folder) = &options.cards {
-        cards::write(&fleet, folder, files);
+    let fleet = Fleet::new(group, options.sort, options.only, date)?;
+    if let Some(folder) = &options.verify {
+        return verify::run(&fleet, folder, options.json, out);
     }
-    let told = html.write(|| page::html(&fleet), files, out);
-    let told = told.and_then(|()| match (options.json, options.csv) {
+    if let Some(folder) = &folder {
+        // Of one lessee, those of the others may stand there too.
+        cards::write(&fleet, folder, options.lessee.is_none(), files);
+    }
+    let linked = options.linked(stations, folder.as_deref());
+    let told = html.write(|| page::html(&fleet, linked.as_ref()), files, out);
+    let told = told.and_then(|()| match options {
         _ if html.is_standard() => Ok(()),
-        (true, _) => rows::json(&fleet, out),
-        (_, true) => rows::csv(&fleet, out),
-        _ if options.csv_days => rows::csv_days(&fleet, out),
+        Options { json: true, .. } => rows::json(&fleet, out),
+        Options { csv: true, .. } => rows::csv(&fleet, out),
+        Options { csv_days: true, .. } => rows::csv_days(&fleet, out),
+        Options {
+            csv_lessees: true, ..
+        } => lessees::csv(&fleet.subtotals, out),
         _ => text::tell(&fleet, Digits::plain(options.plain), out),
     });
     let outcome = fleet.outcome().map_err(|failure| {
@@ -202,8 +233,12 @@ pub fn run(options: &Options, files: &mut Files, out: &mut dyn Write) -> Outcome
 /// Names the files that the lease file tells of: the stations' cards, and their logs, which are read where there are no scores, and
 /// also by who runs the lines of --commands.
 fn name_rows(rows: &[Row], options: &Options, files: &mut Files) -> Outcome {
-    if let Some(folder) = &options.cards {
-        cards::name(folder, rows.iter().map(Row::station), files);
+    if let Some(folder) = &options.cards_folder(options.count(rows)) {
+        let stations = rows.iter().filter(|row| options.is_asked_for(row));
+        cards::name(folder, stations.map(Row::station), files);
+    }
+    if let Some(folder) = &options.verify {
+        verify::name(folder, rows, files)?;
     }
     for row in rows {
         for file in &row.asked.files {
@@ -223,7 +258,7 @@ impl Options {
         for row in &mut leases.rows {
             row.asked.repeats = self.repeat.repeated_pieces;
         }
-        if let Some(folder) = &self.cards {
+        if let Some(folder) = &self.cards_folder(self.count(&leases.rows)) {
             let faults = cards::faults(folder, &leases.rows);
             leases.add_faults(faults);
         }
@@ -236,6 +271,59 @@ impl Options {
             let faults = commands::faults(&leases.rows);
             leases.add_faults(faults);
         }
-        leases.rows()
+        let rows = leases.rows()?;
+        match &self.lessee {
+            Some(lessee) if self.count(&rows) == 0 => {
+                let known = rows.iter().map(|row| &row.asked.issue);
+                Err(lessees::unknown(lessee, known))
+            }
+            _ => Ok(rows),
+        }
+    }
+
+    /// Whether a row is of the lessee whose stations are asked for, or all are.
+    fn is_asked_for(&self, row: &Row) -> bool {
+        let lessee = self.lessee.as_deref();
+        lessee.map_or(true, |lessee| row.asked.issue.is_leased_to(lessee))
+    }
+
+    fn count(&self, rows: &[Row]) -> usize {
+        rows.iter().filter(|row| self.is_asked_for(row)).count()
+    }
+
+    fn asked_for(&self, rows: Vec<Row>) -> Vec<Row> {
+        let rows = rows.into_iter();
+        rows.filter(|row| self.is_asked_for(row)).collect()
+    }
+
+    /// The scores that came, of the lessee whose stations are asked for.
+    fn joined(&self, scored: &[PathBuf], rows: Option<&[Row]>) -> Outcome<Group> {
+        let by = By {
+            rows,
+            logs: self.check_logs,
+            issued: self.issued,
+        };
+        let joined = join::joined(scores::read(scored)?, &by)?;
+        match &self.lessee {
+            Some(lessee) => lessees::stations_of(lessee, joined),
+            None => Ok(joined),
+        }
+    }
+
+    /// Whether so many stations' cards are files that the page leads to.
+    fn is_linked(&self, stations: usize) -> bool {
+        let page = self.html.as_deref().filter(|page| *page != Path::new("-"));
+        page.is_some() && !self.one_file && stations > linked::WHOLE
+    }
+
+    /// Where cards are drawn: as it was asked, else beside the page of a large fleet.
+    fn cards_folder(&self, stations: usize) -> Option<PathBuf> {
+        let page = self.html.as_deref().filter(|_| self.is_linked(stations));
+        self.cards.clone().or_else(|| page.map(linked::beside))
+    }
+
+    fn linked(&self, stations: usize, folder: Option<&Path>) -> Option<Linked> {
+        let page = self.html.as_deref().filter(|_| self.is_linked(stations))?;
+        Some(Linked::new(page, folder?))
     }
 }

@@ -6,6 +6,7 @@ use crate::common::failure::{Failure, Outcome};
 use crate::common::text;
 use crate::fleet::files::name_order;
 use crate::fleet::kept::{Kept, Scored};
+use crate::fleet::lessees::{self, Subtotal};
 use crate::fleet::stations::Group;
 use crate::score::asked::Card;
 use crate::score::checks::Check;
@@ -32,6 +33,42 @@ pub enum Sort {
     Dark,
 }
 
+/// The checks that are told of stations beside each other, by their keys: a log by itself doesn't tell them.
+pub const OF_THE_FLEET: [&str; 2] = [SAME_LOG, OTHER_DAYS];
+
+const SAME_LOG: &str = "same_log";
+const OTHER_DAYS: &str = "other_days";
+
+/// The stations that are told.
+#[derive(Clone, Copy, Debug, PartialEq, Eq, ValueEnum)]
+pub enum Only {
+    /// Those whose month is short
+    Short,
+    /// Those whose month is full
+    Full,
+    /// Those that have no score
+    Unscored,
+}
+
+impl Only {
+    fn has(self, card: &Kept) -> bool {
+        let verdict = card.scored().map(|score| score.total.verdict);
+        match self {
+            Only::Short => verdict == Some(Verdict::Short),
+            Only::Full => verdict == Some(Verdict::Full),
+            Only::Unscored => verdict.is_none(),
+        }
+    }
+
+    fn told(self) -> &'static str {
+        match self {
+            Only::Short => "are short",
+            Only::Full => "are full",
+            Only::Unscored => "have no score",
+        }
+    }
+}
+
 pub struct Fleet {
     /// In the lease file's order.
     pub kept: Vec<Kept>,
@@ -39,18 +76,22 @@ pub struct Fleet {
     pub four: FleetTold,
     /// The place of the station with the smallest part.
     pub smallest: Option<usize>,
-    /// The places in the order in which they are told.
+    /// What each lessee's stations come to.
+    pub subtotals: Vec<Subtotal>,
+    /// The places of those that are told, in that order.
     order: Vec<usize>,
+    only: Option<Only>,
     /// When the report is issued.
     pub date: Date,
 }
 
 impl Fleet {
-    pub fn new(group: Group, sort: Sort, date: Date) -> Fleet {
+    pub fn new(group: Group, sort: Sort, only: Option<Only>, date: Date) -> Outcome<Fleet> {
         let mut kept = group.cards;
         tell_same_logs(&mut kept);
         tell_other_days(&mut kept);
-        let mut order: Vec<usize> = (0..kept.len()).collect();
+        let is_told = |place: &usize| only.map_or(true, |only| only.has(&kept[*place]));
+        let mut order: Vec<usize> = (0..kept.len()).filter(is_told).collect();
         // Stable, so that what is equal stays in the file's order.
         order.sort_by(|one, other| by(sort, &kept[*one], &kept[*other]));
         let four = group.report.tell();
@@ -60,13 +101,20 @@ impl Fleet {
             let mut scored = (0..kept.len()).filter(is_scored);
             scored.nth(number as usize)
         });
-        Fleet {
+        Ok(Fleet {
+            subtotals: lessees::subtotals(&kept)?,
             kept,
             four,
             smallest,
             order,
+            only,
             date,
-        }
+        })
+    }
+
+    /// How many stations are told.
+    pub fn count_told(&self) -> usize {
+        self.order.len()
     }
 
     /// The stations as they are told, with their places.
@@ -108,7 +156,7 @@ impl Fleet {
         self.scores().map(|score| score.count(kind)).sum()
     }
 
-    /// "14 stations: 1 short, 11 full, 1 refused, 1 not scored".
+    /// "14 stations: 1 short, 11 full, 1 refused, 1 not scored; told here: those that are short".
     pub fn heading(&self) -> String {
         let unscored = |refused: bool| {
             let is = |card: &&Kept| matches!(card, Kept::Unscored(one) if one.refused == refused);
@@ -126,7 +174,11 @@ impl Fleet {
             .map(|(count, kind)| format!("{count} {kind}"))
             .collect();
         let stations = text::count(self.kept.len() as u64, "station");
-        format!("{stations}: {}", kinds.join(", "))
+        let only = match self.only {
+            Some(only) => format!("; told here: those that {}", only.told()),
+            None => String::new(),
+        };
+        format!("{stations}: {}{only}", kinds.join(", "))
     }
 
     /// How the fleet ends: a station without a score weighs more than a short month.
@@ -216,7 +268,7 @@ fn tell_same_logs(kept: &mut [Kept]) {
     }
     for (place, others) in told {
         let text = format!("the log is byte for byte that of station {others} too");
-        kept[place].check(Check::new("same_log", text, None));
+        kept[place].check(Check::new(SAME_LOG, text, None));
     }
 }
 
@@ -251,7 +303,7 @@ fn tell_other_days(kept: &mut [Kept]) {
         let other = apart(card).and_then(|own| common.iter().find(|one| one.0 != own));
         if let Some((_, other)) = other {
             let text = format!("its days have other dates: {}, {other}", dated(card));
-            card.check(Check::new("other_days", text, None));
+            card.check(Check::new(OTHER_DAYS, text, None));
         }
     }
 }

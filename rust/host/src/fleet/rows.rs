@@ -2,6 +2,8 @@
 //! values.
 
 use crate::common::failure::Outcome;
+use crate::common::schema;
+use crate::fleet::lessees;
 use crate::fleet::month::{station, Fleet};
 use crate::score::asked::Card;
 use crate::score::checks::Check;
@@ -31,11 +33,13 @@ pub fn json(fleet: &Fleet, out: &mut dyn Write) -> Outcome {
                 value["unscored"] = json!({"name": unscored.name(), "why": unscored.why});
             }
         }
-        writeln!(out, "{value}")?;
+        schema::line(out, value)?;
     }
+    lessees::json(&fleet.subtotals, out)?;
     let four = &fleet.four;
     let mut value = json!({
         "stations": fleet.kept.len(),
+        "told": fleet.count_told(),
         "scored": fleet.scores().count(),
         "served": four.served,
         "owed": four.owed,
@@ -47,8 +51,7 @@ pub fn json(fleet: &Fleet, out: &mut dyn Write) -> Outcome {
     value["full_days"] = json!(fleet.days(Served::InFull));
     value["issued"] = json!(fleet.date.to_string());
     value["version"] = json!(VERSION);
-    writeln!(out, "{}", json!({ "fleet": value }))?;
-    Ok(())
+    schema::line(out, json!({ "fleet": value }))
 }
 
 fn put(score: &Score, value: &mut Value) {

@@ -1,18 +1,24 @@
-//! The lines of `score --json`, read back: a fleet that was scored elsewhere, joined.
+//! The lines of `score --json`, read back: a fleet that was scored elsewhere, joined; and for months
+//! side by side a fleet's own lines too.
 
 use crate::common::digest;
 use crate::common::failure::{Failure, Outcome};
+use crate::common::schema;
 use crate::common::visible;
 use crate::fleet::held;
+use crate::fleet::join::OF_THE_JOIN;
 use crate::fleet::kept::Kept;
+use crate::fleet::month::{self, OF_THE_FLEET};
 use crate::input::source::Source;
-use crate::score::asked::{accepted, dates, Card, LeaseLine, Unscored};
+use crate::score::asked::{accepted, dates, Called, Card, LeaseLine, Unscored};
 use crate::score::checks::Check;
 use crate::score::civil::Date;
 use crate::score::issue::Issue;
 use crate::score::month::{verdict_name, Began, Day, Score};
+use crate::score::outline::{self, Outline, Sums};
 use boundary::{Edition, Month, Verdict};
 use serde_json::Value;
+use std::borrow::Cow;
 use std::fmt;
 use std::path::PathBuf;
 use std::rc::Rc;
@@ -23,7 +29,7 @@ const LONGEST: usize = 1 << 29;
 /// A reading's own words for what is wrong.
 type Read<T> = Result<T, String>;
 
-/// Where a score stands among those that are joined.
+/// Where a score stands among those that are read.
 #[derive(Clone)]
 pub struct Place {
     file: Rc<str>,
@@ -42,6 +48,24 @@ pub struct Came {
     pub place: Place,
 }
 
+/// What a score's lines come to.
+enum Told {
+    /// The days and the summary that `score --json` prints.
+    Card(Card),
+    /// A station's line of `fleet --json`, which has no days.
+    Outline(Outline),
+}
+
+impl Told {
+    /// The station's name.
+    fn station(&self) -> &str {
+        match self {
+            Told::Card(card) => month::station(card),
+            Told::Outline(outline) => &outline.station,
+        }
+    }
+}
+
 /// A line of a file.
 struct Line {
     number: usize,
@@ -57,58 +81,115 @@ struct Wrong {
 /// The cards that these files tell, in their order.
 pub fn read(files: &[PathBuf]) -> Outcome<Vec<Came>> {
     let mut cards = Vec::new();
+    each(files, |place, told| match told {
+        Told::Card(card) => {
+            let card = Kept::of(card);
+            cards.push(Came { card, place });
+            Ok(())
+        }
+        Told::Outline(_) => Err(
+            "is a line of fleet --json, which has no days; join what score --json prints"
+                .to_string(),
+        ),
+    })?;
+    Ok(cards)
+}
+
+/// The months that these files tell, in their order, by `score --json` or by `fleet --json`.
+pub fn outlines(files: &[PathBuf]) -> Outcome<Vec<Outline>> {
+    let mut outlines = Vec::new();
+    each(files, |place, told| {
+        let outline = match told {
+            Told::Card(card) => Outline::of(&card),
+            Told::Outline(outline) => outline,
+        };
+        outlines.push(Outline {
+            place: place.to_string(),
+            ..outline
+        });
+        Ok(())
+    })?;
+    Ok(outlines)
+}
+
+/// Gives each score to `take`, with its file and line; standard input where no file is named.
+fn each(files: &[PathBuf], mut take: impl FnMut(Place, Told) -> Read<()>) -> Outcome {
+    let standard = [PathBuf::from("-")];
+    let files = match files {
+        [] => &standard,
+        files => files,
+    };
     for file in files {
         // One at a time: there may be a file a station.
         let mut source = Source::open(Some(file))?;
         let bytes = source.all(LONGEST)?;
         let file: Rc<str> = source.name.as_str().into();
+        // The station of the score before.
+        let mut before: Option<String> = None;
         let mut days = Vec::new();
         for (number, text) in (1..).zip(bytes.split(|byte| *byte == b'\n')) {
             if text.iter().all(|byte| byte.is_ascii_whitespace()) {
                 continue;
             }
-            let told = |wrong: Wrong, days: &[Line]| {
-                let line = wrong.line;
-                let place = Place {
-                    file: file.clone(),
-                    line,
-                };
-                let whose = whose(&String::from_utf8_lossy(text), days, cards.last());
+            let place = |line: usize| Place {
+                file: file.clone(),
+                line,
+            };
+            let wrong = |wrong: Wrong, days: &[Line]| {
+                let whose = whose(&String::from_utf8_lossy(text), days, before.as_deref());
+                let place = place(wrong.line);
                 Failure::Wrong(format!("{place}: {whose}{}\n  {AGAIN}", wrong.cause))
             };
-            let value: Value = serde_json::from_slice(text).map_err(|error| {
-                let cause = format!("is no JSON: {error}");
-                told(
-                    Wrong {
-                        line: number,
-                        cause,
-                    },
-                    &days,
-                )
-            })?;
-            match value.get("summary") {
-                Some(summary) => {
-                    let card = card(summary, &days, number).map_err(|wrong| told(wrong, &days))?;
-                    cards.push(Came {
-                        card: Kept::of(card),
-                        place: Place {
-                            file: file.clone(),
-                            line: number,
-                        },
-                    });
+            let here = |cause: String| Wrong {
+                line: number,
+                cause,
+            };
+            let value: Value = serde_json::from_slice(text)
+                .map_err(|error| wrong(here(format!("is no JSON: {error}")), &days))?;
+            match told(&value, &days, number).map_err(|cause| wrong(cause, &days))? {
+                Some(told) => {
+                    let station = told.station().to_string();
+                    take(place(number), told).map_err(|cause| wrong(here(cause), &days))?;
                     days.clear();
+                    before = Some(station);
                 }
+                None if is_sum(&value) => {}
                 None => days.push(Line { number, value }),
             }
         }
         if let Some(last) = days.last() {
-            let (line, whose) = (last.number, whose("", &days, cards.last()));
+            let (line, whose) = (last.number, whose("", &days, before.as_deref()));
             return Err(Failure::Wrong(format!(
                 "{file}: line {line}: {whose}the days are not followed by their summary: the lines are cut\n  {AGAIN}"
             )));
         }
     }
-    Ok(cards)
+    Ok(())
+}
+
+/// What this line ends, with the days before it; nothing where it is a day itself, or a fleet's sum.
+fn told(value: &Value, days: &[Line], line: usize) -> Result<Option<Told>, Wrong> {
+    let wrong = |cause| Wrong { line, cause };
+    schema::is_known(value).map_err(wrong)?;
+    if let Some(summary) = value.get("summary") {
+        return card(summary, days, line).map(Told::Card).map(Some);
+    }
+    match value.get("lease") {
+        Some(_) if days.is_empty() => {
+            let outline = outline(value).map_err(wrong)?;
+            Ok(Some(Told::Outline(outline)))
+        }
+        Some(_) => {
+            let cause = "a station's line stands where the days' summary is due";
+            Err(wrong(cause.to_string()))
+        }
+        None => Ok(None),
+    }
+}
+
+/// A fleet's or a lessee's own line, which its stations' come to.
+fn is_sum(value: &Value) -> bool {
+    value.get("fleet").is_some() || value.get("subtotal").is_some()
 }
 
 /// What to do about lines that aren't as they were printed.
@@ -116,7 +197,7 @@ const AGAIN: &str =
     "take the station's lines away, and score it again: fleet --commands --missing prints its line";
 
 /// Whose lines these are: by the line itself, also where it is cut, else by its days, else by what stands before them.
-fn whose(text: &str, days: &[Line], before: Option<&Came>) -> String {
+fn whose(text: &str, days: &[Line], before: Option<&str>) -> String {
     let of_line = text.split_once(r#""station":""#).map(|(_, rest)| rest);
     let of_line = of_line.and_then(|rest| rest.split_once('"'));
     let of_line = of_line.map(|(name, _)| visible::line(name));
@@ -126,7 +207,7 @@ fn whose(text: &str, days: &[Line], before: Option<&Came>) -> String {
     };
     match (of_line.or_else(of_days), before) {
         (Some(name), _) => format!("station {name}: "),
-        (None, Some(before)) => format!("behind station {}: ", before.card.station()),
+        (None, Some(before)) => format!("behind station {before}: "),
         (None, None) => String::new(),
     }
 }
@@ -152,14 +233,7 @@ type Dated = (LeaseLine, Option<Date>);
 
 /// The lease, and whose card it is.
 fn head(summary: &Value) -> Read<(Dated, Issue)> {
-    let lease = &summary["lease"];
-    let line = LeaseLine {
-        first_day: short(lease, "first_day")?,
-        days: short(lease, "days")?,
-        owed: short(lease, "owed")?,
-    };
-    let from = optional(lease, "from")?;
-    let from = from.map(|text| Date::parse(&text)).transpose()?;
+    let (line, from) = lease_line(summary)?;
     let issue = Issue {
         station: optional(summary, "station")?,
         lessee: optional(summary, "lessee")?,
@@ -167,19 +241,146 @@ fn head(summary: &Value) -> Read<(Dated, Issue)> {
         zone: optional(summary, "time_zone")?,
         date: Date::parse(&text(summary, "issued")?)?,
         version: text(summary, "version")?.into(),
+        archive: optional(summary, "archive")?.map(Cow::from),
     };
     Ok(((line, from), issue))
 }
 
+/// What a card says of itself that no log tells, by which it can be made anew.
+pub struct Said {
+    /// The number of its edition.
+    pub edition: u32,
+    pub line: LeaseLine,
+    pub from: Option<Date>,
+    pub issue: Issue,
+    pub called: Called,
+    /// Whether it says that there is a score.
+    pub scored: bool,
+    /// What a fleet's card is to be checked for beside other stations.
+    pub checks: Vec<Check>,
+}
+
+/// The same of its summary, whose figures aren't asked about.
+pub fn said(summary: &Value) -> Read<Said> {
+    let ((line, from), issue) = head(summary)?;
+    let scored = summary.get("unscored").is_none();
+    let inputs = match scored {
+        true => texts(&summary["log"], "inputs")?,
+        false => texts(summary, "inputs")?,
+    };
+    let began = began(&summary["began_from"])?;
+    // What is none isn't one that can be told again, and is found where the figures are compared.
+    let checks = summary["checks"].as_array().into_iter().flatten();
+    let checks = checks.filter_map(|value| check(value).ok());
+    let is_said = |key: &str| OF_THE_FLEET.contains(&key) || OF_THE_JOIN.contains(&key);
+    let checks = checks.filter(|check| is_said(&check.key));
+    // None of them explains a short month.
+    let checks = checks.map(|check| Check::new(&check.key, check.text, None));
+    Ok(Said {
+        edition: short(summary, "edition")?,
+        line,
+        from,
+        issue,
+        called: Called {
+            inputs,
+            state: began.map(|began| began.state),
+        },
+        scored,
+        checks: checks.collect(),
+    })
+}
+
+fn edition(value: &Value) -> Read<Edition> {
+    let number = short(value, "edition")?;
+    Edition::of(number).map_err(|_| format!("there is no edition {number}"))
+}
+
+/// The lease line with its first date.
+fn lease_line(value: &Value) -> Read<Dated> {
+    let lease = &value["lease"];
+    let line = LeaseLine {
+        first_day: short(lease, "first_day")?,
+        days: short(lease, "days")?,
+        owed: short(lease, "owed")?,
+    };
+    let from = optional(lease, "from")?;
+    let from = from.map(|text| Date::parse(&text)).transpose()?;
+    Ok((line, from))
+}
+
+/// A station's line of `fleet --json`.
+fn outline(value: &Value) -> Read<Outline> {
+    let (line, from) = lease_line(value)?;
+    let came = match value.get("unscored") {
+        Some(told) => {
+            let (refused, why) = why(told)?;
+            outline::Came::Unscored { refused, why }
+        }
+        None => {
+            let lease = accepted(line).map_err(|refused| refused.to_string())?;
+            dates(from, &lease)?;
+            edition(value)?;
+            outline::Came::Scored(sums(value, &line)?)
+        }
+    };
+    Ok(Outline {
+        station: text(value, "station")?,
+        lessee: optional(value, "lessee")?,
+        edition: short(value, "edition")?,
+        line,
+        from,
+        came,
+        place: String::new(),
+    })
+}
+
+/// Sums that days of this lease can come to.
+fn sums(value: &Value, line: &LeaseLine) -> Read<Sums> {
+    let (served, owed) = (long(value, "served")?, long(value, "owed")?);
+    // Dark days were called silent before.
+    let named = |key: &'static str, before: &'static str| match value.get(key) {
+        Some(_) => key,
+        None => before,
+    };
+    let dark = list(value, named("dark", "silent"))?.iter();
+    let dark = dark.map(|day| day.as_u64().and_then(|day| u32::try_from(day).ok()));
+    let dark: Option<Vec<u32>> = dark.collect();
+    let sums = Sums {
+        served,
+        owed,
+        full_days: long(value, "full_days")?,
+        part_days: long(value, "part_days")?,
+        dark: dark.ok_or_else(|| missing("dark"))?,
+        verdict: verdict(served, owed),
+        explained: optional(value, "explained")?,
+    };
+    let is_told = text(value, "verdict")? == verdict_name(sums.verdict)
+        && long(value, named("dark_days", "silent_days"))? == sums.dark.len() as u64;
+    match is_told && sums.are_of(line) {
+        true => Ok(sums),
+        false => Err("its numbers are no month's of this lease".to_string()),
+    }
+}
+
+/// Whether a month was refused, and why there is no score.
+fn why(told: &Value) -> Read<(bool, String)> {
+    let why = told["why"].as_str().ok_or_else(|| missing("why"))?;
+    Ok((
+        text(told, "name")? == Unscored::name_of(true),
+        visible::lines(why),
+    ))
+}
+
 fn unscored(summary: &Value, told: &Value, (line, from): Dated, issue: Issue) -> Read<Card> {
+    let (refused, why) = why(told)?;
     let unscored = Unscored {
         edition: short(summary, "edition")?,
         line,
         from,
         inputs: texts(summary, "inputs")?,
         issue,
-        refused: text(told, "name")? == "REFUSED",
-        why: visible::lines(told["why"].as_str().ok_or_else(|| missing("why"))?),
+        refused,
+        why,
         refusal: summary["refusal"].clone(),
         log: summary["log"].clone(),
     };
@@ -225,10 +426,8 @@ fn scored(summary: &Value, read: Vec<Day>, (line, _): Dated, issue: Issue) -> Re
     let checks: Read<Vec<Check>> = list(summary, "checks")?.iter().map(check).collect();
     let checks = checks?;
     held::agree(&read, &checks)?;
-    let edition = short(summary, "edition")?;
-    let edition = Edition::of(edition).map_err(|_| format!("there is no edition {edition}"))?;
     let score = Score {
-        edition,
+        edition: edition(summary)?,
         lease,
         inputs: texts(&summary["log"], "inputs")?,
         digest: optional(summary, "sha256")?.map(digested).transpose()?,
@@ -277,11 +476,7 @@ fn day(value: &Value, line: &LeaseLine, place: u32, date: Option<Date>) -> Read<
 fn month(summary: &Value, days: &[Day]) -> Read<Month> {
     let served = days.iter().map(|day| day.served).sum();
     let owed = days.iter().map(|day| day.owed).sum();
-    let verdict = match (served, owed) {
-        (_, 0) => Verdict::NothingOwed,
-        (served, owed) if served == owed => Verdict::Full,
-        _ => Verdict::Short,
-    };
+    let verdict = verdict(served, owed);
     let told = (long(summary, "served")?, long(summary, "owed")?);
     if told != (served, owed) || text(summary, "verdict")? != verdict_name(verdict) {
         return Err("the month isn't what its days come to".to_string());
@@ -292,6 +487,14 @@ fn month(summary: &Value, days: &[Day]) -> Read<Month> {
         owed,
         verdict,
     })
+}
+
+fn verdict(served: u64, owed: u64) -> Verdict {
+    match (served, owed) {
+        (_, 0) => Verdict::NothingOwed,
+        (served, owed) if served == owed => Verdict::Full,
+        _ => Verdict::Short,
+    }
 }
 
 fn check(value: &Value) -> Read<Check> {

@@ -4,9 +4,10 @@ use crate::common::digits::Digits;
 use crate::common::failure::Outcome;
 use crate::common::text;
 use crate::fleet::kept::Kept;
+use crate::fleet::lessees;
 use crate::fleet::month::{station, Fleet};
 use crate::score::asked::Card;
-use crate::score::month::{Day, Percent, Score, Served};
+use crate::score::month::{shown, Day, Score, Served};
 use std::io::Write;
 
 /// A row's columns but the last, which is as long as it is.
@@ -29,26 +30,15 @@ pub fn tell(fleet: &Fleet, digits: Digits, out: &mut dyn Write) -> Outcome {
     }
     writeln!(out)?;
     table(fleet, digits, out)?;
+    lessees::text(&fleet.subtotals, digits, out)?;
     writeln!(out)?;
     writeln!(out, "{}", four(fleet, digits))?;
     let dark = fleet.told().filter_map(|(_, card)| dark_days(&card));
-    list(out, "dark days:", dark)?;
+    text::list(out, "dark days:", dark)?;
     let checks = fleet.told().flat_map(|(_, card)| checks(&card));
-    list(out, "check before sending:", checks)?;
+    text::list(out, "check before sending:", checks)?;
     let unscored = fleet.told().filter_map(|(_, card)| unscored(&card));
-    list(out, "no score:", unscored)
-}
-
-/// Lines below a heading, where there are any.
-fn list(out: &mut dyn Write, heading: &str, lines: impl Iterator<Item = String>) -> Outcome {
-    for (place, line) in lines.enumerate() {
-        if place == 0 {
-            writeln!(out)?;
-            writeln!(out, "{heading}")?;
-        }
-        writeln!(out, "  {line}")?;
-    }
-    Ok(())
+    text::list(out, "no score:", unscored)
 }
 
 /// The four numbers of the stations that have a score.
@@ -178,16 +168,12 @@ fn row(card: &Card, digits: Digits) -> Row {
             lessee,
             digits.of(score.month.served),
             digits.of(score.month.owed),
-            part(score.percent()),
+            shown(score.percent(), "-"),
             score.count(Served::Dark).to_string(),
             score.count(Served::InFull).to_string(),
         ],
         behind: format!("{}{explained}", score.verdict_name()),
     }
-}
-
-fn part(percent: Option<Percent>) -> String {
-    percent.map_or_else(|| "-".to_string(), |percent| percent.to_string())
 }
 
 fn total(fleet: &Fleet, digits: Digits) -> Row {
@@ -197,7 +183,7 @@ fn total(fleet: &Fleet, digits: Digits) -> Row {
             String::new(),
             digits.of(fleet.four.served),
             digits.of(fleet.four.owed),
-            part(fleet.percent()),
+            shown(fleet.percent(), "-"),
             fleet.four.silent_days.to_string(),
             fleet.days(Served::InFull).to_string(),
         ],

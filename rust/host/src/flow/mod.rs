@@ -8,6 +8,7 @@ mod steps;
 use crate::common::failure::{Failure, Outcome};
 use crate::common::files::Files;
 use crate::common::kinds::{SlotNumber, Word};
+use crate::common::schema;
 use crate::common::text;
 use crate::explain::cause::{self, Refused};
 use crate::flow::kills::Kill;
@@ -286,7 +287,7 @@ fn step_all(
             looping,
         };
         if options.json {
-            writeln!(out, "{}", row.json())?;
+            schema::line(out, row.json())?;
         } else {
             writeln!(out, "{}", row.text())?;
         }
@@ -311,7 +312,7 @@ fn kill_row(
     match kill.make(program, group) {
         Ok(killed) => {
             if options.json {
-                writeln!(out, "{}", kill.json(number, killed, group))?;
+                schema::line(out, kill.json(number, killed, group))?;
             } else {
                 writeln!(out, "{}", kill.text(number, killed, group))?;
             }
@@ -404,7 +405,7 @@ fn show_report(
         value["active"] = json!(active);
         value["killed"] = json!(Word(group.killed()).to_string());
         value["ended"] = json!(ended);
-        writeln!(out, "{}", json!({ "run": value }))?;
+        schema::line(out, json!({ "run": value }))?;
         return Ok(());
     }
     let what = if ended { "program has" } else { "masks have" };
@@ -452,7 +453,7 @@ fn show_refused(
         if let Some(steps) = in_full {
             value["steps_in_full_mode"] = json!(steps);
         }
-        writeln!(out, "{}", json!({ "run": value }))?;
+        schema::line(out, json!({ "run": value }))?;
     } else {
         writeln!(out, "{step:>4}  {number:>4}  {call}{refused}")?;
         let number = refused.number;

@@ -2,6 +2,7 @@
 
 use crate::common::failure::Outcome;
 use crate::common::kinds::{SlotNumber, Word};
+use crate::common::schema;
 use crate::flow::loops;
 use crate::flow::slots::{self, Slot};
 use boundary::{Group, Mode, Program, Stepped};
@@ -28,7 +29,7 @@ pub fn list(
             if let Some(cause) = forbidden {
                 value["forbidden"] = json!(cause);
             }
-            writeln!(out, "{value}")?;
+            schema::line(out, value)?;
         } else {
             let cause = forbidden.map_or(String::new(), |cause| format!("; {cause}"));
             let fields = slot.words();

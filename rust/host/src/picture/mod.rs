@@ -9,6 +9,7 @@ use crate::common::failure::{Failure, Outcome};
 use crate::common::file::Place;
 use crate::common::files::Files;
 use crate::common::kinds::Address;
+use crate::common::schema;
 use crate::common::settings::{self, Setting, Value};
 use crate::common::text;
 use crate::common::visible;
@@ -390,7 +391,7 @@ fn told(
             "file": file,
             "bytes": bytes,
         });
-        writeln!(out, "{}", json!({ "picture": value }))?;
+        schema::line(out, json!({ "picture": value }))?;
         return Ok(());
     }
     let size = text::count(layout.size.into(), "byte");

@@ -3,6 +3,7 @@
 use crate::address::layouts::LayoutOptions;
 use crate::common::failure::{Failure, Outcome};
 use crate::common::kinds::Address;
+use crate::common::schema;
 use crate::common::text;
 use crate::explain::cause::{self, Refused};
 use crate::picture::Moved;
@@ -32,7 +33,7 @@ impl Trouble {
                 if as_json {
                     let Refused { number, cause } = &refused;
                     let value = json!({"at": at, "refused": number, "cause": cause});
-                    writeln!(out, "{}", json!({ "picture": value }))?;
+                    schema::line(out, json!({ "picture": value }))?;
                 }
                 Err(Failure::Refused(format!("{at}: {refused}")).hinted(hint))
             }

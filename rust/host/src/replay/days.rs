@@ -5,6 +5,7 @@ use crate::common::digits::Digits;
 use crate::common::edition;
 use crate::common::failure::Outcome;
 use crate::common::names;
+use crate::common::schema;
 use crate::common::text;
 use crate::explain::cause::Refused;
 use crate::replay::kept::RECORD;
@@ -129,18 +130,13 @@ fn open(log: &Log) -> Option<(&'static str, u32, u32)> {
 /// whole.
 pub fn json(log: &Log, out: &mut dyn Write) -> Outcome {
     let Part { runs, claims } = log.replay.before();
-    writeln!(
-        out,
-        "{}",
-        json!({"day": null, "runs": runs, "claims": claims})
-    )?;
+    schema::line(out, json!({"day": null, "runs": runs, "claims": claims}))?;
     for day in log.replay.days() {
         let Part { runs, claims } = day.part;
         let value = json!({"day": day.number, "runs": runs, "claims": claims});
-        writeln!(out, "{value}")?;
+        schema::line(out, value)?;
     }
-    writeln!(out, "{}", json!({ "summary": summary(log) }))?;
-    Ok(())
+    schema::line(out, json!({ "summary": summary(log) }))
 }
 
 /// All of a log but its days.

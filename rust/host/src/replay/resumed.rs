@@ -190,7 +190,7 @@ fn load(path: &Path) -> Outcome<(Kept, Resumed)> {
     if path.is_dir() {
         return Err(wrong(&"is a folder"));
     }
-    let bytes = read(path).map_err(|error| wrong(&error))?;
+    let bytes = read(path).map_err(|error| wrong(&packed::failed(&error)))?;
     let kept = Kept::from_bytes(&bytes).map_err(|error| wrong(&error))?;
     let resumed = Resumed::new(name, &kept, kept::of_all(&bytes));
     Ok((kept, resumed))

@@ -1,5 +1,6 @@
 //! What a score is asked of, and what comes of it: a month, or why there is none.
 
+use crate::common::edition;
 use crate::common::failure::{Failure, Outcome};
 use crate::common::visible;
 use crate::explain::cause::{self, Refused};
@@ -45,7 +46,31 @@ pub struct Asked {
     /// Whether inputs with the same bytes are meant.
     pub repeats: bool,
     pub files: Vec<PathBuf>,
+    /// What the files are called, where a card tells that.
+    pub called: Option<Called>,
     pub issue: Issue,
+}
+
+/// The names that a card has for its log's files and for the state's: made anew it goes by them too, whatever the files
+/// are called now.
+#[derive(Clone, Default)]
+pub struct Called {
+    pub inputs: Vec<String>,
+    pub state: Option<String>,
+}
+
+impl Called {
+    /// Names what is read, where there are as many files as names: else no name is known to be that file's.
+    fn name(&self, sources: &mut [Source], log: &mut Log) {
+        if sources.len() == self.inputs.len() {
+            for (source, name) in sources.iter_mut().zip(&self.inputs) {
+                source.name.clone_from(name);
+            }
+        }
+        if let (Some(resumed), Some(state)) = (&mut log.resumed, &self.state) {
+            resumed.name.clone_from(state);
+        }
+    }
 }
 
 /// What comes of it.
@@ -74,7 +99,12 @@ pub struct Unscored {
 
 impl Unscored {
     pub fn name(&self) -> &'static str {
-        match self.refused {
+        Unscored::name_of(self.refused)
+    }
+
+    /// What a month is called that was refused, or whose log couldn't be read.
+    pub fn name_of(refused: bool) -> &'static str {
+        match refused {
             true => "REFUSED",
             false => "NOT SCORED",
         }
@@ -113,6 +143,13 @@ impl Card {
         match self {
             Card::Scored(score) => &score.issue,
             Card::Unscored(unscored) => &unscored.issue,
+        }
+    }
+
+    pub fn issue_mut(&mut self) -> &mut Issue {
+        match self {
+            Card::Scored(score) => &mut score.issue,
+            Card::Unscored(unscored) => &mut unscored.issue,
         }
     }
 
@@ -161,6 +198,9 @@ impl Asked {
             true => source::STANDARD.to_string(),
             false => visible::line(&file.display().to_string()),
         };
+        if let Some(called) = &self.called {
+            return called.inputs.clone();
+        }
         let standard = [PathBuf::from("-")];
         let files = match self.files.as_slice() {
             [] => &standard,
@@ -221,7 +261,11 @@ impl Asked {
             log = log.for_a_state();
         }
         log = log.taking_repeats(self.repeats);
-        log.read(Source::open_all(&self.files)?)?;
+        let mut sources = Source::open_all(&self.files)?;
+        if let Some(called) = &self.called {
+            called.name(&mut sources, &mut log);
+        }
+        log.read(sources)?;
         Ok(log)
     }
 
@@ -230,15 +274,47 @@ impl Asked {
         Card::Unscored(Unscored::new(self, failure))
     }
 
+    /// The card, and the log where it was read. Before any log is opened the edition is judged, before all else, then the
+    /// lease line.
+    pub fn scored(&self) -> Outcome<(Card, Option<Log>)> {
+        let edition = match edition::accepted(self.edition) {
+            Ok(edition) => edition,
+            Err(refused) => {
+                let failure = edition::refused(refused.clone());
+                return Ok((self.refused(refused, failure), None));
+            }
+        };
+        let lease = match self.lease() {
+            Ok(lease) => lease,
+            Err(refused) => {
+                let failure = Failure::Refused(format!("lease line: {refused}"));
+                return Ok((self.refused(refused, failure), None));
+            }
+        };
+        let dates = self.dates(&lease).map_err(wrong_from)?;
+        Ok(match self.log(edition, &lease) {
+            Ok(log) => (self.card(lease, dates, &log), Some(log)),
+            Err(failure) => (self.unread(failure), None),
+        })
+    }
+
     /// The card of a log that was read.
     pub fn card(&self, lease: Lease, dates: Vec<Option<Date>>, log: &Log) -> Card {
         match month_of(log, &lease) {
             Ok(month) => {
                 let issue = self.issue.clone();
-                Card::Scored(Score::new(lease, dates, month, log, issue))
+                let mut score = Score::new(lease, dates, month, log, issue);
+                if let Some(Called { inputs, .. }) = &self.called {
+                    score.log["inputs"] = json!(inputs);
+                    score.inputs.clone_from(inputs);
+                }
+                Card::Scored(score)
             }
             Err(failure) => {
-                let told = days::summary(log);
+                let mut told = days::summary(log);
+                if let Some(Called { inputs, .. }) = &self.called {
+                    told["inputs"] = json!(inputs);
+                }
                 Card::Unscored(Unscored {
                     refusal: told["refusal"].clone(),
                     log: told,
@@ -247,6 +323,11 @@ impl Asked {
             }
         }
     }
+}
+
+/// What is wrong with the first day's date.
+pub fn wrong_from(text: String) -> Failure {
+    Failure::Wrong(format!("--from {text}"))
 }
 
 pub fn accepted(line: LeaseLine) -> Result<Lease, Refused> {

@@ -130,7 +130,7 @@ fn total(score: &Score, digits: Digits) -> Row {
 }
 
 /// The served part of what is owed; dashes where nothing is.
-fn bar(served: u64, owed: u64) -> String {
+pub fn bar(served: u64, owed: u64) -> String {
     if owed == 0 {
         return format!("[{}]", "-".repeat(BAR));
     }

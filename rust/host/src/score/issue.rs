@@ -9,6 +9,9 @@ use std::borrow::Cow;
 /// The version with its commit.
 pub const VERSION: &str = env!("EGRETFOLD_VERSION");
 
+/// The SHA-256 of the proved archive that this command is linked with.
+pub const ARCHIVE: &str = env!("EGRETFOLD_ARCHIVE_SHA256");
+
 // Named otherwise than the subcommand's own options: clap takes the name for a group
 // of arguments, and each must be unique in a line.
 #[derive(Args)]
@@ -41,6 +44,8 @@ pub struct Issue {
     pub date: Date,
     /// Of the command that scored.
     pub version: Cow<'static, str>,
+    /// The SHA-256 of the proved archive that it is linked with; earlier versions told of none.
+    pub archive: Option<Cow<'static, str>>,
 }
 
 impl Issue {
@@ -57,11 +62,7 @@ impl Issue {
 
     /// By the station's name, the lessee's, the lease's number and the time zone.
     pub fn of(names: [&Option<String>; 4], date: Date) -> Issue {
-        let name = |text: &Option<String>| {
-            let text = text.as_deref().map(str::trim).unwrap_or_default();
-            (!text.is_empty()).then(|| visible::line(text))
-        };
-        let [station, lessee, lease, zone] = names.map(name);
+        let [station, lessee, lease, zone] = names.map(|text| name(text.as_deref()));
         Issue {
             station,
             lessee,
@@ -69,7 +70,20 @@ impl Issue {
             zone,
             date,
             version: VERSION.into(),
+            archive: Some(ARCHIVE.into()),
         }
+    }
+
+    /// When and by what it is issued, as a card says that.
+    pub fn is_said_by(&mut self, card: &Issue) {
+        self.date = card.date;
+        self.version = card.version.clone();
+        self.archive = card.archive.clone();
+    }
+
+    /// Whether this is its lessee's name, as a user may write it.
+    pub fn is_leased_to(&self, lessee: &str) -> bool {
+        self.lessee.is_some() && self.lessee == name(Some(lessee))
     }
 
     /// The card of the sample, which is nobody's.
@@ -128,7 +142,14 @@ impl Issue {
         summary["time_zone"] = json!(self.zone);
         summary["issued"] = json!(self.date.to_string());
         summary["version"] = json!(self.version);
+        summary["archive"] = json!(self.archive);
     }
+}
+
+/// A name without blanks around it, where anything is left, and with nothing that a terminal would obey.
+fn name(text: Option<&str>) -> Option<String> {
+    let text = text.map(str::trim).unwrap_or_default();
+    (!text.is_empty()).then(|| visible::line(text))
 }
 
 /// The date of issue that was asked for; the one place that asks for today.

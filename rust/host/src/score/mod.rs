@@ -1,18 +1,20 @@
 //! `egretfold score`: a month of a station's log, scored against its lease line.
 
 pub mod asked;
-mod card;
+pub mod block;
+pub mod card;
 pub mod checks;
 pub mod civil;
 pub mod issue;
 pub mod month;
+pub mod outline;
 pub mod picture;
 pub mod rows;
 pub mod sample;
 mod station;
 
 use crate::common::digits::Digits;
-use crate::common::edition::{self, EditionOption};
+use crate::common::edition::EditionOption;
 use crate::common::failure::{Failure, Outcome};
 use crate::common::files::Files;
 use crate::common::replaced::{Goes, Kind};
@@ -23,7 +25,7 @@ use crate::input::source::Source;
 use crate::replay::log::Log;
 use crate::replay::pieces::RepeatOption;
 use crate::replay::resumed::StateOptions;
-use crate::score::asked::{accepted, dates, month_of, Asked, Card, LeaseLine};
+use crate::score::asked::{accepted, dates, month_of, wrong_from, Asked, Card, LeaseLine};
 use crate::score::civil::Date;
 use crate::score::issue::Issue;
 use crate::score::month::Score;
@@ -133,6 +135,7 @@ impl Options {
             saves: self.state.saves(),
             repeats: self.repeat.repeated_pieces,
             files: logs.files,
+            called: None,
             issue: Issue::new(&self.issue),
         }
     }
@@ -173,7 +176,7 @@ pub fn run(options: &Options, files: &mut Files, out: &mut dyn Write) -> Outcome
     let places = Places::asked(options)?;
     let saved = options.state.place()?;
     let asked = options.asked();
-    let (card, log) = card(options, &asked)?;
+    let (card, log) = asked.scored()?;
     let told = places.write(&card, files, out);
     let told = match places.take_standard() {
         true => told,
@@ -190,30 +193,6 @@ pub fn run(options: &Options, files: &mut Files, out: &mut dyn Write) -> Outcome
     Failure::both(outcome, told)
 }
 
-/// The card, and the log where it was read. Before any log is opened the edition is judged, before
-/// all else, then the lease line.
-fn card(options: &Options, asked: &Asked) -> Outcome<(Card, Option<Log>)> {
-    let edition = match options.edition.accepted() {
-        Ok(edition) => edition,
-        Err(refused) => {
-            let failure = edition::refused(refused.clone());
-            return Ok((asked.refused(refused, failure), None));
-        }
-    };
-    let lease = match asked.lease() {
-        Ok(lease) => lease,
-        Err(refused) => {
-            let failure = Failure::Refused(format!("lease line: {refused}"));
-            return Ok((asked.refused(refused, failure), None));
-        }
-    };
-    let dates = asked.dates(&lease).map_err(wrong_from)?;
-    Ok(match asked.log(edition, &lease) {
-        Ok(log) => (asked.card(lease, dates, &log), Some(log)),
-        Err(failure) => (asked.unread(failure), None),
-    })
-}
-
 fn show_as_asked(options: &Options, card: &Card, out: &mut dyn Write) -> Outcome {
     match card {
         _ if options.json => rows::json(card, out),
@@ -221,10 +200,6 @@ fn show_as_asked(options: &Options, card: &Card, out: &mut dyn Write) -> Outcome
         Card::Scored(score) => card::text(score, Digits::plain(options.plain), out),
         Card::Unscored(_) => Ok(()),
     }
-}
-
-fn wrong_from(text: String) -> Failure {
-    Failure::Wrong(format!("--from {text}"))
 }
 
 /// The card of a log that is at hand.

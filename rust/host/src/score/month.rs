@@ -12,6 +12,7 @@ use serde_json::{json, Value};
 use std::fmt;
 
 /// A month, its lease and what is told of the log that it is of.
+#[derive(Clone)]
 pub struct Score {
     /// The edition of the lease rule that it is scored by.
     pub edition: Edition,
@@ -52,6 +53,7 @@ impl Began {
 }
 
 /// A day of the lease.
+#[derive(Clone)]
 pub struct Day {
     pub number: u32,
     pub date: Option<Date>,
@@ -268,6 +270,11 @@ impl fmt::Display for Percent {
     fn fmt(&self, f: &mut fmt::Formatter) -> fmt::Result {
         write!(f, "{} %", self.digits())
     }
+}
+
+/// A part as people read it, or this where nothing is owed.
+pub fn shown(percent: Option<Percent>, none: &str) -> String {
+    percent.map_or_else(|| none.to_string(), |percent| percent.to_string())
 }
 
 /// Puts a part into JSON: as a number, and as text.

@@ -2,7 +2,7 @@
 //! values.
 
 use crate::common::failure::Outcome;
-use crate::common::sheet;
+use crate::common::{schema, sheet};
 use crate::score::asked::{Card, LeaseLine, Unscored};
 use crate::score::checks::Check;
 use crate::score::civil::Date;
@@ -20,8 +20,7 @@ pub fn json(card: &Card, out: &mut dyn Write) -> Outcome {
         }
         Card::Unscored(unscored) => unscored_summary(unscored),
     };
-    writeln!(out, "{}", json!({ "summary": summary }))?;
-    Ok(())
+    schema::line(out, json!({ "summary": summary }))
 }
 
 fn days(score: &Score, out: &mut dyn Write) -> Outcome {
@@ -36,7 +35,7 @@ fn days(score: &Score, out: &mut dyn Write) -> Outcome {
             "dark": day.is_dark(),
             "in_log": day.in_log,
         });
-        writeln!(out, "{value}")?;
+        schema::line(out, value)?;
     }
     Ok(())
 }

@@ -4,10 +4,11 @@ use crate::common::failure::Outcome;
 use crate::common::kinds::Address;
 use crate::common::names;
 use crate::common::replaced::{PGM_BEGIN, SVG_BEGIN};
+use crate::common::schema;
 use crate::common::settings::{Setting, Value};
 use crate::explain::cause::Refused;
 use crate::score::picture::svg::{Drawing, Style, INK, PAPER};
-use crate::score::picture::FONTS;
+use crate::score::picture::{FONTS, NO_WIDER};
 use crate::survey::Asked;
 use serde_json::json;
 use std::fmt::Write as _;
@@ -88,13 +89,12 @@ impl Survey<'_> {
             let passed: u32 = pairs.iter().map(|byte| u32::from(*byte)).sum();
             let bits: String = pairs.iter().map(|byte| char::from(b'0' + byte)).collect();
             let line = json!({"row": row, "passed": passed, "pairs": bits});
-            writeln!(out, "{line}")?;
+            schema::line(out, line)?;
         }
         let mut value = summary(self.asked);
         value["pairs"] = json!(self.room.len());
         value["passed"] = json!(self.passed);
-        writeln!(out, "{}", json!({ "survey": value }))?;
-        Ok(())
+        schema::line(out, json!({ "survey": value }))
     }
 
     /// A grey picture of a byte a pair, 255 where it passes.
@@ -115,7 +115,7 @@ impl Survey<'_> {
         let whole_height = height + 2 * MARGIN + CAPTION_LINE * caption.len();
         let title = &caption[0];
         let mut text = format!(
-            r##"{SVG_BEGIN}xmlns="http://www.w3.org/2000/svg" width="{whole_width}" height="{whole_height}" viewBox="0 0 {whole_width} {whole_height}" {FONTS} role="img">
+            r##"{SVG_BEGIN}xmlns="http://www.w3.org/2000/svg" width="{whole_width}" height="{whole_height}" viewBox="0 0 {whole_width} {whole_height}" {FONTS} {NO_WIDER} role="img">
 <title>{title}</title>
 <rect width="{whole_width}" height="{whole_height}" fill="{PAPER}"/>
 <svg x="{MARGIN}" y="{MARGIN}" width="{width}" height="{height}" viewBox="0 0 {columns} {rows}" shape-rendering="crispEdges">
@@ -209,7 +209,7 @@ pub fn refused(
         let mut value = summary(asked);
         value["refused"] = json!(refused.number);
         value["cause"] = json!(refused.cause);
-        writeln!(out, "{}", json!({ "survey": value }))?;
+        schema::line(out, json!({ "survey": value }))?;
     } else {
         head(asked, names, out)?;
         writeln!(out, "  {refused}")?;

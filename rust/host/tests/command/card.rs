@@ -1,7 +1,8 @@
 //! The card that is signed, and what is to be checked before it is sent.
 
 use crate::common::{
-    complained, egretfold, last_line, midnights, root, sample, told, with_input, words, Folder,
+    archive, complained, egretfold, last_line, midnights, root, sample, told, with_input, words,
+    Folder,
 };
 use boundary::headers::{SET_DOMAIN, START_PROGRAM};
 use serde_json::Value;
@@ -49,6 +50,10 @@ fn a_card_says_whose_it_is_and_what_it_is_of() {
         ">lessee: signature, place and date</text>",
         &format!(">Issued 2026-05-02 by {}</text>", version.trim()),
         &format!(">SHA-256 of the log's bytes: {digest}</text>"),
+        &format!(
+            ">SHA-256 of the proved archive that scored it: {}</text>",
+            archive()
+        ),
     ] {
         assert!(card.contains(shown), "{shown}");
     }
@@ -328,13 +333,20 @@ fn a_card_without_a_score_says_so() {
 }
 
 #[test]
-fn the_version_names_the_kit_that_proved_it() {
+fn the_version_names_the_kit_that_proved_it_and_the_archive() {
     let long = told(&egretfold("--version", b""));
     let short = told(&egretfold("-V", b""));
     let kit = Path::new(boundary::ARCHIVE).with_file_name("kit.txt");
     // An archive that was brought here has no record, and none is made up.
     let kit = fs::read_to_string(kit).unwrap_or_else(|_| "a kit that was not recorded".into());
-    assert_eq!(long, format!("{short}proved with {}\n", kit.trim()));
+    let kit = kit.trim();
+    let mut sum = Command::new("sha256sum");
+    sum.arg(boundary::ARCHIVE);
+    let sum = told(&with_input(sum, b""));
+    let sum = sum.split_whitespace().next().expect("a digest");
+    let due = format!("{short}proved with {kit}\nSHA-256 of the proved archive: {sum}\n");
+    assert_eq!(long, due);
+    assert_eq!(archive(), sum);
 }
 
 #[test]

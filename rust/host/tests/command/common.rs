@@ -83,6 +83,35 @@ pub fn complained(output: &Output) -> String {
     String::from_utf8(output.stderr.clone()).expect("text")
 }
 
+/// What no stored file can know: the commit that the command is built from, and the archive that it is linked with.
+pub struct Unknown {
+    version: String,
+    archive: String,
+}
+
+impl Unknown {
+    pub fn now() -> Unknown {
+        let version = told(&egretfold("-V", b""));
+        Unknown {
+            version: version.trim().trim_start_matches("egretfold ").to_string(),
+            archive: archive(),
+        }
+    }
+
+    /// The text with a word in the place of each.
+    pub fn taken_from(&self, text: &str) -> String {
+        let text = text.replace(&self.version, "VERSION");
+        text.replace(&self.archive, "ARCHIVE")
+    }
+}
+
+/// The SHA-256 of the archive, as `--version` tells it.
+pub fn archive() -> String {
+    let version = told(&egretfold("--version", b""));
+    let digest = version.trim().rsplit(": ").next();
+    digest.expect("the last line has it").to_string()
+}
+
 /// The last line, which is JSON.
 pub fn last_line(text: &str) -> Value {
     let line = text.lines().last().expect("a line");

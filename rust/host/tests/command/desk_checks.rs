@@ -280,7 +280,7 @@ fn scores_of_other_dates_and_versions_are_told() {
     );
     let [_, later] = scores(&folder, "2026-06-02");
     let due = format!(
-        "15: its score was issued on 2026-06-02, and others on 2026-05-02: {later}: line 31"
+        "15: its score was issued on 2026-06-02, where 2026-05-02 is due: {later}: line 31"
     );
     assert_eq!(fleet_checks(&join(&format!("{first} {later}"))), [due]);
     let text = fs::read_to_string(&second).expect("the scores");
@@ -488,6 +488,12 @@ fn files_of_other_programs_are_named() {
             complained(&output)
         );
     }
+    // Also where a state is packed.
+    let state = gzip(&sample("station-14-march.state"));
+    let state = folder.write("cut.state.gz", &state[..state.len() / 2]);
+    let line = format!("replay samples/station-14-april.log --resume {state}");
+    let due = format!("{state}: the packed file is cut{again}");
+    assert_told(&egretfold(&line, b""), &due);
     // Two that gzip packed, one behind the other, are one log.
     let (one, other) = log.split_at(1_000);
     let both = folder.write("both.gz", &[gzip(one), gzip(other)].concat());
@@ -780,6 +786,20 @@ fn a_fleets_days_are_rows() {
     assert_told(
         &fleet("samples/leases.csv", "--csv-days --csv"),
         "cannot be used with",
+    );
+}
+
+/// A card by itself is as wide as the screen at most, with the verdict, which stands on its right side.
+#[test]
+fn a_card_fits_a_narrow_screen() {
+    let card = told(&egretfold(
+        &format!("score samples/station-14.log {LEASE} --svg -"),
+        b"",
+    ));
+    let head = card.lines().next().expect("a line");
+    assert!(
+        head.contains(" style=\"max-width:100%;height:auto\" "),
+        "{head}"
     );
 }
 

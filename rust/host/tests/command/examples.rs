@@ -67,6 +67,7 @@ fn the_documents_print_what_the_examples_print() {
         ("docs/TOUR.md", 7),
         ("docs/ADDRESSES.md", 10),
         ("docs/FLEET.md", 2),
+        ("docs/CARD.md", 1),
     ] {
         let count = all_hold(document);
         assert!(count >= least, "{document} has {count} examples");

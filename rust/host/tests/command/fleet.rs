@@ -29,7 +29,7 @@ fn fleet(file: &str, more: &str) -> Output {
     egretfold(&format!("fleet {file} {more}"), b"")
 }
 
-/// The lines of `--json`: the stations', and the fleet's.
+/// The lines of `--json`: the stations', and the fleet's; the lessees' stand between them.
 fn lines(output: &Output) -> (Vec<Value>, Value) {
     let text = told(output);
     let mut lines: Vec<Value> = text
@@ -37,6 +37,7 @@ fn lines(output: &Output) -> (Vec<Value>, Value) {
         .map(|line| serde_json::from_str(line).expect("JSON"))
         .collect();
     let last = lines.pop().expect("a line for the fleet");
+    lines.retain(|line| line.get("subtotal").is_none());
     (lines, last["fleet"].clone())
 }
 
@@ -329,8 +330,9 @@ fn the_exit_status_tells_of_the_worst() {
         assert_eq!(fleet("", line).status.code(), Some(2), "{line}");
     }
     let both = fleet("samples/leases.csv", "--html - --json");
-    assert!(complained(&both)
-        .contains("--html - goes to standard output, and so do --json, --csv and --csv-days"));
+    assert!(complained(&both).contains(
+        "--html - goes to standard output, and so do --json, --csv, --csv-days and --csv-lessees"
+    ));
 }
 
 #[test]

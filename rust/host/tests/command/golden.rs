@@ -12,20 +12,20 @@
 //!
 //!     RENEW=1 cargo test --release -p host golden
 
-use crate::common::{complained, egretfold, root, shell, told, Folder};
+use crate::common::{complained, root, shell, told, Folder, Unknown};
 use std::collections::BTreeSet;
 use std::fs;
 use std::path::{Path, PathBuf};
 
 #[test]
 fn the_output_is_as_stored() {
-    let (version, cases) = (version(), files(&folder("golden")));
+    let (unknown, cases) = (Unknown::now(), files(&folder("golden")));
     assert!(!cases.is_empty(), "there are no cases");
     let mut differing = Vec::new();
     for file in &cases {
         let (name, stored) = (file.display(), fs::read_to_string(file).expect("text"));
         let line = line_of(&stored).unwrap_or_else(|| panic!("{name} begins with no line to run"));
-        let is = seen(line).replace(&version, "VERSION");
+        let is = unknown.taken_from(&seen(line));
         if renew() {
             fs::write(file, &is).expect("the file is written");
         } else if is != stored {
@@ -52,7 +52,7 @@ fn seen(line: &str) -> String {
 
 #[test]
 fn the_pictures_are_as_stored() {
-    let (version, folder, drawn) = (version(), folder("pictures"), Folder::new("pictures"));
+    let (unknown, folder, drawn) = (Unknown::now(), folder("pictures"), Folder::new("pictures"));
     let list = folder.join("lines.txt");
     let lines = fs::read_to_string(&list).expect("the lines are there");
     for line in lines.lines().filter_map(|line| line.strip_prefix("$ ")) {
@@ -60,7 +60,7 @@ fn the_pictures_are_as_stored() {
     }
     let mut accounted = BTreeSet::from([list]);
     for file in files(&drawn.0) {
-        let is = without(&version, fs::read(&file).expect("it is drawn"));
+        let is = without(&unknown, fs::read(&file).expect("it is drawn"));
         let stored = folder.join(file.file_name().expect("a name"));
         if renew() {
             fs::write(&stored, &is).expect("the file is written");
@@ -88,16 +88,10 @@ fn files(folder: &Path) -> BTreeSet<PathBuf> {
         .collect()
 }
 
-/// The commit that the command is built from, which no stored file can know.
-fn version() -> String {
-    let line = told(&egretfold("-V", b""));
-    line.trim().trim_start_matches("egretfold ").to_string()
-}
-
-/// A picture without it. One that isn't text has none.
-fn without(version: &str, picture: Vec<u8>) -> Vec<u8> {
+/// A picture without what no stored file can know. One that isn't text has none of it.
+fn without(unknown: &Unknown, picture: Vec<u8>) -> Vec<u8> {
     match String::from_utf8(picture) {
-        Ok(text) => text.replace(version, "VERSION").into_bytes(),
+        Ok(text) => unknown.taken_from(&text).into_bytes(),
         Err(bytes) => bytes.into_bytes(),
     }
 }

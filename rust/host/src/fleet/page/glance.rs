@@ -1,26 +1,31 @@
 //! The month at a glance: a station a row, a day a cell.
 
-use crate::fleet::page::{escaped, link, Placed};
+use crate::fleet::page::{escaped, fits, link, of_card, Shown};
 use crate::score::asked::Card;
 use crate::score::month::{Day, Served};
 use crate::score::picture;
 
-pub fn table(cards: &[Placed]) -> String {
-    let days = cards.iter().map(|(_, card)| card.line().days).max();
+/// Where a page is to be light, days that were served in full are told by their mark alone.
+pub fn table(cards: &[Shown], is_light: bool) -> String {
+    let days = cards.iter().map(|shown| shown.card.line().days).max();
     // A line that is refused may have any number of days.
     let days = days.unwrap_or(0).min(31);
     let head = |name: &String| format!("<th scope=\"col\">{name}</th>");
     let heads: String = heads(cards, days).iter().map(head).collect();
-    let rows: String = cards.iter().map(|placed| row(placed, days)).collect();
+    let rows: String = cards
+        .iter()
+        .map(|shown| row(shown, days, is_light))
+        .collect();
+    let fits = fits(cards.len());
     format!(
-        "<div class=\"wide\">\n<table class=\"glance\">\n<thead><tr><th></th>{heads}</tr></thead>\n<tbody>\n{rows}</tbody>\n</table>\n</div>\n{LEGEND}"
+        "<div class=\"wide\">\n<table class=\"glance{fits}\">\n<thead><tr><th></th>{heads}</tr></thead>\n<tbody>\n{rows}</tbody>\n</table>\n</div>\n{LEGEND}"
     )
 }
 
 /// The days of the month where all stations begin with the same date, else the lease's
 /// days, counted from 1 on.
-fn heads(cards: &[Placed], days: u32) -> Vec<String> {
-    let mut froms = cards.iter().map(|(_, card)| card.from());
+fn heads(cards: &[Shown], days: u32) -> Vec<String> {
+    let mut froms = cards.iter().map(|shown| shown.card.from());
     let from = froms.next().flatten();
     let dates = from.filter(|_| froms.all(|other| other == from));
     match dates.and_then(|from| from.run(days)) {
@@ -29,9 +34,9 @@ fn heads(cards: &[Placed], days: u32) -> Vec<String> {
     }
 }
 
-fn row(placed: &Placed, days: u32) -> String {
-    let cells = match placed.1 {
-        Card::Scored(score) => score.days.iter().map(cell).collect(),
+fn row(shown: &Shown, days: u32, is_light: bool) -> String {
+    let cells = match shown.card {
+        Card::Scored(score) => score.days.iter().map(|day| cell(day, is_light)).collect(),
         Card::Unscored(unscored) => {
             let why = picture::unscored::without_folders(&unscored.why, &unscored.inputs);
             let title = escaped(&why.replace('\n', ";"));
@@ -39,10 +44,14 @@ fn row(placed: &Placed, days: u32) -> String {
             format!(r#"<td class="u" colspan="{days}" title="{title}">{name}</td>"#)
         }
     };
-    format!("<tr><th scope=\"row\">{}</th>{cells}</tr>\n", link(placed))
+    let (by, name) = (of_card(shown.card), link(shown));
+    format!("<tr {by}><th scope=\"row\">{name}</th>{cells}</tr>\n")
 }
 
-fn cell(day: &Day) -> String {
+fn cell(day: &Day, is_light: bool) -> String {
+    if is_light && day.kind() == Served::InFull {
+        return r#"<td class="f">·</td>"#.to_string();
+    }
     let (look, mark) = mark(day);
     format!("<td {look}>{mark}</td>")
 }

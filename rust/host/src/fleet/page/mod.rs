@@ -1,8 +1,10 @@
 //! The form of a month that a browser shows: one file with all that it needs, which can
-//! be read where no script runs and fetches nothing. A day is a cell that can be told
-//! without colour: a dark one is black with a cross.
+//! be read where no script runs and fetches nothing; of a large fleet the cards are files beside it, to which
+//! the stations' names lead. A day is a cell that can be told without colour: a dark one is black with a cross.
 
 mod glance;
+mod lessees;
+pub mod linked;
 mod stations;
 mod strip;
 
@@ -10,14 +12,16 @@ use crate::common::digits::Digits;
 use crate::common::failure::{Failure, Outcome};
 use crate::common::replaced::HTML_BEGIN;
 use crate::fleet::month::{station, Fleet};
+use crate::fleet::page::linked::Linked;
 use crate::fleet::text;
 use crate::score::asked::Card;
+use crate::score::block;
 use crate::score::issue::VERSION;
 use crate::score::picture::svg::Drawing;
 use crate::score::picture::{self, PATTERNS};
 
 const STYLE: &str = include_str!("style.css");
-const SCRIPT: &str = include_str!("sort.js");
+const SCRIPT: &str = include_str!("page.js");
 
 /// Nothing is fetched, from wherever the file is opened.
 const POLICY: &str = "default-src 'none'; style-src 'unsafe-inline'; script-src 'unsafe-inline'";
@@ -35,11 +39,21 @@ pub fn holds(stations: usize) -> Outcome {
     }
 }
 
-/// A station with its place in the fleet.
-type Placed<'a> = (usize, &'a Card);
+/// A station on a page.
+pub struct Shown<'a> {
+    card: &'a Card,
+    /// Where its name leads: to its card, in the page or in a file.
+    leads: String,
+}
+
+/// The name of a card's place in the page.
+fn anchor(place: usize) -> String {
+    format!("station-{place}")
+}
 
 /// The page of one station.
 pub fn of_one(card: &Card) -> String {
+    let card = &block::printed(card);
     let month = picture::title_of(card);
     let title = match card.issue().whose() {
         Some(whose) => format!("{whose}: {month}"),
@@ -56,33 +70,52 @@ pub fn of_one(card: &Card) -> String {
     let parts = [
         notice("Check before sending", checks.collect()),
         strip::of(card),
-        all_cards(&[(0, card)]),
+        card_within(0, card, &picture::svg_in_its_page(card)),
     ];
     let issued = card.issue().told();
     page("one", &title, &[told], &issued, &parts.concat())
 }
 
-/// The page of a fleet.
-pub fn html(fleet: &Fleet) -> String {
-    let cards: Vec<(usize, Card)> = fleet.told().collect();
-    let cards: Vec<Placed> = cards.iter().map(|(place, card)| (*place, card)).collect();
+/// The page of a fleet, with its cards in it unless they are files.
+pub fn html(fleet: &Fleet, files: Option<&Linked>) -> String {
+    let told: Vec<(usize, Card)> = fleet.told().collect();
+    let shown = |(place, card): &'_ (usize, Card)| match files {
+        Some(files) => files.card(station(card)),
+        None => format!("#{}", anchor(*place)),
+    };
+    let cards: Vec<Shown> = told
+        .iter()
+        .map(|told| Shown {
+            card: &told.1,
+            leads: shown(told),
+        })
+        .collect();
+    let all_cards = || {
+        told.iter()
+            .map(|(place, card)| card_within(*place, card, &picture::svg_among_others(card)))
+    };
     let told = [
         fleet.heading(),
         text::four(fleet, Digits::Grouped),
         fleet.rule().unwrap_or_default().to_string(),
     ];
     let parts = [
+        FIND.to_string(),
         notice("No score", cards.iter().filter_map(no_score).collect()),
         notice(
             "Check before sending",
             cards.iter().flat_map(checks).collect(),
         ),
         "<h2>The month at a glance</h2>\n".to_string(),
-        glance::table(&cards),
+        glance::table(&cards, files.is_some()),
         "<h2>Stations</h2>\n".to_string(),
         stations::table(fleet, &cards),
+        lessees::table(fleet),
         dark_days(&cards),
-        all_cards(&cards),
+        match files {
+            Some(files) => files.told(),
+            None => all_cards().collect(),
+        },
     ];
     let issued = format!("Issued {} by egretfold {VERSION}", fleet.date);
     page("fleet", &title(fleet), &told, &issued, &parts.concat())
@@ -99,12 +132,12 @@ fn title(fleet: &Fleet) -> String {
 }
 
 /// A text that may stand in HTML.
-fn escaped(text: &str) -> String {
+pub fn escaped(text: &str) -> String {
     Drawing::escaped(text)
 }
 
 /// A page of this class, headed by this title and what is told below it.
-fn page(class: &str, title: &str, told: &[String], issued: &str, body: &str) -> String {
+pub fn page(class: &str, title: &str, told: &[String], issued: &str, body: &str) -> String {
     let (title, issued) = (escaped(title), escaped(issued));
     let told = told
         .iter()
@@ -132,16 +165,42 @@ fn page(class: &str, title: &str, told: &[String], issued: &str, body: &str) -> 
     )
 }
 
+/// Where the script puts the box that finds stations, and the lists that filter them.
+pub const FIND: &str = "<div class=\"find\" hidden=\"\"></div>\n";
+
+/// What a row, a line or a card is found and filtered by.
+pub fn found_by(station: &str, lessee: Option<&str>, verdict: &str) -> String {
+    let (station, lessee) = (escaped(station), escaped(lessee.unwrap_or_default()));
+    let verdict = escaped(verdict);
+    format!(r#"data-station="{station}" data-lessee="{lessee}" data-verdict="{verdict}""#)
+}
+
+/// The same of a card.
+fn of_card(card: &Card) -> String {
+    let verdict = match card {
+        Card::Scored(score) => score.verdict_name(),
+        Card::Unscored(unscored) => unscored.name(),
+    };
+    found_by(station(card), card.issue().lessee.as_deref(), verdict)
+}
+
 /// A station's name that leads to its card.
-fn link((place, card): &Placed) -> String {
-    format!(
-        r##"<a href="#station-{place}">{}</a>"##,
-        escaped(station(card))
-    )
+fn link(shown: &Shown) -> String {
+    let (leads, name) = (escaped(&shown.leads), escaped(station(shown.card)));
+    format!(r#"<a href="{leads}">{name}</a>"#)
+}
+
+/// The class of a table that a printed page holds, so that it is kept whole; a longer one goes over pages, under its head.
+pub fn fits(rows: usize) -> &'static str {
+    if rows <= 20 {
+        " whole"
+    } else {
+        ""
+    }
 }
 
 /// Framed lines, where there are any.
-fn notice(heading: &str, lines: Vec<String>) -> String {
+pub fn notice(heading: &str, lines: Vec<String>) -> String {
     match lines.is_empty() {
         true => String::new(),
         false => {
@@ -152,33 +211,34 @@ fn notice(heading: &str, lines: Vec<String>) -> String {
 }
 
 /// A line of a list that begins with a station's name.
-fn line(placed: &Placed, text: &str) -> String {
-    format!("<li>{}: {}</li>\n", link(placed), escaped(text))
+fn line(shown: &Shown, text: &str) -> String {
+    let by = of_card(shown.card);
+    format!("<li {by}>{}: {}</li>\n", link(shown), escaped(text))
 }
 
-fn no_score(placed: &Placed) -> Option<String> {
-    match placed.1 {
+fn no_score(shown: &Shown) -> Option<String> {
+    match shown.card {
         Card::Scored(_) => None,
         Card::Unscored(unscored) => {
             let why = picture::unscored::without_folders(&unscored.why, &unscored.inputs);
             let text = format!("{}: {}", unscored.name(), why.replace('\n', ";"));
-            Some(line(placed, &text))
+            Some(line(shown, &text))
         }
     }
 }
 
-fn checks(placed: &Placed) -> Vec<String> {
-    let checks = placed.1.score().map_or(&[][..], |score| &score.checks);
+fn checks(shown: &Shown) -> Vec<String> {
+    let checks = shown.card.score().map_or(&[][..], |score| &score.checks);
     checks
         .iter()
-        .map(|check| line(placed, &check.text))
+        .map(|check| line(shown, &check.text))
         .collect()
 }
 
-fn dark_days(cards: &[Placed]) -> String {
-    let dark = |placed: &Placed| {
-        let text = text::dark(placed.1.score()?);
-        (!text.is_empty()).then(|| line(placed, &text))
+fn dark_days(cards: &[Shown]) -> String {
+    let dark = |shown: &Shown| {
+        let text = text::dark(shown.card.score()?);
+        (!text.is_empty()).then(|| line(shown, &text))
     };
     let lines: String = cards.iter().filter_map(dark).collect();
     match lines.is_empty() {
@@ -187,10 +247,8 @@ fn dark_days(cards: &[Placed]) -> String {
     }
 }
 
-fn all_cards(cards: &[Placed]) -> String {
-    let card = |(place, card): &Placed| {
-        let svg = picture::svg_within(card);
-        format!("<section class=\"card\" id=\"station-{place}\">\n{svg}</section>\n")
-    };
-    cards.iter().map(card).collect()
+/// A drawn card with its place and what it is found by.
+fn card_within(place: usize, card: &Card, svg: &str) -> String {
+    let (id, by) = (anchor(place), of_card(card));
+    format!("<section class=\"card\" id=\"{id}\" {by}>\n{svg}</section>\n")
 }

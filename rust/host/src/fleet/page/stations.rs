@@ -2,9 +2,9 @@
 
 use crate::common::digits::grouped;
 use crate::fleet::month::{station, Fleet};
-use crate::fleet::page::{escaped, link, Placed};
+use crate::fleet::page::{escaped, fits, link, of_card, Shown};
 use crate::score::asked::Card;
-use crate::score::month::{Percent, Score, Served};
+use crate::score::month::{self, Score, Served};
 
 const HEADS: [(&str, bool); 9] = [
     ("station", true),
@@ -18,16 +18,16 @@ const HEADS: [(&str, bool); 9] = [
     ("perhaps because", true),
 ];
 
-pub fn table(fleet: &Fleet, cards: &[Placed]) -> String {
+pub fn table(fleet: &Fleet, cards: &[Shown]) -> String {
     let head = |(name, text): &(&str, bool)| {
         let class = if *text { r#" class="text""# } else { "" };
         format!("<th scope=\"col\"{class}>{name}</th>")
     };
     let heads: String = HEADS.iter().map(head).collect();
     let rows: String = cards.iter().map(row).collect();
-    let total = total(fleet);
+    let (total, fits) = (total(fleet), fits(cards.len()));
     format!(
-        "<div class=\"wide\">\n<table class=\"stations\">\n<thead><tr>{heads}</tr></thead>\n<tbody>\n{rows}</tbody>\n<tfoot>{total}</tfoot>\n</table>\n</div>\n"
+        "<div class=\"wide\">\n<table class=\"stations sorts{fits}\">\n<thead><tr>{heads}</tr></thead>\n<tbody>\n{rows}</tbody>\n<tfoot>{total}</tfoot>\n</table>\n</div>\n"
     )
 }
 
@@ -42,10 +42,10 @@ fn number(shown: &str, value: u64) -> String {
     format!(r#"<td class="number" data-v="{value}">{shown}</td>"#)
 }
 
-fn row(placed: &Placed) -> String {
-    let card = placed.1;
+fn row(shown: &Shown) -> String {
+    let card = shown.card;
     let lessee = card.issue().lessee.as_deref().unwrap_or_default();
-    let begin = words(&link(placed), station(card)) + &words(&escaped(lessee), lessee);
+    let begin = words(&link(shown), station(card)) + &words(&escaped(lessee), lessee);
     let end = match card {
         Card::Scored(score) => scored(score),
         Card::Unscored(unscored) => {
@@ -55,7 +55,8 @@ fn row(placed: &Placed) -> String {
             nothing + &words(&name, unscored.name()) + &words("", "")
         }
     };
-    format!("<tr>{begin}{end}</tr>\n")
+    let by = of_card(card);
+    format!("<tr {by}>{begin}{end}</tr>\n")
 }
 
 fn scored(score: &Score) -> String {
@@ -63,7 +64,7 @@ fn scored(score: &Score) -> String {
     // Parts are sorted by ten places, more than a part of any two months needs to differ.
     let part = (u128::from(served) * 10_000_000_000).checked_div(u128::from(owed));
     let part = part.map_or(u64::MAX >> 12, |part| part as u64);
-    let percent = shown(score.percent());
+    let percent = month::shown(score.percent(), "–");
     let (dark, full) = (score.count(Served::Dark), score.count(Served::InFull));
     let verdict = score.verdict_name();
     let because = score.explanation().unwrap_or_default();
@@ -81,13 +82,9 @@ fn scored(score: &Score) -> String {
     .concat()
 }
 
-fn shown(percent: Option<Percent>) -> String {
-    percent.map_or_else(|| "–".to_string(), |percent| percent.to_string())
-}
-
 fn total(fleet: &Fleet) -> String {
     let four = &fleet.four;
-    let percent = shown(fleet.percent());
+    let percent = month::shown(fleet.percent(), "–");
     let numbers = [
         grouped(four.served),
         grouped(four.owed),

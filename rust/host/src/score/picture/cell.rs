@@ -14,7 +14,7 @@ const INSIDE: u32 = WIDTH - 2 * INSET;
 /// Draws a day with its upper left corner there. The first day of a month is drawn with
 /// the month's name, and so is the first day of all.
 pub fn draw(drawing: &mut Drawing, day: &Day, (x, y): (u32, u32), is_first: bool) {
-    drawing.begin_group(&told(day));
+    drawing.begin_day(day.number, &told(day));
     drawing.rect((x, y), (WIDTH, HEIGHT), ground(day.kind()));
     name(drawing, day, (x + INSET, y + 23), is_first);
     let fill = match day.kind() {
@@ -55,18 +55,22 @@ fn name(drawing: &mut Drawing, day: &Day, (x, y): (u32, u32), is_first: bool) {
     let small = Style::of(12, PALE_INK);
     let date = match day.date {
         Some(date) => date,
-        None => return drawing.text((x, y), &day.number.to_string(), &large.at_most(INSIDE)),
+        None => {
+            let style = large.at_most(INSIDE).showing("number");
+            return drawing.text((x, y), &day.number.to_string(), &style);
+        }
     };
     let of_month = date.day.to_string();
-    drawing.text((x, y), &of_month, &large);
+    drawing.text((x, y), &of_month, &large.showing("date"));
     let mut room = 90;
     if is_first || date.day == 1 {
         let behind = x + 4 + 14 * of_month.len() as u32;
-        drawing.text((behind, y), &date.month_name()[..3], &small.bold());
+        let style = small.bold().showing("month");
+        drawing.text((behind, y), &date.month_name()[..3], &style);
         room = 64;
     }
     let number = format!("day {}", day.number);
-    let style = small.to_the_left().at_most(room);
+    let style = small.to_the_left().at_most(room).showing("number");
     drawing.text((x + INSIDE, y - 2), &number, &style);
 }
 
@@ -83,9 +87,9 @@ fn numbers(drawing: &mut Drawing, day: &Day, (x, y): (u32, u32)) {
         true => String::new(),
     };
     let lines = [
-        (first, 0, Style::of(16, INK).bold()),
-        (second, 14, Style::of(12, INK)),
-        (third, 26, Style::of(11, PALE_INK)),
+        (first, 0, Style::of(16, INK).bold().showing("served")),
+        (second, 14, Style::of(12, INK).showing("owed")),
+        (third, 26, Style::of(11, PALE_INK).showing("claimed")),
     ];
     for (text, below, style) in lines {
         drawing.text((x, y + below), &text, &style.at_most(INSIDE));
@@ -93,6 +97,7 @@ fn numbers(drawing: &mut Drawing, day: &Day, (x, y): (u32, u32)) {
     if day.is_dark() {
         // Beside the 0 that was served.
         let label = Style::of(14, PAPER).bold().in_the_middle();
+        let label = label.showing("dark");
         drawing.rect((x + 64, y - 15), (60, 18), r##"fill="#000000""##);
         drawing.text((x + 94, y - 1), "DARK", &label);
     }

@@ -4,11 +4,11 @@ use crate::common::edition;
 use crate::score::issue::Issue;
 use crate::score::month::{Began, Score};
 use crate::score::picture::svg::{Drawing, Style, INK, PALE_INK};
-use crate::score::picture::{file_name, wrapped, LEFT, RIGHT, SMALL};
+use crate::score::picture::{file_name, lines_of, Line, LEFT, RIGHT, SMALL};
 
 /// From the legend to the first line, and from one line to the next.
 const FIRST: u32 = 26;
-const LINE: u32 = 16;
+const STEP: u32 = 16;
 
 /// Letters of a line that surely fit: a letter is taken to be as wide as a digit in a wide font.
 const LETTERS: usize = 130;
@@ -23,13 +23,17 @@ const LABEL: Style = Style::of(12, PALE_INK);
 const ELEMENT: &str = "element: what a run writes to one output at one pair of its domain; a day is served what it claimed, up to what it owes";
 
 pub struct Foot {
-    lines: Vec<String>,
+    lines: Vec<Line>,
     signed: bool,
 }
 
 impl Foot {
     /// Of a card that both sign.
     pub fn of(score: &Score) -> Foot {
+        let issue = &score.issue;
+        let archive = issue.archive.as_ref();
+        let archive = archive
+            .map(|archive| format!("SHA-256 of the proved archive that scored it: {archive}"));
         let digest = score.digest.as_ref();
         let digest = digest.map(|digest| format!("SHA-256 of the log's bytes: {digest}"));
         let state = score.began.as_ref().map(|Began { state, sha256 }| {
@@ -37,24 +41,33 @@ impl Foot {
             format!("SHA-256 of the state that it goes on from, {state}: {sha256}")
         });
         let texts = [
-            Some(score.issue.told()),
-            digest,
-            state,
-            Some(ELEMENT.to_string()),
-            Some(edition::rule(score.edition).to_string()),
-            Some(score.issue.days()),
+            (Some(issue.told()), "issued"),
+            (archive, "archive"),
+            (digest, "log's digest"),
+            (state, "state's digest"),
+            (Some(ELEMENT.to_string()), "element"),
+            (Some(edition::rule(score.edition).to_string()), "edition"),
+            (Some(issue.days()), "time zone"),
         ];
-        Foot::new(texts.into_iter().flatten(), true)
+        Foot::new(&texts, true)
     }
 
     /// Of a card that nobody signs.
     pub fn unsigned(issue: &Issue) -> Foot {
-        Foot::new([issue.told(), issue.days()].into_iter(), false)
+        let texts = [
+            (Some(issue.told()), "issued"),
+            (Some(issue.days()), "time zone"),
+        ];
+        Foot::new(&texts, false)
     }
 
-    fn new(texts: impl Iterator<Item = String>, signed: bool) -> Foot {
+    /// Of these texts, as far as there are any, each with what it shows.
+    fn new(texts: &[(Option<String>, &'static str)], signed: bool) -> Foot {
+        let texts = texts.iter();
+        let texts = texts.filter_map(|(text, figure)| Some((text.as_ref()?, *figure)));
+        let lines = texts.flat_map(|(text, figure)| lines_of(text, figure, LETTERS));
         Foot {
-            lines: texts.flat_map(|text| wrapped(&text, LETTERS)).collect(),
+            lines: lines.collect(),
             signed,
         }
     }
@@ -66,13 +79,14 @@ impl Foot {
     }
 
     fn last_line(&self) -> u32 {
-        FIRST + LINE * (self.lines.len() as u32 - 1)
+        FIRST + STEP * (self.lines.len() as u32 - 1)
     }
 
     /// Draws it below this height.
     pub fn draw(&self, drawing: &mut Drawing, y: u32) {
         for (place, line) in (0..).zip(&self.lines) {
-            drawing.text((LEFT, y + FIRST + LINE * place), line, &SMALL);
+            let at = (LEFT, y + FIRST + STEP * place);
+            drawing.text(at, &line.text, &SMALL.showing(line.figure));
         }
         if self.signed {
             sign(drawing, y + self.last_line() + ROOM);

@@ -13,6 +13,7 @@ use crate::common::digits::grouped;
 use crate::common::replaced::SVG_BEGIN;
 use crate::common::text;
 use crate::score::asked::Card;
+use crate::score::block;
 use crate::score::civil::{Date, WEEKDAYS};
 use crate::score::issue::Issue;
 use crate::score::month::{self, Score, Served};
@@ -49,22 +50,32 @@ const HEAD_LETTERS: usize = 62;
 /// Common fonts, of which each machine has one.
 pub const FONTS: &str = r#"font-family="DejaVu Sans, Verdana, Arial, Helvetica, sans-serif""#;
 
+/// A picture by itself is seen whole on a narrow screen, and as large as it is drawn on others.
+pub const NO_WIDER: &str = r#"style="max-width:100%;height:auto""#;
+
 const TITLE: Style = Style::of(32, INK).bold();
 const PLAIN: Style = Style::of(15, INK);
 const SMALL: Style = Style::of(12, PALE_INK);
 
 /// A card as a picture of its own.
 pub fn svg(card: &Card) -> String {
-    drawn(card).alone()
+    let card = block::printed(card);
+    drawn(&card).alone(&block::of(&card))
 }
 
-/// A card for a page that has the patterns.
-pub fn svg_within(card: &Card) -> String {
-    drawn(card).within()
+/// A card for a page of its own that has the patterns.
+pub fn svg_in_its_page(card: &Card) -> String {
+    let card = block::printed(card);
+    drawn(&card).within(&block::of(&card))
 }
 
-fn drawn(card: &Card) -> Framed {
-    match card {
+/// A card among others on a page that has the patterns: who wants its figures takes the card by itself.
+pub fn svg_among_others(card: &Card) -> String {
+    drawn(&block::printed(card)).within("")
+}
+
+fn drawn(printed: &Card) -> Framed {
+    match printed {
         Card::Scored(score) => calendar(score),
         Card::Unscored(unscored) => unscored::drawn(unscored),
     }
@@ -130,21 +141,21 @@ pub const PATTERNS: &str = r##"<defs>
 "##;
 
 impl Framed {
-    fn alone(&self) -> String {
+    fn alone(&self, block: &str) -> String {
         let scaled = |most: u32, of: u32, by: u32| (most * of + by / 2) / by;
         let (width, height) = match scaled(PAPER_WIDTH, self.height, WIDTH) {
             high if high <= PAPER_HEIGHT => (PAPER_WIDTH, high),
             _ => (scaled(PAPER_HEIGHT, WIDTH, self.height), PAPER_HEIGHT),
         };
-        let size = format!(r#" width="{width}mm" height="{height}mm""#);
-        self.svg(&size, PATTERNS)
+        let size = format!(r#" width="{width}mm" height="{height}mm" {NO_WIDER}"#);
+        self.svg(&size, block, PATTERNS)
     }
 
-    fn within(&self) -> String {
-        self.svg("", "")
+    fn within(&self, block: &str) -> String {
+        self.svg("", block, "")
     }
 
-    fn svg(&self, size: &str, patterns: &str) -> String {
+    fn svg(&self, size: &str, block: &str, patterns: &str) -> String {
         let title = Drawing::escaped(&self.title);
         let told = Drawing::escaped(&self.told);
         let view = format!(r#"viewBox="0 0 {WIDTH} {}""#, self.height);
@@ -153,7 +164,7 @@ impl Framed {
             r##"{SVG_BEGIN}xmlns="http://www.w3.org/2000/svg"{size} {view} {FONTS} role="img">
 <title>{title}</title>
 <desc>{told}</desc>
-{patterns}{elements}</svg>
+{block}{patterns}{elements}</svg>
 "##
         )
     }
@@ -201,38 +212,56 @@ fn lease(score: &Score) -> String {
     format!("{lease}, edition {}", score.edition.number())
 }
 
+/// A line of a card, and what it shows, for who reads the card back.
+struct Line {
+    text: String,
+    figure: &'static str,
+}
+
+/// A text that shows this, in lines of at most so many letters.
+fn lines_of(text: &str, figure: &'static str, most: usize) -> impl Iterator<Item = Line> {
+    let lines = wrapped(text, most).into_iter();
+    lines.map(move |text| Line { text, figure })
+}
+
 /// What stands below a card's title: whose it is, the lease and the log. What is too long for a line goes on in the next one.
-fn head_lines(issue: &Issue, lease: String, inputs: &[String]) -> Vec<String> {
+fn head_lines(issue: &Issue, lease: String, inputs: &[String]) -> Vec<Line> {
     let log = format!("Log {}", month::log_name(inputs, file_name));
-    let mut texts = issue.whose_within(HEAD_LETTERS);
-    texts.extend(issue.lease());
-    texts.extend([lease, log]);
-    let lines = texts.iter().flat_map(|text| wrapped(text, HEAD_LETTERS));
-    lines.collect()
+    let whose = issue.whose_within(HEAD_LETTERS).into_iter();
+    let texts = whose.map(|whose| (whose, "whose"));
+    let texts = texts.chain(issue.lease().map(|number| (number, "lease's number")));
+    let texts = texts.chain([(lease, "lease"), (log, "log")]);
+    texts
+        .flat_map(|(text, figure)| lines_of(&text, figure, HEAD_LETTERS))
+        .collect()
 }
 
 /// How far more lines than a card has room for move down what is below them.
-fn more_lines(lines: &[String]) -> u32 {
+fn more_lines(lines: &[Line]) -> u32 {
     HEAD_LINE * lines.len().saturating_sub(HEAD_LINES) as u32
 }
 
 /// Draws the lines below the title, so far down.
-fn draw_lines(drawing: &mut Drawing, lines: &[String], above: u32) {
+fn draw_lines(drawing: &mut Drawing, lines: &[Line], above: u32) {
     for (place, line) in (0..).zip(lines) {
-        drawing.text((LEFT, above + 88 + HEAD_LINE * place), line, &PLAIN);
+        let at = (LEFT, above + 88 + HEAD_LINE * place);
+        drawing.text(at, &line.text, &PLAIN.showing(line.figure));
     }
 }
 
 /// The title and its lines on the left, verdict, totals and days on the right, and a bar of the whole month below them.
-fn head(drawing: &mut Drawing, score: &Score, lines: &[String], above: u32) {
-    drawing.text((LEFT, above + 58), &title(score), &TITLE);
+fn head(drawing: &mut Drawing, score: &Score, lines: &[Line], above: u32) {
+    let heading = TITLE.showing("month");
+    drawing.text((LEFT, above + 58), &title(score), &heading);
     draw_lines(drawing, lines, above);
     verdict(drawing, score, above);
     let (served, owed) = (score.month.served, score.month.owed);
     let total = format!("{} of {} elements served", grouped(served), grouped(owed));
     let right = PLAIN.to_the_left();
-    drawing.text((RIGHT, above + 112), &total, &right.bold());
-    drawing.text((RIGHT, above + 136), &in_days(score), &right);
+    let style = right.bold().showing("served of owed");
+    drawing.text((RIGHT, above + 112), &total, &style);
+    let style = right.showing("part and days");
+    drawing.text((RIGHT, above + 136), &in_days(score), &style);
     let fill = match score.month.verdict {
         Verdict::Full => FULL,
         _ => PART,
@@ -292,6 +321,7 @@ fn verdict(drawing: &mut Drawing, score: &Score, above: u32) {
     let x = RIGHT - width;
     let name = score.verdict_name().to_uppercase();
     let style = Style::of(26, ink).bold().in_the_middle();
+    let style = style.showing("verdict");
     drawing.rect((x, above + 30), (width, 46), &look);
     drawing.text((x + width / 2, above + 62), &name, &style);
 }

@@ -19,6 +19,8 @@ pub struct Style {
     anchor: &'static str,
     /// Text that would be wider is set smaller.
     most: Option<u32>,
+    /// What the text shows, for who reads the card back.
+    figure: &'static str,
 }
 
 impl Style {
@@ -29,6 +31,7 @@ impl Style {
             bold: false,
             anchor: "start",
             most: None,
+            figure: "",
         }
     }
 
@@ -55,6 +58,11 @@ impl Style {
             most: Some(width),
             ..self
         }
+    }
+
+    /// Text that shows this of the month, or of the day whose group it is in.
+    pub const fn showing(self, figure: &'static str) -> Style {
+        Style { figure, ..self }
     }
 
     /// The size for this text. Fonts differ, so a letter is taken to be as wide as a
@@ -104,8 +112,17 @@ impl Drawing {
 
     /// Shapes that belong together, with words that a viewer shows for them.
     pub fn begin_group(&mut self, told: &str) {
+        self.begin("", told);
+    }
+
+    /// The shapes of a day, likewise.
+    pub fn begin_day(&mut self, number: u32, told: &str) {
+        self.begin(&format!(r#" data-day="{number}""#), told);
+    }
+
+    fn begin(&mut self, marks: &str, told: &str) {
         let told = Drawing::escaped(told);
-        self.line(format_args!("<g><title>{told}</title>"));
+        self.line(format_args!("<g{marks}><title>{told}</title>"));
     }
 
     pub fn end_group(&mut self) {
@@ -140,9 +157,13 @@ impl Drawing {
         } else {
             ""
         };
+        let figure = match style.figure {
+            "" => String::new(),
+            figure => format!(r#" data-figure="{figure}""#),
+        };
         let text = Drawing::escaped(text);
         self.line(format_args!(
-            r#"<text x="{x}" y="{y}" font-size="{size}" fill="{ink}" text-anchor="{anchor}"{bold}>{text}</text>"#
+            r#"<text x="{x}" y="{y}" font-size="{size}" fill="{ink}" text-anchor="{anchor}"{bold}{figure}>{text}</text>"#
         ));
     }
 }

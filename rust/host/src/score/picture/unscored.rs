@@ -12,7 +12,7 @@ use crate::score::picture::{
 };
 
 pub fn drawn(unscored: &Unscored) -> Framed {
-    let told = without_folders(&unscored.why, &unscored.inputs);
+    let told = &unscored.why;
     let why: Vec<String> = told.lines().map(|line| line.trim().into()).collect();
     let notice = Notice::new("There is no score, because", &why);
     let owed = grouped(u64::from(unscored.line.owed));

@@ -156,7 +156,8 @@ impl Line<'_, '_> {
     }
 
     fn made(&mut self) {
-        match self.scene.random.below(12) {
+        match self.scene.random.below(13) {
+            12 => self.verify(),
             0..=2 => self.score(),
             3 | 4 => self.replay(),
             5 | 6 => self.fleet(),
@@ -222,6 +223,14 @@ impl Line<'_, '_> {
                 self.written.push(("--cards", card.to_string()));
             }
         }
+    }
+
+    fn verify(&mut self) {
+        self.put("verify");
+        self.reads("", "old.svg");
+        let log = self.log();
+        self.reads("", log);
+        self.flag(3, "--json");
     }
 
     fn survey(&mut self) {

@@ -5,6 +5,7 @@
 use super::made::{self, Case, OWN};
 use super::{shipped, Scene};
 use crate::common::{complained, root, told, with_input};
+use crate::schema::Schema;
 use crate::score::well_formed;
 use serde_json::Value;
 use std::ffi::{OsStr, OsString};
@@ -103,15 +104,17 @@ fn hold(run: &Run, output: &Output) {
     let text = told(output);
     assert!(plain(&text), "{text:?}");
     if run.has("--json") {
+        let schema = Schema::new();
         for line in text
             .lines()
             .filter(|_| !run.is("manual") && !run.is("completions"))
         {
             let value: Value = serde_json::from_str(line).expect("JSON");
-            assert!(value.is_object(), "{line}");
+            let command = run.arguments[0].to_string_lossy();
+            assert_eq!(schema.fault(&command, &value), None, "{line}");
         }
     }
-    if run.has("--csv") && run.is("fleet") {
+    if (run.has("--csv") || run.has("--csv-lessees")) && run.is("fleet") {
         // Rows with another number of values than the first are an error there.
         let mut rows = csv::Reader::from_reader(text.as_bytes());
         assert!(rows.records().all(|row| row.is_ok()), "{text}");
@@ -139,10 +142,12 @@ fn compare_forms(run: &Run, text: &Output) {
         "--plain",
         "--work",
         "--commands",
+        "--verify",
+        "--csv-lessees",
     ];
     let known = [
-        "score", "fleet", "replay", "decode", "address", "locate", "flow", "tile", "survey",
-        "picture",
+        "score", "fleet", "history", "replay", "decode", "address", "locate", "flow", "tile",
+        "survey", "picture", "verify",
     ];
     // Bytes on standard output leave no room for another form.
     let binary = run.is("picture") && run.has("-");
@@ -200,8 +205,27 @@ fn compare_forms(run: &Run, text: &Output) {
                 let due = format!("served {served} of {owed} elements owed");
                 assert!(text.contains(&due), "{due} in {text}");
                 let stations = &fleet["stations"];
-                assert_eq!(*stations, lines.len() - 1);
+                let told = lines.iter().filter(|line| line.get("lease").is_some());
+                assert_eq!(fleet["told"], told.count());
+                assert!(
+                    fleet["told"] == *stations || text.contains("; told here: "),
+                    "{text}"
+                );
                 assert!(text.starts_with(&format!("fleet of {stations} station")));
+            }
+        }
+        name if name == "history" => {
+            if let Some(history) = lines.last().map(|line| &line["history"]) {
+                let stations = &history["stations"];
+                assert!(
+                    text.starts_with(&format!("history of {stations} station")),
+                    "{text}"
+                );
+                let odds = history["contradictions"].as_array().map_or(0, Vec::len);
+                assert_eq!(
+                    text.contains("\nscores that contradict each other:\n"),
+                    odds > 0
+                );
             }
         }
         name if name == "decode" => {

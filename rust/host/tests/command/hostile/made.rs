@@ -1,9 +1,11 @@
 //! Hostile inputs and lines, made from a case's number.
 
-use crate::common::sample;
+use crate::common::{root, sample};
 use crate::states::sealed;
 use compare::random::Random;
+use serde_json::json;
 use std::ffi::OsString;
+use std::fs;
 use std::os::unix::ffi::OsStringExt;
 
 /// A line of arguments, what stands on standard input, and what is written where the
@@ -157,6 +159,12 @@ const NAMES: [&[u8]; 10] = [
     b"comma,semi;colon",
 ];
 
+/// Station 14's card, which tests hold as it is stored.
+fn stored_card() -> Vec<u8> {
+    let file = root().join("rust/host/tests/pictures/station-14.svg");
+    fs::read(file).expect("the card is there")
+}
+
 pub fn case(random: &mut Random) -> Case {
     let mut made = Made {
         random,
@@ -201,7 +209,9 @@ impl Made<'_> {
     }
 
     fn line(&mut self) {
-        match self.random.below(27) {
+        match self.random.below(31) {
+            27 | 28 => self.verify(),
+            29 | 30 => self.history(),
             23 | 24 => self.survey(),
             25 | 26 => self.picture(),
             0..=5 => self.score(),
@@ -335,11 +345,111 @@ impl Made<'_> {
             &["worst", "lease", "station", "lessee", "silent", "best"],
         );
         self.valued(7, "--html", &["-"]);
+        self.valued(9, "--verify", &["own/", "samples", "no-such"]);
         self.valued(7, "--edition", &["1", "2", "2", "3"]);
         self.valued(
             9,
             "--from-scores",
             &["own/leases.csv", "/dev/null", "no-such"],
+        );
+        self.valued(9, "--lessee", &["Harbour", "Pier, north", "\u{202e}x", ""]);
+        self.valued(9, "--only", &["short", "full", "unscored", "best"]);
+        self.flag(12, "--csv-lessees");
+    }
+
+    /// Scores of the case's own: months of two stations in both forms, some of their fields changed, some of their bytes.
+    fn history(&mut self) {
+        self.put("history");
+        for _ in 0..self.random.below(4) {
+            let mut text = String::new();
+            for _ in 0..self.random.below(4) {
+                text += &self.score_lines();
+            }
+            let mut bytes = text.into_bytes();
+            if self.random.once_in(5) {
+                self.damage(&mut bytes);
+            }
+            let name = self.random.one_of(&NAMES);
+            let number = self.case.files.len();
+            let name = [format!("{number}").as_bytes(), name].concat();
+            let argument = [OWN.as_bytes(), &name].concat();
+            self.case.arguments.push(OsString::from_vec(argument));
+            self.case.files.push((OsString::from_vec(name), bytes));
+        }
+        for (times, flag) in [(3, "--json"), (8, "--plain")] {
+            self.flag(times, flag);
+        }
+        self.valued(5, "--html", &["-"]);
+        self.valued(8, "--issued", &DATES);
+        self.case.input = self.score_lines().into_bytes();
+    }
+
+    /// A month of three days by `score --json` or by `fleet --json`.
+    fn score_lines(&mut self) -> String {
+        let station = self
+            .random
+            .one_of(&["14", "14", "15", "\u{1b}[2J", "<&\">"]);
+        let first = self.random.one_of(&[101, 104, 104, 102, u32::MAX - 2]);
+        let from = self
+            .random
+            .one_of(&["2026-04-01", "2026-04-04", "9999-12-30", "April"]);
+        let from = self.random.coin().then_some(from);
+        let edition = self.random.one_of(&[1, 1, 1, 2, 3]);
+        let lease = json!({"first_day": first, "days": 3, "owed": 10, "from": from});
+        // One day in full, one in part, one dark.
+        let part = self.random.between(1, 9);
+        let mut value = json!({
+            "station": station, "lessee": "Harbour", "edition": edition, "lease": lease, "sha256": null, "checks": [],
+            "served": 10 + part, "owed": 30, "percent": "x", "dark_days": 1, "dark": [first.wrapping_add(2)],
+            "full_days": 1, "part_days": 1, "verdict": "short", "explained": null, "schema": 1,
+        });
+        if self.random.once_in(3) {
+            let keys: Vec<String> = value.as_object().expect("fields").keys().cloned().collect();
+            let key = &keys[self.random.below(keys.len() as u32) as usize];
+            let numbers = [
+                json!(0),
+                json!(u64::MAX),
+                json!(-1),
+                json!("\u{1b}[2J"),
+                json!([]),
+                json!(null),
+            ];
+            value[key] = numbers[self.random.below(numbers.len() as u32) as usize].clone();
+        }
+        if self.random.coin() {
+            return format!("{value}\n");
+        }
+        let mut lines = String::new();
+        for (place, claimed) in [(0, 10), (1, part), (2, 0)] {
+            let date = (from == Some("2026-04-01")).then(|| format!("2026-04-{:02}", place + 1));
+            let day = json!({"day": first.wrapping_add(place), "date": date, "claimed": claimed, "served": claimed, "owed": 10,
+                "dark": claimed == 0, "in_log": true, "schema": 1});
+            lines += &format!("{day}\n");
+        }
+        value["issued"] = json!("2026-05-02");
+        value["version"] = json!("0.1.0");
+        value["log"] = json!({"inputs": ["a.log"]});
+        format!("{lines}{}\n", json!({ "summary": value }))
+    }
+
+    /// A stored card as it is or damaged, with its log or another one.
+    fn verify(&mut self) {
+        self.put("verify");
+        self.flag(3, "--json");
+        let mut card = stored_card();
+        for _ in 0..self.random.below(3) {
+            self.damage(&mut card);
+        }
+        self.put("own/card.svg");
+        self.case.files.push(("card.svg".into(), card));
+        match self.random.coin() {
+            true => self.put("samples/station-14.log"),
+            false => self.logs(),
+        }
+        self.valued(
+            12,
+            "--resume",
+            &["samples/station-14-march.state", "-", "no-such"],
         );
     }
 
