@@ -7,7 +7,7 @@ use Prim.Native.Nat.{ℕ, _+_, _-_, _*_, _<_, _≤_, _^_}
 use native.Mathlib.Numerals.{add-one}
 use native.Mathlib.Omega.{arith}
 use lib.Dec.{eqb, ltb}
-use lib.ListN.{length, getD, drop, set, length-drop}
+use lib.ListN.{length, getD, drop, set}
 use lib.Seq.{drop-cons}
 use borrow.Author.Tests.{eqb-true, lt-ltb, le-ltb}
 use Rattle.laws.specs.Choice.{_and_, pick, placeOf}
@@ -27,7 +27,7 @@ use Rattle.command.specs.declared.commands.Command.the-variants as command
 use Rattle.rules.proofs.Fitting.{start-fits, effectless-fits, store-decided, mask-decided, conditional-mask-decided, test-decided, given-fine}
 use Rattle.command.proofs.Headers.{accepted-listed}
 use Rattle.rules.proofs.Readable.{readable}
-use Rattle.state.specs.State.{Open, Birth, Tally, Readiness, Party, Shared, Session, mostExtent}
+use Rattle.state.specs.State.{Birth, Tally, Readiness, Party, Shared, Session, mostExtent}
 use Rattle.state.specs.Seen.{seenOutputs}
 use Rattle.state.specs.Start.{readyOf, readinessOf}
 use Rattle.state.specs.Readiness.{readinessFor, workedOut}
@@ -38,7 +38,7 @@ use Rattle.start.proofs.Gauge.{settled-kept}
 use Rattle.start.specs.Rules.{startRuleOf}
 use Rattle.start.proofs.Readiness.{number-given, number-refused}
 use Rattle.accept.specs.AtWord.{atWord}
-use Rattle.state.specs.Asked.{Given, Held, HeldOwn, OwnAsked}
+use Rattle.state.specs.Asked.{Held, HeldOwn, OwnAsked}
 use Rattle.state.specs.Cells.{Sized, partyOf, partyCells, tallyCells, sharedOf, sharedCells, sessionOf, setBuffer, ownLength, sharedLength, talliesLength}
 use Rattle.state.proofs.Cells.{own-canon, tally-canon}
 use Rattle.state.specs.Effects.{tookWords}
@@ -607,45 +607,19 @@ five-words ws i h =
     next k m e less =
         drop-cons ws k 0 less ∙ ap {B = List ℕ} (λ (n : ℕ). getD ws k 0 ∷ drop n ws) (sym (e ∙ add-one k))
 
-module _ (l t h : List ℕ) (g : Given l t h) where
-  pub ready : (getD l 0 0 ≡ 1 → ⊥) → getD l 2 0 ≡ 21 → getD l 1 0 ≤ 999999995 → Ready l t h
-  unfolding partyOf
-  ready n e k =
-      record {
-        given = g;
-        idle = record { unstopped = omega (arith, n, g .valid .flag); unopened = g .valid .closed e };
-        room = omega (arith, k);
-      }
+module _ (l t h ws : List ℕ) (i : ℕ) (fits : i + 5 ≤ length ws) where
+  pub no-header : lineWith (getD ws i 0) ≡ refuses 2 → Begun (drop i ws) l t h 0 l t h
+  no-header e =
+      unbegun (λ line q. told-apart (sym q ∙ ap lineWith (ap (λ (x : List ℕ). getD x 0 0) (drop-cons ws i 0 (omega (arith, fits)))) ∙ e))
 
-  -- what keeps a command from being looked at
-  module _ (ws : List ℕ) (i : ℕ) where
-    pub words-few : length ws - i < 5 → Begun (drop i ws) l t h 0 l t h
-    words-few k = unbegun (λ y five line e. omega (arith, k, five, length-drop i ws))
-
-    pub is-stopped : getD l 0 0 ≡ 1 → Begun (drop i ws) l t h 0 l t h
-    unfolding partyOf
-    is-stopped e = unbegun (λ y five line q. omega (arith, e, y .idle .unstopped))
-
-    pub is-open : (getD l 2 0 ≡ 21 → ⊥) → Begun (drop i ws) l t h 0 l t h
-    unfolding partyOf
-    is-open n = unbegun (λ y five line q. n (ap (λ (o : Open). o .line) (y .idle .unopened)))
-
-    pub is-full : 999999995 < getD l 1 0 → Begun (drop i ws) l t h 0 l t h
-    unfolding partyOf
-    is-full k = unbegun (λ y five line q. omega (arith, k, y .room))
-
-    pub no-header : i < length ws → lineWith (getD ws i 0) ≡ refuses 2 → Begun (drop i ws) l t h 0 l t h
-    no-header less e = unbegun (λ y five line q. told-apart (sym q ∙ ap lineWith (ap (λ (x : List ℕ). getD x 0 0) (drop-cons ws i 0 less)) ∙ e))
-
-  pub piece-tried : (ws : List ℕ) (i : ℕ) → 5 ≤ length ws - i → i < length ws → Ready l t h → (line : ℕ) → lineWith (getD ws i 0) ≡ gives (line ∷ []) →
-      (k : ℕ) (l1 t1 h1 : List ℕ) (c : Command) →
+  pub piece-tried : (line : ℕ) → lineWith (getD ws i 0) ≡ gives (line ∷ []) → (k : ℕ) (l1 t1 h1 : List ℕ) (c : Command) →
       ((rest : List ℕ) →
       Tried c (headerOf line ∷ getD ws (i + 1) 0 ∷ getD ws (i + 2) 0 ∷ getD ws (i + 3) 0 ∷ getD ws (i + 4) 0 ∷ rest) (everyWord c) l t h k l1 t1 h1) →
       Begun (drop i ws) l t h k l1 t1 h1
-  piece-tried ws i left less y line e k l1 t1 h1 c q =
-      begun c k l1 t1 h1 y
+  piece-tried line e k l1 t1 h1 c q =
+      begun c k l1 t1 h1
       (subst (λ (x : List ℕ). Tried c x (everyWord c) l t h k l1 t1 h1)
       (ap {B = List ℕ} (λ (w : ℕ). w ∷ getD ws (i + 1) 0 ∷ getD ws (i + 2) 0 ∷ getD ws (i + 3) 0 ∷ getD ws (i + 4) 0 ∷ drop (i + 5) ws)
       (accepted-listed (getD ws i 0) line e .header) ∙
-      sym (five-words ws i (omega arith)))
+      sym (five-words ws i fits))
       (q (drop (i + 5) ws)))

@@ -76,15 +76,12 @@ everyWord c = length (wordsOf c)
 abbrev pub lastWord : Command → ℕ
 lastWord c = 1
 
--- an attempt at the command that words begin with; or 0, and nothing was changed, where the session isn't ready for any command, the
--- words are fewer than a command may have, or they begin with no header
+-- an attempt at the command that words begin with; or 0, and nothing was changed, where they begin with no header
 pub data Begun (ws own tallies shared : List ℕ) : ℕ → List ℕ → List ℕ → List ℕ → Type 0 where
   begun :
-      (c : Command) (n : ℕ) (own1 tallies1 shared1 : List ℕ) → Ready own tallies shared →
-      Tried c ws (everyWord c) own tallies shared n own1 tallies1 shared1 → Begun ws own tallies shared n own1 tallies1 shared1
-  unbegun :
-      (Ready own tallies shared → mostWords ≤ length ws → (line : ℕ) → lineWith (getD ws 0 0) ≡ gives (line ∷ []) → ⊥) →
-      Begun ws own tallies shared 0 own tallies shared
+      (c : Command) (n : ℕ) (own1 tallies1 shared1 : List ℕ) → Tried c ws (everyWord c) own tallies shared n own1 tallies1 shared1 →
+      Begun ws own tallies shared n own1 tallies1 shared1
+  unbegun : ((line : ℕ) → lineWith (getD ws 0 0) ≡ gives (line ∷ []) → ⊥) → Begun ws own tallies shared 0 own tallies shared
 
 -- the place of each constants' format
 abbrev pub KeptAt : Stored → ℕ → Type 0

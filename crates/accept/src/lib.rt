@@ -12,7 +12,7 @@ use state::own::WordPosition;
 use state::settings;
 ghost use mathlib.Core.Path.{_≡_};
 ghost use mathlib.Core.List.{List, [], _∷_};
-ghost use Prim.Native.Nat.{ℕ, _<_};
+ghost use Prim.Native.Nat.{ℕ, _+_, _<_, _≤_};
 ghost use lib.ListN.{length, drop};
 ghost use Rattle.state.specs.Cells.{sharedLength};
 ghost use Rattle.command.specs.Table.{headerOf};
@@ -20,14 +20,12 @@ ghost use Rattle.command.specs.Commands.{noEffectLine, storedLine};
 ghost use Rattle.command.specs.declared.commands.NoEffect.{NoEffect};
 ghost use Rattle.command.specs.declared.commands.Stored.{Stored};
 ghost use Rattle.command.specs.declared.commands.Command.{Command};
-ghost use Rattle.state.specs.Asked.{Given, OwnAsked};
+ghost use Rattle.state.specs.Asked.{OwnAsked};
 ghost use Rattle.start.specs.Gauge.{RenewAsked};
-ghost use Rattle.accept.specs.Whole.{Begun, KeptAt, LineTried, OwnTried, RoomFor, SharedTried, Tried, everyWord, lastWord, mostWords};
+ghost use Rattle.accept.specs.Whole.{Begun, KeptAt, LineTried, OwnTried, Ready, RoomFor, SharedTried, Tried, everyWord, lastWord, mostWords};
 
-// The most words that a command has, and the words taken at which there is room for so many.
-const MOST_WORDS: usize = 5;
-
-const LAST_ROOM: u32 = 999999995;
+// The most words that a command has.
+pub const MOST_WORDS: usize = 5;
 
 fn take_domain(
     own: &mut [u32; state::OWN_CELLS],
@@ -340,8 +338,8 @@ pub fn take_last(
     }
 }
 
-// The command that the words from a place on begin with, where the session can take it whole: no command is open, and the
-// longest command would fit the piece and the session.
+// The command that the words from a place on begin with, where the session is ready for any command and the longest would fit
+// the piece.
 pub fn take(
     own: &mut [u32; state::OWN_CELLS],
     tallies: &mut [u64; state::TALLIES],
@@ -349,22 +347,10 @@ pub fn take(
     words: &[u32],
     from: WordPosition,
 ) -> u32
-    requires { ⌜ Given (now own) (now tallies) (now shared) × (from .0 < length (now words)) ⌝ }
+    requires { ⌜ Ready (now own) (now tallies) (now shared) × (from .0 + mostWords ≤ length (now words)) ⌝ }
     ensures { λ r. ⌜ Begun (drop (from .0) (now (words .entry))) (now (own .entry)) (now (tallies .entry)) (now (shared .entry)) r (now (own .exit)) (now (tallies .exit)) (now (shared .exit)) ⌝ }
 {
     let at = from.0 as usize;
-    if words.len() - at < MOST_WORDS {
-        return 0;
-    }
-    if own[own::STOPPED] == 1 {
-        return 0;
-    }
-    if own[own::LINE] != own::NO_LINE {
-        return 0;
-    }
-    if LAST_ROOM < own[own::TAKEN] {
-        return 0;
-    }
     match table::line_of(words[at]) {
         Line::Unknown => 0,
         Line::At(line) => take_line(

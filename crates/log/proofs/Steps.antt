@@ -20,12 +20,12 @@ use Rattle.session.specs.Step as stream
 use Rattle.session.specs.Feed.{First, nothing, first, feedOf, proceed as feeding}
 use Rattle.session.specs.Feed as pieces
 use Rattle.session.specs.Answers.{PieceLeft as WordsFed}
-use Rattle.session.specs.Asked.{Left}
+use Rattle.session.specs.Asked.{Left, Fold}
 use Rattle.session.specs.Answers.{firstOf, replyOf as wordReply}
 use Rattle.session.specs.declared.stream.Answer.{Answer}
 use Rattle.session.specs.declared.stream.Answer.the-variants.{Open, Done, Refused}
 use Rattle.session.specs.declared.stream.Fed as declared
-use Rattle.session.proofs.Feeding.{Fold, fold-begins, fold-ends, fold-open, fold-completed, fold-refused}
+use Rattle.session.proofs.Feeding.{fold-begins, fold-ends, fold-open, fold-completed, fold-refused}
 use Rattle.session.proofs.Numbers.{numbered}
 use Rattle.session.proofs.stream.Answer.{the-type}
 use Rattle.session.proofs.Handed.{piece-given}

@@ -14,21 +14,23 @@ use Rattle.refusal.specs.Told.{gives}
 use Rattle.command.specs.Commands.{wordsOf}
 use Rattle.rules.specs.Writer.{judgeCommandOf}
 use Rattle.command.specs.declared.commands.Command.{Command}
+use Rattle.command.specs.declared.commands.Command.the-variants as command
+use Rattle.command.specs.declared.commands.Stored.the-variants as stored
 use Rattle.command.proofs.Headers.{count-most}
 use Rattle.command.proofs.WriteBack.{lined}
 use Rattle.owners.specs.Owners.{owned}
 use Rattle.state.specs.State.{Open as Opened, Session, none}
-use Rattle.state.specs.Effects.{after}
+use Rattle.state.specs.Effects.{ownAfter, after, limit}
 use Rattle.session.specs.Step.{Reply, stillOpen, completed, refused, Stepped, startRuleOf, stepOf}
 use Rattle.state.specs.Valid.{Valid}
 use Rattle.session.specs.Again.{fed, atWord}
-use Rattle.accept.specs.Whole.{Ready, Tried, untaken, accepted as takenWhole, Begun, begun, unbegun}
+use Rattle.accept.specs.Whole.{Ready, mostWords, Tried, untaken, accepted as takenWhole, Begun, begun, unbegun}
 use Rattle.session.specs.Feed.{First, nothing, first, onward, ended, proceed, feedOf, joined}
 use Rattle.session.specs.Feed as piece
 use Rattle.session.specs.Answers.{PieceLeft}
 use Rattle.state.specs.Asked.{Given, Held}
-use Rattle.session.specs.Asked.{Left, Numbered}
-use Rattle.state.specs.Cells.{Sized, sessionOf}
+use Rattle.session.specs.Asked.{Left, Numbered, Reach, ahead, Fold}
+use Rattle.state.specs.Cells.{Sized, partyOf, sessionOf}
 use Rattle.session.specs.declared.stream.First as firsts
 use Rattle.session.specs.declared.stream.First.the-variants as firstly
 use Rattle.session.specs.declared.stream.Fed.{Fed}
@@ -42,22 +44,9 @@ use Rattle.session.proofs.ReadBack.{reads-back}
 use Rattle.session.proofs.Refusals.{fed-valid}
 use Rattle.session.proofs.Taking.{same}
 
--- an answer to the rest, with the words taken and the commands completed before it
-abbrev ahead : ℕ → List Command → piece.Fed → piece.Fed
-ahead i cs f = record { taken = i + f .taken; commands = cs ++ f .commands; refusal = f .refusal; session = f .session }
-
 fed-path : {m n : ℕ} {c d : List Command} {r : First} {s : Session} → m ≡ n → c ≡ d →
     _≡_ {A = piece.Fed} (record { taken = m; commands = c; refusal = r; session = s }) (record { taken = n; commands = d; refusal = r; session = s })
 fed-path {r = r} {s = s} p q = λ k. record { taken = p k; commands = q k; refusal = r; session = s }
-
--- `i` words were taken and completed `n` commands; the cells hold the session that they left
-pub record Fold (s : Session) (ws l t c : List ℕ) (i n : ℕ) : Type 0 where
-  pub done : List Command
-  pub given : Given l t c
-  pub within : i ≤ length ws
-  pub number : length done ≡ n
-  pub fewer : n ≤ i
-  pub rest : feedOf s ws ≡ ahead i done (feedOf (sessionOf l t c) (drop i ws))
 
 pub fold-begins : (ws l t c : List ℕ) → Given l t c → Fold (sessionOf l t c) ws l t c 0 0
 fold-begins ws l t c g =
@@ -74,6 +63,53 @@ fold-begins ws l t c g =
 words-most : (x : Command) → (1 ≤ length (wordsOf x)) × (length (wordsOf x) ≤ 5)
 unfolding wordsOf
 words-most x = (omega arith, omega (arith, lined x .fields-count, count-most _ (lined x .line-most)))
+
+-- cells that whole commands may take the longest command's words of are ready for any
+pub reach-ready : (l t c : List ℕ) (r : ℕ) → Given l t c → Reach l r → mostWords ≤ r → Ready l t c
+unfolding partyOf
+reach-ready l t c r g x h =
+    record {
+      given = g;
+      idle =
+          record {
+            unstopped = omega (arith, x .running (omega arith), g .valid .flag);
+            unopened = g .valid .closed (x .unopened (omega arith));
+          };
+      room = omega (arith, x .room (omega arith));
+    }
+
+pub no-reach : (l : List ℕ) → Reach l 0
+no-reach l = record { running = λ h. absurd (omega arith); unopened = λ h. absurd (omega arith); room = λ h. absurd (omega arith) }
+
+pub reach-as : (l : List ℕ) (m n : ℕ) → m ≡ n → Reach l m → Reach l n
+reach-as l m n e x = subst (Reach l) e x
+
+-- a command changes nothing of whether the session is stopped
+still-running : (x : Command) (s : Session) → after x s .party .stopped ≡ s .party .stopped
+unfolding after ownAfter
+still-running (command.Domain i0 j0 i1 j1) s = refl
+still-running command.Start s = refl
+still-running (command.Effectless what) s = refl
+still-running (command.Store stored.Instructions base format) s = refl
+still-running (command.Store stored.Floats base format) s = refl
+still-running (command.Store stored.Integers base format) s = refl
+still-running (command.Store stored.Booleans base format) s = refl
+still-running (command.Input number base format height) s = refl
+still-running (command.Output number base format height) s = refl
+still-running (command.Conditional base format height) s = refl
+still-running (command.OutputMask mask) s = refl
+still-running (command.ConditionalMask mask) s = refl
+still-running (command.Test test) s = refl
+
+-- what is begun from a place on is begun from its part of the rest
+pub begun-there : (ws l t c : List ℕ) (j i m : ℕ) (l1 t1 c1 : List ℕ) → Begun (drop (j + i) ws) l t c m l1 t1 c1 →
+    Begun (drop i (drop j ws)) l t c m l1 t1 c1
+begun-there ws l t c j i m l1 t1 c1 b = subst (λ (x : List ℕ). Begun x l t c m l1 t1 c1) (sym (drop-drop i j ws)) b
+
+pub begun-most : (ws l t c : List ℕ) (m : ℕ) (l1 t1 c1 : List ℕ) → Begun ws l t c m l1 t1 c1 → m ≤ mostWords
+begun-most ws l t c m l1 t1 c1 (begun x m2 l2 t2 c2 (untaken d)) = omega arith
+begun-most ws l t c m l1 t1 c1 (begun x m2 l2 t2 c2 (takenWhole later l3 t3 c3 begins fine own rule held)) = words-most x .1
+begun-most ws l t c m l1 t1 c1 (unbegun d) = omega arith
 
 drop-front : (xs ys : List ℕ) → drop (length xs) (xs ++ ys) ≡ ys
 drop-front [] ys = refl
@@ -154,16 +190,43 @@ module _ (s : Session) (ws l t c : List ℕ) (i n : ℕ) (f : Fold s ws l t c i 
           plus : (a b d : ℕ) → a + (b + d) ≡ a + b + d
           plus a b d = omega arith
 
+      whole-reach : (r : ℕ) → Reach l r → mostWords ≤ r → Reach l1 (r - size)
+      unfolding partyOf
+      whole-reach r h k =
+          record {
+            running = λ q e. omega (arith, e, stopped, y .idle .unstopped);
+            unopened = λ q. ap (λ (u : Session). u .party .opened .line) view;
+            room = λ q. omega (arith, ap (λ (u : Session). u .party .taken) view, h .room (omega arith), words-most x .1);
+          }
+        where
+          view : sessionOf l1 t1 c1 ≡ left
+          view = held-view left valid l1 t1 c1 now-held
+
+          stopped : sessionOf l1 t1 c1 .party .stopped ≡ sessionOf l t c .party .stopped
+          stopped = ap (λ (u : Session). u .party .stopped) view ∙ still-running x (sessionOf l t c)
+
   tried-goes : (x : Command) (m : ℕ) (l1 t1 c1 : List ℕ) → Ready l t c → i < length ws → 0 < m →
       Tried x (drop i ws) (length (wordsOf x)) l t c m l1 t1 c1 → Fold s ws l1 t1 c1 (i + m) (n + 1)
   tried-goes x m l1 t1 c1 y less k (untaken d) = absurd (omega arith)
   tried-goes x m l1 t1 c1 y less k (takenWhole later l2 t2 c2 begins fine own rule held) =
       whole-goes x later l2 t2 c2 y begins fine own rule held less
 
-  pub fold-whole : (m : ℕ) (l1 t1 c1 : List ℕ) → i < length ws → 0 < m → Begun (drop i ws) l t c m l1 t1 c1 →
+  pub fold-whole : (m : ℕ) (l1 t1 c1 : List ℕ) → Ready l t c → i < length ws → 0 < m → Begun (drop i ws) l t c m l1 t1 c1 →
       Fold s ws l1 t1 c1 (i + m) (n + 1)
-  fold-whole m l1 t1 c1 less k (begun x m2 l2 t2 c2 y q) = tried-goes x m2 l2 t2 c2 y less k q
-  fold-whole m l1 t1 c1 less k (unbegun d) = absurd (omega arith)
+  fold-whole m l1 t1 c1 y less k (begun x m2 l2 t2 c2 q) = tried-goes x m2 l2 t2 c2 y less k q
+  fold-whole m l1 t1 c1 y less k (unbegun d) = absurd (omega arith)
+
+  -- and what may be taken behind it
+  tried-reach : (x : Command) (m : ℕ) (l1 t1 c1 : List ℕ) → Ready l t c → 0 < m → (r : ℕ) → Reach l r → mostWords ≤ r →
+      Tried x (drop i ws) (length (wordsOf x)) l t c m l1 t1 c1 → Reach l1 (r - m)
+  tried-reach x m l1 t1 c1 y k r h five (untaken d) = absurd (omega arith)
+  tried-reach x m l1 t1 c1 y k r h five (takenWhole later l2 t2 c2 begins fine own rule held) =
+      whole-reach x later l2 t2 c2 y begins fine own rule held r h five
+
+  pub fold-reach : (m : ℕ) (l1 t1 c1 : List ℕ) → Ready l t c → 0 < m → (r : ℕ) → Reach l r → mostWords ≤ r →
+      Begun (drop i ws) l t c m l1 t1 c1 → Reach l1 (r - m)
+  fold-reach m l1 t1 c1 y k r h five (begun x m2 l2 t2 c2 q) = tried-reach x m2 l2 t2 c2 y k r h five q
+  fold-reach m l1 t1 c1 y k r h five (unbegun d) = absurd (omega arith)
 
   tried-same : (x : Command) (m : ℕ) (l1 t1 c1 : List ℕ) → m ≤ 0 →
       Tried x (drop i ws) (length (wordsOf x)) l t c m l1 t1 c1 → Fold s ws l1 t1 c1 i n
@@ -171,8 +234,29 @@ module _ (s : Session) (ws l t c : List ℕ) (i n : ℕ) (f : Fold s ws l t c i 
   tried-same x m l1 t1 c1 k (takenWhole later l2 t2 c2 begins fine own rule held) = absurd (omega (arith, words-most x .0))
 
   pub fold-same : (m : ℕ) (l1 t1 c1 : List ℕ) → m ≤ 0 → Begun (drop i ws) l t c m l1 t1 c1 → Fold s ws l1 t1 c1 i n
-  fold-same m l1 t1 c1 k (begun x m2 l2 t2 c2 y q) = tried-same x m2 l2 t2 c2 k q
+  fold-same m l1 t1 c1 k (begun x m2 l2 t2 c2 q) = tried-same x m2 l2 t2 c2 k q
   fold-same m l1 t1 c1 k (unbegun d) = f
+
+  -- words of the rest that were taken
+  pub fold-joined : (l1 t1 c1 : List ℕ) (k m : ℕ) → Fold (sessionOf l t c) (drop i ws) l1 t1 c1 k m → Fold s ws l1 t1 c1 (i + k) (n + m)
+  fold-joined l1 t1 c1 k m g =
+      record {
+        done = f .done ++ g .done;
+        given = g .given;
+        within = omega (arith, f .within, g .within, length-drop i ws);
+        number = length-append (f .done) (g .done) ∙ ap₂ (λ (a b : ℕ). a + b) (f .number) (g .number);
+        fewer = omega (arith, f .fewer, g .fewer);
+        rest =
+            f .rest ∙ ap (ahead i (f .done)) (g .rest) ∙
+            fed-path (plus i k (later .taken)) (sym (append-assoc (f .done) (g .done) (later .commands))) ∙
+            ap (λ (r : List ℕ). ahead (i + k) (f .done ++ g .done) (feedOf (sessionOf l1 t1 c1) r)) (drop-drop k i ws);
+      }
+    where
+      later : piece.Fed
+      later = feedOf (sessionOf l1 t1 c1) (drop k (drop i ws))
+
+      plus : (a b d : ℕ) → a + (b + d) ≡ a + b + d
+      plus a b d = omega arith
 
   module _ (less : i < length ws) (l1 t1 c1 : List ℕ) where
     abbrev w : ℕ

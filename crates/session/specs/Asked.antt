@@ -1,17 +1,19 @@
 -- What the entries and inner routines ask of the cells that they are lent, and what these hold at return. Assumes nothing.
 use mathlib.Core.Path.{_≡_}
 use mathlib.Core.Bool.{true}
-use mathlib.Core.List.{List, []}
-use Prim.Native.Nat.{ℕ, _<_}
+use mathlib.Core.List.{List, [], _++_}
+use Prim.Native.Nat.{ℕ, _+_, _<_, _≤_}
 use lib.Dec.{eqb}
-use lib.ListN.{length}
+use lib.ListN.{length, drop}
 use Rattle.laws.specs.Choice.{pick}
 use Rattle.command.specs.Kinds.{allowed, kindOf}
 use Rattle.command.specs.Commands.{EachAllowed, commandOf}
 use Rattle.command.specs.declared.commands.Command.{Command}
 use Rattle.owners.specs.Owners.{mayName, owned}
-use Rattle.state.specs.State.{Open}
+use Rattle.state.specs.State.{Open, Session}
 use Rattle.state.specs.Effects.{limit}
+use Rattle.session.specs.Feed as piece
+use Rattle.session.specs.Feed.{feedOf}
 use Rattle.session.specs.Step.{Reply, Stepped, stillOpen, completed, refused, completing}
 use Rattle.state.specs.Valid.{parametersOf}
 use Rattle.refusal.specs.Number.{IsNumber}
@@ -83,3 +85,22 @@ pub record OpenAsked (own tallies shared : List ℕ) : Type 0 where
   pub given : Given own tallies shared
   pub taken : partyOf own tallies .taken < limit
   pub line : partyOf own tallies .opened .line < 21
+
+-- own cells of a party whose next words, so many, whole commands may take: it isn't stopped, no command is open, and the session has room
+pub record Reach (own : List ℕ) (words : ℕ) : Type 0 where
+  pub running : 0 < words → partyOf own [] .stopped ≡ 1 → ⊥
+  pub unopened : 0 < words → partyOf own [] .opened .line ≡ 21
+  pub room : 0 < words → partyOf own [] .taken + words ≤ limit
+
+-- an answer to the rest of a piece, with the words taken and the commands completed before it
+abbrev pub ahead : ℕ → List Command → piece.Fed → piece.Fed
+ahead i cs f = record { taken = i + f .taken; commands = cs ++ f .commands; refusal = f .refusal; session = f .session }
+
+-- `i` words of a piece were taken and completed `n` commands; the cells hold the session that they left
+pub record Fold (s : Session) (ws own tallies shared : List ℕ) (i n : ℕ) : Type 0 where
+  pub done : List Command
+  pub given : Given own tallies shared
+  pub within : i ≤ length ws
+  pub number : length done ≡ n
+  pub fewer : n ≤ i
+  pub rest : feedOf s ws ≡ ahead i done (feedOf (sessionOf own tallies shared) (drop i ws))

@@ -13,17 +13,18 @@ use state::own::WordPosition;
 use state::settings;
 ghost use mathlib.Core.Path.{_≡_};
 ghost use mathlib.Core.List.{[]};
-ghost use Prim.Native.Nat.{_<_};
+ghost use Prim.Native.Nat.{_<_, _≤_};
+ghost use lib.ListN.{length, drop};
 ghost use Rattle.laws.specs.Choice.{_and_};
 ghost use Rattle.refusal.specs.Number.{numberOf};
 ghost use Rattle.command.specs.Kinds.{allowed, kindOf};
 ghost use Rattle.owners.specs.Owners.{mayName};
 ghost use Rattle.state.specs.State.{newSession, newPartyOf, newShared};
-ghost use Rattle.state.specs.Effects.{withParameter};
+ghost use Rattle.state.specs.Effects.{limit, withParameter};
 ghost use Rattle.session.specs.Step.{completing, parameterStep, placing, stepOf};
-ghost use Rattle.state.specs.Cells.{partyOf, sessionOf, sharedCells};
+ghost use Rattle.state.specs.Cells.{ownLength, partyOf, sessionOf, sharedCells};
 ghost use Rattle.state.specs.Asked.{Given, Held, HeldOwn};
-ghost use Rattle.session.specs.Asked.{CompleteAsked, Left, Numbered, OpenAsked, ParameterAsked, Read, RefusalAsked, refusalAt, storedIn};
+ghost use Rattle.session.specs.Asked.{CompleteAsked, Fold, Left, Numbered, OpenAsked, ParameterAsked, Reach, Read, RefusalAsked, refusalAt, storedIn};
 ghost use Rattle.session.specs.Answers.{Begins, PieceLeft, replyOf};
 ghost use Rattle.session.specs.Feed.{feedOf};
 
@@ -304,6 +305,65 @@ pub struct Fed {
     pub refusal: First,
 }
 
+// How many of the next words whole commands may take: none where the session is stopped or a command is open, and no more than
+// there are left and the session has room for.
+fn reach(own: &[u32; state::OWN_CELLS], left: usize) -> usize
+    requires { ⌜ (length (now own) ≡ ownLength) × (partyOf (now own) [] .taken ≤ limit) ⌝ }
+    ensures { λ r. ⌜ (r ≤ left) × Reach (now (own .entry)) r ⌝ }
+{
+    if own[own::STOPPED] == 1 {
+        return 0;
+    }
+    let line = own[own::LINE];
+    if line != own::NO_LINE {
+        return 0;
+    }
+    let room = (WORD_LIMIT - own[own::TAKEN]) as usize;
+    if room < left {
+        return room;
+    }
+    left
+}
+
+// The words of the commands that were taken whole, and how many commands they are.
+struct TakenWhole {
+    words: usize,
+    commands: u64,
+}
+
+// The commands that lie whole in a piece from a place on and are accepted, one after another, while the longest would fit. What keeps
+// the session from taking any is asked once, before the first.
+fn take_commands(
+    own: &mut [u32; state::OWN_CELLS],
+    tallies: &mut [u64; state::TALLIES],
+    shared: &mut [u32; state::SHARED_CELLS],
+    words: &[u32],
+    from: usize,
+) -> TakenWhole
+    requires { ⌜ Given (now own) (now tallies) (now shared) × (from ≤ length (now words)) ⌝ }
+    ensures { λ r. ⌜ Fold (sessionOf (now (own .entry)) (now (tallies .entry)) (now (shared .entry))) (drop from (now (words .entry))) (now (own .exit)) (now (tallies .exit)) (now (shared .exit)) (r .words) (r .commands) ⌝ }
+{
+    let room = reach(own, words.len() - from);
+    let mut taken: usize = 0;
+    let mut commands: u64 = 0;
+    while accept::MOST_WORDS <= room - taken {
+        let at = from + taken;
+        let whole = accept::take(own, tallies, shared, words, WordPosition(at as u64));
+        if whole < 1 {
+            return TakenWhole {
+                words: taken,
+                commands,
+            };
+        }
+        commands = commands + 1;
+        taken = taken + whole as usize;
+    }
+    TakenWhole {
+        words: taken,
+        commands,
+    }
+}
+
 // A piece of words, one after another up to the first refused one; words after that aren't looked at. A command that lies
 // whole in the piece and is accepted is taken at once.
 pub fn feed(
@@ -318,11 +378,11 @@ pub fn feed(
     let mut i: usize = 0;
     let mut commands: u64 = 0;
     while i < words.len() {
-        let whole = accept::take(own, tallies, shared, words, WordPosition(i as u64));
-        if 0 < whole {
-            commands = commands + 1;
-            i = i + whole as usize;
-            continue;
+        let whole = take_commands(own, tallies, shared, words, i);
+        commands = commands + whole.commands;
+        i = i + whole.words;
+        if words.len() <= i {
+            break;
         }
         let next = i + 1;
         let number = step(own, tallies, shared, words[i]);

@@ -1,6 +1,6 @@
 //! Elements in lent memory: bytes of which the first stands at address `first`.
 
-use crate::{accepted, answer, lent, Answer, Layout};
+use crate::{answer, lent, Answer, Layout};
 use std::ops::Deref;
 
 /// The bytes of an element (or of a superfine read's four), at most sixteen. It
@@ -41,7 +41,7 @@ impl Deref for Element {
 #[inline]
 pub fn read(layout: &Layout, x: u32, y: u32, memory: &[u8], first: u32) -> Answer<Element> {
     let mut room = [0; 16];
-    accepted(lent::element_read(layout, x, y, memory, first, &mut room))?;
+    answer(lent::element_read(layout, x, y, memory, first, &mut room))?;
     // An accepted layout's size is 16 at most, so this cuts the room rightly.
     let length = layout.size as usize;
     Ok(Element { room, length })
@@ -78,7 +78,7 @@ pub fn superfine(
     let mut count = [0];
     let window = (base, format, height);
     let number = lent::element_superfine(window, x, y, memory, first, &mut room, &mut count);
-    accepted(number)?;
+    answer(number)?;
     let length = count[0] as usize;
     Ok(Element { room, length })
 }

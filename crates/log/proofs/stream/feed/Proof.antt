@@ -30,19 +30,23 @@ take-records-requires c κs =
     (asked _ _ _ _ _ _ _ _ (loop .inv .0), (loop .inv .0 .within, loop .inv .1 .1))
 
 mul-i : tie.Need-mul-i Inv-loop μ-loop
-mul-i c = omega (
-  arith,
-  (fold-records _ _ _ _ _ _ _ _ (c .before .before .before .before .before .before .before .before .before .loop .inv .0) _ _ _ _ _ (c .if1 .taken) (c .before .before .take-records .ensures .0)) .within,
-)
+mul-i c =
+    let at-take-records = c .before .before in
+    let at-loop = at-take-records .before .before .before .before .before .before .before in
+    omega
+    (arith, (fold-records _ _ _ _ _ _ _ _ (at-loop .loop .inv .0) _ _ _ _ _ (c .if1 .taken) (at-take-records .take-records .ensures .0)) .within)
 
 add-i : tie.Need-add-i Inv-loop μ-loop
-add-i c = omega (
-  arith,
-  (fold-records _ _ _ _ _ _ _ _ (c .before .before .before .before .before .before .before .before .before .loop .inv .0) _ _ _ _ _ (c .if1 .taken) (c .before .before .take-records .ensures .0)) .within,
-)
+add-i c =
+    let at-take-records = c .before .before in
+    let at-loop = at-take-records .before .before .before .before .before .before .before in
+    omega
+    (arith, (fold-records _ _ _ _ _ _ _ _ (at-loop .loop .inv .0) _ _ _ _ _ (c .if1 .taken) (at-take-records .take-records .ensures .0)) .within)
 
 loop-less : tie.Need-loop-less Inv-loop μ-loop
-loop-less c = omega (arith, c .if1 .taken, c .before .before .before .before .before .before .before .before .loop-test .taken)
+loop-less c =
+    let at-loop-test = c .before .before .before .before .before .before .before .before in
+    omega (arith, c .if1 .taken, at-loop-test .loop-test .taken)
 
 loop-again : tie.Need-loop-again Inv-loop μ-loop
 loop-again c =
@@ -58,7 +62,10 @@ wide-requires c κs = search needs
 
 read-byte-requires : tie.Need-read-byte-requires Inv-loop μ-loop
 read-byte-requires c κs =
-    let same = fold-same _ _ _ _ _ _ _ _ (c .before .before .before .before .before .before .before .before .before .before .before .before .before .before .before .before .loop .inv .0) _ _ _ _ _ (c .before .before .before .before .before .before .before .if1 .left) (c .before .before .before .before .before .before .before .before .before .take-records .ensures .0) in
+    let at-if1 = c .before .before .before .before .before .before .before in
+    let at-take-records = at-if1 .before .before in
+    let at-loop = at-take-records .before .before .before .before .before .before .before in
+    let same = fold-same _ _ _ _ _ _ _ _ (at-loop .loop .inv .0) _ _ _ _ _ (at-if1 .if1 .left) (at-take-records .take-records .ensures .0) in
     (same .given, c .wide .ensures .1)
 
 enum-known-answer : tie.Need-enum-known-answer Inv-loop μ-loop
@@ -68,19 +75,29 @@ enum-told : tie.Need-enum-told Inv-loop μ-loop
 enum-told c = search needs
 
 add-i-2 : tie.Need-add-i-2 Inv-loop μ-loop
-add-i-2 c = omega (arith, c .before .before .before .before .before .before .before .before .before .before .before .before .before .before .before .before .before .before .loop-test .taken, c .before .before .before .before .before .before .before .before .before .before .before .before .before .before .before .before .before .before .before .before .before .good)
+add-i-2 c =
+    let earlier = c .before .before .before .before .before .before .before .before .before .before .before .before .before .before in
+    let at-loop-test = earlier .before .before .before .before in
+    let entry = at-loop-test .before .before .before in
+    omega (arith, at-loop-test .loop-test .taken, entry .good)
 
 loop-less-2 : tie.Need-loop-less-2 Inv-loop μ-loop
 loop-less-2 c = search needs
 
 loop-again-2 : tie.Need-loop-again-2 Inv-loop μ-loop
 loop-again-2 c =
-    let loop = c .before .before .before .before .before .before .before .before .before .before .before .before .before .before .before .before .before .before .before .loop in
-    let records = c .before .before .before .before .before .before .before .before .before .before .before .before .take-records .ensures in
-    let byte = c .before .before .before .wide .ensures in
-    let same = fold-same _ _ _ _ _ _ _ _ (loop .inv .0) _ _ _ _ _ (c .before .before .before .before .before .before .before .before .before .before .if1 .left) (records .0) in (
-      fold-goes _ _ _ _ _ _ _ _ same (c .before .before .before .before .before .before .before .before .before .before .before .before .before .before .before .before .before .before .loop-test .taken) _ _ _ _ _ _ _ (byte .0) (byte .1) (c .enum-told .given .1)
-          (c .before .before .read-byte .ensures),
+    let at-read-byte = c .before .before in
+    let at-wide = at-read-byte .before in
+    let at-if1 = at-wide .before .before .before .before .before .before .before in
+    let at-take-records = at-if1 .before .before in
+    let at-loop-test = at-take-records .before .before .before .before .before .before in
+    let at-loop = at-loop-test .before in
+    let loop = at-loop .loop in
+    let records = at-take-records .take-records .ensures in
+    let byte = at-wide .wide .ensures in
+    let same = fold-same _ _ _ _ _ _ _ _ (loop .inv .0) _ _ _ _ _ (at-if1 .if1 .left) (records .0) in (
+      fold-goes _ _ _ _ _ _ _ _ same (at-loop-test .loop-test .taken) _ _ _ _ _ _ _ (byte .0) (byte .1) (c .enum-told .given .1)
+          (at-read-byte .read-byte .ensures),
       (loop .inv .1 .0, records .1),
     )
 
@@ -89,10 +106,16 @@ returns c = fold-ends _ _ _ _ _ _ _ _ (c .before .loop .inv .0) (c .loop-test .l
 
 returns-2 : tie.Need-returns-2 Inv-loop μ-loop
 returns-2 c =
-    let byte = c .before .before .before .before .wide .ensures in
-    let same = fold-same _ _ _ _ _ _ _ _ (c .before .before .before .before .before .before .before .before .before .before .before .before .before .before .before .before .before .before .before .before .loop .inv .0) _ _ _ _ _ (c .before .before .before .before .before .before .before .before .before .before .before .if1 .left) (c .before .before .before .before .before .before .before .before .before .before .before .before .before .take-records .ensures .0) in
-    fold-refused _ _ _ _ _ _ _ _ same (c .before .before .before .before .before .before .before .before .before .before .before .before .before .before .before .before .before .before .before .loop-test .taken) _ _ _ _ _ _ _ _ (byte .0) (byte .1) (c .before .answer .given .1)
-    (c .before .before .before .read-byte .ensures)
+    let at-read-byte = c .before .before .before in
+    let at-wide = at-read-byte .before in
+    let at-if1 = at-wide .before .before .before .before .before .before .before in
+    let at-take-records = at-if1 .before .before in
+    let at-loop-test = at-take-records .before .before .before .before .before .before in
+    let at-loop = at-loop-test .before in
+    let byte = at-wide .wide .ensures in
+    let same = fold-same _ _ _ _ _ _ _ _ (at-loop .loop .inv .0) _ _ _ _ _ (at-if1 .if1 .left) (at-take-records .take-records .ensures .0) in
+    fold-refused _ _ _ _ _ _ _ _ same (at-loop-test .loop-test .taken) _ _ _ _ _ _ _ _ (byte .0) (byte .1) (c .before .answer .given .1)
+    (at-read-byte .read-byte .ensures)
 
 pub feed-spec : {M : Type 1} → statement M
 feed-spec =

@@ -40,21 +40,31 @@ gather-next-requires c κs =
     }
 
 add-if1 : tie.Need-add-if1 Inv-loop μ-loop
-add-if1 c = omega (arith, c .before .before .before .before .loop-test .taken, c .before .before .before .before .before .before .records-in .ensures .1)
+add-if1 c =
+    let at-loop-test = c .before .before .before .before in
+    let at-records-in = at-loop-test .before .before in
+    omega (arith, at-loop-test .loop-test .taken, at-records-in .records-in .ensures .1)
 
 same-length : tie.Need-same-length Inv-loop μ-loop
-same-length c = c .before .before .before .gather-next .ensures .words-length ∙ sym (c .before .before .before .before .before .before .before .before .before .before .pre .1)
+same-length c =
+    let at-gather-next = c .before .before .before in
+    let entry = at-gather-next .before .before .before .before .before .before .before in
+    at-gather-next .gather-next .ensures .words-length ∙ sym (entry .pre .1)
 
 returns : tie.Need-returns Inv-loop μ-loop
-returns c = (c .before .before .before .gather-next .ensures .all, c .before .before .before .gather-next .ensures .words-length)
+returns c =
+    let at-gather-next = c .before .before .before in
+    (at-gather-next .gather-next .ensures .all, at-gather-next .gather-next .ensures .words-length)
 
 loop-less : tie.Need-loop-less Inv-loop μ-loop
 loop-less c = omega (arith, c .if1 .left, c .before .before .before .before .before .loop-test .taken)
 
 loop-again : tie.Need-loop-again Inv-loop μ-loop
 loop-again c =
-    let next = c .before .before .before .gather-next .ensures in
-    (next .all, (next .words-length, omega (arith, next .most, c .before .before .before .before .before .loop-test .taken)))
+    let at-gather-next = c .before .before .before in
+    let at-loop-test = at-gather-next .before .before in
+    let next = at-gather-next .gather-next .ensures in
+    (next .all, (next .words-length, omega (arith, next .most, at-loop-test .loop-test .taken)))
 
 sub-gather-next : tie.Need-sub-gather-next Inv-loop μ-loop
 sub-gather-next c = omega (arith, c .before .before .loop .inv .1 .1)
@@ -71,7 +81,10 @@ gather-next-requires-2 c κs =
     }
 
 same-length-2 : tie.Need-same-length-2 Inv-loop μ-loop
-same-length-2 c = c .before .before .gather-next2 .ensures .words-length ∙ sym (c .before .before .before .before .before .before .before .before .before .pre .1)
+same-length-2 c =
+    let at-gather-next2 = c .before .before in
+    let entry = at-gather-next2 .before .before .before .before .before .before .before in
+    at-gather-next2 .gather-next2 .ensures .words-length ∙ sym (entry .pre .1)
 
 returns-2 : tie.Need-returns-2 Inv-loop μ-loop
 returns-2 c = (c .before .before .gather-next2 .ensures .all, c .before .before .gather-next2 .ensures .words-length)

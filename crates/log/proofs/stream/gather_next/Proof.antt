@@ -15,7 +15,9 @@ abbrev μ-loop : tie.MeasureT-loop
 μ-loop bytes at words₀ gathered next k₀ words k = next - k
 
 loop-holds : tie.Need-loop-holds Inv-loop μ-loop
-loop-holds c = (gathered-as _ _ _ _ (omega arith) (c .before .before .pre .so-far), (c .before .before .pre .words-length, omega arith))
+loop-holds c =
+    let entry = c .before .before in
+    (gathered-as _ _ _ _ (omega arith) (entry .pre .so-far), (entry .pre .words-length, omega arith))
 
 add-n : tie.Need-add-n Inv-loop μ-loop
 add-n c = omega (arith, c .before .loop .inv .1 .1, c .before .before .before .before .pre .room)
@@ -27,39 +29,62 @@ add-i : tie.Need-add-i Inv-loop μ-loop
 add-i c = omega (arith, c .before .loop .inv .1 .1, c .before .before .before .before .pre .within)
 
 shared-slice-read-if1 : tie.Need-shared-slice-read-if1 Inv-loop μ-loop
-shared-slice-read-if1 c = omega (arith, c .before .loop-test .taken, c .before .before .before .before .before .pre .within)
+shared-slice-read-if1 c =
+    let entry = c .before .before .before .before .before in
+    omega (arith, c .before .loop-test .taken, entry .pre .within)
 
 same-length : tie.Need-same-length Inv-loop μ-loop
-same-length c = c .before .before .before .loop .inv .1 .0 ∙ sym (c .before .before .before .before .before .before .pre .words-length)
+same-length c =
+    let at-loop = c .before .before .before in
+    let entry = at-loop .before .before .before in
+    at-loop .loop .inv .1 .0 ∙ sym (entry .pre .words-length)
 
 returns : tie.Need-returns Inv-loop μ-loop
 returns c =
-    record { all = c .before .before .before .loop .inv .0; most = omega (arith, c .before .before .before .loop .inv .1 .1); words-length = c .before .before .before .loop .inv .1 .0 }
+    let at-loop = c .before .before .before in
+    record { all = at-loop .loop .inv .0; most = omega (arith, at-loop .loop .inv .1 .1); words-length = at-loop .loop .inv .1 .0 }
 
 word-at-requires : tie.Need-word-at-requires Inv-loop μ-loop
-word-at-requires c κs = omega (arith, c .before .before .loop-test .taken, c .before .before .before .before .before .before .pre .within)
+word-at-requires c κs =
+    let at-loop-test = c .before .before in
+    let entry = at-loop-test .before .before .before .before in
+    omega (arith, at-loop-test .loop-test .taken, entry .pre .within)
 
 mul-words : tie.Need-mul-words Inv-loop μ-loop
-mul-words c = omega (arith, c .before .before .before .before .loop .inv .1 .1, c .before .before .before .before .before .before .before .pre .room)
+mul-words c =
+    let at-loop = c .before .before .before .before in
+    let entry = at-loop .before .before .before in
+    omega (arith, at-loop .loop .inv .1 .1, entry .pre .room)
 
 slice-write-words : tie.Need-slice-write-words Inv-loop μ-loop
-slice-write-words c = omega (arith, c .before .before .before .loop-test .taken, c .before .before .before .before .before .before .before .pre .room, c .before .before .before .before .loop .inv .1 .0)
+slice-write-words c =
+    let at-loop-test = c .before .before .before in
+    let at-loop = at-loop-test .before in
+    let entry = at-loop .before .before .before in
+    omega (arith, at-loop-test .loop-test .taken, entry .pre .room, at-loop .loop .inv .1 .0)
 
 add-k : tie.Need-add-k Inv-loop μ-loop
-add-k c = omega (arith, c .before .before .before .loop-test .taken, c .before .before .before .before .before .before .before .pre .room)
+add-k c =
+    let at-loop-test = c .before .before .before in
+    let entry = at-loop-test .before .before .before .before in
+    omega (arith, at-loop-test .loop-test .taken, entry .pre .room)
 
 loop-less : tie.Need-loop-less Inv-loop μ-loop
 loop-less c = omega (arith, c .before .before .before .loop-test .taken)
 
 loop-again : tie.Need-loop-again Inv-loop μ-loop
 loop-again c =
-    let args = c .before .before .before .before .before .before .before .args in
-    let pre = c .before .before .before .before .before .before .before .pre in
-    let loop = c .before .before .before .before .loop in
-    let less = c .before .before .before .loop-test .taken in
+    let at-shared-slice-known2 = c .before .before in
+    let at-loop-test = at-shared-slice-known2 .before in
+    let at-loop = at-loop-test .before in
+    let entry = at-loop .before .before .before in
+    let args = entry .args in
+    let pre = entry .pre in
+    let loop = at-loop .loop in
+    let less = at-loop-test .loop-test .taken in
     let n = args .gathered + loop .k in
     let i = args .at + 5 * n in
-    let known = c .before .before .shared-slice-known2 .given in (
+    let known = at-shared-slice-known2 .shared-slice-known2 .given in (
       gathered-as _ _ _ _ (omega arith)
           (gathered-more (args .bytes .now) (loop .words) (args .at) n (loop .inv .0) _ (omega (arith, less, pre .room, loop .inv .1 .0))
           (omega (arith, less, pre .within)) (c .before .if1 .left) (omega (arith, known (i + 1))) (omega (arith, known (i + 2))) (omega (arith, known (i + 3)))

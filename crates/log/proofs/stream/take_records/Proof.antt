@@ -30,26 +30,39 @@ gather-requires : tie.Need-gather-requires
 gather-requires c κs = search needs
 
 slice-reshare-prefix-take-words : tie.Need-slice-reshare-prefix-take-words
-slice-reshare-prefix-take-words c = omega (arith, c .before .before .before .before .before .before .before .gather .ensures .0 .room)
+slice-reshare-prefix-take-words c =
+    let at-gather = c .before .before .before .before .before .before .before in
+    omega (arith, at-gather .gather .ensures .0 .room)
 
 slice-aggregate-take-words : tie.Need-slice-aggregate-take-words
-slice-aggregate-take-words c = sym (length-take-le _ _ (c .before .before .before .before .before .before .before .before .gather .ensures .0 .room))
+slice-aggregate-take-words c =
+    let at-gather = c .before .before .before .before .before .before .before .before in
+    sym (length-take-le _ _ (at-gather .gather .ensures .0 .room))
 
 take-words-requires : tie.Need-take-words-requires
 take-words-requires c κs = search needs
 
 same-length : tie.Need-same-length
-same-length c = c .before .before .before .before .before .before .before .before .before .gather .ensures .1 ∙ sym (c .before .before .before .before .before .before .before .before .before .before .before .before .before .before .before .before .before .before .pre .1 .1)
+same-length c =
+    let at-gather = c .before .before .before .before .before .before .before .before .before in
+    let entry = at-gather .before .before .before .before .before .before .before .before .before in
+    at-gather .gather .ensures .1 ∙ sym (entry .pre .1 .1)
 
 returns-4 : tie.Need-returns-4
 returns-4 c =
-    let gathered = c .before .before .before .before .before .before .before .before .before .gather .ensures in (
-      records-left _ _ _ _ _ _ _ _ _ _ _ (record { running = c .before .before .before .before .before .before .before .before .before .before .before .before .before .if2 .left; unopened = c .before .before .before .before .before .before .before .before .before .before .before .if3 .left }) (gathered .0) (c .take-words .ensures),
+    let at-gather = c .before .before .before .before .before .before .before .before .before in
+    let at-if3 = at-gather .before .before in
+    let at-if2 = at-if3 .before .before in
+    let gathered = at-gather .gather .ensures in (
+      records-left _ _ _ _ _ _ _ _ _ _ _ (record { running = at-if2 .if2 .left; unopened = at-if3 .if3 .left }) (gathered .0) (c .take-words .ensures),
       gathered .1,
     )
 
 same-length-2 : tie.Need-same-length-2
-same-length-2 c = c .before .before .before .gather .ensures .1 ∙ sym (c .before .before .before .before .before .before .before .before .before .before .before .before .pre .1 .1)
+same-length-2 c =
+    let at-gather = c .before .before .before in
+    let entry = at-gather .before .before .before .before .before .before .before .before .before in
+    at-gather .gather .ensures .1 ∙ sym (entry .pre .1 .1)
 
 returns-5 : tie.Need-returns-5
 returns-5 c = (none-left _ _ _ _ _ _ (c .if4 .left), c .before .before .before .gather .ensures .1)

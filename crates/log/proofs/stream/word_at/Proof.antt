@@ -46,8 +46,11 @@ number-requires c κs = search needs
 
 returns : tie.Need-returns
 returns c =
+    let at-wide3 = c .before .before .before in
+    let at-wide2 = at-wide3 .before .before in
+    let at-wide = at-wide2 .before .before in
     c .number .ensures ∙
-    (λ j. numberFrom (c .before .before .before .before .before .before .before .wide .ensures .0 j) (c .before .before .before .before .before .wide2 .ensures .0 j) (c .before .before .before .wide3 .ensures .0 j) (c .before .wide4 .ensures .0 j))
+    (λ j. numberFrom (at-wide .wide .ensures .0 j) (at-wide2 .wide2 .ensures .0 j) (at-wide3 .wide3 .ensures .0 j) (c .before .wide4 .ensures .0 j))
 
 pub word-at-spec : {M : Type 1} → statement M
 word-at-spec =
