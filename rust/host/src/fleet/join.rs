@@ -3,40 +3,54 @@
 use crate::common::failure::{Failure, Outcome};
 use crate::fleet::held;
 use crate::fleet::kept::Kept;
-use crate::fleet::leases::Row;
-use crate::fleet::stations::{refused, Group};
+use crate::fleet::leases::{Row, Rows};
+use crate::fleet::scores;
+use crate::fleet::spool::Spool;
+use crate::fleet::stations::Group;
 use crate::score::asked::Asked;
 use boundary::Edition;
 use std::collections::HashMap;
+use std::io;
+use std::path::PathBuf;
 
-/// The cards that came, in the lease file's order where there is one, and the report of
-/// their months.
-pub fn joined(cards: Vec<Kept>, rows: Option<&[Row]>, logs: bool) -> Outcome<Group> {
-    let first = cards
-        .first()
-        .ok_or_else(|| Failure::wrong("there is no score in what is joined"))?;
-    let edition = first.edition();
+/// The cards that these files tell, in the lease file's order where there is one, and the
+/// report of their months.
+pub fn joined(files: &[PathBuf], rows: Option<&Rows>, logs: bool) -> Outcome<Group> {
+    let mut told = Told::read(files, logs)?;
+    let edition = match told.first {
+        Some((_, edition)) => edition,
+        None => return Err(Failure::wrong("there is no score in what is joined")),
+    };
     let edition = Edition::of(edition)
         .map_err(|_| Failure::Wrong(format!("there is no edition {edition}")))?;
-    let mut told = Told::of(cards)?;
-    told.logs = logs;
-    let cards = match rows {
-        None => told.in_their_order(),
-        Some(rows) => told.in_order_of(rows, edition)?,
+    let mut group = Group::new(edition, rows.map_or(told.places.len(), Rows::len));
+    let rows = match rows {
+        Some(rows) => rows,
+        None => {
+            for at in told.places.iter().flatten() {
+                group.take(&told.card(*at)?)?;
+            }
+            return Ok(group);
+        }
     };
-    let mut group = Group::new(edition);
-    for card in cards {
-        group.take(card).map_err(refused)?;
+    // The lease file's stations are all that there are.
+    for row in rows.iter() {
+        let row = row?;
+        let due = "no score of it is among those that are joined";
+        let missing = || Kept::of(row.asked.missing(edition, due));
+        group.take(&told.due(&row)?.unwrap_or_else(missing))?;
     }
+    told.no_stranger()?;
     Ok(group)
 }
 
-/// The rows whose stations have no score yet: none came, or one that says that the log
-/// couldn't be read.
-pub fn missing(cards: Vec<Kept>, rows: Vec<Row>) -> Outcome<Vec<Row>> {
-    let mut told = Told::of(cards)?;
-    let mut missing = Vec::new();
-    for row in rows {
+/// The rows whose stations have no score yet in these files: none came, or one that says
+/// that the log couldn't be read.
+pub fn missing(files: &[PathBuf], rows: &Rows) -> Outcome<Rows> {
+    let mut told = Told::read(files, false)?;
+    let mut missing = Rows::new();
+    for row in rows.iter() {
+        let row = row?;
         let card = told.due(&row)?;
         if let Some(other) = card
             .as_ref()
@@ -48,65 +62,70 @@ pub fn missing(cards: Vec<Kept>, rows: Vec<Row>) -> Outcome<Vec<Row>> {
             )));
         }
         if card.map_or(true, |card| card.is_unread()) {
-            missing.push(row);
+            missing.push(&row)?;
         }
     }
     told.no_stranger()?;
     Ok(missing)
 }
 
-/// The cards by their stations' names.
+/// The cards that came, one a station.
 struct Told {
-    cards: HashMap<String, Kept>,
-    /// The names as they came.
-    order: Vec<String>,
+    cards: Spool,
+    /// Where each stands, in the order in which the stations came; none once it is taken.
+    places: Vec<Option<u64>>,
+    /// The stations' numbers in that order.
+    numbers: HashMap<String, usize>,
+    /// The first station, and its edition, which all have.
+    first: Option<(String, u32)>,
     /// Whether their digests are held against the logs.
     logs: bool,
 }
 
 impl Told {
-    /// One card a station, all by one edition. Of two the one that says that the log
-    /// couldn't be read gives way: the station was tried again.
-    fn of(cards: Vec<Kept>) -> Outcome<Told> {
+    fn read(files: &[PathBuf], logs: bool) -> Outcome<Told> {
         let mut told = Told {
-            cards: HashMap::new(),
-            order: Vec::new(),
-            logs: false,
+            cards: Spool::new(),
+            places: Vec::new(),
+            numbers: HashMap::new(),
+            first: None,
+            logs,
         };
-        let first = cards
-            .first()
-            .map(|card| (card.station().to_string(), card.edition()));
-        for card in cards {
-            if let Some((one, edition)) = first.as_ref().filter(|(_, by)| *by != card.edition()) {
-                return Err(mixed(one, *edition, &card));
-            }
-            let name = card.station().to_string();
-            match told.cards.get(&name) {
-                None => told.order.push(name.clone()),
-                Some(earlier) if earlier.is_unread() => {}
-                Some(_) if card.is_unread() => continue,
-                Some(_) => return Err(Failure::Wrong(format!("station {name} is scored twice"))),
-            }
-            told.cards.insert(name, card);
-        }
+        scores::read(files, |card| told.put(&card))?;
         Ok(told)
     }
 
-    fn in_their_order(&mut self) -> Vec<Kept> {
-        let names = self.order.iter();
-        names.filter_map(|name| self.cards.remove(name)).collect()
+    /// Of two of a station the one that says that the log couldn't be read gives way: the
+    /// station was tried again.
+    fn put(&mut self, card: &Kept) -> Outcome {
+        let name = card.station();
+        let begin = || (name.to_string(), card.edition());
+        let (one, edition) = self.first.get_or_insert_with(begin);
+        if *edition != card.edition() {
+            return Err(mixed(one, *edition, card));
+        }
+        let number = match self.numbers.get(name) {
+            Some(number) => *number,
+            None => {
+                self.numbers.insert(name.to_string(), self.places.len());
+                self.places.push(None);
+                self.places.len() - 1
+            }
+        };
+        let earlier = self.places[number].map(|at| self.card(at)).transpose()?;
+        match earlier {
+            Some(earlier) if earlier.is_unread() => {}
+            Some(_) if card.is_unread() => return Ok(()),
+            Some(_) => return Err(Failure::Wrong(format!("station {name} is scored twice"))),
+            None => {}
+        }
+        self.places[number] = Some(self.cards.put(card)?);
+        Ok(())
     }
 
-    /// A card a row; the lease file's stations are all that there are.
-    fn in_order_of(&mut self, rows: &[Row], edition: Edition) -> Outcome<Vec<Kept>> {
-        let mut cards = Vec::new();
-        for row in rows {
-            let due = "no score of it is among those that are joined";
-            let missing = || Kept::of(row.asked.missing(edition, due));
-            cards.push(self.due(row)?.unwrap_or_else(missing));
-        }
-        self.no_stranger()?;
-        Ok(cards)
+    fn card(&self, at: u64) -> io::Result<Kept> {
+        let (card, _) = self.cards.get(at)?;
+        Ok(card)
     }
 
     /// The card of a row, which must be of its lease line.
@@ -114,7 +133,9 @@ impl Told {
         let Asked {
             line, from, issue, ..
         } = &row.asked;
-        let card = self.cards.remove(row.station());
+        let number = self.numbers.get(row.station());
+        let at = number.and_then(|number| self.places[*number].take());
+        let card = at.map(|at| self.card(at)).transpose()?;
         let is_its = |card: &Kept| {
             card.lease() == (*line, *from)
                 && card.issue().lessee == issue.lessee
@@ -141,10 +162,10 @@ impl Told {
 
     /// Nobody is left who has no row.
     fn no_stranger(&self) -> Outcome {
-        let mut names = self.order.iter();
-        match names.find(|name| self.cards.contains_key(*name)) {
-            Some(name) => Err(Failure::Wrong(format!(
-                "station {name} is scored and has no row in the lease file"
+        match self.places.iter().flatten().next() {
+            Some(at) => Err(Failure::Wrong(format!(
+                "station {} is scored and has no row in the lease file",
+                self.card(*at)?.station()
             ))),
             None => Ok(()),
         }

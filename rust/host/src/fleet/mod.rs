@@ -3,9 +3,10 @@
 //! The lease file is read by `leases`, with `cells` and `files`; the logs are read side by
 //! side by `stations`, and added to the product's report. `commands` gives the lines for
 //! scoring elsewhere, `scores` reads what they print, and `join` holds it against the lease
-//! file. A `month` of cards, each `kept` small, is told as `text`, as `rows`, as a `page` and
-//! as a folder of `cards`.
+//! file. A `month` of cards, each `kept` in a `spool` with its `briefs` in memory, is told as
+//! `text`, as `rows`, as a `page` and as a folder of `cards`.
 
+mod briefs;
 mod cards;
 mod cells;
 mod commands;
@@ -18,6 +19,7 @@ pub mod month;
 pub mod page;
 mod rows;
 mod scores;
+mod spool;
 mod states;
 mod stations;
 pub mod text;
@@ -28,14 +30,14 @@ use crate::common::edition::{self, EditionOption};
 use crate::common::failure::{Failure, Outcome};
 use crate::common::files::Files;
 use crate::common::replaced::{Goes, Kind};
-use crate::fleet::kept::Kept;
-use crate::fleet::leases::{Leases, Row};
+use crate::fleet::leases::{Leases, Rows};
 use crate::fleet::month::{Fleet, Sort};
+use crate::fleet::stations::Group;
 use crate::score::civil::Date;
 use crate::score::issue;
 use boundary::Edition;
 use clap::Args;
-use std::io::Write;
+use std::io::{self, Write};
 use std::path::{Path, PathBuf};
 
 /// Printed behind the help text.
@@ -128,50 +130,57 @@ pub fn run(options: &Options, files: &mut Files, out: &mut dyn Write) -> Outcome
         Some(file) => Some(options.rows(file, (edition, date))?),
         None => None,
     };
-    name_rows(rows.as_deref().unwrap_or_default(), options, files)?;
+    let rows = rows.as_ref();
+    if let Some(rows) = rows {
+        name_rows(rows, options, files)?;
+    }
     if let Some(folder) = &options.save_states {
         cards::folder(folder)?;
     }
-    if options.commands {
-        let rows = rows.unwrap_or_default();
-        let rows = match &options.missing {
-            Some(scored) => join::missing(scores::read(scored)?, rows)?,
-            None => rows,
+    if let (true, Some(rows)) = (options.commands, rows) {
+        return match &options.missing {
+            Some(scored) => commands::tell(&join::missing(scored, rows)?, out),
+            None => commands::tell(rows, out),
         };
-        return commands::tell(&rows, out);
     }
     let joined = match &options.from_scores {
-        Some(scored) => Some(join::joined(
-            scores::read(scored)?,
-            rows.as_deref(),
-            options.check_logs,
-        )?),
+        Some(scored) => Some(join::joined(scored, rows, options.check_logs)?),
         None => None,
     };
-    let stations = joined.as_ref().map(|joined| joined.cards.len());
-    let stations = stations.max(rows.as_ref().map(Vec::len)).unwrap_or(0);
+    let stations = joined.as_ref().map(|joined| joined.cards.briefs().len());
+    let stations = stations.max(rows.map(Rows::len)).unwrap_or(0);
     if options.html.is_some() {
         page::holds(stations)?;
     }
     if let Some(folder) = &options.cards {
-        if let (Some(joined), None) = (&joined, &rows) {
-            let stations: Vec<&str> = joined.cards.iter().map(Kept::station).collect();
+        if let (Some(joined), None) = (&joined, rows) {
+            let stations = joined.cards.names(|card| card.station().to_string());
+            let stations = stations.collect::<io::Result<Vec<String>>>()?;
             cards::are_apart(&stations)?;
-            cards::name(folder, stations.into_iter(), files);
+            for station in &stations {
+                cards::name(folder, station, files);
+            }
             files.are_apart()?;
         }
         cards::folder(folder)?;
     }
-    let mut group = match joined {
-        Some(joined) => joined,
-        None => stations::read(edition, rows.unwrap_or_default())?,
+    let mut group = match (joined, rows) {
+        (Some(joined), _) => joined,
+        (None, Some(rows)) => stations::read(edition, rows)?,
+        (None, None) => Group::new(edition, 0),
     };
     files.states(std::mem::take(&mut group.states));
-    let fleet = Fleet::new(group, options.sort, date);
+    let fleet = Fleet::new(group, options.sort, date)?;
     if let Some(folder) = &options.cards {
-        cards::write(&fleet, folder, files);
+        cards::write(&fleet, folder, files)?;
     }
-    let told = html.write(|| page::html(&fleet), files, out);
+    let told = match &options.html {
+        Some(_) => {
+            let page = page::html(&fleet)?;
+            html.write(|| page, files, out)
+        }
+        None => Ok(()),
+    };
     let told = told.and_then(|()| match (options.json, options.csv) {
         _ if html.is_standard() => Ok(()),
         (true, _) => rows::json(&fleet, out),
@@ -187,11 +196,14 @@ pub fn run(options: &Options, files: &mut Files, out: &mut dyn Write) -> Outcome
 
 /// Names the files that the lease file tells of: the stations' cards, and their logs, which are read where there are no scores, and
 /// also by who runs the lines of --commands.
-fn name_rows(rows: &[Row], options: &Options, files: &mut Files) -> Outcome {
+fn name_rows(rows: &Rows, options: &Options, files: &mut Files) -> Outcome {
     if let Some(folder) = &options.cards {
-        cards::name(folder, rows.iter().map(Row::station), files);
+        for row in rows.iter() {
+            cards::name(folder, row?.station(), files);
+        }
     }
-    for row in rows {
+    for row in rows.iter() {
+        let row = row?;
         for file in &row.asked.files {
             files.reads_last(|| format!("the log of station {}", row.station()), file);
         }
@@ -204,19 +216,18 @@ fn name_rows(rows: &[Row], options: &Options, files: &mut Files) -> Outcome {
 
 impl Options {
     /// The lease file's rows, or all that is wrong with them for what is asked.
-    fn rows(&self, file: &Path, (edition, date): (Edition, Date)) -> Outcome<Vec<Row>> {
-        let mut leases = Leases::read(file, edition, date)?;
+    fn rows(&self, file: &Path, by: (Edition, Date)) -> Outcome<Rows> {
+        let mut leases = Leases::read(file, by, self.save_states.as_deref())?;
         if let Some(folder) = &self.cards {
-            let faults = cards::faults(folder, &leases.rows);
+            let faults = cards::faults(folder, &leases.rows)?;
             leases.add_faults(faults);
         }
-        if let Some(folder) = &self.save_states {
-            states::put(folder, &mut leases.rows);
-            let faults = states::faults(&leases.rows);
+        if self.save_states.is_some() {
+            let faults = states::faults(&leases.rows)?;
             leases.add_faults(faults);
         }
         if self.commands {
-            let faults = commands::faults(&leases.rows);
+            let faults = commands::faults(&leases.rows)?;
             leases.add_faults(faults);
         }
         leases.rows()

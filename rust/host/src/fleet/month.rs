@@ -4,16 +4,18 @@ use crate::common::digest::Digest;
 use crate::common::edition;
 use crate::common::failure::{Failure, Outcome};
 use crate::common::text;
+use crate::fleet::briefs::{Brief, Cards, End};
 use crate::fleet::files::name_order;
-use crate::fleet::kept::{Kept, Scored};
+use crate::fleet::kept::{Kept, Total};
 use crate::fleet::stations::Group;
 use crate::score::asked::Card;
 use crate::score::checks::Check;
 use crate::score::civil::Date;
-use crate::score::month::{percent, Served};
+use crate::score::month::percent;
 use boundary::{Edition, FleetTold, Verdict};
 use clap::ValueEnum;
-use std::cmp::Ordering;
+use std::cmp::{Ordering, Reverse};
+use std::io;
 
 /// The order in which stations are told.
 #[derive(Clone, Copy, Debug, PartialEq, Eq, ValueEnum)]
@@ -31,60 +33,107 @@ pub enum Sort {
 }
 
 pub struct Fleet {
-    /// In the lease file's order.
-    pub kept: Vec<Kept>,
+    cards: Cards,
     /// The report of the stations that have a score.
     pub four: FleetTold,
-    /// The place of the station with the smallest part.
+    /// The place of the station with the smallest part, and its name.
     pub smallest: Option<usize>,
+    smallest_name: Option<String>,
+    /// The edition's rule, which is the same for all of them.
+    pub rule: Option<&'static str>,
     /// The places in the order in which they are told.
-    order: Vec<usize>,
+    order: Vec<u32>,
+    /// The places of stations that have another's log, by its digest, and those of one log in their order.
+    twins: Vec<u32>,
     /// When the report is issued.
     pub date: Date,
 }
 
 impl Fleet {
-    pub fn new(group: Group, sort: Sort, date: Date) -> Fleet {
-        let mut kept = group.cards;
-        tell_same_logs(&mut kept);
-        let mut order: Vec<usize> = (0..kept.len()).collect();
-        // Stable, so that what is equal stays in the file's order.
-        order.sort_by(|one, other| by(sort, &kept[*one], &kept[*other]));
+    pub fn new(group: Group, sort: Sort, date: Date) -> io::Result<Fleet> {
+        let cards = group.cards.in_places();
         let four = group.report.tell();
         // The report counts the stations that were added to it: those with a score.
-        let is_scored = |place: &usize| kept[*place].scored().is_some();
         let smallest = four.station.and_then(|number| {
-            let mut scored = (0..kept.len()).filter(is_scored);
-            scored.nth(number as usize)
+            let places = (0..).zip(cards.briefs());
+            let mut scored = places.filter(|(_, brief)| brief.total().is_some());
+            scored.nth(number as usize).map(|(place, _)| place)
         });
-        Fleet {
-            kept,
+        let name = |place| cards.get(place).map(|card| card.station().to_string());
+        let edition = match cards.briefs() {
+            [] => None,
+            _ => Edition::of(cards.get(0)?.edition()).ok(),
+        };
+        Ok(Fleet {
             four,
             smallest,
-            order,
+            smallest_name: smallest.map(name).transpose()?,
+            rule: edition.map(edition::rule),
+            order: order(&cards, sort)?,
+            twins: twins(cards.briefs()),
+            cards,
             date,
-        }
+        })
+    }
+
+    pub fn stations(&self) -> usize {
+        self.cards.briefs().len()
     }
 
     /// The stations as they are told, with their places.
-    pub fn told(&self) -> impl Iterator<Item = (usize, Card)> + '_ {
-        let places = self.order.iter();
-        places.map(|place| (*place, self.kept[*place].card()))
+    pub fn told(&self) -> impl Iterator<Item = io::Result<(usize, Card)>> + '_ {
+        let places = self.order.iter().map(|place| *place as usize);
+        places.map(|place| Ok((place, self.card(place)?)))
     }
 
     /// The stations in the lease file's order.
-    pub fn cards(&self) -> impl Iterator<Item = Card> + '_ {
-        self.kept.iter().map(Kept::card)
+    pub fn cards(&self) -> impl Iterator<Item = io::Result<Card>> + '_ {
+        (0..self.stations()).map(|place| self.card(place))
     }
 
-    pub fn scores(&self) -> impl Iterator<Item = &Scored> {
-        self.kept.iter().filter_map(Kept::scored)
+    fn card(&self, place: usize) -> io::Result<Card> {
+        let mut card = self.cards.get(place)?;
+        if let (Kept::Scored(score), Some(others)) = (&mut card, self.others(place)?) {
+            let text = format!("the log is byte for byte that of station {others} too");
+            score.checks.push(Check::new("same_log", text, None));
+        }
+        Ok(card.card())
     }
 
-    /// The edition of the lease rule, which is the same for all of them, with its rule.
-    pub fn rule(&self) -> Option<&'static str> {
-        let number = self.kept.first()?.edition();
-        Edition::of(number).ok().map(edition::rule)
+    /// The first stations beside this one whose log is the same bytes, and how many more there are.
+    fn others(&self, place: usize) -> io::Result<Option<String>> {
+        const FIRST: usize = 3;
+        let digest = |place: usize| self.cards.briefs()[place].digest;
+        let due = digest(place);
+        let begin = self
+            .twins
+            .partition_point(|twin| digest(*twin as usize) < due);
+        let end = self
+            .twins
+            .partition_point(|twin| digest(*twin as usize) <= due);
+        let same = self.twins[begin..end].iter().map(|twin| *twin as usize);
+        let others = same.filter(|other| *other != place).take(FIRST);
+        let names = others.map(|other| Ok(self.cards.get(other)?.station().to_string()));
+        let names = names.collect::<io::Result<Vec<String>>>()?.join(", ");
+        Ok(match (end - begin).saturating_sub(1) {
+            0 => None,
+            count if count <= FIRST => Some(names),
+            count => Some(format!("{names} and {} more", count - FIRST)),
+        })
+    }
+
+    /// What the months come to that have a score.
+    fn totals(&self) -> impl Iterator<Item = &Total> {
+        self.cards.briefs().iter().filter_map(Brief::total)
+    }
+
+    /// How many stations have a score.
+    pub fn scored(&self) -> usize {
+        self.totals().count()
+    }
+
+    pub fn has_lessees(&self) -> bool {
+        self.cards.briefs().iter().any(|brief| brief.has_lessee)
     }
 
     pub fn percent(&self) -> Option<String> {
@@ -93,43 +142,49 @@ impl Fleet {
 
     /// The name of the station with the smallest part.
     pub fn smallest(&self) -> Option<&str> {
-        self.smallest.map(|place| self.kept[place].station())
+        self.smallest_name.as_deref()
     }
 
-    pub fn count(&self, verdict: Verdict) -> usize {
-        let is = |score: &&Scored| score.total.verdict == verdict;
-        self.scores().filter(is).count()
+    fn count(&self, verdict: Verdict) -> usize {
+        let is = |total: &&Total| total.verdict == verdict;
+        self.totals().filter(is).count()
     }
 
-    pub fn days(&self, kind: Served) -> usize {
-        self.scores().map(|score| score.count(kind)).sum()
+    /// Days that were served in full.
+    pub fn full_days(&self) -> usize {
+        let days = self.cards.briefs().iter();
+        days.map(|brief| usize::from(brief.full)).sum()
     }
 
     /// "14 stations: 1 short, 11 full, 1 refused, 1 not scored".
     pub fn heading(&self) -> String {
-        let unscored = |refused: bool| {
-            let is = |card: &&Kept| matches!(card, Kept::Unscored(one) if one.refused == refused);
-            self.kept.iter().filter(is).count()
+        let ends = |is: fn(&End) -> bool| {
+            let briefs = self.cards.briefs().iter();
+            briefs.filter(|brief| is(&brief.end)).count()
         };
         let kinds = [
             (self.count(Verdict::Full), "full"),
             (self.count(Verdict::Short), "short"),
             (self.count(Verdict::NothingOwed), "nothing owed"),
-            (unscored(true), "REFUSED"),
-            (unscored(false), "NOT SCORED"),
+            (ends(|end| matches!(end, End::Refused)), "REFUSED"),
+            (ends(|end| matches!(end, End::NotScored)), "NOT SCORED"),
         ];
         let kinds = kinds.iter().filter(|(count, _)| *count > 0);
         let kinds: Vec<String> = kinds
             .map(|(count, kind)| format!("{count} {kind}"))
             .collect();
-        let stations = text::count(self.kept.len() as u64, "station");
+        let stations = text::count(self.stations() as u64, "station");
         format!("{stations}: {}", kinds.join(", "))
     }
 
     /// How the fleet ends: a station without a score weighs more than a short month.
     pub fn outcome(&self) -> Outcome {
-        let unscored = self.kept.iter().filter(|card| card.scored().is_none());
-        let names: Vec<&str> = unscored.map(Kept::station).collect();
+        let mut names = Vec::new();
+        for (place, brief) in self.cards.briefs().iter().enumerate() {
+            if brief.total().is_none() {
+                names.push(self.cards.get(place)?.station().to_string());
+            }
+        }
         match names.len() {
             0 if self.count(Verdict::Short) > 0 => Err(Failure::Short),
             0 => Ok(()),
@@ -152,32 +207,60 @@ pub fn station(card: &Card) -> &str {
     card.issue().station.as_deref().unwrap_or("-")
 }
 
-fn by(sort: Sort, one: &Kept, other: &Kept) -> Ordering {
-    fn lessee(card: &Kept) -> &str {
-        card.issue().lessee.as_deref().unwrap_or_default()
-    }
-    let silent = |card: &Kept| card.scored().map(|score| score.count(Served::Dark));
+/// The places in this order; what is equal stays in the lease file's.
+fn order(cards: &Cards, sort: Sort) -> io::Result<Vec<u32>> {
+    let briefs = cards.briefs();
+    let mut order: Vec<u32> = (0..).take(briefs.len()).collect();
+    let brief = |place: u32| &briefs[place as usize];
+    let lessee = |card: &Kept| card.issue().lessee.clone().unwrap_or_default();
     match sort {
-        Sort::Lease => Ordering::Equal,
-        Sort::Station => name_order(one.station(), other.station()),
-        Sort::Lessee => name_order(lessee(one), lessee(other)),
-        // None comes before all numbers, so it is told last, which here is first.
-        Sort::Silent => match (silent(one), silent(other)) {
-            (None, None) => Ordering::Equal,
-            (None, _) => Ordering::Less,
-            (_, None) => Ordering::Greater,
-            (one, other) => other.cmp(&one),
-        },
-        Sort::Worst => worst(one, other),
+        Sort::Lease => {}
+        Sort::Station => {
+            let names = Names::of(cards, |card| card.station().to_string())?;
+            order.sort_by(|one, other| name_order(names.at(*one), names.at(*other)));
+        }
+        Sort::Lessee => {
+            let names = Names::of(cards, lessee)?;
+            order.sort_by(|one, other| name_order(names.at(*one), names.at(*other)));
+        }
+        // Those without a score first: they have no number.
+        Sort::Silent => order.sort_by_key(|place| {
+            let brief = brief(*place);
+            brief.total().map(|_| Reverse(brief.silent))
+        }),
+        Sort::Worst => order.sort_by(|one, other| worst(brief(*one), brief(*other))),
+    }
+    Ok(order)
+}
+
+/// A name a place, one behind the other.
+struct Names {
+    text: String,
+    ends: Vec<usize>,
+}
+
+impl Names {
+    fn of(cards: &Cards, name: impl Fn(&Kept) -> String) -> io::Result<Names> {
+        let mut names = Names {
+            text: String::new(),
+            ends: vec![0],
+        };
+        for name in cards.names(name) {
+            names.text += &name?;
+            names.ends.push(names.text.len());
+        }
+        Ok(names)
+    }
+
+    fn at(&self, place: u32) -> &str {
+        let place = place as usize;
+        &self.text[self.ends[place]..self.ends[place + 1]]
     }
 }
 
 /// Without a score, then by the served part, and last those that owe nothing.
-fn worst(one: &Kept, other: &Kept) -> Ordering {
-    let part = |card: &Kept| {
-        card.scored()
-            .map(|score| (score.total.served, score.total.owed))
-    };
+fn worst(one: &Brief, other: &Brief) -> Ordering {
+    let part = |brief: &Brief| brief.total().map(|total| (total.served, total.owed));
     match (part(one), part(other)) {
         (None, None) => Ordering::Equal,
         (None, _) => Ordering::Less,
@@ -194,42 +277,68 @@ fn worst(one: &Kept, other: &Kept) -> Ordering {
 
 /// Logs of two stations that are the same bytes: one of them is in the wrong place. Empty
 /// ones are told as empty.
-fn tell_same_logs(kept: &mut [Kept]) {
+fn twins(briefs: &[Brief]) -> Vec<u32> {
     let empty = Digest::new().finished();
-    let digest = |place: usize| kept[place].scored()?.digest;
-    let has_bytes = |place: &usize| digest(*place).map_or(false, |digest| digest != empty);
-    let mut places: Vec<usize> = (0..kept.len()).filter(has_bytes).collect();
-    places.sort_by_key(|place| digest(*place));
-    let mut told: Vec<(usize, String)> = Vec::new();
-    let mut rest = places.as_slice();
-    while let Some(first) = rest.first() {
-        let is_same = |place: &&usize| digest(**place) == digest(*first);
-        let (same, behind) = rest.split_at(rest.iter().take_while(is_same).count());
-        let others = same
-            .iter()
-            .filter_map(|place| Some((*place, others(kept, same, *place)?)));
-        told.extend(others);
-        rest = behind;
-    }
-    for (place, others) in told {
-        if let Kept::Scored(score) = &mut kept[place] {
-            let text = format!("the log is byte for byte that of station {others} too");
-            score.checks.push(Check::new("same_log", text, None));
-        }
-    }
+    let digest = |place: &u32| briefs[*place as usize].digest;
+    let has_bytes = |place: &u32| digest(place).map_or(false, |digest| digest != empty);
+    let mut places: Vec<u32> = (0..).take(briefs.len()).filter(has_bytes).collect();
+    // Stable, so that those of one log stay in their order.
+    places.sort_by_key(digest);
+    let is_twin = |at: usize| {
+        let beside = [at.wrapping_sub(1), at + 1].map(|at| places.get(at).map(digest));
+        beside.contains(&Some(digest(&places[at])))
+    };
+    let twins = (0..places.len()).filter(|at| is_twin(*at));
+    twins.map(|at| places[at]).collect()
 }
 
-/// The first names beside this one's, and how many more there are.
-fn others(kept: &[Kept], same: &[usize], place: usize) -> Option<String> {
-    const FIRST: usize = 3;
-    let others = same.iter().filter(|other| **other != place);
-    let names: Vec<&str> = others
-        .take(FIRST)
-        .map(|other| kept[*other].station())
-        .collect();
-    match same.len() - 1 {
-        0 => None,
-        count if count <= FIRST => Some(names.join(", ")),
-        count => Some(format!("{} and {} more", names.join(", "), count - FIRST)),
+#[cfg(test)]
+mod tests {
+    use super::*;
+    use crate::common::digits::Digits;
+    use crate::fleet::kept::tests::{score, unscored};
+    use crate::fleet::spool::Spool;
+    use crate::fleet::{rows, text as terminal};
+
+    /// Stations of one log, of other ones, and without a score, by a spool with this room.
+    fn fleet(room: usize, sort: Sort) -> Fleet {
+        let mut group = Group::new(Edition::First, 0);
+        group.cards = Cards::new(Spool::with_room(room), 0);
+        for number in 0..60 {
+            let name = format!("s{}", number * 7 % 60);
+            let card = match number % 5 {
+                0 => Card::Unscored(unscored(&name)),
+                kind => {
+                    let mut score = score(&name, 90 + number % 7, None);
+                    // Logs of their own, for some.
+                    score.digest = score.digest.filter(|_| kind > 2);
+                    Card::Scored(score)
+                }
+            };
+            assert!(group.take(&Kept::of(card)).is_ok());
+        }
+        let fleet = Fleet::new(group, sort, Date::today());
+        fleet.expect("a fleet")
+    }
+
+    fn told(fleet: &Fleet) -> [String; 3] {
+        let mut forms = [Vec::new(), Vec::new(), Vec::new()];
+        assert!(terminal::tell(fleet, Digits::Grouped, &mut forms[0]).is_ok());
+        assert!(rows::json(fleet, &mut forms[1]).is_ok());
+        assert!(rows::csv(fleet, &mut forms[2]).is_ok());
+        forms.map(|form| String::from_utf8_lossy(&form).into_owned())
+    }
+
+    /// A fleet that stands in a file, but for the last cards or card by card, tells what it tells in memory.
+    #[test]
+    fn a_fleet_in_a_file_tells_the_same() {
+        for sort in Sort::value_variants() {
+            let due = told(&fleet(usize::MAX, *sort));
+            assert!(due[0].contains(" and 20 more too"), "{}", due[0]);
+            assert_eq!(due[1].lines().count(), 61);
+            for room in [5_000, 0] {
+                assert_eq!(told(&fleet(room, *sort)), due, "{sort:?}");
+            }
+        }
     }
 }

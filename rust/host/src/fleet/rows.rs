@@ -15,8 +15,8 @@ use std::io::{self, Write};
 
 /// A line for each station, and one for the fleet.
 pub fn json(fleet: &Fleet, out: &mut dyn Write) -> Outcome {
-    for (_, card) in fleet.told() {
-        let card = &card;
+    for told in fleet.told() {
+        let (_, card) = &told?;
         let mut value = json!({
             "station": station(card),
             "lessee": card.issue().lessee,
@@ -34,15 +34,15 @@ pub fn json(fleet: &Fleet, out: &mut dyn Write) -> Outcome {
     }
     let four = &fleet.four;
     let value = json!({"fleet": {
-        "stations": fleet.kept.len(),
-        "scored": fleet.scores().count(),
+        "stations": fleet.stations(),
+        "scored": fleet.scored(),
         "served": four.served,
         "owed": four.owed,
         "percent": fleet.percent(),
         "silent_days": four.silent_days,
         "station": fleet.smallest(),
         "place": fleet.smallest,
-        "full_days": fleet.days(Served::InFull),
+        "full_days": fleet.full_days(),
         "issued": fleet.date.to_string(),
         "version": VERSION,
     }});
@@ -89,7 +89,8 @@ pub fn csv(fleet: &Fleet, out: &mut dyn Write) -> Outcome {
     ];
     let mut writer = Writer::from_writer(out);
     writer.write_record(head).map_err(io::Error::from)?;
-    for (_, card) in fleet.told() {
+    for told in fleet.told() {
+        let (_, card) = told?;
         let row = row(&card);
         let cells = row.iter().map(|text| sheet::written(text));
         let cells = cells.map(|cell| cell.into_owned().into_bytes());

@@ -5,7 +5,7 @@ use crate::common::failure::{Failure, Outcome};
 use crate::common::visible;
 use crate::fleet::held;
 use crate::fleet::kept::Kept;
-use crate::input::source::Source;
+use crate::input::source::{Source, PIECE};
 use crate::score::asked::{accepted, dates, Card, LeaseLine, Unscored};
 use crate::score::checks::Check;
 use crate::score::civil::Date;
@@ -13,50 +13,93 @@ use crate::score::issue::Issue;
 use crate::score::month::{verdict_name, Began, Day, Score};
 use boundary::{Edition, Month, Verdict};
 use serde_json::Value;
-use std::path::PathBuf;
+use std::io::{BufRead, BufReader, Read as _};
+use std::path::{Path, PathBuf};
 
 /// Lines of a hundred thousand stations.
-const LONGEST: usize = 1 << 29;
+const LONGEST: u64 = 1 << 29;
+
+/// The most bytes of a line: one that names all files of a log is the longest.
+const LONGEST_LINE: u64 = 1 << 24;
+
+/// The most days of a lease.
+const MOST_DAYS: usize = 31;
 
 /// A reading's own words for what is wrong.
 type Read<T> = Result<T, String>;
 
-/// The cards that these files tell, in their order.
-pub fn read(files: &[PathBuf]) -> Outcome<Vec<Kept>> {
-    let mut cards = Vec::new();
-    for file in files {
-        // One at a time: there may be a file a station.
-        let mut source = Source::open(Some(file))?;
-        let bytes = source.all(LONGEST)?;
-        let wrong =
-            |line: usize, cause| Failure::Wrong(format!("{}: line {line}: {cause}", source.name));
-        let mut days = Vec::new();
-        let mut last = 0;
-        for (line, text) in (1..).zip(bytes.split(|byte| *byte == b'\n')) {
-            if text.iter().all(|byte| byte.is_ascii_whitespace()) {
-                continue;
-            }
-            last = line;
-            let value: Value = serde_json::from_slice(text)
-                .map_err(|error| wrong(line, format!("is no JSON: {error}")))?;
-            match value.get("summary") {
-                Some(summary) => {
-                    let card = card(summary, &days).map_err(|cause| wrong(line, cause))?;
-                    cards.push(Kept::of(card));
-                    days.clear();
-                }
-                None => days.push(value),
-            }
-        }
-        if !days.is_empty() {
-            let cause = "the days are not followed by their summary: the lines are cut; take them away, and score the station again";
-            return Err(wrong(last, cause.to_string()));
-        }
-    }
-    Ok(cards)
+/// Hands on the cards that these files tell, in their order.
+pub fn read(files: &[PathBuf], mut take: impl FnMut(Kept) -> Outcome) -> Outcome {
+    // One at a time: there may be a file a station.
+    files.iter().try_for_each(|file| read_file(file, &mut take))
 }
 
-fn card(summary: &Value, days: &[Value]) -> Read<Card> {
+fn read_file(file: &Path, take: &mut impl FnMut(Kept) -> Outcome) -> Outcome {
+    let source = Source::open(Some(file))?;
+    let name = source.name.clone();
+    let wrong = |line: u64, cause| Failure::Wrong(format!("{name}: line {line}: {cause}"));
+    let mut lines = BufReader::with_capacity(PIECE, source);
+    let (mut days, mut last, mut bytes) = (Days::default(), 0, 0);
+    let mut text = Vec::new();
+    for line in 1.. {
+        text.clear();
+        let mut begin = lines.by_ref().take(LONGEST_LINE + 1);
+        let count = begin.read_until(b'\n', &mut text)? as u64;
+        bytes += count;
+        if bytes > LONGEST {
+            return Err(Failure::Wrong(format!(
+                "{name}: is longer than {LONGEST} bytes"
+            )));
+        }
+        if count > LONGEST_LINE {
+            return Err(wrong(line, format!("is longer than {LONGEST_LINE} bytes")));
+        }
+        if count == 0 {
+            break;
+        }
+        let text = text.strip_suffix(b"\n").unwrap_or(&text);
+        if text.iter().all(u8::is_ascii_whitespace) {
+            continue;
+        }
+        last = line;
+        let value: Value = serde_json::from_slice(text)
+            .map_err(|error| wrong(line, format!("is no JSON: {error}")))?;
+        match value.get("summary") {
+            Some(summary) => {
+                let card = card(summary, &days).map_err(|cause| wrong(line, cause))?;
+                take(Kept::of(card))?;
+                days = Days::default();
+            }
+            None => days.put(value),
+        }
+    }
+    match days.count {
+        0 => Ok(()),
+        _ => {
+            let cause = "the days are not followed by their summary: the lines are cut; take them away, and score the station again";
+            Err(wrong(last, cause.to_string()))
+        }
+    }
+}
+
+/// The lines before a summary.
+#[derive(Default)]
+struct Days {
+    count: usize,
+    /// Of those that a lease can have.
+    lines: Vec<Value>,
+}
+
+impl Days {
+    fn put(&mut self, line: Value) {
+        self.count += 1;
+        if self.lines.len() < MOST_DAYS {
+            self.lines.push(line);
+        }
+    }
+}
+
+fn card(summary: &Value, days: &Days) -> Read<Card> {
     let lease = &summary["lease"];
     let line = LeaseLine {
         first_day: short(lease, "first_day")?,
@@ -100,21 +143,21 @@ fn unscored(
 
 fn scored(
     summary: &Value,
-    days: &[Value],
+    days: &Days,
     line: LeaseLine,
     from: Option<Date>,
     issue: Issue,
 ) -> Read<Card> {
     let lease = accepted(line).map_err(|refused| refused.to_string())?;
     let dates = dates(from, &lease)?;
-    if days.len() != dates.len() {
-        let (has, due) = (days.len(), dates.len());
+    if days.count != dates.len() {
+        let (has, due) = (days.count, dates.len());
         return Err(format!(
             "the lease has {due} days, and {has} lines stand before it"
         ));
     }
     let mut read = Vec::new();
-    for ((place, value), date) in (0..).zip(days).zip(dates) {
+    for ((place, value), date) in (0..).zip(&days.lines).zip(dates) {
         read.push(day(value, &line, place, date)?);
     }
     let checks: Read<Vec<Check>> = list(summary, "checks")?.iter().map(check).collect();

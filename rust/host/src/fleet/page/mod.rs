@@ -14,6 +14,7 @@ use crate::score::asked::Card;
 use crate::score::issue::VERSION;
 use crate::score::picture::svg::Drawing;
 use crate::score::picture::{self, PATTERNS};
+use std::io;
 
 const STYLE: &str = include_str!("style.css");
 const SCRIPT: &str = include_str!("sort.js");
@@ -55,13 +56,13 @@ pub fn of_one(card: &Card) -> String {
 }
 
 /// The page of a fleet.
-pub fn html(fleet: &Fleet) -> String {
-    let cards: Vec<(usize, Card)> = fleet.told().collect();
+pub fn html(fleet: &Fleet) -> io::Result<String> {
+    let cards = fleet.told().collect::<io::Result<Vec<(usize, Card)>>>()?;
     let cards: Vec<Placed> = cards.iter().map(|(place, card)| (*place, card)).collect();
     let told = [
         fleet.heading(),
         text::four(fleet, Digits::Grouped),
-        fleet.rule().unwrap_or_default().to_string(),
+        fleet.rule.unwrap_or_default().to_string(),
     ];
     let parts = [
         notice("No score", cards.iter().filter_map(no_score).collect()),
@@ -77,12 +78,13 @@ pub fn html(fleet: &Fleet) -> String {
         all_cards(&cards),
     ];
     let issued = format!("Issued {} by egretfold {VERSION}", fleet.date);
-    page("fleet", &title(fleet), &told, &issued, &parts.concat())
+    let page = page("fleet", &title(&cards), &told, &issued, &parts.concat());
+    Ok(page)
 }
 
 /// The month, where all stations have the same.
-fn title(fleet: &Fleet) -> String {
-    let mut titles = fleet.cards().map(|card| picture::title_of(&card));
+fn title(cards: &[Placed]) -> String {
+    let mut titles = cards.iter().map(|(_, card)| picture::title_of(card));
     let first = titles.next().unwrap_or_default();
     match titles.all(|title| title == first) {
         true => format!("Fleet, {first}"),
