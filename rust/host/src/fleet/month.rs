@@ -465,7 +465,8 @@ mod tests {
         for sort in Sort::value_variants() {
             let due = told(&fleet(usize::MAX, *sort));
             assert!(due[0].contains(" and 20 more too"), "{}", due[0]);
-            assert_eq!(due[1].lines().count(), 61);
+            let stations = due[1].lines().filter(|line| line.contains("\"lease\":"));
+            assert_eq!(stations.count(), 60);
             for room in [5_000, 0] {
                 assert_eq!(told(&fleet(room, *sort)), due, "{sort:?}");
             }
