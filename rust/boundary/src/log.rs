@@ -29,14 +29,14 @@ pub struct RefusedWord {
     pub refusal: Refusal,
     /// How many midnights came before it; of a trimmed replay, from the kept day on.
     pub midnights: u32,
-    /// The number of its record, from 0 on, where no midnight was forgotten:
-    /// otherwise [`RefusedWord::record_after`] has it.
-    pub record: u64,
+    /// The number of its record, from 0 on, without the forgotten midnights. Told by
+    /// [`RefusedWord::record_after`] alone, since by itself it is wrong after a trim.
+    record: u64,
 }
 
 impl RefusedWord {
     /// The number of its record, from 0 on, where [`Replay::trim`] has forgotten so many
-    /// midnights in all; none where the word came before the kept day, so that nothing
+    /// midnights in all, 0 where it was never called; none where the word came before the kept day, so that nothing
     /// tells any more how many of them came before it.
     pub fn record_after(&self, forgotten: u64) -> Option<u64> {
         let known = forgotten == 0 || self.midnights > 0;

@@ -2,9 +2,7 @@
 //! look at how a replay is used.
 
 use boundary::headers::{SET_DOMAIN, SET_INST_FMT, SET_OUT_FMT, START_PROGRAM};
-use boundary::{
-    lent, BytesFed, Day, Edition, Lease, LogStatus, Part, Refusal, RefusedWord, Replay, Session,
-};
+use boundary::{lent, BytesFed, Day, Edition, Lease, LogStatus, Part, Refusal, Replay, Session};
 
 /// Document 01's whole stream up to its start, which claims 1,728 elements.
 #[rustfmt::skip]
@@ -211,12 +209,10 @@ fn the_days_go_on_after_a_refused_word() {
     let mut replay = Replay::new(Edition::First);
     assert_eq!(replay.feed(&bytes), fed(bytes.len(), None));
     let status = replay.status();
-    let refused = RefusedWord {
-        refusal: Refusal::NumberTooHigh,
-        midnights: 3,
-        record: three_days().len() as u64 / 5 + 1,
-    };
-    assert_eq!(status.refused, Some(refused));
+    let word = status.refused.expect("a refused word");
+    assert_eq!((word.refusal, word.midnights), (Refusal::NumberTooHigh, 3));
+    let record = three_days().len() as u64 / 5 + 1;
+    assert_eq!(word.record_after(0), Some(record));
     assert_eq!((status.stopped, status.days), (None, Some((100, 103))));
     assert_eq!(days(&replay)[2..], [day(102, 0), day(103, 0)]);
     assert!(replay.session().status().stopped);
@@ -282,8 +278,8 @@ fn words_in_a_row_may_be_any_number() {
             let midnights = if refused.is_some() { 1 } else { 2 };
             let word = whole.status().refused.expect("a word that is refused");
             assert_eq!(
-                (word.record, word.midnights),
-                (place as u64 + midnights, midnights as u32)
+                (word.record_after(0), word.midnights),
+                (Some(place as u64 + midnights), midnights as u32)
             );
         }
     }
@@ -475,8 +471,11 @@ fn a_refused_words_record_after_a_trim() {
     for place in (0..=bytes.len()).step_by(5) {
         let (first, second) = bytes.split_at(place);
         let refused = [first, &words(&[u32::MAX]), second].concat();
-        let whole = replayed(&refused).status().refused.expect("a refused word");
-        assert_eq!(whole.record_after(0), Some(whole.record));
+        let untrimmed = replayed(&refused);
+        let whole = untrimmed.status().refused.expect("a refused word");
+        let taken = u64::from(untrimmed.session().status().taken);
+        let due = taken + u64::from(whole.midnights);
+        assert_eq!(whole.record_after(0), Some(due));
         for cut in (0..=refused.len()).step_by(5) {
             let mut replay = replayed(&refused[..cut]);
             let forgotten = u64::from(replay.trim());
@@ -484,7 +483,7 @@ fn a_refused_words_record_after_a_trim() {
             let word = replay.status().refused.expect("a refused word");
             assert_eq!(word.refusal, whole.refusal);
             let known = forgotten == 0 || u64::from(whole.midnights) > forgotten;
-            let record = known.then_some(whole.record);
+            let record = whole.record_after(0).filter(|_| known);
             assert_eq!(
                 word.record_after(forgotten),
                 record,

@@ -89,7 +89,8 @@ fn of_product(product: &Product, past: u32) -> Seen {
         stopped: status.stopped.map(u32::from),
         refused: status.refused.map(|word| RefusedWord {
             number: word.refusal.into(),
-            record: word.record,
+            // As both count it: a trim takes the forgotten midnights away.
+            record: word.record_after(0).unwrap_or_default(),
             midnights: word.midnights as usize,
         }),
         unfinished: status.unfinished as usize,

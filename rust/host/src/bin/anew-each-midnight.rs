@@ -47,13 +47,11 @@ fn main() {
     println!("  day  one session  anew each midnight");
     for (day, part) in month.days.iter().zip(parts(LOG)) {
         let (anew, replay) = scored(&part, day.number, 1);
-        let refused = replay.status().refused.map_or(String::new(), |word| {
-            format!(
-                "  refused {} at its record {}",
-                word.refusal.number(),
-                word.record
-            )
+        let refused = replay.status().refused.and_then(|word| {
+            let (number, record) = (word.refusal.number(), word.record_after(0)?);
+            Some(format!("  refused {number} at its record {record}"))
         });
+        let refused = refused.unwrap_or_default();
         println!(
             "{:>5}  {:>11}  {:>18}{refused}",
             day.number, day.served, anew.served

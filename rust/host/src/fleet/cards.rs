@@ -4,7 +4,7 @@ use crate::common::failure::{Failure, Outcome};
 use crate::common::files::Files;
 use crate::common::replaced::{Kind, Replaced};
 use crate::common::visible;
-use crate::fleet::leases::{fault, Fault, Row};
+use crate::fleet::leases::{fault, Fault, Rows};
 use crate::fleet::month::{station, Fleet};
 use crate::score::picture;
 use std::collections::{HashMap, HashSet};
@@ -38,10 +38,10 @@ pub fn plain(station: &str) -> String {
 }
 
 /// Stations whose cards would have the name of an earlier one's, with that card's name, by their places.
-fn twice<'a>(stations: impl Iterator<Item = &'a str>) -> Vec<(usize, usize, String)> {
+fn twice(stations: &[String]) -> Vec<(usize, usize, String)> {
     let mut names: HashMap<String, usize> = HashMap::new();
     let mut twice = Vec::new();
-    for (place, station) in stations.enumerate() {
+    for (place, station) in stations.iter().enumerate() {
         let name = name_of(station);
         // Where capital letters are small ones too, as some folders have it.
         if let Some(earlier) = names.insert(name.to_lowercase(), place) {
@@ -53,39 +53,43 @@ fn twice<'a>(stations: impl Iterator<Item = &'a str>) -> Vec<(usize, usize, Stri
 
 /// Two stations whose cards would have one name, and cards that can't be put there. They
 /// are told before any log is read.
-pub fn faults(folder: &Path, rows: &[Row]) -> Vec<Fault> {
+pub fn faults(folder: &Path, rows: &Rows) -> io::Result<Vec<Fault>> {
     let mut faults = Vec::new();
-    for (place, earlier, name) in twice(rows.iter().map(Row::station)) {
-        let line = rows[earlier].line;
-        let cause = format!("its card {name} would be that of line {line} too");
-        faults.push(fault(rows[place].line, "station", cause));
+    let (mut lines, mut stations) = (Vec::new(), Vec::new());
+    for row in rows.iter() {
+        let row = row?;
+        lines.push(row.line);
+        stations.push(row.station().to_string());
     }
-    for row in rows {
-        let name = file(folder, row.station());
+    for (place, earlier, name) in twice(&stations) {
+        let line = lines[earlier];
+        let cause = format!("its card {name} would be that of line {line} too");
+        faults.push(fault(lines[place], "station", cause));
+    }
+    for (line, station) in lines.iter().zip(&stations) {
+        let name = file(folder, station);
         if let Err(Failure::Wrong(cause)) = Replaced::new(&name, Kind::Svg) {
-            faults.push(fault(row.line, "station", cause));
+            faults.push(fault(*line, "station", cause));
         }
     }
-    faults
+    Ok(faults)
 }
 
 /// The same for stations that have no lease file.
-pub fn are_apart(stations: &[&str]) -> Outcome {
-    match twice(stations.iter().copied()).first() {
+pub fn are_apart(stations: &[String]) -> Outcome {
+    match twice(stations).first() {
         None => Ok(()),
         Some((place, earlier, name)) => {
-            let (one, other) = (stations[*earlier], stations[*place]);
+            let (one, other) = (&stations[*earlier], &stations[*place]);
             let told = format!("the cards of stations {one} and {other} would both be {name}");
             Err(Failure::Wrong(told))
         }
     }
 }
 
-/// Names the cards of these stations among the files of the line.
-pub fn name<'a>(folder: &Path, stations: impl Iterator<Item = &'a str>, files: &mut Files) {
-    for station in stations {
-        files.writes("--cards", Some(&file(folder, station)));
-    }
+/// Names the card of this station among the files of the line.
+pub fn name(folder: &Path, station: &str, files: &mut Files) {
+    files.writes("--cards", Some(&file(folder, station)));
 }
 
 /// Makes sure of the folder.
@@ -102,15 +106,16 @@ pub fn folder(folder: &Path) -> Outcome {
 
 /// Writes each station's card, in place of an earlier one, and where that is asked tells of others
 /// that stand there.
-pub fn write(fleet: &Fleet, folder: &Path, tells_others: bool, files: &mut Files) {
+pub fn write(fleet: &Fleet, folder: &Path, tells_others: bool, files: &mut Files) -> Outcome {
     let mut names = HashSet::new();
     for card in fleet.cards() {
+        let card = card?;
         let name = file(folder, station(&card));
         Replaced::at(&name, Kind::Svg).write(picture::svg(&card), files);
         names.insert(name);
     }
     if !tells_others {
-        return;
+        return Ok(());
     }
     let is_ours = |path: &PathBuf| fs::read_to_string(path).map_or(false, |text| text.contains(BY));
     for other in beside(folder, &names).into_iter().filter(is_ours) {
@@ -121,6 +126,7 @@ pub fn write(fleet: &Fleet, folder: &Path, tells_others: bool, files: &mut Files
             "{other} is an earlier card, of no station of this fleet"
         );
     }
+    Ok(())
 }
 
 /// Pictures that stand there and are none of these.

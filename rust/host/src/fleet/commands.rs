@@ -3,8 +3,8 @@
 
 use crate::common::failure::Outcome;
 use crate::common::visible;
-use crate::fleet::leases::{fault, Fault, Row};
-use std::io::Write;
+use crate::fleet::leases::{fault, Fault, Row, Rows};
+use std::io::{self, Write};
 use std::path::Path;
 
 /// The most bytes of a line: GNU parallel takes half of what the system gives an argument,
@@ -12,8 +12,12 @@ use std::path::Path;
 const LONGEST: usize = 60_000;
 
 /// Rows whose line no engine would run as it stands. They are told before any line is.
-pub fn faults(rows: &[Row]) -> Vec<Fault> {
-    rows.iter().flat_map(faults_of).collect()
+pub fn faults(rows: &Rows) -> io::Result<Vec<Fault>> {
+    let mut faults = Vec::new();
+    for row in rows.iter() {
+        faults.extend(faults_of(&row?));
+    }
+    Ok(faults)
 }
 
 fn faults_of(row: &Row) -> Vec<Fault> {
@@ -51,9 +55,9 @@ fn unfit(file: &Path) -> Option<String> {
 }
 
 /// A line a station, in the lease file's order.
-pub fn tell(rows: &[Row], out: &mut dyn Write) -> Outcome {
-    for row in rows {
-        writeln!(out, "{}", line(row))?;
+pub fn tell(rows: &Rows, out: &mut dyn Write) -> Outcome {
+    for row in rows.iter() {
+        writeln!(out, "{}", line(&row?))?;
     }
     Ok(())
 }

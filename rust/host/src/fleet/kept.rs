@@ -1,14 +1,16 @@
-//! A card as a fleet keeps it, so small that many thousands fit: of a day nothing but what
-//! it claimed and whether the log has it, since all else of it is the lease's.
+//! A card as a fleet keeps it for later, in few bytes: of a day nothing but what it claimed
+//! and whether the log has it, since all else of it is the lease's.
 
 use crate::common::digest::{self, Finished};
-use crate::score::asked::{Card, LeaseLine, Unscored};
+use crate::fleet::spool::Stored;
+use crate::score::asked::{self, Card, LeaseLine, Unscored};
 use crate::score::checks::Check;
 use crate::score::civil::Date;
 use crate::score::issue::Issue;
 use crate::score::month::{Began, Day, Score, Served};
 use boundary::{Edition, Lease, Month, Verdict};
 use serde_json::Value;
+use std::borrow::Cow;
 
 pub enum Kept {
     Scored(Box<Scored>),
@@ -16,6 +18,7 @@ pub enum Kept {
 }
 
 /// What a month comes to.
+#[derive(Clone, Copy)]
 pub struct Total {
     pub served: u64,
     pub owed: u64,
@@ -33,7 +36,7 @@ pub struct Scored {
     pub began: Option<Began>,
     pub total: Total,
     /// Of each day of the lease.
-    claimed: Box<[u64]>,
+    claimed: Vec<u64>,
     /// A bit for each day of the lease that the log has.
     in_log: u32,
     pub checks: Vec<Check>,
@@ -52,10 +55,10 @@ impl Kept {
         }
     }
 
-    pub fn card(&self) -> Card {
+    pub fn card(self) -> Card {
         match self {
             Kept::Scored(scored) => Card::Scored(scored.score()),
-            Kept::Unscored(unscored) => Card::Unscored((**unscored).clone()),
+            Kept::Unscored(unscored) => Card::Unscored(*unscored),
         }
     }
 
@@ -83,13 +86,6 @@ impl Kept {
         match self {
             Kept::Scored(scored) => &scored.issue,
             Kept::Unscored(unscored) => &unscored.issue,
-        }
-    }
-
-    pub fn set_issue(&mut self, issue: Issue) {
-        match self {
-            Kept::Scored(scored) => scored.issue = issue,
-            Kept::Unscored(unscored) => unscored.issue = issue,
         }
     }
 
@@ -165,33 +161,215 @@ impl Scored {
         self.days().filter(|day| day.kind() == kind).count()
     }
 
-    fn score(&self) -> Score {
+    fn score(self) -> Score {
+        let days: Vec<Day> = self.days().collect();
         Score {
             edition: self.edition,
             lease: self.lease,
-            inputs: self.inputs.clone(),
+            inputs: self.inputs,
             digest: self.digest.map(digest::hex),
-            began: self.began.clone(),
+            began: self.began,
             log: Value::Null,
             month: Month {
-                days: self.days().map(|day| day.scored()).collect(),
+                days: days.iter().map(Day::scored).collect(),
                 served: self.total.served,
                 owed: self.total.owed,
                 verdict: self.total.verdict,
             },
-            days: self.days().collect(),
-            checks: self.checks.clone(),
-            issue: self.issue.clone(),
+            days,
+            checks: self.checks,
+            issue: self.issue,
         }
     }
 }
 
+impl Stored for Kept {
+    fn store(&self, to: &mut Vec<u8>) {
+        self.scored().is_some().store(to);
+        match self {
+            Kept::Scored(scored) => scored.store(to),
+            Kept::Unscored(unscored) => unscored.store(to),
+        }
+    }
+
+    fn take(from: &mut &[u8]) -> Option<Kept> {
+        match bool::take(from)? {
+            true => Some(Kept::Scored(Box::new(Stored::take(from)?))),
+            false => Some(Kept::Unscored(Box::new(Stored::take(from)?))),
+        }
+    }
+}
+
+impl Stored for Scored {
+    fn store(&self, to: &mut Vec<u8>) {
+        self.edition.number().store(to);
+        LeaseLine::of(&self.lease).store(to);
+        self.from.store(to);
+        self.inputs.store(to);
+        self.digest.store(to);
+        self.began.store(to);
+        self.total.store(to);
+        self.claimed.store(to);
+        self.in_log.store(to);
+        self.checks.store(to);
+        self.issue.store(to);
+    }
+
+    fn take(from: &mut &[u8]) -> Option<Scored> {
+        Some(Scored {
+            edition: Edition::of(u32::take(from)?).ok()?,
+            lease: asked::accepted(Stored::take(from)?).ok()?,
+            from: Stored::take(from)?,
+            inputs: Stored::take(from)?,
+            digest: Stored::take(from)?,
+            began: Stored::take(from)?,
+            total: Stored::take(from)?,
+            claimed: Stored::take(from)?,
+            in_log: Stored::take(from)?,
+            checks: Stored::take(from)?,
+            issue: Stored::take(from)?,
+        })
+    }
+}
+
+impl Stored for Total {
+    fn store(&self, to: &mut Vec<u8>) {
+        self.served.store(to);
+        self.owed.store(to);
+        (self.verdict as u32).store(to);
+    }
+
+    fn take(from: &mut &[u8]) -> Option<Total> {
+        const VERDICTS: [Verdict; 3] = [Verdict::Full, Verdict::Short, Verdict::NothingOwed];
+        let (served, owed, verdict) = (u64::take(from)?, u64::take(from)?, u32::take(from)?);
+        let mut verdicts = VERDICTS.into_iter();
+        Some(Total {
+            served,
+            owed,
+            verdict: verdicts.find(|each| *each as u32 == verdict)?,
+        })
+    }
+}
+
+impl Stored for Unscored {
+    fn store(&self, to: &mut Vec<u8>) {
+        self.edition.store(to);
+        self.line.store(to);
+        self.from.store(to);
+        self.inputs.store(to);
+        self.issue.store(to);
+        self.refused.store(to);
+        self.why.store(to);
+        self.refusal.to_string().store(to);
+    }
+
+    fn take(from: &mut &[u8]) -> Option<Unscored> {
+        Some(Unscored {
+            edition: Stored::take(from)?,
+            line: Stored::take(from)?,
+            from: Stored::take(from)?,
+            inputs: Stored::take(from)?,
+            issue: Stored::take(from)?,
+            refused: Stored::take(from)?,
+            why: Stored::take(from)?,
+            refusal: serde_json::from_str(&String::take(from)?).ok()?,
+            log: Value::Null,
+        })
+    }
+}
+
+impl Stored for LeaseLine {
+    fn store(&self, to: &mut Vec<u8>) {
+        self.first_day.store(to);
+        self.days.store(to);
+        self.owed.store(to);
+    }
+
+    fn take(from: &mut &[u8]) -> Option<LeaseLine> {
+        Some(LeaseLine {
+            first_day: Stored::take(from)?,
+            days: Stored::take(from)?,
+            owed: Stored::take(from)?,
+        })
+    }
+}
+
+impl Stored for Date {
+    fn store(&self, to: &mut Vec<u8>) {
+        self.year.store(to);
+        self.month.store(to);
+        self.day.store(to);
+    }
+
+    fn take(from: &mut &[u8]) -> Option<Date> {
+        Some(Date {
+            year: Stored::take(from)?,
+            month: Stored::take(from)?,
+            day: Stored::take(from)?,
+        })
+    }
+}
+
+impl Stored for Issue {
+    fn store(&self, to: &mut Vec<u8>) {
+        self.station.store(to);
+        self.lessee.store(to);
+        self.lease.store(to);
+        self.zone.store(to);
+        self.date.store(to);
+        self.version.clone().into_owned().store(to);
+        self.archive.clone().map(Cow::into_owned).store(to);
+    }
+
+    fn take(from: &mut &[u8]) -> Option<Issue> {
+        Some(Issue {
+            station: Stored::take(from)?,
+            lessee: Stored::take(from)?,
+            lease: Stored::take(from)?,
+            zone: Stored::take(from)?,
+            date: Stored::take(from)?,
+            version: String::take(from)?.into(),
+            archive: <Option<String> as Stored>::take(from)?.map(Cow::from),
+        })
+    }
+}
+
+impl Stored for Began {
+    fn store(&self, to: &mut Vec<u8>) {
+        self.state.store(to);
+        self.sha256.store(to);
+    }
+
+    fn take(from: &mut &[u8]) -> Option<Began> {
+        Some(Began {
+            state: Stored::take(from)?,
+            sha256: Stored::take(from)?,
+        })
+    }
+}
+
+impl Stored for Check {
+    fn store(&self, to: &mut Vec<u8>) {
+        self.key.store(to);
+        self.text.store(to);
+        self.explains.store(to);
+    }
+
+    fn take(from: &mut &[u8]) -> Option<Check> {
+        Some(Check {
+            key: Stored::take(from)?,
+            text: Stored::take(from)?,
+            explains: Stored::take(from)?,
+        })
+    }
+}
+
 #[cfg(test)]
-mod tests {
+pub mod tests {
     use super::*;
     use crate::input::source::Source;
     use crate::replay::log::Log;
-    use crate::score::{asked, rows};
+    use crate::score::rows;
 
     const LOG: &[u8] = include_bytes!("../../../../samples/station-14.log");
 
@@ -201,13 +379,23 @@ mod tests {
         String::from_utf8_lossy(&out).into_owned()
     }
 
-    fn score(first_day: u32, from: Option<Date>) -> Score {
+    /// As it comes back from its bytes.
+    fn stored(card: Kept) -> Kept {
+        let mut bytes = Vec::new();
+        card.store(&mut bytes);
+        let mut rest = bytes.as_slice();
+        let card = Kept::take(&mut rest).expect("a card");
+        assert!(rest.is_empty());
+        card
+    }
+
+    pub fn score(station: &str, first_day: u32, from: Option<Date>) -> Score {
         let mut log = Log::with_digest(Edition::First);
         assert!(log.read(vec![Source::of_bytes("a log", LOG)]).is_ok());
         let lease = Lease::new(first_day, 30, 14_000_000).expect("a lease");
         let dates = asked::dates(from, &lease).expect("dates");
         let month = log.replay.score(&lease).expect("a month");
-        let station = Some("14".to_string());
+        let station = Some(station.to_string());
         let issue = Issue::of([&station, &None, &None, &None], Date::today());
         Score::new(lease, dates, month, &log, issue)
     }
@@ -218,13 +406,40 @@ mod tests {
     fn a_card_comes_back_as_it_was() {
         for (first_day, from) in [(101, "2026-04-01"), (95, ""), (119, "2026-12-19")] {
             let from = Date::parse(from).ok();
-            let mut due = score(first_day, from);
+            let mut due = score("14", first_day, from);
             due.log = Value::Null;
-            let is = Kept::of(Card::Scored(score(first_day, from))).card();
+            let is = stored(Kept::of(Card::Scored(score("14", first_day, from)))).card();
             assert_eq!(is.score().map(|score| &score.month), Some(&due.month));
             assert_eq!(told(&is), told(&Card::Scored(due)));
             assert!(told(&is).contains("\"in_log\":true"));
             assert_eq!(told(&is).contains("\"in_log\":false"), first_day != 101);
         }
+    }
+
+    pub fn unscored(station: &str) -> Unscored {
+        let names = [station, "Mole", "L-7", "UTC"];
+        let [station, lessee, lease, zone] = names.map(|name| Some(name.to_string()));
+        Unscored {
+            edition: 1,
+            line: LeaseLine {
+                first_day: 1,
+                days: 32,
+                owed: 3,
+            },
+            from: None,
+            inputs: vec!["a.log".to_string(), "é".to_string()],
+            issue: Issue::of([&station, &lessee, &lease, &zone], Date::today()),
+            refused: true,
+            why: "two\nlines".to_string(),
+            refusal: serde_json::json!({"refused": 21, "cause": ["32 days"]}),
+            log: Value::Null,
+        }
+    }
+
+    #[test]
+    fn a_card_without_a_score_comes_back_too() {
+        let is = stored(Kept::of(Card::Unscored(unscored("7")))).card();
+        assert_eq!(told(&is), told(&Card::Unscored(unscored("7"))));
+        assert!(told(&is).contains("REFUSED"));
     }
 }

@@ -5,6 +5,7 @@ use crate::common::failure::{Failure, Outcome};
 use crate::common::sheet;
 use crate::common::text;
 use crate::common::visible;
+use crate::fleet::spool::{Spool, Stored};
 use crate::fleet::{cells, files, states};
 use crate::input::source::Source;
 use crate::score::asked::{Asked, LeaseLine};
@@ -12,7 +13,10 @@ use crate::score::civil::Date;
 use crate::score::issue::Issue;
 use boundary::{Edition, Lease};
 use csv::{ByteRecord, ReaderBuilder};
+use std::collections::hash_map::DefaultHasher;
 use std::collections::HashMap;
+use std::hash::{Hash, Hasher};
+use std::io;
 use std::path::{Path, PathBuf};
 
 /// More than any fleet's: this is no lease file.
@@ -78,6 +82,73 @@ impl Row {
     }
 }
 
+impl Stored for Row {
+    fn store(&self, to: &mut Vec<u8>) {
+        self.line.store(to);
+        self.save.store(to);
+        let asked = &self.asked;
+        asked.edition.store(to);
+        asked.line.store(to);
+        asked.from.store(to);
+        asked.resume.store(to);
+        asked.saves.store(to);
+        asked.repeats.store(to);
+        asked.files.store(to);
+        asked.issue.store(to);
+    }
+
+    fn take(from: &mut &[u8]) -> Option<Row> {
+        let (line, save) = (u64::take(from)?, Stored::take(from)?);
+        let asked = Asked {
+            edition: Stored::take(from)?,
+            line: Stored::take(from)?,
+            from: Stored::take(from)?,
+            resume: Stored::take(from)?,
+            saves: Stored::take(from)?,
+            repeats: Stored::take(from)?,
+            files: Stored::take(from)?,
+            // No row tells of it.
+            called: None,
+            issue: Stored::take(from)?,
+        };
+        Some(Row {
+            line,
+            save,
+            lease: asked.lease().ok()?,
+            asked,
+        })
+    }
+}
+
+/// The stations' rows, in their order.
+pub struct Rows {
+    spool: Spool,
+    count: usize,
+}
+
+impl Rows {
+    pub fn new() -> Rows {
+        Rows {
+            spool: Spool::new(),
+            count: 0,
+        }
+    }
+
+    /// Puts a row behind these and answers where it stands.
+    pub fn push(&mut self, row: &Row) -> io::Result<u64> {
+        self.count += 1;
+        self.spool.put(row)
+    }
+
+    pub fn len(&self) -> usize {
+        self.count
+    }
+
+    pub fn iter(&self) -> impl Iterator<Item = io::Result<Row>> + '_ {
+        self.spool.all()
+    }
+}
+
 /// What is wrong, and where.
 pub struct Fault {
     line: u64,
@@ -96,12 +167,15 @@ pub fn fault(line: u64, column: &str, cause: impl ToString) -> Fault {
 pub struct Leases {
     /// The file's name.
     name: String,
-    pub rows: Vec<Row>,
+    pub rows: Rows,
+    /// The stations' names, each by a number that two of them hardly share, and where its row stands.
+    names: Vec<(u64, u64)>,
     faults: Vec<Fault>,
 }
 
 impl Leases {
-    pub fn read(file: &Path, edition: Edition, issued: Date) -> Outcome<Leases> {
+    /// The rows, each completed with what isn't told in the file.
+    pub fn read(file: &Path, by: (Edition, Date), complete: impl Fn(&mut Row)) -> Outcome<Leases> {
         let mut source = Source::open(Some(file))?;
         let bytes = source.all(LONGEST)?;
         if WIDE.iter().any(|begin| bytes.starts_with(begin)) {
@@ -110,13 +184,14 @@ impl Leases {
         }
         let mut leases = Leases {
             name: source.name.clone(),
-            rows: Vec::new(),
+            rows: Rows::new(),
+            names: Vec::new(),
             faults: Vec::new(),
         };
         let folder = file.parent().unwrap_or_else(|| Path::new(""));
         let text = bytes.strip_prefix(&MARK).unwrap_or(&bytes);
-        leases.read_rows(text, folder, (edition, issued));
-        leases.told_twice();
+        leases.read_rows(text, folder, by, complete)?;
+        leases.told_twice()?;
         Ok(leases)
     }
 
@@ -125,7 +200,7 @@ impl Leases {
     }
 
     /// The rows, or all that is wrong.
-    pub fn rows(mut self) -> Outcome<Vec<Row>> {
+    pub fn rows(mut self) -> Outcome<Rows> {
         if self.faults.is_empty() {
             return Ok(self.rows);
         }
@@ -144,7 +219,13 @@ impl Leases {
         Err(Failure::Wrong(text))
     }
 
-    fn read_rows(&mut self, text: &[u8], folder: &Path, by: (Edition, Date)) {
+    fn read_rows(
+        &mut self,
+        text: &[u8],
+        folder: &Path,
+        by: (Edition, Date),
+        complete: impl Fn(&mut Row),
+    ) -> Outcome {
         let delimiter = delimiter(text);
         let mut reader = ReaderBuilder::new()
             .has_headers(false)
@@ -156,7 +237,10 @@ impl Leases {
         for record in reader.byte_records() {
             let record = match record {
                 Ok(record) => record,
-                Err(error) => return self.faults.push(fault(0, "", error)),
+                Err(error) => {
+                    self.faults.push(fault(0, "", error));
+                    return Ok(());
+                }
             };
             let line = record
                 .position()
@@ -177,22 +261,27 @@ impl Leases {
                         delimiter,
                         faults: &mut self.faults,
                     };
-                    self.rows.extend(reading.row(folder, by));
+                    if let Some(mut row) = reading.row(folder, by) {
+                        complete(&mut row);
+                        let at = self.rows.push(&row)?;
+                        self.names.push((number_of(row.station()), at));
+                    }
                 }
             }
             // Without a header no row can be read.
             if header.is_none() {
-                return;
+                return Ok(());
             }
         }
         if header.is_none() {
             let due =
                 "is empty; the first row names the columns station, log, first day, days and owed";
             self.faults.push(fault(1, "", due));
-        } else if self.rows.is_empty() && self.faults.is_empty() {
+        } else if self.rows.len() == 0 && self.faults.is_empty() {
             self.faults
                 .push(fault(1, "", "there is no row below the header"));
         }
+        Ok(())
     }
 
     /// Which column stands where.
@@ -239,16 +328,35 @@ impl Leases {
     }
 
     /// No station has two rows.
-    fn told_twice(&mut self) {
-        let mut lines: HashMap<&str, u64> = HashMap::new();
-        for row in &self.rows {
-            let first = *lines.entry(row.station()).or_insert(row.line);
+    fn told_twice(&mut self) -> io::Result<()> {
+        let mut names = std::mem::take(&mut self.names);
+        names.sort_unstable();
+        // Those alone that share their number with another are looked at.
+        let is_shared = |place: usize| {
+            let beside = [place.wrapping_sub(1), place + 1].map(|place| names.get(place));
+            let mut numbers = beside.iter().flatten().map(|(number, _)| *number);
+            numbers.any(|number| number == names[place].0)
+        };
+        let shared = (0..names.len()).filter(|place| is_shared(*place));
+        let shared = shared.map(|place| names[place].1);
+        let mut lines: HashMap<String, u64> = HashMap::new();
+        for at in shared {
+            let (row, _) = self.rows.spool.get::<Row>(at)?;
+            let first = *lines.entry(row.station().to_string()).or_insert(row.line);
             if first != row.line {
                 let cause = format!("{:?} stands in line {first} too", row.station());
                 self.faults.push(fault(row.line, "station", cause));
             }
         }
+        Ok(())
     }
+}
+
+/// A number for a name.
+fn number_of(name: &str) -> u64 {
+    let mut hasher = DefaultHasher::new();
+    name.hash(&mut hasher);
+    hasher.finish()
 }
 
 /// What parts the values: what the first line has most of.

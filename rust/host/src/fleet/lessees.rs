@@ -12,8 +12,8 @@ use crate::score::rows::write_row;
 use boundary::{Edition, Fleet, FleetTold, Verdict};
 use csv::Writer;
 use serde_json::{json, Value};
-use std::collections::BTreeMap;
-use std::io::Write;
+use std::collections::{BTreeMap, BTreeSet};
+use std::io::{self, Write};
 
 /// A lessee's stations together.
 pub struct Subtotal {
@@ -55,27 +55,33 @@ impl Subtotal {
 
 /// The stations of a lessee, of these.
 pub fn stations_of(lessee: &str, group: Group) -> Outcome<Group> {
-    let unknown = unknown(lessee, group.cards.iter().map(Kept::issue));
-    let of = |card: &Kept| card.issue().is_leased_to(lessee);
-    let cards: Vec<Kept> = group.cards.into_iter().filter(of).collect();
-    let edition = edition_of(&cards).ok_or(unknown)?;
-    let mut group = Group::new(edition);
-    for card in cards {
-        group.take(card).map_err(refused)?;
+    let mut of_lessee: Option<Group> = None;
+    for card in group.cards.all() {
+        let card = card?;
+        if card.issue().is_leased_to(lessee) {
+            let begin = || Group::new(edition_of(&card), 0);
+            of_lessee.get_or_insert_with(begin).take(&card)?;
+        }
     }
-    Ok(group)
+    let known = || group.cards.all().map(|card| Ok(card?.issue().clone()));
+    of_lessee.ok_or_else(|| unknown(lessee, known()))
 }
 
-/// The edition that all of them are scored by.
-fn edition_of(cards: &[Kept]) -> Option<Edition> {
-    Edition::of(cards.first()?.edition()).ok()
+/// The edition that it is scored by.
+fn edition_of(card: &Kept) -> Edition {
+    // All cards of a fleet are of one that there is.
+    Edition::of(card.edition()).unwrap_or(Edition::First)
 }
 
 /// A name that no station is leased to, beside those that there are.
-pub fn unknown<'a>(lessee: &str, known: impl Iterator<Item = &'a Issue>) -> Failure {
-    let mut names: Vec<&str> = known.filter_map(|issue| issue.lessee.as_deref()).collect();
+pub fn unknown(lessee: &str, known: impl Iterator<Item = io::Result<Issue>>) -> Failure {
+    let names = known.filter_map(|issue| issue.map(|issue| issue.lessee).transpose());
+    let names = match names.collect::<io::Result<BTreeSet<String>>>() {
+        Ok(names) => names,
+        Err(error) => return error.into(),
+    };
+    let mut names: Vec<String> = names.into_iter().collect();
     names.sort_by(|one, other| name_order(one, other));
-    names.dedup();
     let known = match names.is_empty() {
         true => "no station has a lessee".to_string(),
         false => format!("the lessees are {names:?}"),
@@ -85,41 +91,60 @@ pub fn unknown<'a>(lessee: &str, known: impl Iterator<Item = &'a Issue>) -> Fail
     ))
 }
 
-/// By the lessees' names.
-pub fn subtotals(kept: &[Kept]) -> Outcome<Vec<Subtotal>> {
-    // Where there is none, there is no station.
-    let edition = edition_of(kept).unwrap_or(Edition::First);
-    let mut by_lessee: BTreeMap<Option<&str>, Vec<&Kept>> = BTreeMap::new();
-    for card in kept {
-        let lessee = card.issue().lessee.as_deref();
-        by_lessee.entry(lessee).or_default().push(card);
-    }
-    let subtotals = by_lessee.into_iter();
-    let subtotals = subtotals.map(|(lessee, cards)| subtotal(edition, lessee, &cards));
-    let mut subtotals = subtotals.collect::<Outcome<Vec<Subtotal>>>()?;
-    subtotals.sort_by(|one, other| name_order(one.name(), other.name()));
-    Ok(subtotals)
+/// What the cards come to that were put there, by their lessees.
+#[derive(Default)]
+pub struct Sums {
+    by_lessee: BTreeMap<Option<String>, Sum>,
 }
 
-fn subtotal(edition: Edition, lessee: Option<&str>, cards: &[&Kept]) -> Outcome<Subtotal> {
-    let mut report = Fleet::new(edition);
-    let (mut short, mut full_days) = (0, 0);
-    for scored in cards.iter().filter_map(|card| card.scored()) {
-        let dark = scored.count(Served::Dark) as u64;
-        let added = report.add_month(scored.total.served, scored.total.owed, dark);
-        added.map_err(refused)?;
-        short += usize::from(scored.total.verdict == Verdict::Short);
-        full_days += scored.count(Served::InFull);
+/// The same of one lessee.
+struct Sum {
+    report: Fleet,
+    stations: usize,
+    short: usize,
+    full_days: usize,
+}
+
+impl Sums {
+    pub fn put(&mut self, card: &Kept) -> Outcome {
+        let begin = || Sum {
+            report: Fleet::new(edition_of(card)),
+            stations: 0,
+            short: 0,
+            full_days: 0,
+        };
+        let lessee = card.issue().lessee.clone();
+        let sum = self.by_lessee.entry(lessee).or_insert_with(begin);
+        sum.stations += 1;
+        if let Some(scored) = card.scored() {
+            let dark = scored.count(Served::Dark) as u64;
+            let added = sum
+                .report
+                .add_month(scored.total.served, scored.total.owed, dark);
+            added.map_err(refused)?;
+            sum.short += usize::from(scored.total.verdict == Verdict::Short);
+            sum.full_days += scored.count(Served::InFull);
+        }
+        Ok(())
     }
-    let told = report.tell();
-    Ok(Subtotal {
-        lessee: lessee.map(String::from),
-        stations: cards.len(),
-        scored: told.stations as usize,
-        short,
-        full_days,
-        told,
-    })
+
+    /// By the lessees' names.
+    pub fn subtotals(self) -> Vec<Subtotal> {
+        let subtotal = |(lessee, sum): (Option<String>, Sum)| {
+            let told = sum.report.tell();
+            Subtotal {
+                lessee,
+                stations: sum.stations,
+                scored: told.stations as usize,
+                short: sum.short,
+                full_days: sum.full_days,
+                told,
+            }
+        };
+        let mut subtotals: Vec<Subtotal> = self.by_lessee.into_iter().map(subtotal).collect();
+        subtotals.sort_by(|one, other| name_order(one.name(), other.name()));
+        subtotals
+    }
 }
 
 /// Whether they tell more than the total does.

@@ -3,10 +3,11 @@
 //! The lease file is read by `leases`, with `cells` and `files`; the logs are read side by
 //! side by `stations`, and added to the product's report. `commands` gives the lines for
 //! scoring elsewhere, `scores` reads what they print, and `join` holds it against the lease
-//! file. A `month` of cards, each `kept` small, is told as `text`, as `rows`, as a `page` and
-//! as a folder of `cards`, which `verify` holds against their logs; `lessees` has what each
-//! lessee's stations come to.
+//! file. A `month` of cards, each `kept` in a `spool` with its `briefs` in memory, is told as
+//! `text`, as `rows`, as a `page` and as a folder of `cards`, which `verify` holds against their
+//! logs; `lessees` has what each lessee's stations come to.
 
+mod briefs;
 mod cards;
 pub mod cells;
 mod commands;
@@ -20,6 +21,7 @@ pub mod month;
 pub mod page;
 mod rows;
 pub mod scores;
+mod spool;
 mod states;
 pub mod stations;
 pub mod text;
@@ -32,8 +34,7 @@ use crate::common::failure::{Failure, Outcome};
 use crate::common::files::Files;
 use crate::common::replaced::{Goes, Kind};
 use crate::fleet::join::By;
-use crate::fleet::kept::Kept;
-use crate::fleet::leases::{Leases, Row};
+use crate::fleet::leases::{Leases, Row, Rows};
 use crate::fleet::month::{Fleet, Only, Sort};
 use crate::fleet::page::linked::{self, Linked};
 use crate::fleet::stations::Group;
@@ -42,7 +43,7 @@ use crate::score::civil::Date;
 use crate::score::issue;
 use boundary::Edition;
 use clap::Args;
-use std::io::Write;
+use std::io::{self, Write};
 use std::path::{Path, PathBuf};
 
 /// Printed behind the help text.
@@ -166,41 +167,51 @@ pub fn run(options: &Options, files: &mut Files, out: &mut dyn Write) -> Outcome
         Some(file) => Some(options.rows(file, (edition, date))?),
         None => None,
     };
-    name_rows(rows.as_deref().unwrap_or_default(), options, files)?;
+    if let Some(rows) = &rows {
+        name_rows(rows, options, files)?;
+    }
     if let Some(folder) = &options.save_states {
         cards::folder(folder)?;
     }
-    if options.commands {
-        let rows = rows.unwrap_or_default();
-        let rows = match &options.missing {
-            Some(scored) => join::missing(scores::read(scored)?, rows)?,
-            None => rows,
-        };
-        return commands::tell(&options.asked_for(rows), out);
-    }
+    let rows = match rows {
+        Some(rows) if options.commands => {
+            let rows = match &options.missing {
+                Some(scored) => join::missing(scored, &rows)?,
+                None => rows,
+            };
+            return commands::tell(&options.asked_for(rows)?, out);
+        }
+        rows => rows,
+    };
     let joined = match &options.from_scores {
-        Some(scored) => Some(options.joined(scored, rows.as_deref())?),
+        Some(scored) => Some(options.joined(scored, rows.as_ref())?),
         None => None,
     };
-    let asked_for = rows.as_deref().map(|rows| options.count(rows));
-    let stations = joined.as_ref().map(|joined| joined.cards.len());
-    let stations = stations.or(asked_for).unwrap_or(0);
+    let stations = match (&joined, &rows) {
+        (Some(joined), _) => joined.cards.briefs().len(),
+        (None, Some(rows)) => options.count(rows)?,
+        (None, None) => 0,
+    };
     if options.html.is_some() {
         page::holds(stations)?;
     }
     let folder = options.cards_folder(stations);
     if let Some(folder) = &folder {
         if let (Some(joined), None) = (&joined, &rows) {
-            let stations: Vec<&str> = joined.cards.iter().map(Kept::station).collect();
+            let stations = joined.cards.names(|card| card.station().to_string());
+            let stations = stations.collect::<io::Result<Vec<String>>>()?;
             cards::are_apart(&stations)?;
-            cards::name(folder, stations.into_iter(), files);
+            for station in &stations {
+                cards::name(folder, station, files);
+            }
             files.are_apart()?;
         }
         cards::folder(folder)?;
     }
-    let mut group = match joined {
-        Some(joined) => joined,
-        None => stations::read(edition, options.asked_for(rows.unwrap_or_default()))?,
+    let mut group = match (joined, rows) {
+        (Some(joined), _) => joined,
+        (None, Some(rows)) => stations::read(edition, &options.asked_for(rows)?)?,
+        (None, None) => Group::new(edition, 0),
     };
     files.states(std::mem::take(&mut group.states));
     let fleet = Fleet::new(group, options.sort, options.only, date)?;
@@ -209,10 +220,16 @@ pub fn run(options: &Options, files: &mut Files, out: &mut dyn Write) -> Outcome
     }
     if let Some(folder) = &folder {
         // Of one lessee, those of the others may stand there too.
-        cards::write(&fleet, folder, options.lessee.is_none(), files);
+        cards::write(&fleet, folder, options.lessee.is_none(), files)?;
     }
-    let linked = options.linked(stations, folder.as_deref());
-    let told = html.write(|| page::html(&fleet, linked.as_ref()), files, out);
+    let told = match &options.html {
+        Some(_) => {
+            let linked = options.linked(stations, folder.as_deref());
+            let page = page::html(&fleet, linked.as_ref())?;
+            html.write(|| page, files, out)
+        }
+        None => Ok(()),
+    };
     let told = told.and_then(|()| match options {
         _ if html.is_standard() => Ok(()),
         Options { json: true, .. } => rows::json(&fleet, out),
@@ -232,15 +249,20 @@ pub fn run(options: &Options, files: &mut Files, out: &mut dyn Write) -> Outcome
 
 /// Names the files that the lease file tells of: the stations' cards, and their logs, which are read where there are no scores, and
 /// also by who runs the lines of --commands.
-fn name_rows(rows: &[Row], options: &Options, files: &mut Files) -> Outcome {
-    if let Some(folder) = &options.cards_folder(options.count(rows)) {
-        let stations = rows.iter().filter(|row| options.is_asked_for(row));
-        cards::name(folder, stations.map(Row::station), files);
+fn name_rows(rows: &Rows, options: &Options, files: &mut Files) -> Outcome {
+    if let Some(folder) = &options.cards_folder(options.count(rows)?) {
+        for row in rows.iter() {
+            let row = row?;
+            if options.is_asked_for(&row) {
+                cards::name(folder, row.station(), files);
+            }
+        }
     }
     if let Some(folder) = &options.verify {
         verify::name(folder, rows, files)?;
     }
-    for row in rows {
+    for row in rows.iter() {
+        let row = row?;
         for file in &row.asked.files {
             files.reads_last(|| format!("the log of station {}", row.station()), file);
         }
@@ -253,28 +275,27 @@ fn name_rows(rows: &[Row], options: &Options, files: &mut Files) -> Outcome {
 
 impl Options {
     /// The lease file's rows, or all that is wrong with them for what is asked.
-    fn rows(&self, file: &Path, (edition, date): (Edition, Date)) -> Outcome<Vec<Row>> {
-        let mut leases = Leases::read(file, edition, date)?;
-        for row in &mut leases.rows {
+    fn rows(&self, file: &Path, by: (Edition, Date)) -> Outcome<Rows> {
+        let mut leases = Leases::read(file, by, |row| {
             row.asked.repeats = self.repeat.repeated_pieces;
-        }
-        if let Some(folder) = &self.cards_folder(self.count(&leases.rows)) {
-            let faults = cards::faults(folder, &leases.rows);
+            states::put(self.save_states.as_deref(), row);
+        })?;
+        if let Some(folder) = &self.cards_folder(self.count(&leases.rows)?) {
+            let faults = cards::faults(folder, &leases.rows)?;
             leases.add_faults(faults);
         }
-        if let Some(folder) = &self.save_states {
-            states::put(folder, &mut leases.rows);
-            let faults = states::faults(&leases.rows);
+        if self.save_states.is_some() {
+            let faults = states::faults(&leases.rows)?;
             leases.add_faults(faults);
         }
         if self.commands {
-            let faults = commands::faults(&leases.rows);
+            let faults = commands::faults(&leases.rows)?;
             leases.add_faults(faults);
         }
         let rows = leases.rows()?;
         match &self.lessee {
-            Some(lessee) if self.count(&rows) == 0 => {
-                let known = rows.iter().map(|row| &row.asked.issue);
+            Some(lessee) if self.count(&rows)? == 0 => {
+                let known = rows.iter().map(|row| Ok(row?.asked.issue));
                 Err(lessees::unknown(lessee, known))
             }
             _ => Ok(rows),
@@ -287,23 +308,36 @@ impl Options {
         lessee.map_or(true, |lessee| row.asked.issue.is_leased_to(lessee))
     }
 
-    fn count(&self, rows: &[Row]) -> usize {
-        rows.iter().filter(|row| self.is_asked_for(row)).count()
+    fn count(&self, rows: &Rows) -> io::Result<usize> {
+        if self.lessee.is_none() {
+            return Ok(rows.len());
+        }
+        let count = rows.iter().map(|row| Ok(self.is_asked_for(&row?)));
+        count.map(|is| is.map(usize::from)).sum()
     }
 
-    fn asked_for(&self, rows: Vec<Row>) -> Vec<Row> {
-        let rows = rows.into_iter();
-        rows.filter(|row| self.is_asked_for(row)).collect()
+    fn asked_for(&self, rows: Rows) -> io::Result<Rows> {
+        if self.lessee.is_none() {
+            return Ok(rows);
+        }
+        let mut asked_for = Rows::new();
+        for row in rows.iter() {
+            let row = row?;
+            if self.is_asked_for(&row) {
+                asked_for.push(&row)?;
+            }
+        }
+        Ok(asked_for)
     }
 
     /// The scores that came, of the lessee whose stations are asked for.
-    fn joined(&self, scored: &[PathBuf], rows: Option<&[Row]>) -> Outcome<Group> {
+    fn joined(&self, scored: &[PathBuf], rows: Option<&Rows>) -> Outcome<Group> {
         let by = By {
             rows,
             logs: self.check_logs,
             issued: self.issued,
         };
-        let joined = join::joined(scores::read(scored)?, &by)?;
+        let joined = join::joined(scored, &by)?;
         match &self.lessee {
             Some(lessee) => lessees::stations_of(lessee, joined),
             None => Ok(joined),

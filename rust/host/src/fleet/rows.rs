@@ -16,8 +16,8 @@ use std::io::Write;
 
 /// A line for each station, and one for the fleet.
 pub fn json(fleet: &Fleet, out: &mut dyn Write) -> Outcome {
-    for (_, card) in fleet.told() {
-        let card = &card;
+    for told in fleet.told() {
+        let (_, card) = &told?;
         let mut value = json!({
             "station": station(card),
             "lessee": card.issue().lessee,
@@ -38,9 +38,9 @@ pub fn json(fleet: &Fleet, out: &mut dyn Write) -> Outcome {
     lessees::json(&fleet.subtotals, out)?;
     let four = &fleet.four;
     let mut value = json!({
-        "stations": fleet.kept.len(),
+        "stations": fleet.stations(),
         "told": fleet.count_told(),
-        "scored": fleet.scores().count(),
+        "scored": fleet.scored(),
         "served": four.served,
         "owed": four.owed,
     });
@@ -48,7 +48,7 @@ pub fn json(fleet: &Fleet, out: &mut dyn Write) -> Outcome {
     value["dark_days"] = json!(four.silent_days);
     value["station"] = json!(fleet.smallest());
     value["place"] = json!(fleet.smallest);
-    value["full_days"] = json!(fleet.days(Served::InFull));
+    value["full_days"] = json!(fleet.full_days());
     value["issued"] = json!(fleet.date.to_string());
     value["version"] = json!(VERSION);
     schema::line(out, json!({ "fleet": value }))
@@ -94,7 +94,8 @@ pub fn csv(fleet: &Fleet, out: &mut dyn Write) -> Outcome {
     ];
     let mut writer = Writer::from_writer(out);
     write_row(&mut writer, &head.map(String::from))?;
-    for (_, card) in fleet.told() {
+    for told in fleet.told() {
+        let (_, card) = told?;
         write_row(&mut writer, &row(&card))?;
     }
     writer.flush()?;
@@ -110,7 +111,8 @@ pub fn csv_days(fleet: &Fleet, out: &mut dyn Write) -> Outcome {
         DAY_COLUMNS.map(String::from),
     );
     write_row(&mut writer, &head)?;
-    for (_, card) in fleet.told() {
+    for told in fleet.told() {
+        let (_, card) = told?;
         let lessee = card.issue().lessee.clone().unwrap_or_default();
         let whose = [station(&card).to_string(), lessee];
         if let Card::Scored(score) = &card {

@@ -9,7 +9,8 @@ use crate::fleet::held;
 use crate::fleet::join::OF_THE_JOIN;
 use crate::fleet::kept::Kept;
 use crate::fleet::month::{self, OF_THE_FLEET};
-use crate::input::source::Source;
+use crate::fleet::spool::Stored;
+use crate::input::source::{Source, PIECE};
 use crate::score::asked::{accepted, dates, Called, Card, LeaseLine, Unscored};
 use crate::score::checks::Check;
 use crate::score::civil::Date;
@@ -20,11 +21,18 @@ use boundary::{Edition, Month, Verdict};
 use serde_json::Value;
 use std::borrow::Cow;
 use std::fmt;
-use std::path::PathBuf;
+use std::io::{BufRead, BufReader, Read as _};
+use std::path::{Path, PathBuf};
 use std::rc::Rc;
 
 /// Lines of a hundred thousand stations.
-const LONGEST: usize = 1 << 29;
+const LONGEST: u64 = 1 << 29;
+
+/// The most bytes of a line: one that names all files of a log is the longest.
+const LONGEST_LINE: u64 = 1 << 24;
+
+/// The most days of a lease.
+const MOST_DAYS: usize = 31;
 
 /// A reading's own words for what is wrong.
 type Read<T> = Result<T, String>;
@@ -46,6 +54,24 @@ impl fmt::Display for Place {
 pub struct Came {
     pub card: Kept,
     pub place: Place,
+}
+
+impl Stored for Came {
+    fn store(&self, to: &mut Vec<u8>) {
+        self.card.store(to);
+        self.place.file.to_string().store(to);
+        (self.place.line as u64).store(to);
+    }
+
+    fn take(from: &mut &[u8]) -> Option<Came> {
+        Some(Came {
+            card: Stored::take(from)?,
+            place: Place {
+                file: String::take(from)?.into(),
+                line: u64::take(from)? as usize,
+            },
+        })
+    }
 }
 
 /// What a score's lines come to.
@@ -78,21 +104,38 @@ struct Wrong {
     cause: String,
 }
 
-/// The cards that these files tell, in their order.
-pub fn read(files: &[PathBuf]) -> Outcome<Vec<Came>> {
-    let mut cards = Vec::new();
+/// The lines before a summary.
+#[derive(Default)]
+struct Days {
+    count: usize,
+    /// The number of the last.
+    last: usize,
+    /// Of those that a lease can have.
+    lines: Vec<Line>,
+}
+
+impl Days {
+    fn put(&mut self, line: Line) {
+        self.count += 1;
+        self.last = line.number;
+        if self.lines.len() < MOST_DAYS {
+            self.lines.push(line);
+        }
+    }
+}
+
+/// Hands on the cards that these files tell, in their order.
+pub fn read(files: &[PathBuf], mut take: impl FnMut(Came) -> Outcome) -> Outcome {
     each(files, |place, told| match told {
         Told::Card(card) => {
             let card = Kept::of(card);
-            cards.push(Came { card, place });
-            Ok(())
+            take(Came { card, place }).map(Ok)
         }
-        Told::Outline(_) => Err(
+        Told::Outline(_) => Ok(Err(
             "is a line of fleet --json, which has no days; join what score --json prints"
                 .to_string(),
-        ),
-    })?;
-    Ok(cards)
+        )),
+    })
 }
 
 /// The months that these files tell, in their order, by `score --json` or by `fleet --json`.
@@ -107,75 +150,97 @@ pub fn outlines(files: &[PathBuf]) -> Outcome<Vec<Outline>> {
             place: place.to_string(),
             ..outline
         });
-        Ok(())
+        Ok(Ok(()))
     })?;
     Ok(outlines)
 }
 
-/// Gives each score to `take`, with its file and line; standard input where no file is named.
-fn each(files: &[PathBuf], mut take: impl FnMut(Place, Told) -> Read<()>) -> Outcome {
+/// Gives each score to `take`, with its file and line, which answers what is wrong with the line; standard input where no
+/// file is named.
+fn each(files: &[PathBuf], mut take: impl FnMut(Place, Told) -> Outcome<Read<()>>) -> Outcome {
     let standard = [PathBuf::from("-")];
     let files = match files {
         [] => &standard,
         files => files,
     };
-    for file in files {
-        // One at a time: there may be a file a station.
-        let mut source = Source::open(Some(file))?;
-        let bytes = source.all(LONGEST)?;
-        let file: Rc<str> = source.name.as_str().into();
-        // The station of the score before.
-        let mut before: Option<String> = None;
-        let mut days = Vec::new();
-        for (number, text) in (1..).zip(bytes.split(|byte| *byte == b'\n')) {
-            if text.iter().all(|byte| byte.is_ascii_whitespace()) {
-                continue;
-            }
-            let place = |line: usize| Place {
-                file: file.clone(),
-                line,
-            };
-            let wrong = |wrong: Wrong, days: &[Line]| {
-                let whose = whose(&String::from_utf8_lossy(text), days, before.as_deref());
-                let place = place(wrong.line);
-                Failure::Wrong(format!("{place}: {whose}{}\n  {AGAIN}", wrong.cause))
-            };
-            let here = |cause: String| Wrong {
-                line: number,
-                cause,
-            };
-            let value: Value = serde_json::from_slice(text)
-                .map_err(|error| wrong(here(format!("is no JSON: {error}")), &days))?;
-            match told(&value, &days, number).map_err(|cause| wrong(cause, &days))? {
-                Some(told) => {
-                    let station = told.station().to_string();
-                    take(place(number), told).map_err(|cause| wrong(here(cause), &days))?;
-                    days.clear();
-                    before = Some(station);
-                }
-                None if is_sum(&value) => {}
-                None => days.push(Line { number, value }),
-            }
+    // One at a time: there may be a file a station.
+    files.iter().try_for_each(|file| each_of(file, &mut take))
+}
+
+fn each_of(file: &Path, take: &mut impl FnMut(Place, Told) -> Outcome<Read<()>>) -> Outcome {
+    let source = Source::open(Some(file))?;
+    let file: Rc<str> = source.name.as_str().into();
+    let mut lines = BufReader::with_capacity(PIECE, source);
+    // The station of the score before.
+    let mut before: Option<String> = None;
+    let (mut days, mut bytes) = (Days::default(), 0);
+    let mut line = Vec::new();
+    for number in 1.. {
+        line.clear();
+        let mut begin = lines.by_ref().take(LONGEST_LINE + 1);
+        let count = begin.read_until(b'\n', &mut line)? as u64;
+        bytes += count;
+        if bytes > LONGEST {
+            let cause = format!("{file}: is longer than {LONGEST} bytes");
+            return Err(Failure::Wrong(cause));
         }
-        if let Some(last) = days.last() {
-            let (line, whose) = (last.number, whose("", &days, before.as_deref()));
-            return Err(Failure::Wrong(format!(
-                "{file}: line {line}: {whose}the days are not followed by their summary: the lines are cut\n  {AGAIN}"
-            )));
+        if count == 0 {
+            break;
+        }
+        let text = line.strip_suffix(b"\n").unwrap_or(&line);
+        if text.iter().all(u8::is_ascii_whitespace) {
+            continue;
+        }
+        let place = |line: usize| Place {
+            file: file.clone(),
+            line,
+        };
+        let wrong = |wrong: Wrong, days: &Days| {
+            let whose = whose(&String::from_utf8_lossy(text), days, before.as_deref());
+            let place = place(wrong.line);
+            Failure::Wrong(format!("{place}: {whose}{}\n  {AGAIN}", wrong.cause))
+        };
+        let here = |cause: String| Wrong {
+            line: number,
+            cause,
+        };
+        if count > LONGEST_LINE {
+            let cause = format!("is longer than {LONGEST_LINE} bytes");
+            return Err(wrong(here(cause), &days));
+        }
+        let value: Value = serde_json::from_slice(text)
+            .map_err(|error| wrong(here(format!("is no JSON: {error}")), &days))?;
+        match told(&value, &days, number).map_err(|cause| wrong(cause, &days))? {
+            Some(told) => {
+                let station = told.station().to_string();
+                take(place(number), told)?.map_err(|cause| wrong(here(cause), &days))?;
+                days = Days::default();
+                before = Some(station);
+            }
+            None if is_sum(&value) => {}
+            None => days.put(Line { number, value }),
         }
     }
-    Ok(())
+    match days.count {
+        0 => Ok(()),
+        _ => {
+            let (line, whose) = (days.last, whose("", &days, before.as_deref()));
+            Err(Failure::Wrong(format!(
+                "{file}: line {line}: {whose}the days are not followed by their summary: the lines are cut\n  {AGAIN}"
+            )))
+        }
+    }
 }
 
 /// What this line ends, with the days before it; nothing where it is a day itself, or a fleet's sum.
-fn told(value: &Value, days: &[Line], line: usize) -> Result<Option<Told>, Wrong> {
+fn told(value: &Value, days: &Days, line: usize) -> Result<Option<Told>, Wrong> {
     let wrong = |cause| Wrong { line, cause };
     schema::is_known(value).map_err(wrong)?;
     if let Some(summary) = value.get("summary") {
         return card(summary, days, line).map(Told::Card).map(Some);
     }
     match value.get("lease") {
-        Some(_) if days.is_empty() => {
+        Some(_) if days.count == 0 => {
             let outline = outline(value).map_err(wrong)?;
             Ok(Some(Told::Outline(outline)))
         }
@@ -197,13 +262,13 @@ const AGAIN: &str =
     "take the station's lines away, and score it again: fleet --commands --missing prints its line";
 
 /// Whose lines these are: by the line itself, also where it is cut, else by its days, else by what stands before them.
-fn whose(text: &str, days: &[Line], before: Option<&str>) -> String {
+fn whose(text: &str, days: &Days, before: Option<&str>) -> String {
     let of_line = text.split_once(r#""station":""#).map(|(_, rest)| rest);
     let of_line = of_line.and_then(|rest| rest.split_once('"'));
     let of_line = of_line.map(|(name, _)| visible::line(name));
     let of_days = || {
-        days.iter()
-            .find_map(|day| optional(&day.value, "station").ok()?)
+        let mut lines = days.lines.iter();
+        lines.find_map(|day| optional(&day.value, "station").ok()?)
     };
     match (of_line.or_else(of_days), before) {
         (Some(name), _) => format!("station {name}: "),
@@ -213,7 +278,7 @@ fn whose(text: &str, days: &[Line], before: Option<&str>) -> String {
 }
 
 /// The card of a month's line and of the days' lines before it, which are held against each other.
-fn card(summary: &Value, days: &[Line], line: usize) -> Result<Card, Wrong> {
+fn card(summary: &Value, days: &Days, line: usize) -> Result<Card, Wrong> {
     let of_month = |cause| Wrong { line, cause };
     let (lease, issue) = head(summary).map_err(of_month)?;
     match summary.get("unscored") {
@@ -389,21 +454,21 @@ fn unscored(summary: &Value, told: &Value, (line, from): Dated, issue: Issue) ->
 
 /// The days, or what is wrong and in which of their lines.
 fn days_of(
-    days: &[Line],
+    days: &Days,
     (line, from): &Dated,
     issue: &Issue,
 ) -> Result<Vec<Day>, (Option<usize>, String)> {
     let of_month = |cause| (None, cause);
     let lease = accepted(*line).map_err(|refused| of_month(refused.to_string()))?;
     let dates = dates(*from, &lease).map_err(of_month)?;
-    if days.len() != dates.len() {
-        let (has, due) = (days.len(), dates.len());
+    if days.count != dates.len() {
+        let (has, due) = (days.count, dates.len());
         return Err(of_month(format!(
             "the lease has {due} days, and {has} lines stand before it"
         )));
     }
     let mut read = Vec::new();
-    for ((place, told), date) in (0..).zip(days).zip(dates) {
+    for ((place, told), date) in (0..).zip(&days.lines).zip(dates) {
         let day = day(&told.value, line, place, date);
         let day = day.and_then(|day| is_of(&told.value, issue).map(|()| day));
         read.push(day.map_err(|cause| (Some(told.number), cause))?);

@@ -3,11 +3,12 @@
 use crate::common::failure::{Failure, Outcome};
 use crate::common::file::Ready;
 use crate::fleet::cards::plain;
-use crate::fleet::leases::{fault, Fault, Row};
+use crate::fleet::leases::{fault, Fault, Row, Rows};
 use crate::replay::log::Log;
 use crate::replay::resumed::{self, Saved};
 use crate::score::asked::Card;
 use std::collections::HashMap;
+use std::io;
 use std::path::{Path, PathBuf};
 
 /// The option that asks for them.
@@ -26,20 +27,19 @@ pub fn named(path: PathBuf, station: &str) -> PathBuf {
     }
 }
 
-/// Each row's state goes into this folder.
-pub fn put(folder: &Path, rows: &mut [Row]) {
-    for row in rows {
-        row.save = Some(file(folder, row.station()));
-        row.asked.saves = true;
-    }
+/// The row's state goes into this folder, where there is one.
+pub fn put(folder: Option<&Path>, row: &mut Row) {
+    row.save = folder.map(|folder| file(folder, row.station()));
+    row.asked.saves = row.save.is_some();
 }
 
 /// Two stations whose states would have one name, and states that can't be put there: over another file, or over
 /// another station's state. They are told before any log is read.
-pub fn faults(rows: &[Row]) -> Vec<Fault> {
+pub fn faults(rows: &Rows) -> io::Result<Vec<Fault>> {
     let mut names: HashMap<String, u64> = HashMap::new();
     let mut faults = Vec::new();
-    for row in rows {
+    for row in rows.iter() {
+        let row = row?;
         let path = match &row.save {
             Some(path) => path,
             None => continue,
@@ -56,7 +56,7 @@ pub fn faults(rows: &[Row]) -> Vec<Fault> {
             faults.push(fault(row.line, "station", cause));
         }
     }
-    faults
+    Ok(faults)
 }
 
 /// A state that stands there is this station's, or nobody's; one that can't be read is replaced.

@@ -3,12 +3,11 @@
 use crate::common::digits::Digits;
 use crate::common::failure::Outcome;
 use crate::common::text;
-use crate::fleet::kept::Kept;
 use crate::fleet::lessees;
 use crate::fleet::month::{station, Fleet};
 use crate::score::asked::Card;
 use crate::score::month::{shown, Day, Score, Served};
-use std::io::Write;
+use std::io::{self, Write};
 
 /// A row's columns but the last, which is as long as it is.
 const COLUMNS: usize = 7;
@@ -25,7 +24,7 @@ struct Row {
 /// and what to check before cards are sent.
 pub fn tell(fleet: &Fleet, digits: Digits, out: &mut dyn Write) -> Outcome {
     writeln!(out, "fleet of {}", fleet.heading())?;
-    if let Some(rule) = fleet.rule() {
+    if let Some(rule) = fleet.rule {
         writeln!(out, "{rule}")?;
     }
     writeln!(out)?;
@@ -33,12 +32,24 @@ pub fn tell(fleet: &Fleet, digits: Digits, out: &mut dyn Write) -> Outcome {
     lessees::text(&fleet.subtotals, digits, out)?;
     writeln!(out)?;
     writeln!(out, "{}", four(fleet, digits))?;
-    let dark = fleet.told().filter_map(|(_, card)| dark_days(&card));
-    text::list(out, "dark days:", dark)?;
-    let checks = fleet.told().flat_map(|(_, card)| checks(&card));
-    text::list(out, "check before sending:", checks)?;
-    let unscored = fleet.told().filter_map(|(_, card)| unscored(&card));
-    text::list(out, "no score:", unscored)
+    list(fleet, out, "dark days:", dark_days)?;
+    list(fleet, out, "check before sending:", checks)?;
+    list(fleet, out, "no score:", unscored)
+}
+
+/// The stations' lines below a heading, where there are any.
+fn list<L: IntoIterator<Item = String>>(
+    fleet: &Fleet,
+    out: &mut dyn Write,
+    heading: &str,
+    lines: fn(&Card) -> L,
+) -> Outcome {
+    let mut read = Ok(());
+    let cards = fleet
+        .told()
+        .map_while(|told| told.map_err(|error| read = Err(error)).ok());
+    text::list(out, heading, cards.flat_map(|(_, card)| lines(&card)))?;
+    Ok(read?)
 }
 
 /// The four numbers of the stations that have a score.
@@ -108,21 +119,22 @@ fn unscored(card: &Card) -> Option<String> {
 /// The table, row by row: first how wide its columns are, then each of them.
 fn table(fleet: &Fleet, digits: Digits, out: &mut dyn Write) -> Outcome {
     let all = || {
-        let stations = fleet.told().map(move |(_, card)| row(&card, digits));
-        let total = std::iter::once_with(move || total(fleet, digits));
-        std::iter::once_with(head).chain(stations).chain(total)
+        let stations = fleet.told().map(move |told| Ok(row(&told?.1, digits)));
+        let total = std::iter::once_with(move || Ok(total(fleet, digits)));
+        let head = std::iter::once_with(|| io::Result::Ok(head()));
+        head.chain(stations).chain(total)
     };
     let mut widths = [0; COLUMNS];
     for row in all() {
-        for (width, column) in widths.iter_mut().zip(&row.columns) {
+        for (width, column) in widths.iter_mut().zip(&row?.columns) {
             *width = column.chars().count().max(*width).min(WIDEST);
         }
     }
     let [a, b, c, d, e, f, g] = widths;
     // Without a column where no station has a lessee.
-    let has_lessee = |card: &Kept| card.issue().lessee.is_some();
-    let has_lessees = fleet.kept.iter().any(has_lessee);
+    let has_lessees = fleet.has_lessees();
     for row in all() {
+        let row = row?;
         let [station, lessee, served, owed, part, dark, full] = &row.columns;
         let lessee = match has_lessees {
             true => format!("  {lessee:<b$}"),
@@ -185,7 +197,7 @@ fn total(fleet: &Fleet, digits: Digits) -> Row {
             digits.of(fleet.four.owed),
             shown(fleet.percent(), "-"),
             fleet.four.silent_days.to_string(),
-            fleet.days(Served::InFull).to_string(),
+            fleet.full_days().to_string(),
         ],
         behind: String::new(),
     }

@@ -8,7 +8,7 @@ use crate::common::text;
 use crate::common::visible;
 use crate::fleet::cards;
 use crate::fleet::join;
-use crate::fleet::leases::Row;
+use crate::fleet::leases::Rows;
 use crate::fleet::month::{station, Fleet};
 use crate::score::asked::Card;
 use crate::verify::compared::{differences, Difference};
@@ -16,17 +16,18 @@ use crate::verify::given::Given;
 use crate::verify::{as_json, told};
 use serde_json::{json, Value};
 use std::collections::HashSet;
-use std::io::Write;
+use std::io::{self, Write};
 use std::path::{Path, PathBuf};
 
 /// Differences of a card that are told in text.
 const FIRST: usize = 5;
 
 /// Names the stations' cards among the files that are read.
-pub fn name(folder: &Path, rows: &[Row], files: &mut Files) -> Outcome {
-    let stations: Vec<&str> = rows.iter().map(Row::station).collect();
+pub fn name(folder: &Path, rows: &Rows, files: &mut Files) -> Outcome {
+    let stations = rows.iter().map(|row| Ok(row?.station().to_string()));
+    let stations = stations.collect::<io::Result<Vec<String>>>()?;
     cards::are_apart(&stations)?;
-    for station in stations {
+    for station in &stations {
         files.reads("--verify", Some(&cards::file(folder, station)));
     }
     Ok(())
@@ -99,6 +100,7 @@ pub fn run(fleet: &Fleet, folder: &Path, as_json: bool, out: &mut dyn Write) -> 
     let mut looked = Vec::new();
     let mut names = HashSet::new();
     for card in fleet.cards() {
+        let card = card?;
         let file = cards::file(folder, station(&card));
         names.insert(file.clone());
         looked.push(Looked {

@@ -2,8 +2,7 @@
 
 use std::env;
 use std::num::NonZeroUsize;
-use std::sync::atomic::{AtomicUsize, Ordering};
-use std::sync::{Mutex, PoisonError};
+use std::sync::{Mutex, MutexGuard, PoisonError};
 use std::thread::{self, Builder};
 
 /// No more, so that each may hold a file or two where a process may hold 64.
@@ -20,25 +19,23 @@ pub fn count() -> usize {
         .min(MOST)
 }
 
-/// What comes of each item, in the items' order.
-pub fn map<T: Send, R: Send>(items: Vec<T>, work: impl Fn(T) -> R + Sync) -> Vec<R> {
-    let items: Vec<Mutex<Option<T>>> = items
-        .into_iter()
-        .map(|item| Mutex::new(Some(item)))
-        .collect();
-    let done: Vec<Mutex<Option<R>>> = items.iter().map(|_| Mutex::new(None)).collect();
-    let next = AtomicUsize::new(0);
-    let go = || loop {
-        let place = next.fetch_add(1, Ordering::Relaxed);
-        let item = match items.get(place) {
-            Some(item) => item.lock().unwrap_or_else(PoisonError::into_inner).take(),
-            None => break,
-        };
-        let told = item.map(&work);
-        *done[place].lock().unwrap_or_else(PoisonError::into_inner) = told;
+/// What comes of each item, in the items' order. An item is made as its turn comes.
+pub fn map<T, R: Send>(
+    items: impl ExactSizeIterator<Item = T> + Send,
+    work: impl Fn(T) -> R + Sync,
+) -> Vec<R> {
+    let threads = count().min(items.len());
+    let items = Mutex::new(items.enumerate());
+    let done = Mutex::new(Vec::new());
+    let next = || locked(&items).next();
+    let go = || {
+        while let Some((place, item)) = next() {
+            let told = work(item);
+            locked(&done).push((place, told));
+        }
     };
     thread::scope(|scope| {
-        for _ in 1..count().min(items.len()) {
+        for _ in 1..threads {
             // The others do its work.
             if Builder::new().spawn_scoped(scope, go).is_err() {
                 break;
@@ -46,10 +43,14 @@ pub fn map<T: Send, R: Send>(items: Vec<T>, work: impl Fn(T) -> R + Sync) -> Vec
         }
         go();
     });
-    let told = done
-        .into_iter()
-        .map(|told| told.into_inner().unwrap_or_else(PoisonError::into_inner));
-    told.flatten().collect()
+    let mut done = done.into_inner().unwrap_or_else(PoisonError::into_inner);
+    done.sort_by_key(|(place, _)| *place);
+    done.into_iter().map(|(_, told)| told).collect()
+}
+
+/// What the lock is for, also where another that had it panicked.
+pub fn locked<T>(lock: &Mutex<T>) -> MutexGuard<'_, T> {
+    lock.lock().unwrap_or_else(PoisonError::into_inner)
 }
 
 #[cfg(test)]
@@ -61,7 +62,7 @@ mod tests {
         for count in [0, 1, 2, 1_000] {
             let items: Vec<usize> = (0..count).collect();
             let due: Vec<usize> = items.iter().map(|item| item * item).collect();
-            assert_eq!(map(items, |item| item * item), due);
+            assert_eq!(map(items.into_iter(), |item| item * item), due);
         }
     }
 }

@@ -51,6 +51,15 @@ pub fn is_standard(file: Option<&Path>) -> bool {
     file.map_or(true, |path| path.as_os_str() == "-")
 }
 
+/// For readers of a library; a failure keeps its words.
+impl Read for Source {
+    fn read(&mut self, room: &mut [u8]) -> io::Result<usize> {
+        let failed = |failure: Failure| failure.text().unwrap_or_default();
+        let filled = self.fill(room);
+        filled.map_err(|failure| io::Error::new(io::ErrorKind::Other, failed(failure)))
+    }
+}
+
 impl Source {
     pub fn open(file: Option<&Path>) -> Outcome<Source> {
         let path = match file {

@@ -30,7 +30,9 @@ pub fn read(bytes: &[u8]) -> Result<Kept, Wrong> {
     let [state, last, cause] = parts(&bytes[HEAD..bytes.len() - LENGTH], lengths)?;
     let replay = going_on(state)?;
     let cause = String::from_utf8(cause.to_vec()).map_err(|_| Wrong::Contradicted)?;
-    let record = replay.status().refused.map(|word| word.record);
+    // Nothing was forgotten by that version.
+    let word = replay.status().refused;
+    let record = word.and_then(|word| word.record_after(0));
     if record.is_some() == cause.is_empty() {
         return Err(Wrong::Contradicted);
     }

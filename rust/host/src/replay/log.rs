@@ -334,7 +334,7 @@ impl Log {
         let status = self.replay.status();
         let word = status.refused?;
         // Its day is there, since it came now.
-        let record = word.record + self.forgotten;
+        let record = word.record_after(self.forgotten)?;
         let byte = record * RECORD;
         // Where its record began in an earlier piece, nothing of this one is before it.
         before.feed(&piece[..byte.saturating_sub(self.bytes) as usize]);

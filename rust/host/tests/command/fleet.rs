@@ -999,23 +999,28 @@ fn memory_does_not_grow_with_the_logs() {
 /// KB of addresses, of which the program's own code and its threads' stacks are the most.
 const LITTLE: u32 = 40_000;
 
-/// Many stations are kept small: their number hardly shows.
+/// Of many stations a few bytes are in memory, and the rest is in a file: their number hardly shows.
 #[test]
 fn memory_hardly_grows_with_the_stations() {
+    const STATIONS: u32 = 12_000;
+    // KB of addresses; a kilobyte a station would be 12,000 of them.
+    const FEW: u32 = 20_000;
     let folder = Folder::new("fleet-memory-many");
     let log = [sample("three-days.log")[..75].to_vec(), midnights(101..132)].concat();
     folder.write("a.log", &log);
     let row = |station: u32| format!("{station},,a.log,101,31,1,2026-04-01\n");
-    let rows: String = (0..5_000).map(row).collect();
+    let rows: String = (0..STATIONS).map(row).collect();
     let file = folder.write("leases.csv", format!("{HEADER}{rows}").as_bytes());
     let program = env!("CARGO_BIN_EXE_egretfold");
     for form in ["", "--json", "--csv"] {
-        let line = format!("ulimit -v {LITTLE}; MALLOC_ARENA_MAX=1 RAYON_NUM_THREADS=2 {program} fleet {file} {form}");
+        let line = format!(
+            "ulimit -v {FEW}; MALLOC_ARENA_MAX=1 RAYON_NUM_THREADS=2 {program} fleet {file} {form}"
+        );
         let mut shell = Command::new("sh");
         shell.args(["-c", &line]);
         let output = with_input(shell, b"");
         assert_eq!(output.status.code(), Some(3), "{}", complained(&output));
-        assert!(told(&output).lines().count() > 5_000, "{form}");
+        assert!(told(&output).lines().count() > STATIONS as usize, "{form}");
     }
 }
 

@@ -19,6 +19,7 @@ use crate::score::block;
 use crate::score::issue::VERSION;
 use crate::score::picture::svg::Drawing;
 use crate::score::picture::{self, PATTERNS};
+use std::io;
 
 const STYLE: &str = include_str!("style.css");
 const SCRIPT: &str = include_str!("page.js");
@@ -77,8 +78,8 @@ pub fn of_one(card: &Card) -> String {
 }
 
 /// The page of a fleet, with its cards in it unless they are files.
-pub fn html(fleet: &Fleet, files: Option<&Linked>) -> String {
-    let told: Vec<(usize, Card)> = fleet.told().collect();
+pub fn html(fleet: &Fleet, files: Option<&Linked>) -> io::Result<String> {
+    let told = fleet.told().collect::<io::Result<Vec<(usize, Card)>>>()?;
     let shown = |(place, card): &'_ (usize, Card)| match files {
         Some(files) => files.card(station(card)),
         None => format!("#{}", anchor(*place)),
@@ -97,7 +98,7 @@ pub fn html(fleet: &Fleet, files: Option<&Linked>) -> String {
     let told = [
         fleet.heading(),
         text::four(fleet, Digits::Grouped),
-        fleet.rule().unwrap_or_default().to_string(),
+        fleet.rule.unwrap_or_default().to_string(),
     ];
     let parts = [
         FIND.to_string(),
@@ -118,17 +119,20 @@ pub fn html(fleet: &Fleet, files: Option<&Linked>) -> String {
         },
     ];
     let issued = format!("Issued {} by egretfold {VERSION}", fleet.date);
-    page("fleet", &title(fleet), &told, &issued, &parts.concat())
+    let page = page("fleet", &title(fleet)?, &told, &issued, &parts.concat());
+    Ok(page)
 }
 
 /// The month, where all stations have the same.
-fn title(fleet: &Fleet) -> String {
-    let mut titles = fleet.cards().map(|card| picture::title_of(&card));
-    let first = titles.next().unwrap_or_default();
-    match titles.all(|title| title == first) {
-        true => format!("Fleet, {first}"),
-        false => "Fleet".to_string(),
+fn title(fleet: &Fleet) -> io::Result<String> {
+    let mut first = None;
+    for card in fleet.cards() {
+        let title = picture::title_of(&card?);
+        if *first.get_or_insert_with(|| title.clone()) != title {
+            return Ok("Fleet".to_string());
+        }
     }
+    Ok(format!("Fleet, {}", first.unwrap_or_default()))
 }
 
 /// A text that may stand in HTML.

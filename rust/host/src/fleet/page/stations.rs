@@ -90,7 +90,7 @@ fn total(fleet: &Fleet) -> String {
         grouped(four.owed),
         percent,
         four.silent_days.to_string(),
-        fleet.days(Served::InFull).to_string(),
+        fleet.full_days().to_string(),
     ];
     let numbers = numbers
         .iter()

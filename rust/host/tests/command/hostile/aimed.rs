@@ -2,13 +2,13 @@
 //! stands there, by any name. Whatever is asked: what is read stays as it is, nothing else changes than what is asked to be
 //! written, and where the line fails, neither the answer nor the state has moved.
 
-use super::{ended, Scene};
-use crate::common::sample;
+use super::{ended, shipped, Scene};
+use crate::common::{sample, Folder};
 use std::collections::BTreeMap;
 use std::fs::{self, File, Metadata};
 use std::os::unix::fs::{symlink, MetadataExt};
 use std::path::Path;
-use std::process::{Command, Stdio};
+use std::process::{Command, Output, Stdio};
 
 /// The files that stand in the folder, and the samples that they are.
 const FILES: [(&str, &str); 15] = [
@@ -355,18 +355,30 @@ pub fn drive(scene: &mut Scene) {
         ..
     } = line;
     scene.is_about(&(&words, &standard));
+    let mut command = Command::new(program);
+    command.args(&words);
+    command.stdin(match &standard {
+        Some(name) => File::open(folder.join(name)).expect("it stands").into(),
+        None => Stdio::null(),
+    });
+    let state = resumed(folder, &words, standard.as_deref());
+    hold(folder, command, &read, &written, state);
+}
+
+/// Runs the line in its folder and holds what must hold of all that it reads and writes; answers how it ended.
+fn hold(
+    folder: &Path,
+    mut command: Command,
+    read: &[String],
+    written: &[(&'static str, String)],
+    state: Option<Id>,
+) -> Output {
     let before = all(folder);
     let targets: Vec<(&str, String)> = written
         .iter()
         .filter_map(|(option, name)| Some((*option, behind(folder, name)?)))
         .collect();
-    let state = resumed(folder, &words, standard.as_deref());
-    let mut command = Command::new(program);
-    command.args(&words).current_dir(folder);
-    command.stdin(match &standard {
-        Some(name) => File::open(folder.join(name)).expect("it stands").into(),
-        None => Stdio::null(),
-    });
+    command.current_dir(folder);
     let output = ended(command);
     let after = all(folder);
     let is_target = |name: &str, of: &[&str]| {
@@ -392,5 +404,31 @@ pub fn drive(scene: &mut Scene) {
     }
     for name in after.keys().filter(|name| !before.contains_key(*name)) {
         assert!(is_target(name, &[]), "{name} is left");
+    }
+    output
+}
+
+/// By whichever of its names: the state that follows stands in the place of the one that was resumed.
+#[test]
+fn a_state_is_replaced_by_the_one_that_follows_it() {
+    for (resume, save) in [
+        ("hard-march.state", "hard-march.state"),
+        ("march.state", "hard-march.state"),
+        ("link-march.state", "march.state"),
+        ("hard-march.state", "cards/../link-march.state"),
+    ] {
+        let folder = Folder::new("aimed-state");
+        prepare(&folder.0);
+        let words = ["replay", "april.log", "--resume", resume, "--save", save];
+        let words = words.map(String::from);
+        let mut command = Command::new(shipped());
+        command.args(&words).stdin(Stdio::null());
+        let read = ["april.log", "march.state"].map(String::from);
+        let written = [("--save", save.to_string())];
+        let state = resumed(&folder.0, &words, None);
+        let output = hold(&folder.0, command, &read, &written, state);
+        assert_eq!(output.status.code(), Some(0), "{words:?}");
+        let saved = fs::read(folder.0.join(save)).expect("a state");
+        assert_ne!(saved, sample("station-14-march.state"), "{words:?}");
     }
 }
