@@ -77,7 +77,7 @@ impl Stored for Came {
 /// What a score's lines come to.
 enum Told {
     /// The days and the summary that `score --json` prints.
-    Card(Card),
+    Card(Box<Card>),
     /// A station's line of `fleet --json`, which has no days.
     Outline(Outline),
 }
@@ -128,7 +128,7 @@ impl Days {
 pub fn read(files: &[PathBuf], mut take: impl FnMut(Came) -> Outcome) -> Outcome {
     each(files, |place, told| match told {
         Told::Card(card) => {
-            let card = Kept::of(card);
+            let card = Kept::of(*card);
             take(Came { card, place }).map(Ok)
         }
         Told::Outline(_) => Ok(Err(
@@ -237,7 +237,7 @@ fn told(value: &Value, days: &Days, line: usize) -> Result<Option<Told>, Wrong> 
     let wrong = |cause| Wrong { line, cause };
     schema::is_known(value).map_err(wrong)?;
     if let Some(summary) = value.get("summary") {
-        return card(summary, days, line).map(Told::Card).map(Some);
+        return card(summary, days, line).map(|card| Some(Told::Card(Box::new(card))));
     }
     match value.get("lease") {
         Some(_) if days.count == 0 => {

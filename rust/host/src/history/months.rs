@@ -186,7 +186,7 @@ fn without_repeats(months: Vec<Outline>) -> Vec<Outline> {
             let days = |month: &Outline| (month.line.first_day, month.line.days);
             days(other) == days(&month)
         };
-        let earlier = kept.iter().rposition(|other| same_days(other));
+        let earlier = kept.iter().rposition(same_days);
         match earlier {
             Some(place) if says_the_same(&kept[place], &month) => {}
             Some(place) if is_unread(&kept[place]) => kept[place] = month,
