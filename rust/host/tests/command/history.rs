@@ -282,12 +282,15 @@ fn a_station_that_was_tried_again_is_no_contradiction() {
     );
 }
 
+/// What is told of a change, and the change.
+type Change = (&'static str, fn(&mut Value));
+
 /// The fleet's own reader: what is no month's is told with its place, and nothing reaches a terminal raw.
 #[test]
 fn forged_scores_are_told() {
     let months = Months::new("history-forged");
     let wrong = "x: line 1: station 21: its numbers are no month's of this lease";
-    let changes: [(&str, fn(&mut Value)); 12] = [
+    let changes: [Change; 12] = [
         (wrong, |line| line["served"] = json!(28_000_001)),
         (wrong, |line| line["owed"] = json!(31_000_001)),
         (wrong, |line| line["full_days"] = json!(29)),
