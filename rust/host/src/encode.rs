@@ -53,11 +53,12 @@ impl Options {
 
 /// Binary words would be obeyed by a terminal, not shown.
 pub fn ask_terminal(is_terminal: bool) -> Outcome {
-    match is_terminal {
-        true => Err(Failure::wrong(
+    if is_terminal {
+        Err(Failure::wrong(
             "words in binary are nothing for a terminal: take --hex, or --output FILE",
-        )),
-        false => Ok(()),
+        ))
+    } else {
+        Ok(())
     }
 }
 
@@ -68,9 +69,10 @@ pub fn run(options: &Options, out: &mut dyn Write) -> Outcome {
         let words =
             words_of(&line, position).map_err(|fault| fault.at(&lines).hinted(lines.hint()))?;
         for word in &words {
-            match options.hex {
-                true => writeln!(out, "{word:08X}")?,
-                false => out.write_all(&word.to_le_bytes())?,
+            if options.hex {
+                writeln!(out, "{word:08X}")?
+            } else {
+                out.write_all(&word.to_le_bytes())?
             }
         }
         position += words.len() as u64;

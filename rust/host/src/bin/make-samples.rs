@@ -190,9 +190,10 @@ fn months() -> Vec<(String, Vec<u8>)> {
         let mut first = station::FIRST_DAY;
         let mut rest: &[u32] = &[];
         for (place, (month, days)) in LENGTHS.iter().enumerate() {
-            let mut log = match place == joins {
-                true => Log::new().words(&CAMERAS),
-                false => Log::new(),
+            let mut log = if place == joins {
+                Log::new().words(&CAMERAS)
+            } else {
+                Log::new()
             };
             for date in 1..=*days {
                 // April's and May's last midnights stand in the files before.

@@ -10,9 +10,10 @@ pub enum Digits {
 impl Digits {
     /// As the option `--plain` says.
     pub fn plain(plain: bool) -> Digits {
-        match plain {
-            true => Digits::Plain,
-            false => Digits::Grouped,
+        if plain {
+            Digits::Plain
+        } else {
+            Digits::Grouped
         }
     }
 

@@ -219,13 +219,15 @@ fn told(what: &str, name: &Path) -> String {
 }
 
 fn at_odds(one: &Use, other: &Use) -> String {
-    let (written, other) = match one.written {
-        true => (one, other),
-        false => (other, one),
+    let (written, other) = if one.written {
+        (one, other)
+    } else {
+        (other, one)
     };
     let (one, two) = (&written.told, &other.told);
-    match other.written {
-        true => format!("{one} and {two} are one file: name another for one of them"),
-        false => format!("{one} and {two} are one file, which is read: it is left as it is"),
+    if other.written {
+        format!("{one} and {two} are one file: name another for one of them")
+    } else {
+        format!("{one} and {two} are one file, which is read: it is left as it is")
     }
 }

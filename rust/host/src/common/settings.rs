@@ -161,9 +161,10 @@ pub fn layout_of(line: &Line, fields: &[u32]) -> Option<Layout> {
         let place = line.parameters.iter().position(|k| *k == kind)?;
         fields.get(place).copied()
     };
-    let height = match line.parameters.contains(&Kind::Height) {
-        true => field(Kind::Height)?,
-        false => 1,
+    let height = if line.parameters.contains(&Kind::Height) {
+        field(Kind::Height)?
+    } else {
+        1
     };
     Some(text::layout(
         field(Kind::Base)?,
@@ -177,10 +178,13 @@ impl Setting {
     pub fn words(&self) -> String {
         match &self.value {
             Value::Array(format) | Value::Store(format) => format_words(format),
-            Value::Output { format, silent } => match silent {
-                true => format!("{}, silent: {}", format_words(format), masked_off(format)),
-                false => format_words(format),
-            },
+            Value::Output { format, silent } => {
+                if silent {
+                    format!("{}, silent: {}", format_words(format), masked_off(format))
+                } else {
+                    format_words(format)
+                }
+            }
             Value::Domain(domain) => domain_words(domain),
             Value::OutputMask { mask, outputs } => {
                 format!("{mask:04X}: {}", text::mask_of(*mask, outputs))

@@ -14,9 +14,10 @@ fn is_run(text: &str) -> bool {
 
 /// A cell as it is written.
 pub fn written(text: &str) -> Cow<'_, str> {
-    match is_run(text) {
-        true => Cow::Owned(format!("'{text}")),
-        false => Cow::Borrowed(text),
+    if is_run(text) {
+        Cow::Owned(format!("'{text}"))
+    } else {
+        Cow::Borrowed(text)
     }
 }
 

@@ -60,9 +60,12 @@ pub fn ranges(numbers: &[u32]) -> String {
             _ => rows.push((*number, *number)),
         }
     }
-    let row = |(first, last): &(u32, u32)| match first == last {
-        true => first.to_string(),
-        false => format!("{first} to {last}"),
+    let row = |(first, last): &(u32, u32)| {
+        if first == last {
+            first.to_string()
+        } else {
+            format!("{first} to {last}")
+        }
     };
     rows.iter().map(row).collect::<Vec<_>>().join(", ")
 }

@@ -24,10 +24,11 @@ pub fn lines(text: &str) -> String {
 fn shown(text: &str, stays: impl Fn(char) -> bool) -> String {
     let mut visible = String::with_capacity(text.len());
     for letter in text.chars() {
-        match is_hostile(letter) && !stays(letter) {
+        if is_hostile(letter) && !stays(letter) {
             // Writing to a string can't fail.
-            true => drop(write!(visible, "\\u{:04x}", letter as u32)),
-            false => visible.push(letter),
+            drop(write!(visible, "\\u{:04x}", letter as u32))
+        } else {
+            visible.push(letter)
         }
     }
     visible
@@ -39,12 +40,11 @@ pub struct Visible<W>(pub W);
 impl<W: Write> Write for Visible<W> {
     fn write(&mut self, bytes: &[u8]) -> io::Result<usize> {
         let plain = |byte: &u8| matches!(byte, b' '..=b'~' | b'\n');
-        match bytes.iter().all(plain) {
-            true => self.0.write_all(bytes)?,
-            false => {
-                let text = String::from_utf8_lossy(bytes);
-                self.0.write_all(lines(&text).as_bytes())?;
-            }
+        if bytes.iter().all(plain) {
+            self.0.write_all(bytes)?;
+        } else {
+            let text = String::from_utf8_lossy(bytes);
+            self.0.write_all(lines(&text).as_bytes())?;
         }
         Ok(bytes.len())
     }

@@ -94,9 +94,10 @@ pub fn name(folder: &Path, station: &str, files: &mut Files) {
 
 /// Makes sure of the folder.
 pub fn folder(folder: &Path) -> Outcome {
-    let made = match folder.is_dir() {
-        true => Ok(()),
-        false => fs::create_dir(folder),
+    let made = if folder.is_dir() {
+        Ok(())
+    } else {
+        fs::create_dir(folder)
     };
     made.map_err(|error| {
         let name = visible::line(&folder.display().to_string());

@@ -22,9 +22,10 @@ pub fn count(text: &str, delimiter: u8) -> Result<u32, String> {
     // 0.100 is a tenth, whatever stands between its digits.
     let first = (1..=3).contains(&groups[0].len()) && !groups[0].starts_with('0');
     let rest = groups[1..].iter().all(|group| group.len() == 3);
-    match first && rest && groups.iter().all(digits) {
-        true => numbers::count(&groups.concat()),
-        false => Err(format!("{text:?} has no groups of three digits")),
+    if first && rest && groups.iter().all(digits) {
+        numbers::count(&groups.concat())
+    } else {
+        Err(format!("{text:?} has no groups of three digits"))
     }
 }
 

@@ -72,10 +72,12 @@ fn shown_in(folder: &Path) -> Vec<PathBuf> {
 impl Named {
     fn take(&mut self, name: &str, folder: &Path) -> Result<(), String> {
         let path = folder.join(name);
-        let found = match path.exists() {
-            true if path.is_dir() => shown_in(&path),
-            true => vec![path.clone()],
-            false => matching(name, folder)?,
+        let found = if path.is_dir() {
+            shown_in(&path)
+        } else if path.exists() {
+            vec![path.clone()]
+        } else {
+            matching(name, folder)?
         };
         self.take_found(found, path);
         few(&self.files)
@@ -108,26 +110,29 @@ impl Named {
 }
 
 fn few(files: &[PathBuf]) -> Result<(), String> {
-    match files.len() > MOST {
-        true => Err(format!("names over {MOST} files, which are the most")),
-        false => Ok(()),
+    if files.len() > MOST {
+        Err(format!("names over {MOST} files, which are the most"))
+    } else {
+        Ok(())
     }
 }
 
 /// A file that is called as standard input is.
 fn apart_from_input(path: PathBuf) -> PathBuf {
-    match source::is_standard(Some(&path)) {
-        true => Path::new(".").join(path),
-        false => path,
+    if source::is_standard(Some(&path)) {
+        Path::new(".").join(path)
+    } else {
+        path
     }
 }
 
 /// What stands in a folder by names that are kept, in name order; nothing where it can't be
 /// read.
 fn entries(folder: &Path, keeps: impl Fn(&str) -> bool) -> Vec<PathBuf> {
-    let read = match folder.as_os_str().is_empty() {
-        true => Path::new("."),
-        false => folder,
+    let read = if folder.as_os_str().is_empty() {
+        Path::new(".")
+    } else {
+        folder
     };
     let entries = fs::read_dir(read).into_iter().flatten().flatten();
     let names = entries.map(|entry| entry.file_name());

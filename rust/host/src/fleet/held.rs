@@ -51,13 +51,14 @@ pub fn digest(row: &Row, scored: Option<Finished>, place: &Place) -> Outcome {
         (Err(failure), _) => return Err(failure),
     };
     let told = digest::hex;
-    match read == scored {
-        true => Ok(()),
-        false => Err(Failure::Wrong(format!(
+    if read == scored {
+        Ok(())
+    } else {
+        Err(Failure::Wrong(format!(
             "{place}: station {station} is scored of other bytes than its log has: SHA-256 {}, where {} is due",
             told(scored),
             told(read)
-        ))),
+        )))
     }
 }
 
@@ -95,10 +96,9 @@ pub fn agree(days: &[Day], checks: &[Check]) -> Result<(), String> {
     }
     let missing = days.iter().any(|day| !day.in_log);
     let told = checks.iter().any(|check| NOT_THERE.contains(&&*check.key));
-    match missing == told {
-        true => Ok(()),
-        false => {
-            Err("the checks don't say what the days say of those that the log has".to_string())
-        }
+    if missing == told {
+        Ok(())
+    } else {
+        Err("the checks don't say what the days say of those that the log has".to_string())
     }
 }

@@ -193,9 +193,10 @@ impl Stored for Kept {
     }
 
     fn take(from: &mut &[u8]) -> Option<Kept> {
-        match bool::take(from)? {
-            true => Some(Kept::Scored(Box::new(Stored::take(from)?))),
-            false => Some(Kept::Unscored(Box::new(Stored::take(from)?))),
+        if bool::take(from)? {
+            Some(Kept::Scored(Box::new(Stored::take(from)?)))
+        } else {
+            Some(Kept::Unscored(Box::new(Stored::take(from)?)))
         }
     }
 }

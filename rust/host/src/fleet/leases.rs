@@ -210,9 +210,10 @@ impl Leases {
         for fault in &self.faults {
             let (line, column) = (fault.line, visible::line(&fault.column));
             let cause = visible::line(&fault.cause);
-            let column = match column.is_empty() {
-                true => String::new(),
-                false => format!(", {column}"),
+            let column = if column.is_empty() {
+                String::new()
+            } else {
+                format!(", {column}")
             };
             text += &format!("\n  line {line}{column}: {cause}");
         }
@@ -543,12 +544,13 @@ impl Reading<'_> {
     /// The state that it goes on from; none where that is blank.
     fn state(&mut self, folder: &Path, station: Option<&str>) -> Option<PathBuf> {
         let text = self.value(STATE)?;
-        match text == "-" {
-            true => self.wrong(STATE, "standard input is no state"),
-            false => Some(states::named(
+        if text == "-" {
+            self.wrong(STATE, "standard input is no state")
+        } else {
+            Some(states::named(
                 folder.join(text),
                 station.unwrap_or_default(),
-            )),
+            ))
         }
     }
 

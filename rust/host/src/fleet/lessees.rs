@@ -82,9 +82,10 @@ pub fn unknown(lessee: &str, known: impl Iterator<Item = io::Result<Issue>>) -> 
     };
     let mut names: Vec<String> = names.into_iter().collect();
     names.sort_by(|one, other| name_order(one, other));
-    let known = match names.is_empty() {
-        true => "no station has a lessee".to_string(),
-        false => format!("the lessees are {names:?}"),
+    let known = if names.is_empty() {
+        "no station has a lessee".to_string()
+    } else {
+        format!("the lessees are {names:?}")
     };
     Failure::Wrong(format!(
         "--lessee: no station is leased to {lessee:?}; {known}"

@@ -329,9 +329,10 @@ pub struct Said {
 pub fn said(summary: &Value) -> Read<Said> {
     let ((line, from), issue) = head(summary)?;
     let scored = summary.get("unscored").is_none();
-    let inputs = match scored {
-        true => texts(&summary["log"], "inputs")?,
-        false => texts(summary, "inputs")?,
+    let inputs = if scored {
+        texts(&summary["log"], "inputs")?
+    } else {
+        texts(summary, "inputs")?
     };
     let began = began(&summary["began_from"])?;
     // What is none isn't one that can be told again, and is found where the figures are compared.
@@ -421,9 +422,10 @@ fn sums(value: &Value, line: &LeaseLine) -> Read<Sums> {
     };
     let is_told = text(value, "verdict")? == verdict_name(sums.verdict)
         && long(value, named("dark_days", "silent_days"))? == sums.dark.len() as u64;
-    match is_told && sums.are_of(line) {
-        true => Ok(sums),
-        false => Err("its numbers are no month's of this lease".to_string()),
+    if is_told && sums.are_of(line) {
+        Ok(sums)
+    } else {
+        Err("its numbers are no month's of this lease".to_string())
     }
 }
 
@@ -531,9 +533,10 @@ fn day(value: &Value, line: &LeaseLine, place: u32, date: Option<Date>) -> Read<
     let number = line.first_day + place;
     let capped =
         day.served == day.claimed.min(day.owed) && value["dark"].as_bool() == Some(day.is_dark());
-    match day.number == number && dated && day.owed == u64::from(line.owed) && capped {
-        true => Ok(day),
-        false => Err(format!("the line of day {number} isn't this lease's")),
+    if day.number == number && dated && day.owed == u64::from(line.owed) && capped {
+        Ok(day)
+    } else {
+        Err(format!("the line of day {number} isn't this lease's"))
     }
 }
 

@@ -206,9 +206,10 @@ impl<T: Stored> Stored for Option<T> {
     }
 
     fn take(from: &mut &[u8]) -> Option<Option<T>> {
-        match bool::take(from)? {
-            true => T::take(from).map(Some),
-            false => Some(None),
+        if bool::take(from)? {
+            T::take(from).map(Some)
+        } else {
+            Some(None)
         }
     }
 }

@@ -21,9 +21,10 @@ pub fn file(folder: &Path, station: &str) -> PathBuf {
 
 /// What a row's column `state` names: a file, or a folder of states with the station's in it.
 pub fn named(path: PathBuf, station: &str) -> PathBuf {
-    match path.is_dir() {
-        true => file(&path, station),
-        false => path,
+    if path.is_dir() {
+        file(&path, station)
+    } else {
+        path
     }
 }
 

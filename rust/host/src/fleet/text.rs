@@ -136,9 +136,10 @@ fn table(fleet: &Fleet, digits: Digits, out: &mut dyn Write) -> Outcome {
     for row in all() {
         let row = row?;
         let [station, lessee, served, owed, part, dark, full] = &row.columns;
-        let lessee = match has_lessees {
-            true => format!("  {lessee:<b$}"),
-            false => String::new(),
+        let lessee = if has_lessees {
+            format!("  {lessee:<b$}")
+        } else {
+            String::new()
         };
         let numbers = format!("{served:>c$}  {owed:>d$}  {part:>e$}  {dark:>f$}  {full:>g$}");
         let line = format!("{station:<a$}{lessee}  {numbers}  {}", row.behind);

@@ -75,10 +75,14 @@ pub fn run(options: &Options, files: &mut Files, out: &mut dyn Write) -> Outcome
     let history = History::of(outlines)?;
     let date = issue::day_of(options.issued);
     let told = html.write(|| page::html(&history, date), files, out);
-    let told = told.and_then(|()| match options.json {
-        _ if html.is_standard() => Ok(()),
-        true => rows::json(&history, date, out),
-        false => text::tell(&history, Digits::plain(options.plain), out),
+    let told = told.and_then(|()| {
+        if html.is_standard() {
+            Ok(())
+        } else if options.json {
+            rows::json(&history, date, out)
+        } else {
+            text::tell(&history, Digits::plain(options.plain), out)
+        }
     });
     let outcome = match history.odds.len() as u64 {
         0 => Ok(()),

@@ -15,9 +15,10 @@ pub struct Odds {
 
 impl Odds {
     pub fn told(&self) -> String {
-        match self.station.is_empty() {
-            true => self.text.clone(),
-            false => format!("{}: {}", self.station, self.text),
+        if self.station.is_empty() {
+            self.text.clone()
+        } else {
+            format!("{}: {}", self.station, self.text)
         }
     }
 

@@ -211,9 +211,10 @@ const LEGEND: &str = r#"<p class="legend">
 
 /// A list below a heading, where there is anything in it.
 fn list(heading: &str, lines: String) -> String {
-    match lines.is_empty() {
-        true => String::new(),
-        false => format!("<h2>{heading}</h2>\n<ul>\n{lines}</ul>\n"),
+    if lines.is_empty() {
+        String::new()
+    } else {
+        format!("<h2>{heading}</h2>\n<ul>\n{lines}</ul>\n")
     }
 }
 

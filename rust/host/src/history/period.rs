@@ -54,10 +54,12 @@ impl fmt::Display for Period {
         match self {
             Period::Dated { first, last } => {
                 let ends_month = last.next().map_or(true, |next| next.day == 1);
-                match first.day == 1 && first.month == last.month && ends_month {
-                    true => write!(f, "{:04}-{:02}", first.year, first.month),
-                    false if first == last => write!(f, "{first}"),
-                    false => write!(f, "{first} to {last}"),
+                if first.day == 1 && first.month == last.month && ends_month {
+                    write!(f, "{:04}-{:02}", first.year, first.month)
+                } else if first == last {
+                    write!(f, "{first}")
+                } else {
+                    write!(f, "{first} to {last}")
                 }
             }
             Period::Numbered { first, last } if first == last => write!(f, "day {first}"),

@@ -90,9 +90,10 @@ fn table(history: &History, digits: Digits, out: &mut dyn Write) -> Outcome {
     let [a, b, c, d, e, f, g, h] = widths;
     for row in all() {
         let [station, lessee, month, served, owed, part, dark, full] = &row.columns;
-        let lessee = match has_lessees {
-            true => format!("  {lessee:<b$}"),
-            false => String::new(),
+        let lessee = if has_lessees {
+            format!("  {lessee:<b$}")
+        } else {
+            String::new()
         };
         let numbers = format!("{served:>d$}  {owed:>e$}  {part:>f$}  {dark:>g$}  {full:>h$}");
         let line = format!(

@@ -97,11 +97,12 @@ impl Options {
 
 /// Bytes would be obeyed by a terminal, not shown.
 pub fn ask_terminal(is_terminal: bool) -> Outcome {
-    match is_terminal {
-        true => Err(Failure::wrong(
+    if is_terminal {
+        Err(Failure::wrong(
             "a picture or memory is nothing for a terminal: name a file, or take --output FILE",
-        )),
-        false => Ok(()),
+        ))
+    } else {
+        Ok(())
     }
 }
 
@@ -255,9 +256,10 @@ fn of_stream(options: &Options, stream: &Path) -> Outcome<Layout> {
     };
     found.ok_or_else(|| {
         let names: Vec<String> = windows.iter().map(|(name, _)| hyphened(name)).collect();
-        let sets = match names.is_empty() {
-            true => "sets no window".to_string(),
-            false => format!("sets {}", names.join(", ")),
+        let sets = if names.is_empty() {
+            "sets no window".to_string()
+        } else {
+            format!("sets {}", names.join(", "))
         };
         let wanted = match wanted {
             Some(name) => format!("--window {}: ", visible::line(name)),
@@ -287,9 +289,10 @@ fn room(moved: &Moved) -> Vec<u8> {
     let Rectangle { columns, rows, .. } = moved.rectangle;
     let pairs = u64::from(columns) * u64::from(rows);
     let bytes = pairs.saturating_mul(moved.layout.size.into());
-    match bytes <= u64::from(moved.window.span) {
-        true => vec![0; bytes as usize],
-        false => Vec::new(),
+    if bytes <= u64::from(moved.window.span) {
+        vec![0; bytes as usize]
+    } else {
+        Vec::new()
     }
 }
 
@@ -347,14 +350,13 @@ fn painted(
 }
 
 fn takes(form: Form, size: u32) -> Outcome {
-    match form.takes(size) {
-        true => Ok(()),
-        false => {
-            let holds = form.holds();
-            Err(Failure::Wrong(format!(
-                "{form} holds {holds}, and these have {size}: take --as raw"
-            )))
-        }
+    if form.takes(size) {
+        Ok(())
+    } else {
+        let holds = form.holds();
+        Err(Failure::Wrong(format!(
+            "{form} holds {holds}, and these have {size}: take --as raw"
+        )))
     }
 }
 

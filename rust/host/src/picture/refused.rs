@@ -87,11 +87,10 @@ fn outside(moved: &Moved) -> String {
         rows,
     } = moved.rectangle;
     let (step, height) = (moved.window.step, moved.layout.height);
-    match u64::from(x) + u64::from(columns) > u64::from(step) {
-        true => {
-            format!("outside the window: {columns} columns from x {x} on go past row step {step}")
-        }
-        false => format!("outside the window: {rows} rows from y {y} on go past height {height}"),
+    if u64::from(x) + u64::from(columns) > u64::from(step) {
+        format!("outside the window: {columns} columns from x {x} on go past row step {step}")
+    } else {
+        format!("outside the window: {rows} rows from y {y} on go past height {height}")
     }
 }
 

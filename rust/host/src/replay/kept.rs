@@ -123,9 +123,10 @@ impl Kept {
             FIRST_VERSION => first::read(bytes)?,
             _ => second(bytes)?,
         };
-        match kept.agrees() {
-            true => Ok(kept),
-            false => Err(Wrong::Contradicted),
+        if kept.agrees() {
+            Ok(kept)
+        } else {
+            Err(Wrong::Contradicted)
         }
     }
 
@@ -235,9 +236,10 @@ fn second(bytes: &[u8]) -> Result<Kept, Wrong> {
         refused,
     };
     // What the state has too is the state's, and nothing else stands there.
-    match about::line(&kept).as_bytes() == line {
-        true => Ok(kept),
-        false => Err(Wrong::Contradicted),
+    if about::line(&kept).as_bytes() == line {
+        Ok(kept)
+    } else {
+        Err(Wrong::Contradicted)
     }
 }
 
@@ -285,9 +287,10 @@ fn whole(bytes: &[u8]) -> Result<(u32, u32), Wrong> {
         return Err(Wrong::Damaged);
     }
     let (all, digest) = bytes.split_at(bytes.len() - LENGTH);
-    match of_all(all)[..] == *digest {
-        true => Ok((version, kind)),
-        false => Err(Wrong::Damaged),
+    if of_all(all)[..] == *digest {
+        Ok((version, kind))
+    } else {
+        Err(Wrong::Damaged)
     }
 }
 

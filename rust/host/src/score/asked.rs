@@ -104,9 +104,10 @@ impl Unscored {
 
     /// What a month is called that was refused, or whose log couldn't be read.
     pub fn name_of(refused: bool) -> &'static str {
-        match refused {
-            true => "REFUSED",
-            false => "NOT SCORED",
+        if refused {
+            "REFUSED"
+        } else {
+            "NOT SCORED"
         }
     }
 
@@ -131,9 +132,10 @@ impl Unscored {
     }
 
     pub fn failure(&self) -> Failure {
-        match self.refused {
-            true => Failure::Refused(self.why.clone()),
-            false => Failure::Wrong(self.why.clone()),
+        if self.refused {
+            Failure::Refused(self.why.clone())
+        } else {
+            Failure::Wrong(self.why.clone())
         }
     }
 }
@@ -194,9 +196,12 @@ impl Card {
 impl Asked {
     /// The files by their names, with nothing that a terminal would obey.
     pub fn names(&self) -> Vec<String> {
-        let name = |file: &Path| match source::is_standard(Some(file)) {
-            true => source::STANDARD.to_string(),
-            false => visible::line(&file.display().to_string()),
+        let name = |file: &Path| {
+            if source::is_standard(Some(file)) {
+                source::STANDARD.to_string()
+            } else {
+                visible::line(&file.display().to_string())
+            }
         };
         if let Some(called) = &self.called {
             return called.inputs.clone();

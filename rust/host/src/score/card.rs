@@ -83,9 +83,10 @@ fn table(score: &Score, digits: Digits) -> Vec<String> {
     let dated = score.dates().is_some();
     let line = |row: &Row| {
         let [day, date, claimed, served, owed] = &row.columns;
-        let date = match dated {
-            true => format!("  {date:<b$}"),
-            false => String::new(),
+        let date = if dated {
+            format!("  {date:<b$}")
+        } else {
+            String::new()
         };
         let numbers = format!("{claimed:>c$}  {served:>d$}  {owed:>e$}");
         format!("{day:>a$}{date}  {numbers}  {}", row.behind)
@@ -95,9 +96,10 @@ fn table(score: &Score, digits: Digits) -> Vec<String> {
 
 fn row(day: &Day, digits: Digits) -> Row {
     let dark = if day.is_dark() { "  dark" } else { "" };
-    let absent = match day.in_log {
-        true => "",
-        false => "  no midnight in the log",
+    let absent = if day.in_log {
+        ""
+    } else {
+        "  no midnight in the log"
     };
     Row {
         columns: [

@@ -82,9 +82,10 @@ fn covered(log: &Log, days: &[Day], checks: &mut Vec<Check>) {
     if among == days.len() {
         return;
     }
-    let covers = match first == last {
-        true => format!("day {first}"),
-        false => format!("days {first} to {last}"),
+    let covers = if first == last {
+        format!("day {first}")
+    } else {
+        format!("days {first} to {last}")
     };
     let due = days.len();
     let verb = if among == 1 { "is" } else { "are" };
@@ -199,9 +200,12 @@ fn outside(log: &Log, lease: &Lease, checks: &mut Vec<Check>) {
     if count == 0 {
         return;
     }
-    let named = |(from, to): &(u32, u32)| match from == to {
-        true => from.to_string(),
-        false => format!("{from} to {to}"),
+    let named = |(from, to): &(u32, u32)| {
+        if from == to {
+            from.to_string()
+        } else {
+            format!("{from} to {to}")
+        }
     };
     let named: Vec<String> = parts.iter().map(named).collect();
     let days = text::count(count, "day");

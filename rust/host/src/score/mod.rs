@@ -178,13 +178,15 @@ pub fn run(options: &Options, files: &mut Files, out: &mut dyn Write) -> Outcome
     let asked = options.asked();
     let (card, log) = asked.scored()?;
     let told = places.write(&card, files, out);
-    let told = match places.take_standard() {
-        true => told,
-        false => told.and_then(|()| show_as_asked(options, &card, out)),
+    let told = if places.take_standard() {
+        told
+    } else {
+        told.and_then(|()| show_as_asked(options, &card, out))
     };
-    let ended = match options.engine {
-        true => Ok(()),
-        false => card.outcome(),
+    let ended = if options.engine {
+        Ok(())
+    } else {
+        card.outcome()
     };
     let outcome = match (saved, log) {
         (Some(saved), Some(log)) => saved.save(&log, &asked.whose(), ended, files),

@@ -147,9 +147,10 @@ fn answer(
                 room,
                 passed,
             };
-            match json {
-                true => survey.json(out)?,
-                false => survey.text(out)?,
+            if json {
+                survey.json(out)?;
+            } else {
+                survey.text(out)?;
             }
             drawings.draw(&survey, files);
             Ok(())

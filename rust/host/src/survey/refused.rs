@@ -45,12 +45,13 @@ fn outside(asked: &Asked) -> Option<String> {
     let layout = asked.layout()?;
     let [_, _, i1, j1] = asked.domain;
     let step = boundary::layout(&layout).ok()?.step;
-    Some(match i1 >= step {
-        true => format!("outside the buffer's window: i1 {i1} is not below row step {step}"),
-        false => format!(
+    Some(if i1 >= step {
+        format!("outside the buffer's window: i1 {i1} is not below row step {step}")
+    } else {
+        format!(
             "outside the buffer's window: j1 {j1} is not below height {}",
             layout.height
-        ),
+        )
     })
 }
 

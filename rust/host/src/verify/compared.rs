@@ -83,9 +83,10 @@ fn score_or_none(card: &[Value], logs: &[Value]) -> Option<Difference> {
     let outcome = |lines: &[Value]| {
         let summary = &lines.last()?["summary"];
         let is_scored = summary.get("unscored").is_none();
-        let told = match is_scored {
-            true => summary.get("verdict"),
-            false => summary["unscored"].get("name"),
+        let told = if is_scored {
+            summary.get("verdict")
+        } else {
+            summary["unscored"].get("name")
         };
         Some((is_scored, self::told(told)))
     };
@@ -205,9 +206,10 @@ impl<'a> At<'a> {
     }
 
     fn name(&self, due: &str) -> String {
-        let what = match due.starts_with('<') {
-            true => "drawn",
-            false => self.figure.unwrap_or("text"),
+        let what = if due.starts_with('<') {
+            "drawn"
+        } else {
+            self.figure.unwrap_or("text")
         };
         match self.day {
             Some(day) => format!("day {day}, {what}"),

@@ -101,9 +101,10 @@ impl Options {
     }
 
     fn card_name(&self) -> String {
-        match source::is_standard(Some(&self.card)) {
-            true => source::STANDARD.to_string(),
-            false => visible::line(&self.card.display().to_string()),
+        if source::is_standard(Some(&self.card)) {
+            source::STANDARD.to_string()
+        } else {
+            visible::line(&self.card.display().to_string())
         }
     }
 }
@@ -140,9 +141,10 @@ pub fn run(options: &Options, out: &mut dyn Write) -> Outcome {
         card: &card,
         differences: &differences,
     };
-    match options.json {
-        true => schema::line(out, verified.json())?,
-        false => verified.text(out)?,
+    if options.json {
+        schema::line(out, verified.json())?;
+    } else {
+        verified.text(out)?;
     }
     match differences.len() {
         0 => Ok(()),

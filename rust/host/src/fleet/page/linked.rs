@@ -44,9 +44,10 @@ impl Linked {
     }
 
     fn folder_with_slash(&self) -> String {
-        match self.folder.is_empty() {
-            true => "./".to_string(),
-            false => format!("{}/", self.folder),
+        if self.folder.is_empty() {
+            "./".to_string()
+        } else {
+            format!("{}/", self.folder)
         }
     }
 
@@ -76,9 +77,12 @@ fn relative(from: &Path, to: &Path) -> PathBuf {
 fn address(path: &Path) -> String {
     let plain = |byte: u8| byte.is_ascii_alphanumeric() || b"-._~/".contains(&byte);
     let bytes = path.as_os_str().as_bytes().iter();
-    let letter = |byte: &u8| match plain(*byte) {
-        true => char::from(*byte).to_string(),
-        false => format!("%{byte:02X}"),
+    let letter = |byte: &u8| {
+        if plain(*byte) {
+            char::from(*byte).to_string()
+        } else {
+            format!("%{byte:02X}")
+        }
     };
     bytes.map(letter).collect()
 }

@@ -32,11 +32,12 @@ const MOST: usize = 5_000;
 
 /// Whether a page holds so many.
 pub fn holds(stations: usize) -> Outcome {
-    match stations > MOST {
-        true => Err(Failure::Wrong(format!(
+    if stations > MOST {
+        Err(Failure::Wrong(format!(
             "--html: a page holds {MOST} stations at most, and these are {stations}; --cards draws any number"
-        ))),
-        false => Ok(()),
+        )))
+    } else {
+        Ok(())
     }
 }
 
@@ -205,12 +206,11 @@ pub fn fits(rows: usize) -> &'static str {
 
 /// Framed lines, where there are any.
 pub fn notice(heading: &str, lines: Vec<String>) -> String {
-    match lines.is_empty() {
-        true => String::new(),
-        false => {
-            let lines = lines.concat();
-            format!("<div class=\"notice\">\n<h2>{heading}</h2>\n<ul>\n{lines}</ul>\n</div>\n")
-        }
+    if lines.is_empty() {
+        String::new()
+    } else {
+        let lines = lines.concat();
+        format!("<div class=\"notice\">\n<h2>{heading}</h2>\n<ul>\n{lines}</ul>\n</div>\n")
     }
 }
 
@@ -245,9 +245,10 @@ fn dark_days(cards: &[Shown]) -> String {
         (!text.is_empty()).then(|| line(shown, &text))
     };
     let lines: String = cards.iter().filter_map(dark).collect();
-    match lines.is_empty() {
-        true => String::new(),
-        false => format!("<h2>Dark days</h2>\n<ul>\n{lines}</ul>\n"),
+    if lines.is_empty() {
+        String::new()
+    } else {
+        format!("<h2>Dark days</h2>\n<ul>\n{lines}</ul>\n")
     }
 }
 

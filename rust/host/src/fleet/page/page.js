@@ -76,9 +76,10 @@
     each(named, function (one) {
       one.hidden = !filters.every(function (passes) { return passes(one); });
     });
+    each(document.querySelectorAll(".notice"), function (box) { box.hidden = !box.querySelector("li:not([hidden])"); });
     each(counted, function (row) { shown += row.hidden ? 0 : 1; });
     told.textContent = shown === counted.length ? "" : "showing " + shown + " of " + counted.length + " stations; totals are of all";
   };
   find.addEventListener("input", filter);
-  find.hidden = false;
+  find.hidden = counted.length < 2;
 }());

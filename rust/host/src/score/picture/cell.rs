@@ -81,10 +81,12 @@ fn numbers(drawing: &mut Drawing, day: &Day, (x, y): (u32, u32)) {
         0 => ("nothing owed".to_string(), String::new()),
         owed => (grouped(day.served), format!("of {}", grouped(owed))),
     };
-    let third = match day.in_log {
-        false => "not in the log".to_string(),
-        true if day.claimed > day.served => format!("claimed {}", grouped(day.claimed)),
-        true => String::new(),
+    let third = if !day.in_log {
+        "not in the log".to_string()
+    } else if day.claimed > day.served {
+        format!("claimed {}", grouped(day.claimed))
+    } else {
+        String::new()
     };
     let lines = [
         (first, 0, Style::of(16, INK).bold().showing("served")),

@@ -58,9 +58,10 @@ fn days(unscored: &Unscored) -> String {
 pub fn without_folders(text: &str, inputs: &[String]) -> String {
     inputs.iter().fold(text.to_string(), |text, path| {
         let name = path.rsplit('/').next().unwrap_or(path);
-        match name.is_empty() {
-            true => text,
-            false => text.replace(path.as_str(), name),
+        if name.is_empty() {
+            text
+        } else {
+            text.replace(path.as_str(), name)
         }
     })
 }
