@@ -179,7 +179,7 @@ impl Setting {
         match &self.value {
             Value::Array(format) | Value::Store(format) => format_words(format),
             Value::Output { format, silent } => {
-                if silent {
+                if *silent {
                     format!("{}, silent: {}", format_words(format), masked_off(format))
                 } else {
                     format_words(format)
