@@ -81,5 +81,5 @@
     told.textContent = shown === counted.length ? "" : "showing " + shown + " of " + counted.length + " stations; totals are of all";
   };
   find.addEventListener("input", filter);
-  find.hidden = counted.length < 2;
+  find.hidden = !(counted.length > 1);
 }());
