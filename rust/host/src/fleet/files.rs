@@ -72,14 +72,12 @@ fn shown_in(folder: &Path) -> Vec<PathBuf> {
 impl Named {
     fn take(&mut self, name: &str, folder: &Path) -> Result<(), String> {
         let path = folder.join(name);
-        let found = if path.is_dir() {
-            shown_in(&path)
-        } else if path.exists() {
-            vec![path.clone()]
-        } else {
-            matching(name, folder)?
-        };
-        self.take_found(found, path);
+        match fs::metadata(&path) {
+            Ok(about) if about.is_dir() => self.take_found(shown_in(&path), path),
+            // What stands there by just this name is taken, whatever it is.
+            Ok(_) => self.files.push(apart_from_input(path)),
+            Err(_) => self.take_found(matching(name, folder)?, path),
+        }
         few(&self.files)
     }
 
@@ -95,11 +93,10 @@ impl Named {
     /// Takes the files that were found by a name, or the name itself where there is none, so that it is missed.
     fn take_found(&mut self, found: Vec<PathBuf>, path: PathBuf) {
         let before = self.files.len();
-        let is_whole = found == [path.clone()];
         for path in found {
             match fs::metadata(&path) {
-                Ok(about) if about.is_dir() && !is_whole => {}
-                Ok(about) if !about.is_file() && !is_whole => self.passed.push(path),
+                Ok(about) if about.is_dir() => {}
+                Ok(about) if !about.is_file() => self.passed.push(path),
                 _ => self.files.push(apart_from_input(path)),
             }
         }

@@ -16,6 +16,9 @@ const ROOM: usize = 1 << 19;
 /// Bytes that are read at once: most records are shorter.
 const PIECE: usize = 1 << 10;
 
+/// Bytes that are read at once where all records are taken in their order.
+const STRETCH: usize = 1 << 15;
+
 /// A record begins with its length.
 const HEAD: usize = 4;
 
@@ -103,13 +106,44 @@ impl Spool {
     /// All records, in their order.
     pub fn all<T: Stored>(&self) -> impl Iterator<Item = io::Result<T>> + '_ {
         let end = self.written + self.recent.len() as u64;
-        let mut at = 0;
+        let (mut at, mut stretch) = (0, Stretch::default());
         std::iter::from_fn(move || {
-            let next = (at < end).then(|| self.get(at))?;
+            let next = (at < end).then(|| stretch.get(self, at))?;
             // Nothing is read behind what can't be.
             at = next.as_ref().map_or(end, |(_, behind)| *behind);
             Some(next.map(|(value, _)| value))
         })
+    }
+}
+
+/// A part of the file that was read at once, for who takes one record after another.
+#[derive(Default)]
+struct Stretch {
+    begin: u64,
+    bytes: Vec<u8>,
+}
+
+impl Stretch {
+    /// As [`Spool::get`], of a record that isn't before the last one.
+    fn get<T: Stored>(&mut self, spool: &Spool, at: u64) -> io::Result<(T, u64)> {
+        if let Some(found) = self.read(at) {
+            return Ok(found);
+        }
+        if let Some(file) = spool.file.as_ref().filter(|_| at < spool.written) {
+            self.begin = at;
+            self.bytes.resize(STRETCH, 0);
+            let count = file.read_at(&mut self.bytes, at).map_err(named)?;
+            self.bytes.truncate(count);
+        }
+        // One that is longer than a stretch, or was put last, is taken by itself.
+        self.read(at).map_or_else(|| spool.get(at), Ok)
+    }
+
+    /// The record that begins there, where it is whole in this stretch.
+    fn read<T: Stored>(&self, at: u64) -> Option<(T, u64)> {
+        let place = usize::try_from(at.checked_sub(self.begin)?).ok()?;
+        let (value, length) = read(self.bytes.get(place..)?)?;
+        Some((value, at + length as u64))
     }
 }
 
