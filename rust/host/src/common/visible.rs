@@ -26,9 +26,9 @@ fn shown(text: &str, stays: impl Fn(char) -> bool) -> String {
     for letter in text.chars() {
         if is_hostile(letter) && !stays(letter) {
             // Writing to a string can't fail.
-            drop(write!(visible, "\\u{:04x}", letter as u32))
+            let _ = write!(visible, "\\u{:04x}", letter as u32);
         } else {
-            visible.push(letter)
+            visible.push(letter);
         }
     }
     visible
