@@ -442,9 +442,10 @@ impl Made<'_> {
         }
         self.put("own/card.svg");
         self.case.files.push(("card.svg".into(), card));
-        match self.random.coin() {
-            true => self.put("samples/station-14.log"),
-            false => self.logs(),
+        if self.random.coin() {
+            self.put("samples/station-14.log");
+        } else {
+            self.logs();
         }
         self.valued(
             12,
