@@ -5,7 +5,7 @@ use layout::{ByteAddress, Layout};
 use worked::tally::Tally;
 
 // One combination: the first value of each list is good, those after it are bad (the height 4,096 is good too).
-#[derive(Drop)]
+#[derive(Clone, Copy)]
 struct Trial {
     layout: Layout,
     malformed: bool,

@@ -5,7 +5,7 @@ ghost use Rattle.command.specs.Commands.{no_effect_line, stored_line, line_of, p
 use crate::table;
 
 // The commands that have no effect on settings: their one parameter is reserved.
-#[derive(Drop)]
+#[derive(Clone, Copy)]
 pub enum NoEffect {
     Wait,
     InvalidateInstructions,
@@ -19,7 +19,7 @@ pub enum NoEffect {
 }
 
 // What is stored in a window of height 1: the instructions, and the float, integer and boolean constants.
-#[derive(Drop)]
+#[derive(Clone, Copy)]
 pub enum Stored {
     Instructions,
     Floats,
@@ -28,7 +28,7 @@ pub enum Stored {
 }
 
 // Fields stand in document 01's order.
-#[derive(Drop)]
+#[derive(Clone, Copy)]
 pub enum Command {
     // set_domain: i0, j0, i1, j1; pairs from (i0, j0) to (i1, j1), both ends included.
     Domain(u32, u32, u32, u32),

@@ -7,7 +7,7 @@ ghost use Rattle.command.specs.Kinds.{format_allowed, superfine_allowed, allowed
 use crate::format::{channels, code, superfine};
 use refusal::Refusal;
 
-#[derive(Drop)]
+#[derive(Clone, Copy)]
 pub enum Kind {
     // Must be 0.
     Reserved,

@@ -10,11 +10,11 @@ ghost use Rattle.layout.specs.Asked.{StrideAsked};
 use refusal::Refusal;
 
 // The address of a byte: one of document 01's three kinds of number, never a word's position or a slot number.
-#[derive(Drop)]
+#[derive(Clone, Copy)]
 pub struct ByteAddress(pub u32);
 
 // How a window lies in memory, as the caller gives it; nothing is asked of the numbers.
-#[derive(Drop)]
+#[derive(Clone, Copy)]
 pub struct Layout {
     pub base: ByteAddress,
     // Elements from one row to the next, before the cut to the row step.

@@ -10,7 +10,7 @@ use crate::place::Place;
 use layout::{ByteAddress, Layout};
 use refusal::Refusal;
 
-#[derive(Drop)]
+#[derive(Clone, Copy)]
 pub enum Answer {
     // How many bytes were read.
     Bytes(usize),
@@ -19,7 +19,7 @@ pub enum Answer {
 
 // What a read answers. The bytes stand at the front, in the order of their addresses, and zeros after them. A refusal has
 // zeros alone.
-#[derive(Drop)]
+#[derive(Clone, Copy)]
 pub struct Reading {
     pub answer: Answer,
     pub bytes: [u8; 16],

@@ -260,7 +260,7 @@ fn trials(memory: &mut [u8]) -> Tally {
 }
 
 // A superfine read's arguments: what a format word is made of, and a pair. Of each list below the first value is good.
-#[derive(Drop)]
+#[derive(Clone, Copy)]
 struct Fine {
     base: u32,
     pitch: u32,

@@ -42,7 +42,7 @@ const UNKNOWN_HEADER: u32 = 2;
 const FULL: u32 = 17;
 
 // What a word is answered: the command is still open, the command that the word completed, or the refusal.
-#[derive(Drop)]
+#[derive(Clone, Copy)]
 pub enum Answer {
     Open,
     Done(Command),

@@ -7,7 +7,7 @@ use worked::tally::Tally;
 
 // Where the two windows and the domain lie: apart with the domain inside both, the domain past the first window alone, or both
 // windows on the same bytes.
-#[derive(Drop)]
+#[derive(Clone, Copy)]
 enum Lie {
     Apart,
     Outside,

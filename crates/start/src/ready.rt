@@ -22,7 +22,7 @@ pub const MOST_EXTENT: u32 = 4096;
 pub const UNSET: u32 = 7;
 
 // An output as a start sees it: whether it is set, whether it counts, and its window.
-#[derive(Drop)]
+#[derive(Clone, Copy)]
 pub struct Output {
     pub set: bool,
     pub counts: bool,
