@@ -1,6 +1,8 @@
 // Commands judged by the tests of their lines alone and taken at once: all the words of one that lies whole inside a piece,
 // or the last word of an open one. A command that isn't accepted changes nothing here. Each routine is told how many words to
 // count, and answers them where it took the command, and 0 where it can't be accepted.
+#![tactic(auto)]
+
 ghost use Rattle.std.specs.Prelude.{◌≡◌, List, [], ◌∷◌, ℕ, ◌+◌, ◌<◌, ◌≤◌, length, drop};
 ghost use Rattle.state.specs.Cells.{shared_length};
 ghost use Rattle.command.specs.Table.{header_of};

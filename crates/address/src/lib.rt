@@ -1,6 +1,8 @@
 // Addresses: a pair of a window to the address of its element and the run from there on, and any byte address back to the pair
 // that owns the byte and the byte's place in the element. `translate` answers address and run or 3, 6, 10; `locate` the pair or
 // 3, 6, 12.
+#![tactic(auto)]
+
 pub mod block;
 pub mod offset;
 pub mod owner;

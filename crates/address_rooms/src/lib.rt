@@ -1,5 +1,7 @@
 // Layouts and addresses over numbers: each answer is a status, 0 or a refusal's number, with its values in a room that the caller
 // lends. A refusal touches no room: 3, 6, 10 or 12.
+#![tactic(auto)]
+
 ghost use Rattle.std.specs.Prelude.{◌+◌, ◌^◌, ◌<◌};
 ghost use Rattle.layout.specs.Layout.{judge_of};
 ghost use Rattle.address.specs.Address.{layout_of, translate_of, locate_of, told_number};

@@ -1,5 +1,7 @@
 // The addresses of a row's pairs, run by run: each run is a stretch of addresses, one element's size apart, and a linear row is one run. Where
 // a run begins is read from the table of places in one-byte tiled layouts, and worked out by the bit rule in all others.
+#![tactic(auto)]
+
 ghost use Rattle.std.specs.Prelude.{◌≡◌, true, false, ◌+◌, ◌-◌, ◌*◌, ◌/◌, ◌≤◌, ◌<◌, ◌^◌, length};
 ghost use Rattle.address.specs.Offset.{offset_of};
 ghost use Rattle.address.specs.Asked.{PairAsked};

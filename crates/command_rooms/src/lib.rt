@@ -1,5 +1,7 @@
 // Commands by themselves over numbers: how many parameters a header announces, and a command's words. Each answer is a status, 0
 // or a refusal's number (2 to 6 or 11), with its numbers in rooms that the caller lends. A refusal touches no room.
+#![tactic(auto)]
+
 ghost use Rattle.std.specs.Prelude.{◌≡◌, ◌<◌};
 ghost use Rattle.refusal.specs.Crossing.{Crosses};
 ghost use Rattle.command.specs.Table.{header_of};

@@ -1,5 +1,7 @@
 // Writes commands, reads their words by a new session, and prints how many came back as they were and how many differed. Its stdout
 // file holds what it must print; every line ends in '0 differed'.
+#![tactic(auto)]
+
 use command::commands::{Command, NoEffect, Stored};
 use rules::writer;
 use rules::writer::Written;

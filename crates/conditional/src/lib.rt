@@ -1,5 +1,7 @@
 // Conditional output tests, request 12: a value compared with what the conditional buffer holds at a pair, and at every pair of a
 // domain. The unit only reads a session's settings, stopped or not. It refuses in the order 7, 3, 5, 10, 11.
+#![tactic(auto)]
+
 ghost use Rattle.std.specs.Prelude.{◌≡◌, length};
 ghost use Rattle.state.specs.Cells.{shared_of};
 ghost use Rattle.address.specs.Address.{layout_of};

@@ -1,5 +1,7 @@
 // Conditional tests over numbers and a session's settings: each answer is a status, 0 or a refusal's number (7, 3, 5, 10 or 11, asked in
 // that order), with what passed in a room that the caller lends. A refusal touches no room, and the settings are only read.
+#![tactic(auto)]
+
 ghost use Rattle.std.specs.Prelude.{◌≡◌};
 ghost use Rattle.laws.specs.Masks.{digit};
 ghost use Rattle.state.specs.Cells.{shared_of};

@@ -1,5 +1,7 @@
 // The conditions of request 12: a value compared with numbers of 16 bits in lent memory, one by one and many that follow each other.
 // Nothing is refused here.
+#![tactic(auto)]
+
 ghost use Rattle.std.specs.Prelude.{◌≡◌, ◌+◌, ◌*◌, ◌<◌, ◌≤◌, length};
 ghost use Rattle.laws.specs.Below.{sum};
 ghost use Rattle.laws.specs.Masks.{digit};

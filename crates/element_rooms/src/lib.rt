@@ -1,5 +1,7 @@
 // Elements in lent memory over numbers, memory's first byte being at the address `first`: each answer is a status, 0 or a
 // refusal's number (3, 6, 10 or 11), with its bytes in a room that the caller lends. A refusal touches no room.
+#![tactic(auto)]
+
 ghost use Rattle.std.specs.Prelude.{◌≡◌, ◌≤◌, length};
 ghost use Rattle.address.specs.Address.{layout_of};
 ghost use Rattle.memory.specs.Elements.{read_of};

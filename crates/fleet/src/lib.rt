@@ -1,5 +1,7 @@
 // The fleet report: what the logs of up to 64 stations come to under their lease lines. Each log is replayed and scored by itself;
 // the report is a function of logs, lease lines and edition, and keeps nothing.
+#![tactic(auto)]
+
 pub mod lengths;
 pub mod parts;
 pub mod report;

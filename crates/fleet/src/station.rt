@@ -7,8 +7,8 @@ ghost use Rattle.score.specs.Score.{score_of_log};
 ghost use Rattle.fleet.specs.Fleet.{silent_in};
 ghost use Rattle.fleet.specs.Answers.{ScoredAs, month_from, refused_month};
 
-use station_log::stream;
 use score::month::Scored;
+use station_log::stream;
 
 // The greatest number of 32 bits: a lease line with a wider one is out of its bounds.
 const WIDEST: u64 = 4294967295;

@@ -1,5 +1,7 @@
 // Flow words for one group of up to 32 processors: the program store, the group's state, a step and a run, as document 01
 // has them. Every routine answers an enum; a refusal (13 to 16) leaves what was lent as it was.
+#![tactic(auto)]
+
 ghost use Rattle.std.specs.Prelude.{◌≡◌, ◌/◌, length};
 ghost use Rattle.laws.specs.Below.{count, least};
 ghost use Rattle.laws.specs.Masks.{on};

@@ -5,6 +5,8 @@
 // branch counters, bit i of cell 2 + k being bit k of processor i's counter; 7 the position; 8 to 11 the stored returns, the
 // last one first, 0 for none; 12 the mode; 13 the killed processors, who are no longer in cells 0 and 1 (request 11, crates/kill); 14 to 17
 // the open loops, the innermost first, 0 for none (crates/loops). 18 and 19 are 0.
+#![tactic(auto)]
+
 pub mod planes;
 
 // How many numbers a group lies in, and how many slots a program store has.

@@ -1,5 +1,7 @@
 // Flow words for one group over numbers: each answer is a status, 0 or a refusal's number (13 to 16), with its numbers in rooms
 // that the caller lends. A refusal touches no room.
+#![tactic(auto)]
+
 ghost use Rattle.std.specs.Prelude.{◌≡◌};
 ghost use Rattle.loops.specs.Loops.{loops_told};
 ghost use Rattle.stepper.specs.Answers.{step_in, run_in};

@@ -2,6 +2,8 @@
 // bits: 31 days of 100,000,000 elements, 2^32 times, are less than 2^64. The numbers are: the edition; how many stations were added; what
 // is served and owed in all; the silent days; and the station with the smallest served part, with what it is served and owes. Where that
 // owes 0 there is none. A refusal touches nothing.
+#![tactic(auto)]
+
 ghost use Rattle.std.specs.Prelude.{◌≡◌, length, get_or};
 ghost use Rattle.refusal.specs.Crossing.{Crosses, Shows};
 ghost use Rattle.state.specs.Start.{is_edition};

@@ -1,5 +1,7 @@
 // Whether arrays that were kept elsewhere, on disk say, hold a session that the entries take: a yes is just what the entries require,
 // for arrays of a session's lengths, whatever numbers they have. Nothing is written.
+#![tactic(auto)]
+
 pub mod party;
 pub mod readiness;
 pub mod settings;

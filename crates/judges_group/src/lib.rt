@@ -1,4 +1,6 @@
 // Whether 20 cells that were kept elsewhere are those of a group: yes just where a step, a run, a kill and the loops told may have them.
+#![tactic(auto)]
+
 ghost use Rattle.std.specs.Prelude.{◌≡◌, not, length, eqb};
 ghost use Rattle.laws.specs.Choice.{◌and◌, pick};
 ghost use Rattle.laws.specs.Below.{some};

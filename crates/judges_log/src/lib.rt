@@ -1,5 +1,7 @@
 // Whether arrays that were kept elsewhere hold a replay that the entries take: a yes is just what the entries require. Nothing is
 // written.
+#![tactic(auto)]
+
 pub mod marks;
 pub mod numbers;
 

@@ -1,5 +1,7 @@
 // Whether arrays that were kept elsewhere hold a session of two parties that the entries take: a yes is just what the entries
 // require. Nothing is written.
+#![tactic(auto)]
+
 ghost use Rattle.std.specs.Prelude.{◌≡◌, eqb};
 ghost use Rattle.std.specs.Int.Bits.{bit_and};
 ghost use Rattle.state.specs.Cells.{Sized};

@@ -2,6 +2,8 @@
 // than zero leaves the group for good. The killed are taken out of the group's own mask, so that a step, which knows nothing of
 // them, skips them as it does every processor that a group doesn't have; a mask of their own keeps who they were. A refusal (16, 13 or
 // 11) leaves the cells as they were.
+#![tactic(auto)]
+
 ghost use Rattle.std.specs.Prelude.{◌≡◌, not, ◌*◌, length, set};
 ghost use Rattle.laws.specs.Choice.{◌and◌};
 ghost use Rattle.laws.specs.Below.{count};

@@ -1,5 +1,7 @@
 // Layouts: the five element sizes with their tiles, the row step, the span and the window rule of document 01. A layout
 // is accepted, with its row step and span, or refused with 3 (malformed) or 6 (window rule).
+#![tactic(auto)]
+
 ghost use Rattle.std.specs.Prelude.{◌≡◌, true, ◌*◌, ◌/◌, ◌^◌, ◌≤◌};
 ghost use Rattle.laws.specs.Choice.{pick};
 ghost use Rattle.layout.specs.Sizes.{is_size, width_of, height_of};

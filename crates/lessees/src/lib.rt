@@ -1,6 +1,8 @@
 // Document 02, request 9: two parties over one session's inputs and outputs. Each has its own cells and tallies, the settings are
 // shared, and who owns which number is fixed when the session begins. Answers are numbers: a status, and for each party what a piece
 // told it, in a room that the caller lends.
+#![tactic(auto)]
+
 ghost use Rattle.std.specs.Prelude.{◌≡◌, Bool, [], ◌∷◌, ℕ, ◌*◌, ◌/◌, ◌<◌, ◌≤◌};
 ghost use lib.ListN.{length};
 ghost use Rattle.state.specs.Cells.{session_of};

@@ -1,5 +1,7 @@
 // The writer by the lines of the table: the words of a command that the tests of its line accept, with no command built and no
 // parameter asked by itself. A command that isn't accepted changes nothing here, and its refusal is left open.
+#![tactic(auto)]
+
 ghost use Rattle.std.specs.Prelude.{◌≡◌, [], ◌∷◌, ◌<◌, ◌≤◌, take};
 ghost use Rattle.refusal.specs.Told.{is_given};
 ghost use Rattle.command.specs.declared.commands.Command.{Command};

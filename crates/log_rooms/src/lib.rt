@@ -1,6 +1,8 @@
 // A station's log over numbers: what a piece and a replay's reports are answered, as a status with its numbers in a room that the
 // caller lends. A byte that isn't taken gets 18 or 19. A replay's five arrays are as its entries left them; the last three are its
 // session's.
+#![tactic(auto)]
+
 ghost use Rattle.std.specs.Prelude.{[]};
 ghost use Rattle.state.specs.State.{new_session};
 ghost use Rattle.station_log.specs.Feed.{replay_of};
@@ -12,8 +14,8 @@ ghost use Rattle.setting_rooms.specs.Rooms.{tally_numbers};
 ghost use Rattle.log_rooms.specs.Rooms.{FeedCrosses, standing_numbers};
 
 use days::report;
-use station_log::stream;
 use session::stream::First;
+use station_log::stream;
 
 // Lengths of rooms: where a replay stands, in seven numbers; runs and claims.
 pub const STANDING_NUMBERS: usize = 7;

@@ -1,6 +1,8 @@
 // The open loops of a group (request 4): four cells, the innermost loop first, 0 for none. A LOOP lies in its cell as its integer
 // word with the turns left for the count and its aL for the start, and bit 24 set; a REP is its turns left. An opening or a close
 // answers a decision, 1 for a jump and 0 for a stay, or a refusal (13 or 14), which leaves the loops as they were.
+#![tactic(auto)]
+
 ghost use Rattle.std.specs.Prelude.{◌≡◌, true, false, ◌<◌};
 ghost use Rattle.loops.specs.Loops.{loops_of, loop_cell, entry_of, word_at, entering, opening, closing, turn_of, shown_aL, stays, moved_to, kind_at, HeldIn, turned};
 

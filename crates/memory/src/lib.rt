@@ -1,5 +1,7 @@
 // Elements in lent memory: up to 65,536 bytes that stand at a first address. `read` answers an element's bytes, `write`
 // stores them. Each refuses in document 01's order: 3, 6, 10, 11.
+#![tactic(auto)]
+
 pub mod copy;
 pub mod place;
 

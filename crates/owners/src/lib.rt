@@ -1,5 +1,7 @@
 // Document 02, request 9: what a party of a session owns, in one word of 21 bits: bit n for input n, bit 16 + n for output n with its
 // four mask bits, and bit 20 for what belongs to party 0, the constants and the conditional unit.
+#![tactic(auto)]
+
 ghost use Rattle.std.specs.Prelude.{◌≡◌, true, false, ℕ, ◌%◌, ◌<◌, leb};
 ghost use Rattle.laws.specs.Choice.{◌and◌, pick};
 ghost use Rattle.laws.specs.Masks.{on};

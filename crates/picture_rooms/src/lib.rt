@@ -1,6 +1,8 @@
 // Whole rectangles of a window over numbers, memory's first byte being at the address `first`: each answer is a status, 0 or a
 // refusal's number, in the order 3, 6, 10, 11. A refusal touches no room and no memory. The layout is judged once; memory may have any
 // length up to 2^32 and covers the window's span.
+#![tactic(auto)]
+
 ghost use Rattle.std.specs.Prelude.{◌≡◌, ◌*◌, length};
 ghost use Rattle.refusal.specs.Crossing.{Crosses, status_of};
 ghost use Rattle.layout.specs.declared.Layout.{Layout};

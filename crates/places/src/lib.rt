@@ -1,5 +1,7 @@
 // The places inside a tile of one-byte elements, by a fixed table of 2,048, corrected for x6 and y5. A constant array is built on the stack at each
 // use, so whoever asks for many places takes the table once, by `table`, and lends it to `by_table`.
+#![tactic(auto)]
+
 ghost use Rattle.std.specs.Prelude.{◌≡◌, ◌<◌};
 ghost use Rattle.address.specs.Offset.{inside_of};
 ghost use Rattle.places.specs.Places.{places};

@@ -1,4 +1,6 @@
 // Queries of a session's settings and tallies. They read the cells and change nothing, stopped or not.
+#![tactic(auto)]
+
 ghost use Rattle.std.specs.Prelude.{◌≡◌, [], ◌<◌, eqb, get_or};
 ghost use Rattle.state.specs.State.{unset};
 ghost use Rattle.state.specs.Cells.{buffer_at, party_of, shared_of};

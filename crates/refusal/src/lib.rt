@@ -1,5 +1,7 @@
 // Document 01's refusals, and those that document 02's requests add: each cause by name, and its number. Every answer that
 // can refuse holds a `Refusal`, so the numbers stand here; a state that keeps one, as a stopped replay's, names it by a constant.
+#![tactic(auto)]
+
 ghost use Rattle.std.specs.Prelude.{◌≡◌};
 ghost use Rattle.refusal.specs.Number.{IsNumber, number_of};
 

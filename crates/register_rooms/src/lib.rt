@@ -1,5 +1,7 @@
 // The kill test, the maximum and the choice over numbers and lent arrays. A kill answers a status, 0 or a refusal's number (11, 13 or
 // 16), and who was killed in a room, which a refusal doesn't touch; the other two answer a register and refuse nothing.
+#![tactic(auto)]
+
 ghost use Rattle.std.specs.Prelude.{◌≡◌};
 ghost use Rattle.registers.specs.Registers.{maximum_of, choice_of, each_of2, each_of3};
 ghost use Rattle.group.specs.Cells.{group_of, GroupGiven};

@@ -2,6 +2,8 @@
 // the choice, channel by channel. Floats are compared as IEEE 754 does, so that minus zero and a NaN are not less than zero. The maximum
 // and the choice are of bit patterns, so that what is answered is one of the operands bit for bit, a NaN's payload too. Nothing is
 // refused here: crates/kill judges the write mask and the list.
+#![tactic(auto)]
+
 ghost use Rattle.std.specs.Prelude.{◌≡◌, ◌+◌, ◌*◌, ◌≤◌, ◌/◌, eqb, length};
 ghost use Rattle.laws.specs.Choice.{◌and◌};
 ghost use Rattle.laws.specs.Masks.{digit};

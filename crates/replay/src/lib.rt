@@ -1,5 +1,7 @@
 // Records of a station's log, five bytes each: one of kind, then four of a number, low byte first. What a record's bytes do to the
 // ten numbers of a replay's own, and what a midnight does: 18 for a kind byte that is none, 19 for a day that may not begin.
+#![tactic(auto)]
+
 pub mod bytes;
 pub mod own;
 

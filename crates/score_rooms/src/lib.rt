@@ -1,5 +1,7 @@
 // A station's monthly score over numbers, by its lease line and the replay of its log: a status, 0 or a refusal's number (3, 18,
 // 19 or 21), with its numbers in rooms that the caller lends. A refusal touches no room.
+#![tactic(auto)]
+
 ghost use Rattle.std.specs.Prelude.{◌≡◌};
 ghost use Rattle.score.specs.Lease.{lease_told};
 ghost use Rattle.score.specs.Answers.{lease_line};

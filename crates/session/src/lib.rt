@@ -2,4 +2,6 @@
 // meet. A session lies in cells that the caller lends: a party's own numbers, its tallies, and the shared settings.
 // A word is refused with 1 to 9, 17, or 20 where the cells are a party's of a pair; all but 1 stop the session for good and drop
 // the open command.
+#![tactic(auto)]
+
 pub mod stream;

@@ -1,5 +1,7 @@
 // Words of a session over numbers: a word's or a piece's answer as a status, 0 or a refusal's number (1 to 9, 17, or 20 where
 // the cells are a party's of a pair), with its numbers in a room that the caller lends.
+#![tactic(auto)]
+
 ghost use Rattle.std.specs.Prelude.{[], ◌∷◌};
 ghost use Rattle.state.specs.Asked.{Given};
 ghost use Rattle.state.specs.Cells.{session_of};

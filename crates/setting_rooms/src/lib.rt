@@ -1,5 +1,7 @@
 // What a session holds over numbers, flags as 1 or 0: where it stands, its runs and claims, and its settings. Each answer is a
 // status with its numbers in a room that the caller lends; only a format is ever refused, with 2 or 4, and touches no room then.
+#![tactic(auto)]
+
 ghost use Rattle.std.specs.Prelude.{◌≡◌, []};
 ghost use Rattle.state.specs.Cells.{party_of, shared_of};
 ghost use Rattle.refusal.specs.Crossing.{Crosses, Shows, flag};

@@ -1,4 +1,6 @@
 // A step of a group on its cells, answered in one number. A refusal (13 to 16) leaves the cells as they were.
+#![tactic(auto)]
+
 pub mod place;
 pub mod slot;
 

@@ -1,4 +1,6 @@
 // The superfine read: the four elements around a pair, in lent memory. It refuses in document 01's order: 3, 6, 10, 11.
+#![tactic(auto)]
+
 mod corners;
 mod line;
 

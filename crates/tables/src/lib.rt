@@ -1,6 +1,8 @@
 // Document 01's constant tables: the element sizes with their tiles, and the commands' headers with their numbers of
 // parameters. A constant array is built anew on the stack at each use, so what runs for each word or element goes by a `match`
 // or a shift, in `layout` and `command`, proved equal to the same lists; what runs less often reads the tables here.
+#![tactic(auto)]
+
 ghost use Rattle.std.specs.Prelude.{◌≡◌, ◌<◌, get_or};
 ghost use Rattle.laws.specs.Choice.{place_of};
 ghost use Rattle.tables.specs.Tables.{sizes, widths, heights, headers, counts};

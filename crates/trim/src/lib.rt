@@ -1,5 +1,7 @@
 // Trimming a replay: of its midnights only the last one is kept, so that a replay that goes on from month to month never fills its
 // room of 400. What it was before that midnight is forgotten; the runs and claims from there on are the same.
+#![tactic(auto)]
+
 ghost use Rattle.std.specs.Prelude.{◌≡◌, ◌-◌, length};
 ghost use Rattle.replay.specs.Places.{log_length};
 ghost use Rattle.trim.specs.Left.{TrimCrosses, Trims};

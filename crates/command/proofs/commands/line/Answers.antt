@@ -1,0 +1,45 @@
+-- `command::commands::line` meets its contract: each arm by the definition at that variant. Assumes nothing.
+use mathlib.Core.Path.{sym, ap, ◌∙◌}
+use borrow.Author.Rules.{rules}
+use Rattle.command.specs.Commands.{line_of}
+use Rattle.command.proofs.commands.line.Goals as goal
+
+pub returns-in-Domain : goal.returns-in-Domain
+unfolding line_of
+returns-in-Domain c = sym (ap line_of c.in-Domain.is)
+
+pub returns-in-Start : goal.returns-in-Start
+unfolding line_of
+returns-in-Start c = sym (ap line_of c.in-Start.is)
+
+pub returns-in-Effectless : goal.returns-in-Effectless
+unfolding line_of
+returns-in-Effectless c = c.no_effect_line.ensures ∙ sym (ap line_of c.in-Effectless.is)
+
+pub returns-in-Store : goal.returns-in-Store
+unfolding line_of
+returns-in-Store c = c.stored_line.ensures ∙ sym (ap line_of c.in-Store.is)
+
+pub returns-in-Input : goal.returns-in-Input
+unfolding line_of
+returns-in-Input c = sym (ap line_of c.in-Input.is)
+
+pub returns-in-Output : goal.returns-in-Output
+unfolding line_of
+returns-in-Output c = sym (ap line_of c.in-Output.is)
+
+pub returns-in-Conditional : goal.returns-in-Conditional
+unfolding line_of
+returns-in-Conditional c = sym (ap line_of c.in-Conditional.is)
+
+pub returns-in-OutputMask : goal.returns-in-OutputMask
+unfolding line_of
+returns-in-OutputMask c = sym (ap line_of c.in-OutputMask.is)
+
+pub returns-in-ConditionalMask : goal.returns-in-ConditionalMask
+unfolding line_of
+returns-in-ConditionalMask c = sym (ap line_of c.in-ConditionalMask.is)
+
+pub returns-in-Test : goal.returns-in-Test
+unfolding line_of
+returns-in-Test c = sym (ap line_of c.in-Test.is)

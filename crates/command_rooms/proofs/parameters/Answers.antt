@@ -1,0 +1,26 @@
+-- `command_rooms::parameters` meets its contract: each answer crosses as it is told. Assumes nothing.
+use mathlib.Core.Path.{sym, ap, ◌∙◌}
+use mathlib.Core.List.{[], ◌∷◌}
+use Prim.Native.Nat.{ℕ}
+use Rattle.refusal.specs.Told.{gives}
+use Rattle.command.specs.Table.{told_line}
+use Rattle.refusal.proofs.Crossings.{crosses_gives, crosses_refuses}
+use Rattle.command.proofs.Headers.{accepted_listed}
+use Rattle.command.proofs.Known.{on_line, off_line}
+use borrow.Author.Rules.{rules}
+use Rattle.command_rooms.proofs.parameters.Goals as goal
+
+pub count-requires : goal.count-requires
+count-requires c =
+    (accepted_listed _ _ (sym c.line_of.ensures ∙ ap told_line c.in-At.is)).line
+
+pub returns-in-Unknown : goal.returns-in-Unknown
+returns-in-Unknown c =
+    crosses_refuses _ _ _ _ c.number.ensures
+    (off_line _ _ _ (sym c.line_of.ensures ∙ ap told_line c.in-Unknown.is))
+
+pub returns-in-At : goal.returns-in-At
+returns-in-At c =
+    crosses_gives _ _ _
+    (on_line _ _ _ _ (sym c.line_of.ensures ∙ ap told_line c.in-At.is) ∙
+    ap (λ (n : ℕ). gives (n ∷ [])) (sym c.count.ensures))

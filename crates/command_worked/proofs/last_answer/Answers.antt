@@ -1,0 +1,18 @@
+-- `command_worked::last_answer` is safe and ends; what it hands on came from the entries. Assumes nothing.
+use lib.ListN.{length}
+use Prim.Native.Nat.{◌-◌}
+use borrow.Author.Rules.{rules}
+use Rattle.state.specs.Asked.{Given}
+use Rattle.session.specs.Step.{step_of}
+use Rattle.session.proofs.Handed.{first_given, word_given}
+use Rattle.command_worked.proofs.last_answer.Goals as goal
+
+pub loop-i-init : goal.loop-i-init
+loop-i-init c = first_given c.begin.ensures
+
+pub word-answer-requires : goal.word-answer-requires
+word-answer-requires c = c.loop-i.invariant
+
+pub loop-i-preserved : goal.loop-i-preserved
+loop-i-preserved c =
+    word_given _ _ c.loop-i.invariant c.word-answer.ensures

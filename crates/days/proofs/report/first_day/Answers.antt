@@ -1,0 +1,14 @@
+-- `days::report::first_day` meets its contract. Assumes nothing.
+use native.Mathlib.Omega.{arith}
+use Rattle.days.proofs.Reports.{no_day, first_day_lem}
+use borrow.Author.Rules.{rules}
+use Rattle.days.proofs.report.first_day.Goals as goal
+
+pub returns-then-midnights-eq0 : goal.returns-then-midnights-eq0
+returns-then-midnights-eq0 c = no_day _ _ c.if-midnights-eq0.true
+
+pub returns-then-last-before : goal.returns-then-last-before
+returns-then-last-before c = first_day_lem _ _ c.if-midnights-eq0.false _ (omega arith)
+
+pub returns-else-last-before : goal.returns-else-last-before
+returns-else-last-before c = first_day_lem _ _ c.if-midnights-eq0.false _ (omega arith)

@@ -1,0 +1,13 @@
+-- `days::report::part` meets its contract. Assumes nothing.
+use Rattle.replay.specs.Cells.{viewed}
+use Rattle.days.proofs.Reports.{part_none, part_some}
+use borrow.Author.Rules.{rules}
+use Rattle.days.proofs.report.part.Goals as goal
+
+pub returns-then-midnights-k : goal.returns-then-midnights-k
+returns-then-midnights-k c = unfold viewed in part_none _ _ _ _ c.if-midnights-k.true
+
+pub returns : goal.returns
+returns c =
+    unfold viewed in part_some _ _ _ _ c.if-midnights-k.false _ _ c.began-from.ensures c.ended-to.ensures _ _
+    c.difference.ensures c.difference-2.ensures

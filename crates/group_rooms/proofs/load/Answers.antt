@@ -1,0 +1,24 @@
+-- `group_rooms::load` meets its contract: each answer crosses as it is told. Assumes nothing.
+use mathlib.Core.Path.{sym, ap, ◌∙◌}
+use Rattle.flow.specs.Answers.{told_loaded}
+use Rattle.refusal.proofs.Crossings.{crosses_gives, crosses_refuses}
+use borrow.Author.Rules.{rules}
+use Rattle.group_rooms.proofs.load.Goals as goal
+
+pub returns-in-Refused : goal.returns-in-Refused
+returns-in-Refused c =
+    record {
+      answer =
+          crosses_refuses _ _ _ _ c.number.ensures
+          (sym c.load.ensures.told ∙ ap told_loaded c.in-Refused.is);
+      left_firsts = c.load.ensures.left_firsts;
+      left_seconds = c.load.ensures.left_seconds;
+    }
+
+pub returns-in-Slots : goal.returns-in-Slots
+returns-in-Slots c =
+    record {
+      answer = crosses_gives _ _ _ (sym c.load.ensures.told ∙ ap told_loaded c.in-Slots.is);
+      left_firsts = c.load.ensures.left_firsts;
+      left_seconds = c.load.ensures.left_seconds;
+    }

@@ -1,0 +1,30 @@
+-- `judges_log::marks::all_grow` meets its contract: part by part. Assumes nothing.
+use mathlib.Core.Path.{◌≡◌, ◌∙◌}
+use Prim.Native.Nat.{◌+◌, ◌-◌, ◌≤◌}
+use native.Mathlib.Omega.{arith}
+use Rattle.laws.specs.Below.{every}
+use Rattle.judges.proofs.Joined.{joined, one_more, none_yet, all_tested}
+use borrow.Author.Rules.{rules}
+use Rattle.days.specs.Reported.{now_in}
+use Rattle.judges_log.specs.Judged.{grows_at}
+use Rattle.judges_log.proofs.marks.all_grow.Reads as reads
+use Rattle.judges_log.proofs.marks.all_grow.Lts as lts
+use Rattle.judges.proofs.tests.both.Reads as both_reads
+use Rattle.judges_log.proofs.marks.grows.Reads as grows_reads
+use Rattle.judges_log.proofs.marks.all_grow.Goals as goal
+
+pub loop-k-init : goal.loop-k-init
+loop-k-init c = (omega arith, none_yet _)
+
+pub overflow_add-k : goal.overflow_add-k
+overflow_add-k c = omega arith
+
+pub loop-k-smaller : goal.loop-k-smaller
+loop-k-smaller c = omega arith
+
+pub loop-k-preserved : goal.loop-k-preserved
+loop-k-preserved c =
+    (omega arith, joined c.both-good.ensures c.loop-k.invariant.1 c.grows.ensures ∙ one_more _ _)
+
+pub returns : goal.returns
+returns c = all_tested _ c.loop-k.invariant.1 (omega arith)

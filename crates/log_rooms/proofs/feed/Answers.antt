@@ -1,0 +1,26 @@
+-- `log_rooms::feed` meets its contract: each answer crosses as it is told. Assumes nothing.
+use Rattle.session.specs.Feed.{first_status}
+use Rattle.session.specs.Answers.{first_of}
+use Prim.Native.Nat.{ℕ}
+use mathlib.Core.List.{[], ◌∷◌}
+use mathlib.Core.Path.{sym, ap, ◌∙◌}
+use borrow.Author.Rules.{rules}
+use Rattle.log_rooms.proofs.feed.Goals as goal
+
+pub returns-in-Nothing : goal.returns-in-Nothing
+returns-in-Nothing c =
+    record {
+      status = ap first_status (sym (ap first_of c.in-Nothing.is) ∙ c.feed-piece.ensures.refusal);
+      room = ap (λ (a : ℕ). a ∷ []) c.feed-piece.ensures.taken;
+      held = c.feed-piece.ensures.held;
+    }
+
+pub returns-in-Refused : goal.returns-in-Refused
+returns-in-Refused c =
+    record {
+      status =
+          c.number.ensures ∙ ap first_status
+          (sym (ap first_of c.in-Refused.is) ∙ c.feed-piece.ensures.refusal);
+      room = ap (λ (a : ℕ). a ∷ []) c.feed-piece.ensures.taken;
+      held = c.feed-piece.ensures.held;
+    }

@@ -1,0 +1,17 @@
+-- `session::stream::begin` meets its contract. Assumes nothing.
+use Rattle.session.proofs.Taking.{begins, begins_not}
+use borrow.Author.Rules.{rules}
+use Rattle.refusal.proofs.number.Reads as number_reads
+use Rattle.session.proofs.stream.make.Reads as make_reads
+use Rattle.state.proofs.edition.is_known.Reads as is_known_reads
+use Rattle.session.proofs.stream.begin.Goals as goal
+
+pub returns-then-is_known : goal.returns-then-is_known
+returns-then-is_known c =
+    -- the edition is one of the two, and the session was made
+    begins _ c.is_known.ensures c.if-is_known.true c.make.ensures
+
+pub returns : goal.returns
+returns c =
+    -- it is neither, and nothing was touched
+    begins_not _ c.is_known.ensures c.if-is_known.false c.number.ensures

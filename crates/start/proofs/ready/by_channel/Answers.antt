@@ -1,0 +1,14 @@
+-- `start::ready::by_channel` meets its contract. Assumes nothing.
+use Rattle.start.proofs.Readiness.{channels_told}
+use borrow.Author.Rules.{rules}
+use Rattle.start.proofs.ready.by_channel.Reads as reads
+use Rattle.start.proofs.ready.by_channel.Lts as lts
+use Rattle.owners.proofs.is_on.Reads as is_on_reads
+use Rattle.start.proofs.ready.own_channels.Reads as own_channels_reads
+use Rattle.start.proofs.ready.by_channel.Goals as goal
+
+pub returns : goal.returns
+returns c =
+    channels_told c.args.mine c.args.shared.now c.is_on.ensures c.is_on-2.ensures
+    c.is_on-3.ensures c.is_on-4.ensures (c.own_channels-a.ensures.value, c.own_channels-a.ensures.most) (c.own_channels-b.ensures.value, c.own_channels-b.ensures.most)
+    (c.own_channels-c.ensures.value, c.own_channels-c.ensures.most) (c.own_channels-d.ensures.value, c.own_channels-d.ensures.most)

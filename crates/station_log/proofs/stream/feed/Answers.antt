@@ -1,0 +1,72 @@
+-- `log::stream::feed` meets its contract. Assumes nothing.
+use Rattle.station_log.proofs.Feeding.{Fold, fold_begins, fold_ends, fold_refused, fold_goes, fold_records, fold_same, asked}
+use Rattle.replay.specs.Cells.{replay_in}
+use Rattle.session.specs.declared.stream.First.TheVariants.{Nothing}
+use borrow.Author.Rules.{rules}
+use lib.ListN.{length}
+use native.Mathlib.Omega.{arith}
+use Prim.Native.Nat.{◌-◌}
+use mathlib.Core.Path.{◌≡◌, refl, sym}
+use Rattle.station_log.specs.Asked.{batch}
+use Rattle.station_log.proofs.stream.feed.Goals as goal
+
+pub loop-i-init : goal.loop-i-init
+loop-i-init c = (fold_begins _ _ _ _ _ _ c.requires, (refl, search rules))
+
+pub slice_bounds-take_records-end : goal.slice_bounds-take_records-end
+slice_bounds-take_records-end c = sym c.loop-i.invariant.1.1
+
+pub take_records-records-requires : goal.take_records-records-requires
+take_records-records-requires c =
+    let loop = c.loop-i in
+    (asked _ _ _ _ _ _ _ _ loop.invariant.0, (loop.invariant.0.within, loop.invariant.1.1))
+
+pub overflow_mul-i : goal.overflow_mul-i
+overflow_mul-i c =
+    omega
+    (arith, (fold_records _ _ _ _ _ _ _ _ c.loop-i.invariant.0 _ _ _ _ _ c.if-records-gt0.true c.take_records-records.ensures.read).within)
+
+pub overflow_add-i : goal.overflow_add-i
+overflow_add-i c =
+    omega
+    (arith, (fold_records _ _ _ _ _ _ _ _ c.loop-i.invariant.0 _ _ _ _ _ c.if-records-gt0.true c.take_records-records.ensures.read).within)
+
+pub loop-i-smaller-then-records-gt0 : goal.loop-i-smaller-then-records-gt0
+loop-i-smaller-then-records-gt0 c =
+    omega (arith, c.if-records-gt0.true, c.loop-i-test.true)
+
+pub loop-i-preserved-then-records-gt0 : goal.loop-i-preserved-then-records-gt0
+loop-i-preserved-then-records-gt0 c =
+    let loop = c.loop-i in
+    let records = (c.take_records-records.ensures.read, c.take_records-records.ensures.room) in
+    (fold_records _ _ _ _ _ _ _ _ loop.invariant.0 _ _ _ _ _ c.if-records-gt0.true records.0, (loop.invariant.1.0, records.1))
+
+pub read_byte-answer-requires : goal.read_byte-answer-requires
+read_byte-answer-requires c =
+    let same = fold_same _ _ _ _ _ _ _ _ c.loop-i.invariant.0 _ _ _ _ _ c.if-records-gt0.false c.take_records-records.ensures.read in
+    (same.given, c.wide.ensures.most)
+
+pub overflow_add-i-in-loop-i : goal.overflow_add-i-in-loop-i
+overflow_add-i-in-loop-i c =
+    omega (arith, c.loop-i-test.true)
+
+pub loop-i-preserved : goal.loop-i-preserved
+loop-i-preserved c =
+    let loop = c.loop-i in
+    let records = (c.take_records-records.ensures.read, c.take_records-records.ensures.room) in
+    let byte = (c.wide.ensures.value, c.wide.ensures.most) in
+    let same = fold_same _ _ _ _ _ _ _ _ loop.invariant.0 _ _ _ _ _ c.if-records-gt0.false records.0 in (
+      fold_goes _ _ _ _ _ _ _ _ same c.loop-i-test.true _ _ _ _ _ _ _ byte.0 byte.1 c.in_default.is
+          c.read_byte-answer.ensures,
+      (loop.invariant.1.0, records.1),
+    )
+
+pub returns-after-loop-i : goal.returns-after-loop-i
+returns-after-loop-i c = fold_ends _ _ _ _ _ _ _ _ c.loop-i.invariant.0 c.loop-i-test.false _ c.loop-i.invariant.1.0
+
+pub returns-in-Refused : goal.returns-in-Refused
+returns-in-Refused c =
+    let byte = (c.wide.ensures.value, c.wide.ensures.most) in
+    let same = fold_same _ _ _ _ _ _ _ _ c.loop-i.invariant.0 _ _ _ _ _ c.if-records-gt0.false c.take_records-records.ensures.read in
+    fold_refused _ _ _ _ _ _ _ _ same c.loop-i-test.true _ _ _ _ _ _ _ _ byte.0 byte.1 c.in-Refused.is
+    c.read_byte-answer.ensures

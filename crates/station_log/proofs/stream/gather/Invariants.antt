@@ -1,0 +1,15 @@
+-- `log::stream::gather` meets its contract. Assumes nothing.
+use Prim.Native.Nat.{◌-◌, ◌≤◌}
+use mathlib.Core.Path.{◌≡◌, sym, ◌∙◌}
+use native.Mathlib.Omega.{arith}
+use lib.ListN.{length, drop}
+use borrow.Author.Rules.{rules}
+use Rattle.station_log.specs.Asked.{batch, Gathered}
+use Rattle.station_log.proofs.Records.{gathered_none}
+use Rattle.station_log.proofs.stream.gather.Given as goal
+
+abbrev pub invariant-loop-n : goal.invariant-loop-n
+invariant-loop-n l = Gathered (drop l.at l.bytes) l.n l.words × ((length l.words ≡ batch) × (l.n ≤ l.most))
+
+abbrev pub decreases-loop-n : goal.decreases-loop-n
+decreases-loop-n l = l.most - l.n

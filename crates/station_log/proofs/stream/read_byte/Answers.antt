@@ -1,0 +1,28 @@
+-- `log::stream::read_byte` meets its contract. Assumes nothing.
+use Rattle.station_log.proofs.Steps.{again, begins, goes_on, cause}
+use borrow.Author.Rules.{rules}
+use Rattle.station_log.proofs.stream.read_byte.Goals as goal
+
+pub stop_cause-requires : goal.stop_cause-requires
+stop_cause-requires c =
+    let args = c.args in
+    cause args.log.now args.marks.now args.own.now args.tallies.now args.shared.now args.byte c.requires.0
+    c.if-by-ne0.true
+
+pub returns-then-by-ne0 : goal.returns-then-by-ne0
+returns-then-by-ne0 c =
+    let args = c.args in
+    again args.log.now args.marks.now args.own.now args.tallies.now args.shared.now _ c.requires.0 _
+    c.stop_cause.ensures c.if-by-ne0.true
+
+pub returns-then-log-eq0 : goal.returns-then-log-eq0
+returns-then-log-eq0 c =
+    let args = c.args in
+    begins args.log.now args.marks.now args.own.now args.tallies.now args.shared.now _ c.requires.0 _ _
+    c.if-by-ne0.false c.if-log-eq0.true c.kind_byte.ensures
+
+pub returns : goal.returns
+returns c =
+    let args = c.args in
+    goes_on args.log.now args.marks.now args.own.now args.tallies.now args.shared.now _ c.requires.0 _ _ _ _ _ _
+    c.if-by-ne0.false c.if-log-eq0.false c.open_byte.ensures

@@ -1,0 +1,43 @@
+-- `steps::looping::settle` meets its contract: each return is the outcome as far as the tests on the way decide it. Assumes nothing.
+use native.Mathlib.Omega.{arith}
+use Rattle.group.specs.Proc.{counter_limit}
+use Rattle.group.specs.Group.{a_op, jump_address, way_of}
+use Rattle.group.specs.Cells.{position_in, group_of}
+use Rattle.stepper.proofs.Going.{gone_named, gone_masks}
+use Rattle.stepper.proofs.Stepping.{over_full, settle_over, settle_refused, settle_made}
+use borrow.Author.Rules.{rules}
+use Rattle.steps.proofs.looping.settle.Goals as goal
+
+pub over_limit-requires : goal.over_limit-requires
+over_limit-requires c = c.requires.0.size
+
+pub returns-then-over_limit : goal.returns-then-over_limit
+returns-then-over_limit c =
+    settle_over counter_limit c.args.cells.now c.args.first c.args.second c.args.slots c.args.active
+    c.args.wish c.args.jump c.requires.0 c.requires.3 c.branch_op-op.ensures
+    (over_full c.args.cells.now c.requires.3 c.args.first c.args.jump c.branch_op-op.ensures c.over_limit.ensures)
+    c.number.ensures c.if-over_limit.true
+
+pub returns-then-went-gt1 : goal.returns-then-went-gt1
+returns-then-went-gt1 c =
+    settle_refused counter_limit c.args.cells.now c.args.first c.args.second c.args.slots c.args.active
+    c.args.wish c.args.jump c.requires.0 c.requires.3 c.branch_op-op.ensures
+    (over_full c.args.cells.now c.requires.3 c.args.first c.args.jump c.branch_op-op.ensures c.over_limit.ensures)
+    c.if-over_limit.false _ _ c.go-went.ensures c.if-went-gt1.true
+
+pub branch-op-requires : goal.branch-op-requires
+branch-op-requires c =
+    let cells = c.args.cells.now in
+    let way = (way_of (a_op c.args.first) c.args.jump (position_in cells) (jump_address c.args.second)
+    (group_of cells).returns) in (
+      gone_named way c.go-went.ensures c.if-went-gt1.false c.requires.0.size,
+      omega arith,
+      gone_masks way c.go-went.ensures c.if-went-gt1.false c.args.active c.requires.3,
+    )
+
+pub returns : goal.returns
+returns c =
+    settle_made counter_limit c.args.cells.now c.args.first c.args.second c.args.slots c.args.active
+    c.args.wish c.args.jump c.requires.0 c.requires.3 c.branch_op-op.ensures
+    (over_full c.args.cells.now c.requires.3 c.args.first c.args.jump c.branch_op-op.ensures c.over_limit.ensures)
+    c.if-over_limit.false _ _ _ c.go-went.ensures c.if-went-gt1.false c.branch-op.ensures

@@ -1,0 +1,16 @@
+-- `survey::held::rows_held` meets its contract: the numbers of the rows before row j are held. Assumes nothing.
+use mathlib.Core.Path.{◌≡◌, ap}
+use mathlib.Core.Bool.{true}
+use Prim.Native.Nat.{ℕ, ◌-◌, ◌*◌, ◌/◌, ◌<◌, ◌≤◌}
+use native.Mathlib.Omega.{arith}
+use borrow.Author.Tests.{not-true, not-false}
+use Rattle.survey.specs.Rows.{domain_held}
+use Rattle.survey.proofs.Holds.{all_so_far, row_unheld, rows_so_far}
+use Rattle.survey.proofs.held.rows_held.Given as goal
+
+abbrev pub invariant-loop-j : goal.invariant-loop-j
+invariant-loop-j l =
+    (l.j ≤ l.rows) × ((k : ℕ) → k < l.j * l.columns → domain_held l.base l.tiled (l.stride / 2) l.first l.length l.x l.y l.columns k ≡ true)
+
+abbrev pub decreases-loop-j : goal.decreases-loop-j
+decreases-loop-j l = l.rows - l.j

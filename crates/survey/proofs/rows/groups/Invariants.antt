@@ -1,0 +1,22 @@
+-- `survey::rows::groups` meets its contract: before turn i, the bytes of the turns before are written and `passed` is their sum. Assumes
+-- nothing.
+use mathlib.Core.Path.{◌≡◌, ap, ◌∙◌}
+use Prim.Native.Nat.{◌+◌, ◌-◌, ◌*◌, ◌/◌, ◌≤◌}
+use mathlib.Core.Bool.{true}
+use native.Mathlib.Omega.{arith}
+use lib.ListN.{length}
+use Rattle.laws.specs.Below.{sum}
+use Rattle.conditions.specs.Spans.{span_bit, written}
+use Rattle.conditions.proofs.Written.{length_written, written_next, written_none, counted_next, none_counted, sum_few, bit_few}
+use Rattle.survey.specs.Rows.{row_byte}
+use Rattle.survey.proofs.Numbers.{place_asked, stretch_asked, same_bytes, group_of, row_few}
+use borrow.Author.Rules.{rules}
+use Rattle.survey.proofs.rows.groups.Given as goal
+
+abbrev pub invariant-loop-i : goal.invariant-loop-i
+invariant-loop-i l =
+    (l.i ≤ l.count) × (l.passed ≡ sum (4 * l.i) (row_byte l.low l.top l.outside l.memory l.base true (l.stride / 2) l.first l.x l.y)) ×
+    (l.room ≡ written l.line (row_byte l.low l.top l.outside l.memory l.base true (l.stride / 2) l.first l.x l.y) (4 * l.i) l.initial.room)
+
+abbrev pub decreases-loop-i : goal.decreases-loop-i
+decreases-loop-i l = l.count - l.i

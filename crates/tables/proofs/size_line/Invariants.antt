@@ -1,0 +1,15 @@
+-- `tables::size_line` meets its contract: before each turn, no line so far holds the size. Assumes nothing.
+use mathlib.Core.Path.{◌≡◌, sym, subst}
+use Prim.Native.Nat.{ℕ, ◌≤◌, ◌-◌}
+use native.Mathlib.Numerals.{add-one}
+use native.Mathlib.Omega.{arith}
+use borrow.Author.Rules.{rules}
+use Rattle.tables.specs.Tables.{sizes}
+use Rattle.tables.proofs.Search.{NotBefore, not_yet, not_here, found_at, nowhere}
+use Rattle.tables.proofs.size_line.Given as goal
+
+abbrev pub invariant-loop-line : goal.invariant-loop-line
+invariant-loop-line l = (l.line ≤ 5) × NotBefore l.size sizes l.line
+
+abbrev pub decreases-loop-line : goal.decreases-loop-line
+decreases-loop-line l = 5 - l.line
