@@ -68,9 +68,9 @@ def tupled(body, names):
                 last = i + 1
         parts.append(inner[last:])
         parts = [it.strip() for it in parts if it.strip()]
-        if len(parts) == len(names) and re.search(r"(=|\bin)\s*$", "=" + t[:k]):
+        if len(parts) == len(names) and re.search(r"(=|(?<!\S)in)\s*$|(?<!\S)rw [^\n]*$", "=" + t[:k]):
             return t[:k] + "record { " + "; ".join(f"{n} = {it}" for n, it in zip(names, parts)) + " }"
-    at = re.search(r"^(.*\bin\b)(?!.*\bin\b)\s*(.*)$", "in " + t, re.S)
+    at = re.search(r"^(.*(?<!\S)in(?!\S))(?!.*(?<!\S)in(?!\S))\s*(.*)$", "in " + t, re.S)
     last = at[2]
     head = at[1][3:] if at[1] != "in" else ""
     return head + f"\n    let both = {last} in record {{ " + "; ".join(f"{n} = both.{i}" for i, n in enumerate(names)) + " }"

@@ -38,18 +38,15 @@ whole_runs-requires-in_default c =
 
 pub returns-in-2 : goal.returns-in-2
 unfolding run_unit place_of pick
-returns-in-2 c = rw c.in
-    let both = -2.is (c.whole_runs.ensures.next, c.whole_runs.ensures.bytes) in record { next = both.0; bytes = both.1 }
+returns-in-2 c = rw c.in-2.is c.whole_runs.ensures
 
 pub returns-in-4 : goal.returns-in-4
 unfolding run_unit place_of pick
-returns-in-4 c = rw c.in-4.is (c.whole_runs-in-4.ensures.next, c.whole_runs-in
-    let both = -4.ensures.bytes) in record { next = both.0; bytes = both.1 }
+returns-in-4 c = rw c.in-4.is c.whole_runs-in-4.ensures
 
 pub returns-in-8 : goal.returns-in-8
 unfolding run_unit place_of pick
-returns-in-8 c = rw c.in-8.is (c.whole_runs-in-8.ensures.next, c.whole_runs-in
-    let both = -8.ensures.bytes) in record { next = both.0; bytes = both.1 }
+returns-in-8 c = rw c.in-8.is c.whole_runs-in-8.ensures
 
 pub returns-in_default : goal.returns-in_default
 unfolding run_unit place_of pick
@@ -57,4 +54,4 @@ returns-in_default c =
     let entry = c.requires in
     let other = c.in_default.in_default-own.rest in
     let is = sixteen _ entry.0.size entry.1 other.0.0.1 other.0.1 other.1 in
-    let both = rw is (c.whole_runs-in_default.ensures.next, c.whole_runs-in_default.ensures.bytes) in record { next = both.0; bytes = both.1 }
+    rw is c.whole_runs-in_default.ensures

@@ -3,9 +3,7 @@ use Rattle.std.proofs.Common.{rules}
 use Rattle.conditions.proofs.stretch.Goals as goal
 
 pub returns-then-outside : goal.returns-then-outside
-returns-then-outside c =
-    let both = rw c.if-outside.true (c.each_bit.ensures.count, c.each_bit.ensures.bytes) in record { count = both.0; bytes = both.1 }
+returns-then-outside c = rw c.if-outside.true c.each_bit.ensures
 
 pub returns-else-outside : goal.returns-else-outside
-returns-else-outside c =
-    let both = rw c.if-outside.false (c.each_bit-else-outside.ensures.count, c.each_bit-else-outside.ensures.bytes) in record { count = both.0; bytes = both.1 }
+returns-else-outside c = rw c.if-outside.false c.each_bit-else-outside.ensures

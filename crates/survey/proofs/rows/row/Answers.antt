@@ -20,13 +20,10 @@ stretch-requires c =
 
 pub returns-then-tiled : goal.returns-then-tiled
 returns-then-tiled c =
-    let both = rw c.if-tiled.true (c.tiled_row.ensures.count, c.tiled_row.ensures.bytes) in record { count = both.0; bytes = both.1 }
+    rw c.if-tiled.true c.tiled_row.ensures
 
 pub returns-else-tiled : goal.returns-else-tiled
 returns-else-tiled c =
     let args = c.args in
     let same = linear_bytes _ _ _ _ _ _ _ _ _ (rw c.if-tiled.false at c.requires.0) c.requires.1 args.low args.top args.outside args.memory.now _ c.place-at.ensures in
-    let both = rw c.if-tiled.false (
-      c.stretch.ensures.count ∙ sum_same _ _ _ same,
-      c.stretch.ensures.bytes ∙ written_same _ _ _ _ _ same,
-    ) in record { count = both.0; bytes = both.1 }
+    rw c.if-tiled.false (record { count = c.stretch.ensures.count ∙ sum_same _ _ _ same; bytes = c.stretch.ensures.bytes ∙ written_same _ _ _ _ _ same })
