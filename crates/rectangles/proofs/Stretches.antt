@@ -286,7 +286,7 @@ module _ (out tiled : Bool) (s stride at x y count line : ℕ) (source m₀ : Li
           upto = omega (arith, few.1, h)
 
           room : here + many * s ≤ room_of out (length source) (length m₀)
-          room = omega (arith, asked.line_fits, g.1.line_at_lem, add-mul i many s, mul-le-mul_right s upto)
+          room = omega (arith, asked.line_fits, g.1.line_at, add-mul i many s, mul-le-mul_right s upto)
 
       follows : (j : ℕ) → j < many → P (x + i + j) ≡ P (x + i) + j * s
       follows j hj =
@@ -304,7 +304,7 @@ module _ (out tiled : Bool) (s stride at x y count line : ℕ) (source m₀ : Li
       room_fits : here + many * s ≤ room_of out (length source) (length m₀)
       room_fits =
           let upto : i + many ≤ count = omega (arith, few.1, h) in
-          omega (arith, asked.line_fits, g.1.line_at_lem, add-mul i many s, mul-le-mul_right s upto)
+          omega (arith, asked.line_fits, g.1.line_at, add-mul i many s, mul-le-mul_right s upto)
 
       pub run_asked : StretchAsked out (at + o) here (many * s) (length source) (length m)
       run_asked =

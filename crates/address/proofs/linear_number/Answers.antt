@@ -11,7 +11,7 @@ unfolding translate_of
 returns-then-not-formed c =
     let args = c.args in
     let layout = layout_of args.base args.pitch args.height args.size false in
-    let form-told = sym c.formed.ensures ∙ not-true _ c.if-not-formed.true in
+    let form-told = sym c.formed.ensures ∙ c.if-not-formed.true in
     told_refused 3 ∙ sym (malformed layout _ (formless _ _ _ form-told))
 
 -- it is no size
@@ -20,10 +20,10 @@ unfolding translate_of
 returns-then-not-is_size c =
     let args = c.args in
     let layout = layout_of args.base args.pitch args.height args.size false in
-    let size-told = sym c.is_size.ensures ∙ not-true _ c.if-not-is_size.true in
+    let size-told = sym c.is_size.ensures ∙ c.if-not-is_size.true in
     told_refused 3 ∙ sym (malformed layout _ (sizeless_form _ _ _ size-told))
 
 pub sized-requires : goal.sized-requires
 sized-requires c =
-    let form-told = sym c.formed.ensures ∙ not-false _ c.if-not-formed.false in
-    form_at _ _ 1 _ form-told (sym c.is_size.ensures ∙ not-false _ c.if-not-is_size.false)
+    let form-told = sym c.formed.ensures ∙ c.if-not-formed.false in
+    form_at _ _ 1 _ form-told (sym c.is_size.ensures ∙ c.if-not-is_size.false)

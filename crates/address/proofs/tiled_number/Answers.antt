@@ -13,33 +13,33 @@ unfolding translate_of
 returns-then-not-formed c =
     let args = c.args in
     let layout = layout_of args.base args.pitch args.height args.size true in
-    let form-told = sym c.formed.ensures ∙ not-true _ c.if-not-formed.true in
+    let form-told = sym c.formed.ensures ∙ c.if-not-formed.true in
     told_refused 3 ∙ sym (malformed layout _ (formless _ _ _ form-told))
 
 pub tiled_1-requires : goal.tiled_1-requires
 unfolding is_size place_of
 tiled_1-requires c =
-    form_at _ _ 1 _ (sym c.formed.ensures ∙ not-false _ c.if-not-formed.false) refl
+    form_at _ _ 1 _ (sym c.formed.ensures ∙ c.if-not-formed.false) refl
 
 pub tiled_2-requires : goal.tiled_2-requires
 unfolding is_size place_of
 tiled_2-requires c =
-    form_at _ _ 1 _ (sym c.formed.ensures ∙ not-false _ c.if-not-formed.false) refl
+    form_at _ _ 1 _ (sym c.formed.ensures ∙ c.if-not-formed.false) refl
 
 pub tiled_4-requires : goal.tiled_4-requires
 unfolding is_size place_of
 tiled_4-requires c =
-    form_at _ _ 1 _ (sym c.formed.ensures ∙ not-false _ c.if-not-formed.false) refl
+    form_at _ _ 1 _ (sym c.formed.ensures ∙ c.if-not-formed.false) refl
 
 pub tiled_8-requires : goal.tiled_8-requires
 unfolding is_size place_of
 tiled_8-requires c =
-    form_at _ _ 1 _ (sym c.formed.ensures ∙ not-false _ c.if-not-formed.false) refl
+    form_at _ _ 1 _ (sym c.formed.ensures ∙ c.if-not-formed.false) refl
 
 pub tiled_16-requires : goal.tiled_16-requires
 unfolding is_size place_of
 tiled_16-requires c =
-    form_at _ _ 1 _ (sym c.formed.ensures ∙ not-false _ c.if-not-formed.false) refl
+    form_at _ _ 1 _ (sym c.formed.ensures ∙ c.if-not-formed.false) refl
 
 pub returns-in-1 : goal.returns-in-1
 returns-in-1 c =

@@ -39,11 +39,11 @@ returns-then-not-all_held c =
     let m = args.memory.now in
     answers_refused _ _ _ _
     (not_held l args.test args.v args.first m args.i0 args.j0 args.i1 args.j1 _ c.requires.domain
-    (sym (same_held _ _ _ _ _ _ _ _ _ _ _ c.requires args.first (length m)) ∙ sym c.all_held.ensures ∙ not-true _ c.if-not-all_held.true))
+    (sym (same_held _ _ _ _ _ _ _ _ _ _ _ c.requires args.first (length m)) ∙ sym c.all_held.ensures ∙ c.if-not-all_held.true))
 
 pub rows-requires : goal.rows-requires
 rows-requires c = (
-  rows_asked _ _ _ _ _ _ _ _ _ _ _ c.requires _ _ (sym c.all_held.ensures ∙ not-false _ c.if-not-all_held.false),
+  rows_asked _ _ _ _ _ _ _ _ _ _ _ c.requires _ _ (sym c.all_held.ensures ∙ c.if-not-all_held.false),
   omega arith,
 )
 
@@ -55,7 +55,7 @@ returns c =
     let l = layout_of args.base args.pitch args.height 2 args.tiled in
     let m = args.memory.now in
     let few : (i : ℕ) → get_or m i 0 < 256 = λ i. omega (arith, c.shared_slice_known-1.given i) in
-    let held = sym (same_held _ _ _ _ _ _ _ _ _ _ _ asked args.first (length m)) ∙ sym c.all_held.ensures ∙ not-false _ c.if-not-all_held.false in
+    let held = sym (same_held _ _ _ _ _ _ _ _ _ _ _ asked args.first (length m)) ∙ sym c.all_held.ensures ∙ c.if-not-all_held.false in
     let same = same_byte _ _ _ _ _ _ _ _ _ _ _ asked args.test args.v _ _ _ args.first m c.span_of-passing.ensures few in
     let many = pairs_are _ _ _ _ _ _ _ _ _ _ _ asked in
     let bit = bit_at l args.test args.v args.first m args.i0 args.j0 args.i1 args.j1 in

@@ -7,18 +7,18 @@ use Rattle.line_writer.proofs.place.Goals as goal
 
 -- the command isn't accepted
 pub returns-then-not-fits : goal.returns-then-not-fits
-returns-then-not-fits c command same words = unfit command _ _ same (not-true _ c.if-not-fits.true)
+returns-then-not-fits c command same words = unfit command _ _ same c.if-not-fits.true
 
 -- the room is too short
 pub returns-then-room-count : goal.returns-then-room-count
 returns-then-room-count c command same words =
     let a = c.args in
-    short command _ _ same (not-false _ c.if-not-fits.false) _ words
+    short command _ _ same c.if-not-fits.false _ words
     (let n = counted a.count a.header a.p0 a.p1 a.p2 a.p3 c.requires.1 in omega arith)
 
 -- the words are stored
 pub returns : goal.returns
 returns c command same words =
     let a = c.args in
-    stored command _ _ same (not-false _ c.if-not-fits.false) _ words _ _ (counted a.count a.header a.p0 a.p1 a.p2 a.p3 c.requires.1)
+    stored command _ _ same c.if-not-fits.false _ words _ _ (counted a.count a.header a.p0 a.p1 a.p2 a.p3 c.requires.1)
     (omega arith) c.put.ensures

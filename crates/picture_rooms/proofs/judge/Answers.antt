@@ -13,30 +13,30 @@ use Rattle.picture_rooms.proofs.judge.Goals as goal
 pub returns-then-not-within : goal.returns-then-not-within
 returns-then-not-within c =
     let taken = taken_so _ _ _ (sym c.judge.ensures ∙ ap told_judged c.in-Accepted.is) in
-    returns_10 _ _ _ _ _ _ _ _ _ _ taken (sym c.within.ensures ∙ not-true _ c.if-not-within.true)
+    returns_10 _ _ _ _ _ _ _ _ _ _ taken (sym c.within.ensures ∙ c.if-not-within.true)
 
 pub overflow_mul-bytes : goal.overflow_mul-bytes
 overflow_mul-bytes c =
     let taken = taken_so _ _ _ (sym c.judge.ensures ∙ ap told_judged c.in-Accepted.is) in
-    omega (arith, pairs_few _ taken.accepted _ _ _ _ _ taken.step_is (sym c.within.ensures ∙ not-false _ c.if-not-within.false))
+    omega (arith, pairs_few _ taken.accepted _ _ _ _ _ taken.step_is (sym c.within.ensures ∙ c.if-not-within.false))
 
 pub overflow_mul-bytes-in-Accepted : goal.overflow_mul-bytes-in-Accepted
 overflow_mul-bytes-in-Accepted c =
     let taken = taken_so _ _ _ (sym c.judge.ensures ∙ ap told_judged c.in-Accepted.is) in
-    omega (arith, bytes_few _ taken.accepted _ _ _ _ _ taken.step_is (sym c.within.ensures ∙ not-false _ c.if-not-within.false))
+    omega (arith, bytes_few _ taken.accepted _ _ _ _ _ taken.step_is (sym c.within.ensures ∙ c.if-not-within.false))
 
 -- the room is of another length
 pub returns-then-room-bytes : goal.returns-then-room-bytes
 returns-then-room-bytes c =
     let taken = taken_so _ _ _ (sym c.judge.ensures ∙ ap told_judged c.in-Accepted.is) in
-    returns_length _ _ _ _ _ _ _ _ _ _ taken (sym c.within.ensures ∙ not-false _ c.if-not-within.false) (λ e. c.if-room-bytes.true e)
+    returns_length _ _ _ _ _ _ _ _ _ _ taken (sym c.within.ensures ∙ c.if-not-within.false) (λ e. c.if-room-bytes.true e)
 
 -- memory doesn't cover the span
 pub returns-then-not-covers : goal.returns-then-not-covers
 returns-then-not-covers c =
     let taken = taken_so _ _ _ (sym c.judge.ensures ∙ ap told_judged c.in-Accepted.is) in
-    returns_uncovered _ _ _ _ _ _ _ _ _ _ taken (sym c.within.ensures ∙ not-false _ c.if-not-within.false)
-    (sym c.covers.ensures ∙ not-true _ c.if-not-covers.true)
+    returns_uncovered _ _ _ _ _ _ _ _ _ _ taken (sym c.within.ensures ∙ c.if-not-within.false)
+    (sym c.covers.ensures ∙ c.if-not-covers.true)
 
 -- the layout is refused
 pub returns-in-Refused : goal.returns-in-Refused
@@ -48,5 +48,5 @@ returns-in-Refused c =
 pub returns-else-not-covers : goal.returns-else-not-covers
 returns-else-not-covers c =
     let taken = taken_so _ _ _ (sym c.judge.ensures ∙ ap told_judged c.in-Accepted.is) in
-    returns_fine _ _ _ _ _ _ _ _ _ _ taken (sym c.within.ensures ∙ not-false _ c.if-not-within.false) c.if-room-bytes.false
-    (sym c.covers.ensures ∙ not-false _ c.if-not-covers.false)
+    returns_fine _ _ _ _ _ _ _ _ _ _ taken (sym c.within.ensures ∙ c.if-not-within.false) c.if-room-bytes.false
+    (sym c.covers.ensures ∙ c.if-not-covers.false)

@@ -17,7 +17,7 @@ returns-then-not-row_within c =
     let args = c.args in
     let taken = taken_so (layout_of args.base args.pitch args.height args.size args.tiled) _ _
     (sym c.judge.ensures ∙ ap told_judged c.in-Accepted.is) in
-    row_outside _ _ _ taken _ _ _ (sym c.row_within.ensures ∙ not-true _ c.if-not-row_within.true)
+    row_outside _ _ _ taken _ _ _ (sym c.row_within.ensures ∙ c.if-not-row_within.true)
 
 pub overflow_mul-step : goal.overflow_mul-step
 overflow_mul-step c =
@@ -31,7 +31,7 @@ addresses-requires c =
     let args = c.args in
     let taken = taken_so (layout_of args.base args.pitch args.height args.size args.tiled) _ _
     (sym c.judge.ensures ∙ ap told_judged c.in-Accepted.is) in
-    asks _ _ _ taken _ _ args.addresses.now (sym c.row_within.ensures ∙ not-false _ c.if-not-row_within.false) c.if-addresses-gt0.true
+    asks _ _ _ taken _ _ args.addresses.now (sym c.row_within.ensures ∙ c.if-not-row_within.false) c.if-addresses-gt0.true
 
 -- the layout is refused
 pub returns-in-Refused : goal.returns-in-Refused
@@ -46,7 +46,7 @@ returns-then-addresses-gt0 c =
     let args = c.args in
     let taken = taken_so (layout_of args.base args.pitch args.height args.size args.tiled) _ _
     (sym c.judge.ensures ∙ ap told_judged c.in-Accepted.is) in
-    row_done _ _ _ taken _ _ _ (sym c.row_within.ensures ∙ not-false _ c.if-not-row_within.false) _ c.addresses.ensures
+    row_done _ _ _ taken _ _ _ (sym c.row_within.ensures ∙ c.if-not-row_within.false) _ c.addresses.ensures
 
 -- no places in the room
 pub returns-else-addresses-gt0 : goal.returns-else-addresses-gt0
@@ -54,4 +54,4 @@ returns-else-addresses-gt0 c =
     let args = c.args in
     let taken = taken_so (layout_of args.base args.pitch args.height args.size args.tiled) _ _
     (sym c.judge.ensures ∙ ap told_judged c.in-Accepted.is) in
-    row_empty _ _ _ taken _ _ _ (sym c.row_within.ensures ∙ not-false _ c.if-not-row_within.false) (omega (arith, c.if-addresses-gt0.false))
+    row_empty _ _ _ taken _ _ _ (sym c.row_within.ensures ∙ c.if-not-row_within.false) (omega (arith, c.if-addresses-gt0.false))

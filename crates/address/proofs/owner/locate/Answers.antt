@@ -13,14 +13,14 @@ unfolding locate_of
 returns-then-not-formed c =
     let args = c.args in
     let layout = layout_of args.base args.pitch args.height args.size args.tiled in
-    let form-told = sym c.formed.ensures ∙ not-true _ c.if-not-formed.true in
+    let form-told = sym c.formed.ensures ∙ c.if-not-formed.true in
     crosses_refuses _ _ _ _ refl (malformed layout _ (formless _ _ _ form-told))
 
 pub tiled_owner-requires : goal.tiled_owner-requires
-tiled_owner-requires c = sym c.formed.ensures ∙ not-false _ c.if-not-formed.false
+tiled_owner-requires c = sym c.formed.ensures ∙ c.if-not-formed.false
 
 pub linear_owner-requires : goal.linear_owner-requires
-linear_owner-requires c = sym c.formed.ensures ∙ not-false _ c.if-not-formed.false
+linear_owner-requires c = sym c.formed.ensures ∙ c.if-not-formed.false
 
 pub returns-then-tiled : goal.returns-then-tiled
 returns-then-tiled c =

@@ -12,12 +12,12 @@ back-pair-requires c = c.requires.asked c.if-stride-lt1.false
 
 pub returns-then-height-pair : goal.returns-then-height-pair
 returns-then-height-pair c =
-    let told = (c.back-pair.ensures.column, c.back-pair.ensures.row) in
-    crosses_refuses _ _ _ _ refl (owner_past _ _ _ _ _ c.if-stride-lt1.false _ _ told.0 told.1 c.if-height-pair.true)
+    let told = c.back-pair.ensures in
+    crosses_refuses _ _ _ _ refl (owner_past _ _ _ _ _ c.if-stride-lt1.false _ _ told.column told.row c.if-height-pair.true)
 
 pub returns : goal.returns
 returns c =
-    let told = (c.back-pair.ensures.column, c.back-pair.ensures.row) in
+    let told = c.back-pair.ensures in
     let place-told = c.byte_place.ensures in
     crosses_gives _ _ _
-    (owner_found _ _ _ _ _ c.if-stride-lt1.false _ _ told.0 told.1 _ place-told c.if-height-pair.false)
+    (owner_found _ _ _ _ _ c.if-stride-lt1.false _ _ told.column told.row _ place-told c.if-height-pair.false)

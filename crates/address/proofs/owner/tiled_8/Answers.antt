@@ -18,5 +18,5 @@ returns c =
     let stride-told = c.window_stride-stride.ensures in
     let apart = c.distance-o in
     crosses_same
-    (owned layout c.requires _ stride-told _ _ (omega (arith, apart.type-inv)) c.ranges.base.fits apart.ensures)
+    (owned layout c.requires _ stride-told _ _ (omega (arith, apart.type_inv)) c.ranges.base.fits apart.ensures)
     c.owner.ensures

@@ -16,7 +16,7 @@ overflow_add-first c = omega (arith, c.requires.tiles_most, c.loop-k-test.true)
 pub tile_row-requires : goal.tile_row-requires
 tile_row-requires c =
     one_tile _ _ _ _ _ _ _ _ _ c.requires _ _ _ c.loop-k-test.true
-    c.loop-k.invariant.1.long c.loop-k.invariant.1.line_at_lem
+    c.loop-k.invariant.1.long c.loop-k.invariant.1.line_at
 
 pub overflow_mul-at : goal.overflow_mul-at
 overflow_mul-at c =
@@ -25,7 +25,7 @@ overflow_mul-at c =
 pub overflow_add-at : goal.overflow_add-at
 overflow_add-at c =
     line_small _ _ _ _ _ _ _ _ _ c.requires _ _
-    c.loop-k-test.true c.loop-k.invariant.1.line_at_lem
+    c.loop-k-test.true c.loop-k.invariant.1.line_at
 
 pub overflow_add-k : goal.overflow_add-k
 overflow_add-k c =

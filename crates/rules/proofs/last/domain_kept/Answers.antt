@@ -1,5 +1,6 @@
 -- `rules::last::domain_kept` meets its contract: a domain by its ends, any other command by the definition.
 -- Assumes nothing.
+use borrow.Enum.Refused.{opened}
 use borrow.Author.Rules.{rules}
 use Rattle.rules.proofs.Rule.{domain_ordered, domain_crossed, domain_other}
 use Rattle.rules.proofs.last.domain_kept.Goals as goal
@@ -11,4 +12,4 @@ pub returns-else-i0-i1 : goal.returns-else-i0-i1
 returns-else-i0-i1 c = domain_crossed _ _ _ _ _ c.in-Domain.is c.if-i0-i1.false
 
 pub returns-in_default : goal.returns-in_default
-returns-in_default c = domain_other c.args.command c.in_default.in_default-own.keys2
+returns-in_default c = domain_other c.args.command (opened c.in_default.in_default-own.keys2)

@@ -38,8 +38,8 @@ loop-i-smaller-then-records-gt0 c =
 pub loop-i-preserved-then-records-gt0 : goal.loop-i-preserved-then-records-gt0
 loop-i-preserved-then-records-gt0 c =
     let loop = c.loop-i in
-    let records = (c.take_records-records.ensures.read, c.take_records-records.ensures.room) in
-    (fold_records _ _ _ _ _ _ _ _ loop.invariant.0 _ _ _ _ _ c.if-records-gt0.true records.0, (loop.invariant.1.0, records.1))
+    let records = c.take_records-records.ensures in
+    (fold_records _ _ _ _ _ _ _ _ loop.invariant.0 _ _ _ _ _ c.if-records-gt0.true records.read, (loop.invariant.1.0, records.room))
 
 pub read_byte-answer-requires : goal.read_byte-answer-requires
 read_byte-answer-requires c =
@@ -53,12 +53,12 @@ overflow_add-i-in-loop-i c =
 pub loop-i-preserved : goal.loop-i-preserved
 loop-i-preserved c =
     let loop = c.loop-i in
-    let records = (c.take_records-records.ensures.read, c.take_records-records.ensures.room) in
-    let byte = (c.wide.ensures.value, c.wide.ensures.most) in
-    let same = fold_same _ _ _ _ _ _ _ _ loop.invariant.0 _ _ _ _ _ c.if-records-gt0.false records.0 in (
-      fold_goes _ _ _ _ _ _ _ _ same c.loop-i-test.true _ _ _ _ _ _ _ byte.0 byte.1 c.in_default.is
+    let records = c.take_records-records.ensures in
+    let byte = c.wide.ensures in
+    let same = fold_same _ _ _ _ _ _ _ _ loop.invariant.0 _ _ _ _ _ c.if-records-gt0.false records.read in (
+      fold_goes _ _ _ _ _ _ _ _ same c.loop-i-test.true _ _ _ _ _ _ _ byte.value byte.most c.in_default.is
           c.read_byte-answer.ensures,
-      (loop.invariant.1.0, records.1),
+      (loop.invariant.1.0, records.room),
     )
 
 pub returns-after-loop-i : goal.returns-after-loop-i
@@ -66,7 +66,7 @@ returns-after-loop-i c = fold_ends _ _ _ _ _ _ _ _ c.loop-i.invariant.0 c.loop-i
 
 pub returns-in-Refused : goal.returns-in-Refused
 returns-in-Refused c =
-    let byte = (c.wide.ensures.value, c.wide.ensures.most) in
+    let byte = c.wide.ensures in
     let same = fold_same _ _ _ _ _ _ _ _ c.loop-i.invariant.0 _ _ _ _ _ c.if-records-gt0.false c.take_records-records.ensures.read in
-    fold_refused _ _ _ _ _ _ _ _ same c.loop-i-test.true _ _ _ _ _ _ _ _ byte.0 byte.1 c.in-Refused.is
+    fold_refused _ _ _ _ _ _ _ _ same c.loop-i-test.true _ _ _ _ _ _ _ _ byte.value byte.most c.in-Refused.is
     c.read_byte-answer.ensures

@@ -30,7 +30,7 @@ shape_of-words-then-n-gt0 c =
 
 pub returns-then-n-gt0 : goal.returns-then-n-gt0
 returns-then-n-gt0 c =
-    let gathered = (c.gather-n.ensures.gathered, c.gather-n.ensures.room) in record { read = records_left _ _ _ _ _ _ _ _ _ _ _ (record { running = c.if-log-ne0.false; unopened = c.if-log-ne0-2.false }) gathered.0 c.take_words.ensures; room = gathered.1 }
+    let gathered = c.gather-n.ensures in record { read = records_left _ _ _ _ _ _ _ _ _ _ _ (record { running = c.if-log-ne0.false; unopened = c.if-log-ne0-2.false }) gathered.gathered c.take_words.ensures; room = gathered.room }
 
 pub shape_of-words-else-n-gt0 : goal.shape_of-words-else-n-gt0
 shape_of-words-else-n-gt0 c =

@@ -1,4 +1,5 @@
 -- `log::stream::take_word` meets its contract. Assumes nothing.
+use borrow.Enum.Refused.{opened}
 use Rattle.station_log.proofs.Steps.{word_fine, word_noted}
 use borrow.Author.Rules.{rules}
 use Rattle.station_log.proofs.stream.take_word.Goals as goal
@@ -11,4 +12,4 @@ returns-in-Refused c =
 pub returns-in_default : goal.returns-in_default
 returns-in_default c =
     word_fine _ _ _ _ _ _ _ _ _ c.requires.session_given c.word-answer.result c.word-answer.ensures c.close.ensures
-    c.in_default.in_default-own.keys2
+    (opened c.in_default.in_default-own.keys2)

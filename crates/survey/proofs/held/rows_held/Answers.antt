@@ -30,7 +30,7 @@ row_held-requires c =
 -- a row that isn't held
 pub returns-then-not-row_held : goal.returns-then-not-row_held
 returns-then-not-row_held c =
-    row_unheld _ _ _ _ _ _ _ _ c.requires.1 _ _ c.loop-j-test.true _ c.row_held.ensures (not-true _ c.if-not-row_held.true)
+    row_unheld _ _ _ _ _ _ _ _ c.requires.1 _ _ c.loop-j-test.true _ c.row_held.ensures c.if-not-row_held.true
 
 pub overflow_add-j : goal.overflow_add-j
 overflow_add-j c = omega (arith, c.loop-j-test.true)
@@ -41,7 +41,7 @@ loop-j-smaller c = omega (arith, c.loop-j-test.true)
 pub loop-j-preserved : goal.loop-j-preserved
 loop-j-preserved c = (
   omega (arith, c.loop-j-test.true),
-  rows_so_far _ _ _ _ _ _ _ _ c.requires.1 _ _ c.row_held.ensures (not-false _ c.if-not-row_held.false) c.loop-j.invariant.1,
+  rows_so_far _ _ _ _ _ _ _ _ c.requires.1 _ _ c.row_held.ensures c.if-not-row_held.false c.loop-j.invariant.1,
 )
 
 -- all rows
