@@ -24,7 +24,7 @@ use Rattle.state.specs.Effects.{own_after, after, limit}
 use Rattle.session.specs.Step.{Reply, still_open, completed, refused, Stepped, start_rule_of, step_of}
 use Rattle.state.specs.Valid.{Valid}
 use Rattle.session.specs.Again.{fed, at_word}
-use Rattle.accept.specs.Whole.{Ready, most_words, Tried, untaken, accepted as taken_whole, Begun, begun, unbegun}
+use Rattle.accept.specs.Whole.{Ready, most_words, every_word, Tried, untaken, accepted as taken_whole, Begun, begun, unbegun}
 use Rattle.session.specs.Feed.{First, nothing, first, onward, ended, proceed, feed_of, joined}
 use Rattle.session.specs.Feed as piece
 use Rattle.session.specs.Answers.{PieceLeft}
@@ -107,8 +107,11 @@ pub begun_there : (ws l t c : List ℕ) (j i m : ℕ) (l1 t1 c1 : List ℕ) → 
 begun_there ws l t c j i m l1 t1 c1 b = subst (λ (x : List ℕ). Begun x l t c m l1 t1 c1) (sym (drop-drop i j ws)) b
 
 pub begun_most : (ws l t c : List ℕ) (m : ℕ) (l1 t1 c1 : List ℕ) → Begun ws l t c m l1 t1 c1 → m ≤ most_words
-begun_most ws l t c m l1 t1 c1 (begun x m2 l2 t2 c2 (untaken d)) = omega arith
-begun_most ws l t c m l1 t1 c1 (begun x m2 l2 t2 c2 (taken_whole later l3 t3 c3 begins fine own rule held)) = (words_most x).1
+begun_most ws l t c m l1 t1 c1 (begun x m2 l2 t2 c2 tried) = go x m2 tried
+  where
+    go : (x : Command) (m : ℕ) → {l1 t1 c1 : List ℕ} → Tried x ws (every_word x) l t c m l1 t1 c1 → m ≤ most_words
+    go x m (untaken d) = omega arith
+    go x m (taken_whole later l3 t3 c3 begins fine own rule held) = (words_most x).1
 begun_most ws l t c m l1 t1 c1 (unbegun d) = omega arith
 
 drop_front : (xs ys : List ℕ) → drop (length xs) (xs ++ ys) ≡ ys

@@ -2,11 +2,11 @@
 // settings, so that a start only reads it.
 ghost use Rattle.std.specs.Prelude.{◌≡◌, true, [], ◌%◌, ◌^◌, ◌<◌, ◌≤◌, length};
 ghost use Rattle.laws.specs.Choice.{◌and◌, pick};
-ghost use Rattle.laws.specs.Masks.{digit as digitOf};
+ghost use Rattle.laws.specs.Masks.{digit as digit_of};
 ghost use Rattle.command.specs.Format.{channels_of};
 ghost use Rattle.state.specs.Cells.{buffer_at, party_of, party_cells, shared_of, own_length, shared_length};
 ghost use Rattle.state.specs.Effects.{renewed, window_from};
-ghost use Rattle.state.specs.Readiness.{lesser as lesserOf};
+ghost use Rattle.state.specs.Readiness.{lesser as lesser_of};
 ghost use Rattle.state.specs.Seen.{seen_outputs};
 ghost use Rattle.state.specs.Start.{unmasked};
 ghost use Rattle.start.specs.Gauge.{RenewAsked, settled};
@@ -185,14 +185,14 @@ fn each_apart(a: Output, b: Output, c: Output, d: Output) -> bool
 
 // 1 for yes, 0 for no.
 fn digit(yes: bool) -> u32
-    ensures value { result ≡ digitOf yes }
+    ensures value { result ≡ digit_of yes }
     ensures most { result ≤ 1 }
 {
     if yes { 1 } else { 0 }
 }
 
 fn lesser(a: u32, b: u32) -> u32
-    ensures { result ≡ lesserOf a b }
+    ensures { result ≡ lesser_of a b }
 {
     if a < b { a } else { b }
 }
