@@ -9,7 +9,7 @@ use Rattle.conditional.proofs.test.Goals as goal
 pub returns-then-not-buffer : goal.returns-then-not-buffer
 unfolding test_of
 returns-then-not-buffer c =
-    sym (buffer_unset _ _ c.conditional-buffer.ensures _ c.if-not-buffer.true)
+    sym (buffer_unset _ _ c.conditional-buffer.ensures _ (not-true _ c.if-not-buffer.true))
 
 pub returns-then-not-has_test : goal.returns-then-not-has_test
 unfolding test_of
@@ -21,14 +21,14 @@ pub returns-then-code-ne-UINT16_1 : goal.returns-then-code-ne-UINT16_1
 unfolding test_of
 returns-then-code-ne-UINT16_1 c =
     let same = c.conditional-buffer.ensures in
-    let set = c.if-not-buffer.false in
+    let set = not-false _ c.if-not-buffer.false in
     let tests = c.if-not-has_test.false in
     sym (other_format _ _ same _ c.has_test.ensures set tests _ c.code.ensures _ c.if-code-ne-UINT16_1.true)
 
 pub returns : goal.returns
 returns c =
     let same = c.conditional-buffer.ensures in
-    let set = c.if-not-buffer.false in
+    let set = not-false _ c.if-not-buffer.false in
     let tests = c.if-not-has_test.false in
     tested_so _ _ same _ _ _ c.pitch.ensures c.tiled.ensures c.test.ensures _ _ _ _
     c.args.memory.now _ (λ t. ready _ _ same _ c.has_test.ensures set tests _ c.code.ensures t c.if-code-ne-UINT16_1.false) c.pair_of.ensures
