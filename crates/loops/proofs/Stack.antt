@@ -8,11 +8,11 @@ use native.Mathlib.Omega.{arith}
 use lib.Dec.{eqb, leb, ltb}
 use lib.ListN.{length, get_or}
 use borrow.Author.Tests.{leb-true, leb-false, ltb-true, ltb-false, eqb-false, lt-ltb, le-ltb, le-leb, lt-leb, eq-eqb, ne_eqb}
-use Rattle.laws.specs.Choice.{◌and◌, pick}
+use Rattle.laws.specs.Choice.{pick}
 use Rattle.laws.specs.Masks.{digit}
 use Rattle.laws.proofs.Choice.{Tested, holds, fails, tested, pick_yes, pick_no, and_left, and_right, and_intro, by_pick}
 use Rattle.loops.specs.declared.Turned.{Turned}
-use Rattle.loops.specs.Loops.{Opened, Looping, Repeating, Turn, Turns, NoRoom, NoWord, field, entry_of, entering, opening, no_word, word_at, loop_told, places_told, loops_told, kind_at, stays, moved_to, closing, turn_of, shown_aL, loop_cell, loop_at, loops_in, loops_of, cell_at, is_opened, are_opened, Held, turned}
+use Rattle.loops.specs.Loops.{Opened, Looping, Repeating, Turn, Turns, NoRoom, NoWord, field, entry_of, entering, opening, no_word, word_at, loop_told, places_told, loops_told, kind_at, stays, moved_to, closing, turn_of, shown_aL, loop_cell, loops_in, loops_of, cell_at, is_opened, are_opened, Held, turned}
 
 -- the bounds of an open loop
 pub record Bounds (n al step : ℕ) : Type 0 where

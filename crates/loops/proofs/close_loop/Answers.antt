@@ -3,7 +3,6 @@ use mathlib.Core.Path.{sym, ◌∙◌}
 use native.Mathlib.Omega.{arith}
 use Rattle.loops.specs.Loops.{loops_of}
 use Rattle.loops.proofs.Stack.{loop_none, some_turn, loop_last, loop_out, loop_again}
-use borrow.Author.Rules.{rules}
 use Rattle.loops.proofs.close_loop.Goals as goal
 
 -- no LOOP is the innermost

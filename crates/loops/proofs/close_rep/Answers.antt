@@ -1,7 +1,6 @@
 -- `loops::close_rep` meets its contract: each return is the turn as far as the tests on the way decide it. Assumes nothing.
 use Rattle.loops.specs.Loops.{loops_of}
 use Rattle.loops.proofs.Stack.{rep_none, rep_other, rep_last, rep_again}
-use borrow.Author.Rules.{rules}
 use Rattle.loops.proofs.close_rep.Goals as goal
 
 -- none is open

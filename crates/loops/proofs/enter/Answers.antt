@@ -1,7 +1,6 @@
 -- `loops::enter` meets its contract: each return is the turn as far as the tests on the way decide it. Assumes nothing.
 use Rattle.loops.specs.Loops.{loops_of}
 use Rattle.loops.proofs.Stack.{open_past, open_full, open_more}
-use borrow.Author.Rules.{rules}
 use Rattle.loops.proofs.enter.Goals as goal
 
 -- no turn to make

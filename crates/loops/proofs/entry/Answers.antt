@@ -3,7 +3,6 @@ use mathlib.Core.Path.{sym, ap, ◌∙◌}
 use mathlib.Core.Bool.{Bool}
 use Rattle.loops.specs.Loops.{loop_cell, entry_of}
 use Rattle.loops.proofs.Stack.{entry_loop, entry_rep}
-use borrow.Author.Rules.{rules}
 use Rattle.loops.proofs.entry.Goals as goal
 
 -- a LOOP

@@ -5,7 +5,6 @@ use borrow.Author.Tests.{lt-ltb, le-ltb}
 use Rattle.laws.proofs.Choice.{pick_yes, pick_no}
 use Rattle.loops.specs.Loops.{moved_to}
 use Rattle.loops.proofs.Stack.{stays_up, stays_down}
-use borrow.Author.Rules.{rules}
 use Rattle.loops.proofs.moved.Goals as goal
 
 pub returns-then-step-lt-NEGATIVE : goal.returns-then-step-lt-NEGATIVE

@@ -3,7 +3,6 @@ use mathlib.Core.Path.{sym, ap, ◌∙◌}
 use native.Mathlib.Omega.{arith}
 use Rattle.loops.specs.Loops.{loops_of, turned}
 use Rattle.loops.proofs.Stack.{word_bad, word_good}
-use borrow.Author.Rules.{rules}
 use Rattle.loops.proofs.open.Goals as goal
 
 -- the word is allowed

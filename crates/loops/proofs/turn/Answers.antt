@@ -4,7 +4,6 @@ use mathlib.Core.Bool.{Bool}
 use borrow.Author.Tests.{eq-eqb, ne_eqb}
 use Rattle.laws.proofs.Choice.{pick_yes, pick_no}
 use Rattle.loops.specs.Loops.{loops_of, turned, closing, turn_of}
-use borrow.Author.Rules.{rules}
 use Rattle.loops.proofs.turn.Goals as goal
 
 -- LOOP

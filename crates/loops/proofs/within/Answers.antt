@@ -3,7 +3,6 @@ use mathlib.Core.Path.{sym}
 use borrow.Author.Tests.{lt-ltb, le-ltb}
 use Rattle.laws.proofs.Choice.{pick_yes, pick_no}
 use Rattle.loops.specs.Loops.{stays}
-use borrow.Author.Rules.{rules}
 use Rattle.loops.proofs.within.Goals as goal
 
 pub returns-then-step-lt-NEGATIVE : goal.returns-then-step-lt-NEGATIVE

@@ -1,6 +1,5 @@
 -- `loops::word_at` meets its contract: the word at the number, or none. Assumes nothing.
 use Rattle.loops.proofs.Stack.{word_there, word_none}
-use borrow.Author.Rules.{rules}
 use Rattle.loops.proofs.word_at.Goals as goal
 
 -- the list has the word

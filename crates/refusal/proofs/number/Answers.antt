@@ -1,6 +1,5 @@
 -- `refusal::number` meets its contract: each arm by the definition at that variant. Assumes nothing.
 use mathlib.Core.Path.{sym, ap}
-use borrow.Author.Rules.{rules}
 use Rattle.refusal.specs.Number.{number_of}
 use Rattle.refusal.proofs.number.Goals as goal
 

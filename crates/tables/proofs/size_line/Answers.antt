@@ -1,9 +1,7 @@
 -- `tables::size_line` meets its contract: before each turn, no line so far holds the size. Assumes nothing.
 use mathlib.Core.Path.{◌≡◌, sym, subst}
-use Prim.Native.Nat.{ℕ, ◌≤◌, ◌-◌}
 use native.Mathlib.Numerals.{add-one}
 use native.Mathlib.Omega.{arith}
-use borrow.Author.Rules.{rules}
 use Rattle.tables.specs.Tables.{sizes}
 use Rattle.tables.proofs.Search.{NotBefore, not_yet, not_here, found_at, nowhere}
 use Rattle.tables.proofs.size_line.Goals as goal

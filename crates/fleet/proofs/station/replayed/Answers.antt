@@ -14,5 +14,5 @@ feed-requires c =
 pub returns : goal.returns
 returns c =
     let args = c.args in
-    replayed_month _ c.requires c.begin.ensures (lease_line args.first_day_lem args.days args.owed) args.bytes.now
+    replayed_month _ c.requires c.begin.ensures (lease_line args.first_day args.days args.owed) args.bytes.now
     c.feed.ensures c.summed.ensures
