@@ -1,22 +1,22 @@
 -- Request 7, proved once over the counter limit: what the two modes make of one state. Whatever partial mode accepts, full mode answers alike,
 -- and what full mode accepts and partial mode refuses has one of three causes, of a step; proofs/Firsts.antt has runs. Assumes nothing.
-use mathlib.Core.Path.{◌≡◌, refl, sym, ap, ◌∙◌, subst}
+use mathlib.Core.Path.{◌≡◌, refl, sym, ◌∙◌, subst}
 use mathlib.Core.Logic.{◌⊎◌, inl, inr}
 use mathlib.Core.Bool.{Bool, true, false}
-use Prim.Native.Nat.{ℕ, zero, suc, ◌<◌, ◌≤◌}
+use Prim.Native.Nat.{ℕ, ◌<◌, ◌≤◌}
 use native.Mathlib.Omega.{arith}
 use lib.Dec.{eqb, leb}
 use borrow.Author.Tests.{leb-true, leb-false, lt-leb, eq-eqb, ne_eqb, eqb-true, eqb-false}
-use Rattle.laws.specs.Choice.{◌and◌, pick}
+use Rattle.laws.specs.Choice.{◌and◌}
 use Rattle.laws.specs.Below.{some}
 use Rattle.laws.specs.Masks.{◌or◌, on}
 use Rattle.laws.proofs.Choice.{Tested, holds, fails, tested, pick_yes, pick_no, and_left, and_right, and_intro, and_yes, and_no_left, and_no_right}
 use Rattle.laws.proofs.Below.{some_same, none_at}
-use Rattle.loops.specs.Loops.{word_at, turn_of}
+use Rattle.loops.specs.Loops.{word_at}
 use Rattle.group.specs.Proc.{Proc, Active, Idle, Absent, is_active, at_limit, decided, increment, counter_limit}
 use Rattle.group.specs.Modes.{Mode, Full, Partial, partial_limit, limit_of}
 use Rattle.group.specs.Group.{Group, Outcome, Steps, Fails, Program, op_of, b_else, jump_any, a_op, jump_func, branch_op, boolean_number, integer_number}
-use Rattle.group.specs.Group.{permits, allowed, fits_first, allowed_loop, turned_if, wish_of, over_limit, settled, jump_step, on_turn, with_loops, loop_step, slot_step, store_slots, ended, group_step}
+use Rattle.group.specs.Group.{permits, allowed, allowed_loop, turned_if, wish_of, over_limit, settled, jump_step, loop_step, slot_step, store_slots, ended, group_step}
 use Rattle.group.specs.Causes.{first_here, second_here, procs_here, wanted_here, Cause, loop_op, return_op, counter_at_five}
 use Rattle.group.proofs.State.{jump_permitted}
 

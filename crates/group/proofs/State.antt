@@ -15,7 +15,7 @@ use Rattle.laws.specs.Masks.{◌or◌, differ, digit, on, pack}
 use Rattle.laws.proofs.Choice.{Tested, holds, fails, tested, pick_yes, pick_no, and_left, and_right, and_intro, and_yes, by_pick, pick_same}
 use Rattle.laws.proofs.Below.{none_at, every_at}
 use Rattle.laws.proofs.Masks.{on_pack, on_above}
-use Rattle.loops.specs.Loops.{field, Opened, Turn, Turns, NoRoom, NoWord, word_at, turn_of, are_opened, Held}
+use Rattle.loops.specs.Loops.{field, Turn, Turns, NoRoom, NoWord, word_at, turn_of, are_opened, Held}
 use Rattle.loops.proofs.Stack.{four_back, TurnSound, turn_of_sound}
 use Rattle.group.specs.Proc.{Proc, Active, Idle, Absent, is_live, is_active, counter_bit, within, turned, lowered, raised, at_limit, branched, counter_limit}
 use Rattle.group.specs.Modes.{Mode, Full, Partial, limit_of, mode_number, mode_of}

@@ -6,7 +6,7 @@ use Prim.Native.Nat.{ℕ, ◌+◌, ◌-◌, ◌*◌, ◌/◌, ◌%◌, ◌^◌, 
 use native.Mathlib.Nat.{one-mul, lt_of_le_of_lt, div-mul-le_self, mod-lt, mod-eq_of_lt}
 use native.Mathlib.Omega.{arith}
 use lib.Pow.{pow-add}
-use Rattle.laws.specs.Choice.{◌and◌, pick, place_of}
+use Rattle.laws.specs.Choice.{pick, place_of}
 use Rattle.laws.proofs.Choice.{by_pick}
 use Rattle.layout.specs.Sizes.{is_size, width_of, height_of}
 use Rattle.layout.specs.Asked.{StrideAsked}

@@ -6,7 +6,7 @@ use Prim.Native.Nat.{ℕ, ◌+◌, ◌-◌, ◌*◌, ◌/◌, ◌^◌, ◌<◌, 
 use native.Mathlib.Nat.{mul_assoc, mul_left_comm, mul-le-mul, mul-pos, le_of_mul-le-mul_right, lt_of_mul-lt-mul_right}
 use native.Mathlib.Omega.{arith}
 use borrow.Author.Tests.{leb-true, le-leb, lt-leb}
-use Rattle.laws.specs.Choice.{◌and◌, pick, place_of}
+use Rattle.laws.specs.Choice.{pick, place_of}
 use Rattle.laws.proofs.Choice.{pick_yes, pick_no, by_pick, and_intro, and_left, and_right, and_no_left, and_no_right, Tested, tested, holds, fails}
 use Rattle.layout.specs.Sizes.{is_size, width_of, height_of}
 use Rattle.layout.specs.Layout.{well_formed, row_step, tile_rows, span_of, in_bounds, window_rule, rows_taken, stride_of}

@@ -1,15 +1,15 @@
 -- What an accepted layout has, and its judgement case by case as the code finds it. Assumes nothing.
-use mathlib.Core.Path.{◌≡◌, refl, sym, ap, ap₂, ◌∙◌}
+use mathlib.Core.Path.{◌≡◌, sym, ap, ap₂, ◌∙◌}
 use mathlib.Core.Bool.{Bool, true, false, false≢true}
-use mathlib.Core.List.{List, [], ◌∷◌}
-use Prim.Native.Nat.{ℕ, zero, suc, ◌+◌, ◌-◌, ◌*◌, ◌/◌, ◌%◌, ◌^◌, ◌<◌, ◌≤◌}
+use mathlib.Core.List.{[], ◌∷◌}
+use Prim.Native.Nat.{ℕ, ◌+◌, ◌*◌, ◌/◌, ◌^◌, ◌<◌, ◌≤◌}
 use native.Mathlib.Nat.{mul-div_cancel}
 use native.Mathlib.Omega.{arith}
 use borrow.Author.Tests.{leb-true}
-use Rattle.laws.specs.Choice.{◌and◌, pick, place_of}
+use Rattle.laws.specs.Choice.{pick, place_of}
 use Rattle.laws.proofs.Choice.{pick_yes, pick_no, and_left, and_right}
 use Rattle.refusal.specs.Told.{gives, refuses}
-use Rattle.layout.specs.Sizes.{is_size, width_of, height_of}
+use Rattle.layout.specs.Sizes.{is_size, width_of}
 use Rattle.layout.specs.Layout.{well_formed, unit_of, row_step, span_of, in_bounds, window_rule, judge_of}
 use Rattle.layout.proofs.Sizes.{by_size}
 

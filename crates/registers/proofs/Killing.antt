@@ -2,7 +2,7 @@
 use mathlib.Core.Path.{◌≡◌, refl, sym, ap, ap₂, ◌∙◌}
 use mathlib.Core.Bool.{Bool, true, false, ◌&&◌, ◌||◌}
 use mathlib.Core.List.{List}
-use Prim.Native.Nat.{ℕ, zero, suc, ◌+◌, ◌-◌, ◌*◌, ◌/◌, ◌%◌, ◌^◌, ◌<◌, ◌≤◌}
+use Prim.Native.Nat.{ℕ, suc, ◌+◌, ◌-◌, ◌*◌, ◌/◌, ◌%◌, ◌<◌, ◌≤◌}
 use native.Mathlib.Nat.{lt_of_lt_of_le}
 use native.Mathlib.Omega.{arith}
 use lib.Dec.{eqb}
@@ -11,7 +11,7 @@ use lib.Pow.{pow_mono}
 use Rattle.laws.specs.Choice.{◌and◌}
 use Rattle.laws.specs.Below.{some}
 use Rattle.laws.specs.Masks.{◌or◌, digit, on, pack}
-use Rattle.laws.proofs.Masks.{on_zero, pack_same, pack_lt, digit_lt}
+use Rattle.laws.proofs.Masks.{on_zero, pack_same, pack_lt}
 use Rattle.registers.specs.declared.Masked.{Masked}
 use Rattle.registers.specs.Registers.{less_than_zero, killed_by, masked_at, kill_mask}
 

@@ -14,7 +14,7 @@ use Rattle.laws.specs.Choice.{◌and◌, pick}
 use Rattle.laws.specs.Below.{some}
 use Rattle.laws.specs.Masks.{◌or◌, on}
 use Rattle.laws.proofs.Choice.{Tested, holds, fails, tested}
-use Rattle.registers.specs.Pattern.{is_number, below_zero, not_below_zero, less_than, no_number, killed_by_bits}
+use Rattle.registers.specs.Pattern.{below_zero, not_below_zero, less_than, no_number, killed_by_bits}
 use Rattle.registers.specs.Registers.{float, less_than_zero, at_least_zero, maximum_of, choice_of, killed_by, masked_at}
 use Rattle.registers.proofs.Order.{less_than_lem, at_most_not, no_most}
 

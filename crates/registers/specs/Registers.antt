@@ -2,7 +2,7 @@
 -- register, the maximum and the choice. A float is the logic's (lib.Ieee), `lt` and `le` are IEEE 754's < and ≤; what these are of bit
 -- patterns is specs/Pattern.antt. The maximum and the choice are of bit patterns, compared as their floats: the logic's one NaN has no
 -- payload, and "copying bits exactly" is of payloads too. Assumes nothing.
-use Rattle.std.specs.Prelude.{Bool, true, false, List, [], ◌∷◌, ℕ, zero, suc, ◌+◌, ◌*◌, get_or, Float}
+use Rattle.std.specs.Prelude.{Bool, List, [], ◌∷◌, ℕ, zero, suc, ◌+◌, ◌*◌, get_or, Float}
 use Rattle.std.specs.Float.{binary32, nan}
 use Rattle.std.specs.Float.Ieee.{lt, le, of_bits}
 use Rattle.laws.specs.Choice.{◌and◌, pick}

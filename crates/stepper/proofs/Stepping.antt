@@ -1,12 +1,12 @@
 -- A step as the code makes it, return by return: what it answers and what it leaves in the cells. Assumes nothing.
 use mathlib.Core.Path.{◌≡◌, refl, sym, ap, ap₂, ◌∙◌, subst, fun_ext}
 use mathlib.Core.Bool.{Bool, true, false, not}
-use mathlib.Core.List.{List, [], ◌∷◌}
+use mathlib.Core.List.{List}
 use Prim.Native.Nat.{ℕ, zero, suc, ◌/◌, ◌%◌, ◌^◌, ◌<◌, ◌≤◌, zero-le}
 use native.Mathlib.Omega.{arith}
 use lib.Dec.{eqb, leb, ltb}
-use lib.ListN.{length, get_or, drop}
-use borrow.Author.Tests.{eqb-true, ltb-true, ltb-false, le-leb, lt-leb, eq-eqb, ne_eqb}
+use lib.ListN.{length, get_or}
+use borrow.Author.Tests.{eqb-true, ltb-true, ltb-false, le-leb, lt-leb, ne_eqb}
 use Rattle.laws.specs.Choice.{◌and◌, pick}
 use Rattle.laws.specs.Below.{some}
 use Rattle.laws.specs.Masks.{◌or◌, differ, digit, on, pack}
@@ -17,8 +17,8 @@ use Rattle.group.specs.Proc.{Proc, Active, Idle, Absent, is_live, is_active, cou
 use Rattle.loops.specs.declared.Turned.{Turned}
 use Rattle.loops.specs.Loops.{field, Opened, Turn, Turns, NoRoom, NoWord, word_at, turn_of, turned as turn_cells}
 use Rattle.group.specs.Modes.{Mode, Full, Partial, limit_of}
-use Rattle.group.specs.Group.{Group, Outcome, Steps, Fails, Way, Goes, Stuck, op_of, b_else, jump_any, a_op, jump_func, pop_count, branch_op, boolean_number, integer_number, jump_address}
-use Rattle.group.specs.Group.{permits, allowed, allowed_loop, fits_first, plain_second, turned_if, wish_of, over_limit, way_of, arrived, settled}
+use Rattle.group.specs.Group.{Group, Outcome, Steps, Fails, Way, Goes, Stuck, op_of, b_else, jump_any, a_op, jump_func, pop_count, branch_op, boolean_number, jump_address}
+use Rattle.group.specs.Group.{permits, allowed_loop, fits_first, plain_second, turned_if, wish_of, over_limit, way_of, arrived, settled}
 use Rattle.group.specs.Group.{jump_step, on_turn, with_loops, loop_step, slot_step, store_slots, ended, group_step}
 use Rattle.group.specs.Cells.{cell_count, live_in, plane_in, position_in, mode_in, loop_in, live_mask, active_mask, plane, with_active, group_of, cells_with, last_in, cells_of, GroupGiven, step_leaves}
 use Rattle.group.specs.Masks.{MasksOf, OwnMasksIn, with_masks, shown_as, some_at_limit_in, some_at_own_limit}

@@ -1,5 +1,5 @@
 -- `conditions::bit_at` meets its contract: the byte of what stands at the place. Assumes nothing.
-use Rattle.std.proofs.Common.{ℕ, ◌≤◌, sym, subst, rules}
+use Rattle.std.proofs.Common.{ℕ, ◌≤◌, sym, subst}
 use Rattle.conditions.proofs.Written.{bit_is, bit_few}
 use Rattle.conditions.proofs.bit_at.Goals as goal
 

@@ -1,7 +1,5 @@
 -- `conditions::each_bit` meets its contract: before number i, the first i bytes are written and `passed` is their sum. Assumes nothing.
-use Rattle.std.proofs.Common.{◌≡◌, ◌+◌, ◌-◌, ◌*◌, ◌≤◌, length, ap, ◌∙◌, arith}
-use Rattle.laws.specs.Below.{sum}
-use Rattle.conditions.specs.Spans.{span_bit, written}
+use Rattle.std.proofs.Common.{◌≡◌, ◌+◌, ◌*◌, length, ap, ◌∙◌, arith}
 use Rattle.conditions.proofs.Written.{length_written, written_one, written_none, counted_one, none_counted, sum_few, bit_few}
 use Rattle.conditions.proofs.each_bit.Goals as goal
 

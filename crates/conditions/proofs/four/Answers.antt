@@ -1,5 +1,5 @@
 -- `conditions::four` meets its contract: four bytes one by one. Assumes nothing.
-use Rattle.std.proofs.Common.{ℕ, ◌+◌, ◌*◌, ap, ◌∙◌, arith, length-set, rules}
+use Rattle.std.proofs.Common.{ℕ, ◌+◌, ◌*◌, ap, ◌∙◌, arith, length-set}
 use Rattle.conditions.specs.Spans.{span_bit}
 use Rattle.conditions.proofs.Written.{four_written, four_counted}
 use Rattle.conditions.proofs.four.Goals as goal

@@ -1,6 +1,6 @@
 -- `conditions::in_span` meets its contract: one comparison. Assumes nothing.
 use Rattle.conditions.proofs.Spans.{one_test}
-use Rattle.std.proofs.Common.{arith, rules}
+use Rattle.std.proofs.Common.{arith}
 use Rattle.conditions.proofs.in_span.Goals as goal
 
 pub returns : goal.returns

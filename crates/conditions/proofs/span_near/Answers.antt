@@ -1,6 +1,5 @@
 -- `conditions::span_near` meets its contract: a span for each condition. Assumes nothing.
 use Rattle.conditions.proofs.Spans.{span_1, span_2, span_3, span_4, span_5, span_6, span_whole, by_condition, always_7, never_left}
-use Rattle.std.proofs.Common.{rules}
 use Rattle.conditions.proofs.span_near.Goals as goal
 
 pub returns-in-1 : goal.returns-in-1

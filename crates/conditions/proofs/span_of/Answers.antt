@@ -1,5 +1,5 @@
 -- `conditions::span_of` meets its contract: near values, and those above every number. Assumes nothing.
-use Rattle.std.proofs.Common.{true, false, rules}
+use Rattle.std.proofs.Common.{true, false}
 use Rattle.conditions.proofs.Spans.{span_whole, always_4, always_5, always_6, always_7, never_above}
 use Rattle.conditions.proofs.span_of.Goals as goal
 

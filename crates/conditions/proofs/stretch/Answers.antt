@@ -1,5 +1,4 @@
 -- `conditions::stretch` meets its contract: each side of the span is `each_bit`'s. Assumes nothing.
-use Rattle.std.proofs.Common.{rules}
 use Rattle.conditions.proofs.stretch.Goals as goal
 
 pub returns-then-outside : goal.returns-then-outside

@@ -1,6 +1,5 @@
 -- `layout::is_size` meets its contract: the sizes are the bits of one number. Assumes nothing.
 use Rattle.layout.proofs.Sizes.{size_bit, past_sizes}
-use borrow.Author.Rules.{rules}
 use Rattle.layout.proofs.is_size.Goals as goal
 
 pub returns-then-size-gt-SIZE_MOST : goal.returns-then-size-gt-SIZE_MOST

@@ -2,10 +2,8 @@
 -- Assumes nothing.
 use mathlib.Core.Path.{◌∙◌, sym}
 use native.Mathlib.Omega.{arith}
-use borrow.Author.Tests.{not-true, not-false}
 use Rattle.layout.proofs.Window.{form_size, rule_bounds, judged_malformed, judged_broken, judged_accepted}
 use Rattle.layout.proofs.Rows.{ruled, unruled, window_span}
-use borrow.Author.Rules.{rules}
 use Rattle.layout.proofs.judge.Goals as goal
 
 pub returns-then-not-well_formed : goal.returns-then-not-well_formed

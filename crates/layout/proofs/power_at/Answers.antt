@@ -1,6 +1,5 @@
 -- `layout::power_at` meets its contract. Assumes nothing.
 use native.Mathlib.Omega.{arith}
-use borrow.Author.Rules.{rules}
 use Rattle.layout.proofs.Window.{size_most}
 use Rattle.layout.proofs.power_at.Goals as goal
 

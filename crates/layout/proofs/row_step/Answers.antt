@@ -1,5 +1,4 @@
 -- `layout::row_step` meets its contract: the pitch cut down by shifts. Assumes nothing.
-use borrow.Author.Rules.{rules}
 use native.Mathlib.Omega.{arith}
 use Rattle.layout.proofs.Powers.{step_read, cut_step}
 use Rattle.layout.proofs.row_step.Goals as goal

@@ -1,5 +1,4 @@
 -- `layout::rows_log` meets its contract: the power read at the size. Assumes nothing.
-use borrow.Author.Rules.{rules}
 use Rattle.layout.proofs.Powers.{rows_read}
 use Rattle.layout.proofs.rows_log.Goals as goal
 

@@ -1,7 +1,6 @@
 -- `layout::rows_taken` meets its contract: the height filled up by shifts. Assumes nothing.
 use Rattle.layout.proofs.Powers.{unit_least, unit_fits, filled_rows}
 use native.Mathlib.Omega.{arith}
-use borrow.Author.Rules.{rules}
 use Rattle.layout.proofs.rows_taken.Goals as goal
 
 pub overflow_sub-result : goal.overflow_sub-result

@@ -1,6 +1,5 @@
 -- `layout::rows_unit` meets its contract: the two kinds of layout. Assumes nothing.
 use mathlib.Core.Path.{◌∙◌, sym}
-use borrow.Author.Rules.{rules}
 use Rattle.laws.proofs.Choice.{pick_yes, pick_no}
 use Rattle.layout.proofs.rows_unit.Goals as goal
 

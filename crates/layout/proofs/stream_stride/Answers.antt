@@ -1,6 +1,5 @@
 -- `layout::stream_stride` meets its contract. Assumes nothing.
 use Rattle.layout.proofs.Window.{form_size}
-use borrow.Author.Rules.{rules}
 use Rattle.layout.proofs.stream_stride.Goals as goal
 
 pub stride_log-requires : goal.stride_log-requires

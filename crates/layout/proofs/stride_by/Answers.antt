@@ -3,7 +3,6 @@ use Rattle.layout.proofs.Rows.{form_pitch, bytes_most, no_stride, long_stride, n
 use Rattle.layout.proofs.Powers.{cut_stride, unit_least, unit_fits, filled_rows}
 use Rattle.layout.proofs.Window.{form_size, size_most}
 use native.Mathlib.Omega.{arith}
-use borrow.Author.Rules.{rules}
 use Rattle.layout.proofs.stride_by.Goals as goal
 
 pub overflow_mul-stride : goal.overflow_mul-stride

@@ -1,5 +1,4 @@
 -- `layout::stride_log` meets its contract: the power read at the size, and 5. Assumes nothing.
-use borrow.Author.Rules.{rules}
 use native.Mathlib.Omega.{arith}
 use Rattle.layout.proofs.Powers.{stride_read}
 use Rattle.layout.proofs.stride_log.Goals as goal

@@ -1,7 +1,6 @@
 -- `layout::table_step` meets its contract: the pitch cut down by the table's number. Assumes nothing.
 use native.Mathlib.Nat.{div-mul-le_self}
 use native.Mathlib.Omega.{arith}
-use borrow.Author.Rules.{rules}
 use Rattle.layout.proofs.Powers.{some_columns, table_step}
 use Rattle.layout.proofs.table_step.Goals as goal
 

@@ -1,7 +1,6 @@
 -- `layout::tile_width` meets its contract: the line of the size, or none. Assumes nothing.
 use mathlib.Core.Path.{◌∙◌, sym, ap}
 use Prim.Native.Nat.{ℕ}
-use borrow.Author.Rules.{rules}
 use lib.ListN.{get_or, get_or-eq_default}
 use native.Mathlib.Omega.{arith}
 use Rattle.layout.specs.Sizes.{widths, width_of}

@@ -1,6 +1,5 @@
 -- `layout::unit` meets its contract: the two kinds of layout. Assumes nothing.
 use mathlib.Core.Path.{◌∙◌, sym}
-use borrow.Author.Rules.{rules}
 use native.Mathlib.Omega.{arith}
 use Rattle.laws.proofs.Choice.{pick_yes, pick_no}
 use Rattle.layout.specs.Layout.{unit_of}

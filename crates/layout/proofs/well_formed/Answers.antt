@@ -1,7 +1,6 @@
 -- `layout::well_formed` meets its contract: each return is the conjunction as far as the tests on the way decide it.
 -- Assumes nothing.
 use mathlib.Core.Path.{sym, ◌∙◌}
-use borrow.Author.Rules.{rules}
 use borrow.Author.Tests.{eq-eqb, ne_eqb, le-leb, lt-leb}
 use Rattle.laws.proofs.Choice.{and_yes, and_no_left, and_no_right}
 use Rattle.layout.specs.Layout.{well_formed}

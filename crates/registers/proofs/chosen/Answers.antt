@@ -1,6 +1,5 @@
 -- `registers::chosen` meets its contract: each return is the operand that the test of the third one's float picks. Assumes nothing.
 use mathlib.Core.Path.{sym, ap, ◌∙◌}
-use borrow.Author.Rules.{rules}
 use Rattle.laws.proofs.Choice.{pick_yes, pick_no}
 use Rattle.registers.specs.Registers.{at_least_zero}
 use Rattle.registers.proofs.chosen.Goals as goal

@@ -1,6 +1,5 @@
 -- `registers::float_of` meets its contract: a number's float is that of its bits, and a NaN's is the one NaN. Assumes nothing.
 use mathlib.Core.Path.{refl, sym, ◌∙◌}
-use borrow.Author.Rules.{rules}
 use Rattle.registers.proofs.Copying.{number_defined, no_number}
 use Rattle.registers.proofs.float_of.Goals as goal
 

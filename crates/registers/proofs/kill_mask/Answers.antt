@@ -1,11 +1,11 @@
 -- `registers::kill_mask` meets its contract: the loop has the mask of the processors from `i` on, moved down by `i`. Assumes nothing.
-use mathlib.Core.Path.{◌≡◌, sym, ap, ◌∙◌}
-use Prim.Native.Nat.{◌/◌, ◌≤◌}
+use mathlib.Core.Path.{ap, ◌∙◌}
+use Prim.Native.Nat.{◌/◌}
 use native.Mathlib.Omega.{arith}
 use lib.ListN.{length}
 use Rattle.laws.proofs.Masks.{digit_lt}
 use Rattle.registers.specs.Registers.{killed_by}
-use Rattle.registers.proofs.Killing.{killed_from, from_none, from_room, from_more, from_all}
+use Rattle.registers.proofs.Killing.{from_none, from_room, from_more, from_all}
 use Rattle.registers.proofs.kill_mask.Goals as goal
 
 pub loop-i-init : goal.loop-i-init

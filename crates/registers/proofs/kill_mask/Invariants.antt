@@ -1,11 +1,8 @@
 -- `registers::kill_mask` meets its contract: the loop has the mask of the processors from `i` on, moved down by `i`. Assumes nothing.
-use mathlib.Core.Path.{◌≡◌, sym, ap, ◌∙◌}
+use mathlib.Core.Path.{◌≡◌}
 use Prim.Native.Nat.{◌/◌, ◌≤◌}
-use native.Mathlib.Omega.{arith}
 use lib.ListN.{length}
-use Rattle.laws.proofs.Masks.{digit_lt}
-use Rattle.registers.specs.Registers.{killed_by}
-use Rattle.registers.proofs.Killing.{killed_from, from_none, from_room, from_more, from_all}
+use Rattle.registers.proofs.Killing.{killed_from}
 use Rattle.registers.proofs.kill_mask.Given as goal
 
 abbrev pub invariant-loop-i : goal.invariant-loop-i

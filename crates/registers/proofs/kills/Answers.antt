@@ -1,5 +1,4 @@
 -- `registers::kills` meets its contract: one of the four channels under the mask. Assumes nothing.
-use borrow.Author.Rules.{rules}
 use Rattle.registers.proofs.Killing.{four_channels}
 use Rattle.registers.proofs.kills.Goals as goal
 

@@ -1,7 +1,6 @@
 -- `registers::larger` meets its contract: each return is the operand that the comparison of their floats picks. Assumes nothing.
 use mathlib.Core.Path.{sym, ap₂, ◌∙◌}
 use lib.Ieee.{lt}
-use borrow.Author.Rules.{rules}
 use Rattle.laws.proofs.Choice.{pick_yes, pick_no}
 use Rattle.registers.proofs.larger.Goals as goal
 

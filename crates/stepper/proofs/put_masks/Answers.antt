@@ -1,6 +1,5 @@
 -- `stepper::put_masks` meets its contract: six cells written, the others as they were. Assumes nothing.
 use Rattle.stepper.proofs.Going.{masks_cells}
-use borrow.Author.Rules.{rules}
 use Rattle.stepper.proofs.put_masks.Goals as goal
 
 pub returns : goal.returns

@@ -1,6 +1,5 @@
 -- `command::commands::fields` meets its contract: each arm by the definition at that variant. Assumes nothing.
 use mathlib.Core.Path.{sym, ap}
-use borrow.Author.Rules.{rules}
 use Rattle.command.specs.Commands.{fields_of, places_of}
 use Rattle.command.proofs.commands.fields.Goals as goal
 

@@ -1,6 +1,5 @@
 -- `command::commands::line` meets its contract: each arm by the definition at that variant. Assumes nothing.
 use mathlib.Core.Path.{sym, ap, ◌∙◌}
-use borrow.Author.Rules.{rules}
 use Rattle.command.specs.Commands.{line_of}
 use Rattle.command.proofs.commands.line.Goals as goal
 

@@ -1,6 +1,5 @@
 -- `command::commands::no_effect_line` meets its contract: each arm by the definition at that variant. Assumes nothing.
 use mathlib.Core.Path.{sym, ap}
-use borrow.Author.Rules.{rules}
 use Rattle.command.specs.Commands.{no_effect_line}
 use Rattle.command.proofs.commands.no_effect_line.Goals as goal
 

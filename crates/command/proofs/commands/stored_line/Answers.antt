@@ -1,6 +1,5 @@
 -- `command::commands::stored_line` meets its contract: each arm by the definition at that variant. Assumes nothing.
 use mathlib.Core.Path.{sym, ap}
-use borrow.Author.Rules.{rules}
 use Rattle.command.specs.Commands.{stored_line}
 use Rattle.command.proofs.commands.stored_line.Goals as goal
 

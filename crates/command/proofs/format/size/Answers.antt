@@ -1,6 +1,5 @@
 -- `command::format::size` meets its contract: the number read at each code. Assumes nothing.
 use Rattle.command.proofs.Windows.{size_past, size_read}
-use borrow.Author.Rules.{rules}
 use Rattle.command.proofs.format.size.Goals as goal
 
 pub returns-then-code-gt7 : goal.returns-then-code-gt7

@@ -2,10 +2,8 @@
 use Rattle.command.proofs.Windows.{seen_malformed, seen_broken, seen_accepted}
 use Rattle.layout.proofs.Rows.{ruled, unruled, window_span}
 use Rattle.layout.proofs.Window.{form_size, rule_bounds}
-use borrow.Author.Tests.{not-true, not-false}
 use native.Mathlib.Omega.{arith}
 use mathlib.Core.Path.{◌∙◌, sym}
-use borrow.Author.Rules.{rules}
 use Rattle.command.proofs.format.window_of.Goals as goal
 
 pub returns-then-not-well_formed : goal.returns-then-not-well_formed

@@ -1,6 +1,5 @@
 -- `command::kinds::check` meets its contract: the two cases of the definition. Assumes nothing.
 use mathlib.Core.Path.{sym, ◌∙◌}
-use borrow.Author.Rules.{rules}
 use Rattle.command.proofs.Words.{check_fine, check_refused}
 use Rattle.command.proofs.kinds.check.Goals as goal
 

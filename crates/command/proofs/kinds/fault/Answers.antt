@@ -1,6 +1,5 @@
 -- `command::kinds::fault` meets its contract: 4 for the two numbers, 3 for all else. Assumes nothing.
 use mathlib.Core.Path.{sym, ap}
-use borrow.Author.Rules.{rules}
 use borrow.Enum.Refused.{opened}
 use Rattle.command.specs.Kinds.{fault_of}
 use Rattle.command.proofs.Words.{fault_other}

@@ -4,7 +4,6 @@ use mathlib.Core.Path.{sym, ap, ◌∙◌}
 use Prim.Native.Nat.{ℕ}
 use lib.Dec.{leb}
 use borrow.Author.Tests.{eq-eqb, ne_eqb}
-use borrow.Author.Rules.{rules}
 use Rattle.laws.proofs.Choice.{and_yes, and_no_left, and_no_right}
 use Rattle.command.specs.Kinds.{format_allowed}
 use Rattle.command.proofs.kinds.format_allowed.Goals as goal

@@ -1,6 +1,5 @@
 -- `command::kinds::input_format_allowed` meets its contract: both rules of an input's format. Assumes nothing.
 use mathlib.Core.Path.{sym, ◌∙◌}
-use borrow.Author.Rules.{rules}
 use Rattle.laws.proofs.Choice.{and_yes, and_no_left}
 use Rattle.command.specs.Kinds.{allowed}
 use Rattle.command.proofs.kinds.input_format_allowed.Goals as goal

@@ -1,6 +1,5 @@
 -- `command::kinds::is_allowed` meets its contract: each arm by the definition at that kind. Assumes nothing.
 use mathlib.Core.Path.{sym, ap, ◌∙◌}
-use borrow.Author.Rules.{rules}
 use Rattle.command.specs.Kinds.{allowed}
 use Rattle.command.specs.declared.kinds.Kind.{Kind}
 use Rattle.command.proofs.kinds.is_allowed.Goals as goal

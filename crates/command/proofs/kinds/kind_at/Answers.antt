@@ -2,7 +2,6 @@
 use mathlib.Core.Path.{refl, sym, ◌∙◌}
 use Prim.Native.Nat.{◌+◌, ◌*◌}
 use native.Mathlib.Omega.{arith}
-use borrow.Author.Rules.{rules}
 use Rattle.command.specs.Kinds.{kind_of}
 use Rattle.command.proofs.Words.{kind_at, kind_at_place, reserved_elsewhere}
 use Rattle.command.proofs.kinds.kind_at.Goals as goal

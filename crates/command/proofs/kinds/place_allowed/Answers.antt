@@ -2,7 +2,6 @@
 use mathlib.Core.Path.{refl, sym, ap, ◌∙◌}
 use Prim.Native.Nat.{◌+◌, ◌*◌}
 use native.Mathlib.Omega.{arith}
-use borrow.Author.Rules.{rules}
 use Rattle.command.specs.Kinds.{allowed, kind_of}
 use Rattle.command.specs.declared.kinds.Kind.{Kind}
 use Rattle.command.proofs.Words.{kind_at, allowed_at_place, reserved_elsewhere}

@@ -1,6 +1,5 @@
 -- `command::kinds::superfine_allowed` meets its contract: the two cases of the definition. Assumes nothing.
 use mathlib.Core.Path.{sym, ◌∙◌}
-use borrow.Author.Rules.{rules}
 use Rattle.command.proofs.Words.{superfine_asked, superfine_free}
 use Rattle.command.proofs.kinds.superfine_allowed.Goals as goal
 

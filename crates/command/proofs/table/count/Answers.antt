@@ -1,5 +1,4 @@
 -- `command::table::count` meets its contract: the table's line. Assumes nothing.
-use borrow.Author.Rules.{rules}
 use Rattle.command.specs.Table.{count_of}
 use Rattle.command.proofs.table.count.Goals as goal
 

@@ -1,5 +1,4 @@
 -- `command::table::header` meets its contract: the table's line. Assumes nothing.
-use borrow.Author.Rules.{rules}
 use Rattle.command.specs.Table.{header_of}
 use Rattle.command.proofs.table.header.Goals as goal
 

@@ -1,7 +1,6 @@
 -- `command::table::line_of` meets its contract: each return by what the operation and the compare show. Assumes nothing.
 use mathlib.Core.Path.{sym, ◌∙◌}
 use native.Mathlib.Omega.{arith}
-use borrow.Author.Rules.{rules}
 use Rattle.command.proofs.Headers.{found, absent_low, absent_high, absent_other}
 use Rattle.command.proofs.table.line_of.Goals as goal
 

@@ -1,7 +1,6 @@
 -- `command::table::made_header` meets its contract: a header is made of its line's operation and number of parameters.
 -- Assumes nothing.
 use native.Mathlib.Omega.{arith}
-use borrow.Author.Rules.{rules}
 use Rattle.command.proofs.Headers.{header_rule, count_least, count_most}
 use Rattle.command.proofs.table.made_header.Goals as goal
 

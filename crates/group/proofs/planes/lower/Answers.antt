@@ -1,5 +1,4 @@
 -- `group::planes::lower` meets its contract: the borrow chain is the decrement of each idle counter. Assumes nothing.
-use borrow.Author.Rules.{rules}
 use Rattle.group.proofs.Places.{lower_words}
 use Rattle.group.proofs.planes.lower.Goals as goal
 

@@ -5,7 +5,6 @@ use lib.ListN.{get_or}
 use borrow.Author.Tests.{eq-eqb, ne_eqb}
 use Rattle.laws.proofs.Choice.{and_yes, and_no_left, and_no_right}
 use Rattle.group.proofs.Places.{upper_clear}
-use borrow.Author.Rules.{rules}
 use Rattle.group.proofs.planes.over_limit.Goals as goal
 
 pub returns-then-op-eq-INCREMENT : goal.returns-then-op-eq-INCREMENT

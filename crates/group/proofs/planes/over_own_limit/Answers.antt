@@ -1,13 +1,11 @@
 -- `group::planes::over_own_limit` meets its contract: the limit is that of the mode in the cells. Assumes nothing.
 use mathlib.Core.Path.{ap, ◌∙◌, sym}
-use mathlib.Core.Bool.{Bool}
 use lib.Dec.{eqb}
 use lib.ListN.{get_or}
 use Rattle.laws.specs.Choice.{◌and◌}
 use Rattle.group.specs.Modes.{Mode}
 use Rattle.group.specs.Masks.{some_at_own_limit}
 use Rattle.group.proofs.State.{mode_partial, mode_full}
-use borrow.Author.Rules.{rules}
 use Rattle.group.proofs.planes.over_own_limit.Goals as goal
 
 -- partial mode

@@ -2,7 +2,6 @@
 use mathlib.Core.Path.{◌∙◌, sym}
 use borrow.Author.Tests.{eq-eqb, ne_eqb}
 use Rattle.laws.proofs.Choice.{and_yes, and_no_left}
-use borrow.Author.Rules.{rules}
 use Rattle.group.proofs.planes.over_partial.Goals as goal
 
 -- an increment: the counters decide

@@ -1,5 +1,4 @@
 -- `group::planes::raise` meets its contract: the carry chain is the increment of each idle counter. Assumes nothing.
-use borrow.Author.Rules.{rules}
 use Rattle.group.proofs.Places.{raise_words}
 use Rattle.group.proofs.planes.raise.Goals as goal
 

@@ -1,5 +1,4 @@
 -- `group::planes::spread` meets its contract: 0 or 1 times a word of ones. Assumes nothing.
-use borrow.Author.Rules.{rules}
 use Rattle.group.proofs.Places.{spread_word}
 use Rattle.group.proofs.planes.spread.Goals as goal
 

@@ -2,7 +2,6 @@
 use mathlib.Core.Path.{◌∙◌}
 use Rattle.group.specs.Cells.{with_active}
 use Rattle.group.proofs.Places.{turned_yes, turned_no}
-use borrow.Author.Rules.{rules}
 use Rattle.group.proofs.planes.turn_if.Goals as goal
 
 pub returns-then-otherwise : goal.returns-then-otherwise

@@ -1,5 +1,4 @@
 -- `group::planes::wishes` meets its contract: four of JUMP_FUNC's bits, each at the processors whose mask bits pick it. Assumes nothing.
-use borrow.Author.Rules.{rules}
 use Rattle.group.proofs.Places.{wishes_word}
 use Rattle.group.proofs.planes.wishes.Goals as goal
 

@@ -1,15 +1,12 @@
 -- `stepper::place::go` meets its contract: by the decision and the operation. Assumes nothing.
-use mathlib.Core.Path.{refl, sym, ap, ◌∙◌, subst}
-use mathlib.Core.Bool.{Bool, true, false}
+use mathlib.Core.Path.{refl}
+use mathlib.Core.Bool.{false}
 use native.Mathlib.Omega.{arith}
 use Prim.Native.Nat.{◌+◌}
 use Rattle.laws.specs.Masks.{digit}
-use Rattle.group.specs.Group.{Way, way_of}
 use Rattle.group.specs.Cells.{position_in, group_of}
-use Rattle.stepper.specs.Answers.{GoDone}
 use Rattle.stepper.proofs.Words.{same_returns, way_pop, way_push, way_address, way_on}
 use Rattle.stepper.proofs.Going.{given_stack, given_named, position_cell, gone_there, gone_by}
-use borrow.Author.Rules.{rules}
 use Rattle.stepper.proofs.place.go.Goals as goal
 
 pub returns-in-1 : goal.returns-in-1

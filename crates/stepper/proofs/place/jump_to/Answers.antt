@@ -5,7 +5,6 @@ use Rattle.laws.specs.Masks.{digit}
 use Rattle.group.specs.Cells.{group_of}
 use Rattle.stepper.proofs.Words.{same_returns}
 use Rattle.stepper.proofs.Going.{given_stack, given_named, position_cell, gone_past, gone_there}
-use borrow.Author.Rules.{rules}
 use Rattle.stepper.proofs.place.jump_to.Goals as goal
 
 pub returns-then-slots-address : goal.returns-then-slots-address

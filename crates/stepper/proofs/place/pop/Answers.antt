@@ -5,7 +5,6 @@ use Rattle.laws.specs.Masks.{digit}
 use Rattle.group.specs.Cells.{group_of}
 use Rattle.stepper.proofs.Words.{pop_empty, pop_last}
 use Rattle.stepper.proofs.Going.{given_stack, given_named, gone_stuck, gone_past, gone_there}
-use borrow.Author.Rules.{rules}
 use Rattle.stepper.proofs.place.pop.Goals as goal
 
 pub returns-then-at-eq0 : goal.returns-then-at-eq0

@@ -5,7 +5,6 @@ use Rattle.laws.specs.Masks.{digit}
 use Rattle.group.specs.Cells.{position_in, group_of}
 use Rattle.stepper.proofs.Words.{push_full, push_last}
 use Rattle.stepper.proofs.Going.{given_stack, given_named, gone_stuck, gone_past, gone_there}
-use borrow.Author.Rules.{rules}
 use Rattle.stepper.proofs.place.push.Goals as goal
 
 pub returns-then-cells-ne0 : goal.returns-then-cells-ne0

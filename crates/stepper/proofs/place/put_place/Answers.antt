@@ -1,6 +1,5 @@
 -- `stepper::place::put_place` meets its contract: five cells written, the others as they were. Assumes nothing.
 use Rattle.stepper.proofs.Going.{place_cells}
-use borrow.Author.Rules.{rules}
 use Rattle.stepper.proofs.place.put_place.Goals as goal
 
 pub returns : goal.returns

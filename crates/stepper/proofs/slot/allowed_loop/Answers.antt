@@ -4,7 +4,6 @@ use mathlib.Core.Bool.{Bool}
 use Rattle.laws.proofs.Masks.{on_zero}
 use Rattle.group.specs.Group.{fits_second, allowed_loop}
 use Rattle.stepper.proofs.Words.{and_stop, and_on, op_low, op_high}
-use borrow.Author.Rules.{rules}
 use Rattle.stepper.proofs.slot.allowed_loop.Goals as goal
 
 pub returns-then-first-gt-LAST_OP : goal.returns-then-first-gt-LAST_OP
