@@ -3,7 +3,6 @@ use mathlib.Core.Path.{sym, ap, ◌∙◌}
 use Rattle.command.specs.Table.{told_line}
 use Rattle.command.proofs.Headers.{accepted_listed}
 use Rattle.accept.proofs.WholeCommands.{own_asked, no_header, piece_tried}
-use borrow.Author.Rules.{rules}
 use Rattle.accept.proofs.take.Goals as goal
 
 pub take_line-requires : goal.take_line-requires

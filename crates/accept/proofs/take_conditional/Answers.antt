@@ -1,6 +1,5 @@
 -- `accept::take_conditional` meets its contract. Assumes nothing.
 use Rattle.accept.proofs.WholeCommands.{conditional_tried, conditional_owner, unowned, denied, fine}
-use borrow.Author.Rules.{rules}
 use Rattle.accept.proofs.take_conditional.Reads as reads
 use Rattle.accept.proofs.take_conditional.Lts as lts
 use Rattle.owners.proofs.is_on.Reads as is_on_reads

@@ -1,7 +1,6 @@
 -- `accept::take_conditional_mask` meets its contract. Assumes nothing.
 use mathlib.Core.Path.{refl}
 use Rattle.accept.proofs.WholeCommands.{conditional_mask_tried, conditional_mask_below, conditional_mask_past, conditional_mask_owner, unowned}
-use borrow.Author.Rules.{rules}
 use Rattle.accept.proofs.take_conditional_mask.Reads as reads
 use Rattle.accept.proofs.take_conditional_mask.Lts as lts
 use Rattle.owners.proofs.is_on.Reads as is_on_reads

@@ -1,7 +1,6 @@
 -- `accept::take_constants` meets its contract. Assumes nothing.
 use mathlib.Core.Path.{sym, ◌∙◌}
 use Rattle.accept.proofs.WholeCommands.{constants_tried, constants_unowned, unowned, denied, fine, stored_judged}
-use borrow.Author.Rules.{rules}
 use Rattle.accept.proofs.take_constants.Reads as reads
 use Rattle.accept.proofs.take_constants.Lts as lts
 use Rattle.owners.proofs.is_on.Reads as is_on_reads

@@ -1,7 +1,6 @@
 -- `accept::take_domain` meets its contract. Assumes nothing.
 use Rattle.accept.proofs.WholeCommands.{counted_length, domain_tried, denied, fine}
 use Rattle.start.proofs.Readiness.{kept_length}
-use borrow.Author.Rules.{rules}
 use Rattle.rules.proofs.fits.domain.Reads as domain_reads
 use Rattle.start.proofs.ready.settle.Reads as settle_reads
 use Rattle.state.proofs.own.count_words.Reads as count_words_reads

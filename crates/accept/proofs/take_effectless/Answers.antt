@@ -1,6 +1,5 @@
 -- `accept::take_effectless` meets its contract. Assumes nothing.
 use Rattle.accept.proofs.WholeCommands.{effectless_tried, effectless_denied}
-use borrow.Author.Rules.{rules}
 use Rattle.accept.proofs.take_effectless.Goals as goal
 
 pub returns-then-reserved-eq0 : goal.returns-then-reserved-eq0

@@ -1,7 +1,6 @@
 -- `accept::take_input` meets its contract. Assumes nothing.
 use native.Mathlib.Omega.{arith}
 use Rattle.accept.proofs.WholeCommands.{input_most, input_place, input_tried, input_owner, unowned, denied, fine}
-use borrow.Author.Rules.{rules}
 use Rattle.accept.proofs.take_input.Reads as reads
 use Rattle.accept.proofs.take_input.Lts as lts
 use Rattle.owners.proofs.is_on.Reads as is_on_reads

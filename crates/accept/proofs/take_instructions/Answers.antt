@@ -2,7 +2,6 @@
 use Rattle.accept.proofs.WholeCommands.{counted_length, instructions_tried, denied, fine, stored_judged}
 use Rattle.start.proofs.Readiness.{kept_length}
 use Rattle.command.specs.declared.commands.Stored.TheVariants.{Instructions}
-use borrow.Author.Rules.{rules}
 use Rattle.rules.proofs.fits.window.Reads as window_reads
 use Rattle.start.proofs.ready.settle.Reads as settle_reads
 use Rattle.state.proofs.own.count_words.Reads as count_words_reads

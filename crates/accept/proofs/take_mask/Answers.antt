@@ -4,7 +4,6 @@ use Prim.Native.Nat.{ℕ}
 use mathlib.Core.Path.{refl, ap}
 use Rattle.accept.proofs.Outputs.{mask_asked}
 use Rattle.accept.proofs.WholeCommands.{mask_tried, mask_below, mask_past}
-use borrow.Author.Rules.{rules}
 use Rattle.accept.proofs.take_mask.Reads as reads
 use Rattle.accept.proofs.take_mask.Lts as lts
 use Rattle.owners.proofs.blended.Reads as blended_reads

@@ -2,7 +2,6 @@
 use native.Mathlib.Omega.{arith}
 use Rattle.accept.proofs.Outputs.{output_asked}
 use Rattle.accept.proofs.WholeCommands.{counted_length, output_most, output_place, output_tried, output_owner, owner_at, unowned, denied, fine}
-use borrow.Author.Rules.{rules}
 use Rattle.accept.proofs.take_output.Reads as reads
 use Rattle.accept.proofs.take_output.Lts as lts
 use Rattle.command.proofs.format.window_of.Reads as window_of_reads

@@ -1,6 +1,5 @@
 -- `accept::take_start` meets its contract. Assumes nothing.
 use Rattle.accept.proofs.WholeCommands.{start_asked, start_denied, start_unready, start_tried}
-use borrow.Author.Rules.{rules}
 use Rattle.start.proofs.claims.count_start.Reads as count_start_reads
 use Rattle.state.proofs.own.count_words.Reads as count_words_reads
 use Rattle.accept.proofs.take_start.Goals as goal

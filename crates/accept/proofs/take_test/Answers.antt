@@ -1,7 +1,6 @@
 -- `accept::take_test` meets its contract. Assumes nothing.
 use mathlib.Core.Path.{refl}
 use Rattle.accept.proofs.WholeCommands.{test_tried, test_below, test_past, test_owner, unowned}
-use borrow.Author.Rules.{rules}
 use Rattle.accept.proofs.take_test.Reads as reads
 use Rattle.accept.proofs.take_test.Lts as lts
 use Rattle.owners.proofs.is_on.Reads as is_on_reads

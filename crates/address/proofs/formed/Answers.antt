@@ -1,6 +1,5 @@
 -- `address::formed` meets its contract: a test of the base, and one of the pitch. Assumes nothing.
 use Rattle.address.proofs.Answers.{form_base, form_pitch}
-use Rattle.std.proofs.Common.{rules}
 use Rattle.address.proofs.formed.Goals as goal
 
 pub returns-then-base-ne0 : goal.returns-then-base-ne0

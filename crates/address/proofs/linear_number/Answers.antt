@@ -1,6 +1,5 @@
 -- `address::linear_number` meets its contract: the layout's form is asked first. Assumes nothing.
-use Rattle.std.proofs.Common.{false, sym, ◌∙◌, rules}
-use borrow.Author.Tests.{not-true, not-false}
+use Rattle.std.proofs.Common.{false, sym, ◌∙◌}
 use Rattle.address.specs.Address.{translate_of, layout_of}
 use Rattle.address.proofs.Answers.{told_refused, malformed, form_at, formless, sizeless_form}
 use Rattle.address.proofs.linear_number.Goals as goal

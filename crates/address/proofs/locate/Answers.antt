@@ -1,5 +1,5 @@
 -- `address::locate` meets its contract: status and room as the answer that they tell. Assumes nothing.
-use Rattle.std.proofs.Common.{sym, refl, ap, ◌∙◌, rules}
+use Rattle.std.proofs.Common.{sym, refl, ap, ◌∙◌}
 use borrow.Author.Tests.{eqb-false}
 use Rattle.refusal.specs.Told.{refuses}
 use Rattle.address.proofs.Answers.{pair_told, refusal_told, twelve_left}

@@ -1,5 +1,5 @@
 -- `address::sized` meets its contract: a law for each return. Assumes nothing.
-use Rattle.std.proofs.Common.{sym, ◌∙◌, arith, rules}
+use Rattle.std.proofs.Common.{sym, ◌∙◌, arith}
 use Rattle.address.specs.Address.{translate_of, layout_of}
 use Rattle.address.proofs.Answers.{told_refused, ruleless, taken, whole, bytes_fit, past_all, past_row, in_row}
 use Rattle.address.proofs.Answers.{outside_column, outside_row, pair_asked, address_fits, run_few, translated}

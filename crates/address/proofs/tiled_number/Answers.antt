@@ -1,6 +1,5 @@
 -- `address::tiled_number` meets its contract: each arm hands over its size. Assumes nothing.
-use Rattle.std.proofs.Common.{ℕ, true, sym, refl, ap, ◌∙◌, rules}
-use borrow.Author.Tests.{not-true, not-false}
+use Rattle.std.proofs.Common.{ℕ, true, sym, refl, ap, ◌∙◌}
 use Rattle.laws.specs.Choice.{place_of}
 use Rattle.layout.specs.Sizes.{is_size}
 use Rattle.address.specs.Address.{translate_of, layout_of}

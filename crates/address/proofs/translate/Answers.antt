@@ -1,5 +1,5 @@
 -- `address::translate` meets its contract: its number, told as an answer. Assumes nothing.
-use Rattle.std.proofs.Common.{sym, ap, ◌∙◌, rules}
+use Rattle.std.proofs.Common.{sym, ap, ◌∙◌}
 use Rattle.address.specs.Address.{told_number}
 use Rattle.address.proofs.Answers.{told_address, told_refused, refused_outside}
 use Rattle.address.proofs.translate.Goals as goal

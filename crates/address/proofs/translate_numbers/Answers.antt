@@ -1,5 +1,5 @@
 -- `address::translate_numbers` meets its contract: the two kinds of layout. Assumes nothing.
-use Rattle.std.proofs.Common.{Bool, sym, ap, ◌∙◌, rules}
+use Rattle.std.proofs.Common.{Bool, sym, ap, ◌∙◌}
 use Rattle.address.specs.Address.{translate_of, layout_of}
 use Rattle.address.proofs.translate_numbers.Goals as goal
 

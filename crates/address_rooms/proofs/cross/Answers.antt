@@ -2,7 +2,6 @@
 use mathlib.Core.Path.{refl}
 use Rattle.address.proofs.Answers.{told_address, told_refusal}
 use Rattle.refusal.proofs.Crossings.{crosses_gives, crosses_refuses}
-use borrow.Author.Rules.{rules}
 use Rattle.address_rooms.proofs.cross.Goals as goal
 
 pub returns-then-number-lt-REFUSED : goal.returns-then-number-lt-REFUSED

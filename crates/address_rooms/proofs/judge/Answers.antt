@@ -2,7 +2,6 @@
 use mathlib.Core.Path.{sym, ap, ◌∙◌}
 use Rattle.layout.specs.Layout.{told_judged}
 use Rattle.refusal.proofs.Crossings.{crosses_gives, crosses_refuses}
-use borrow.Author.Rules.{rules}
 use Rattle.address_rooms.proofs.judge.Goals as goal
 
 pub returns-in-Refused : goal.returns-in-Refused

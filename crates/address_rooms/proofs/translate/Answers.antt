@@ -3,7 +3,6 @@ use mathlib.Core.Bool.{true, false}
 use Rattle.address.specs.Address.{layout_of}
 use Rattle.address.proofs.Answers.{number_small}
 use Rattle.address_rooms.proofs.ByKind.{by_kind_lem}
-use borrow.Author.Rules.{rules}
 use Rattle.address_rooms.proofs.translate.Goals as goal
 
 pub cross-requires : goal.cross-requires

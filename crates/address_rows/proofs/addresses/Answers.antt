@@ -2,7 +2,6 @@
 use lib.ListN.{length}
 use Rattle.address_rows.proofs.Bytes.{row_of_bytes, row_by_places}
 use Rattle.address_rows.proofs.Runs.{kind_arm}
-use borrow.Author.Rules.{rules}
 use Rattle.address_rows.proofs.addresses.Goals as goal
 
 pub by_places-requires : goal.by_places-requires

@@ -1,7 +1,7 @@
 -- `address_rows::by_places` meets its contract: the table is lent to every run; before a run is written, all columns before it have their addresses. Assumes nothing.
 use mathlib.Core.Path.{◌≡◌, refl, sym, ap, ◌∙◌}
 use mathlib.Core.Bool.{true}
-use Prim.Native.Nat.{ℕ, ◌+◌, ◌-◌, ◌*◌, ◌/◌, ◌≤◌}
+use Prim.Native.Nat.{ℕ, ◌/◌}
 use native.Mathlib.Omega.{arith}
 use lib.ListN.{length}
 use Rattle.address_rows.specs.Rows.{element_at, written}
@@ -17,7 +17,6 @@ use Rattle.address_rows.proofs.Runs.{
   written_long,
   written_all,
 }
-use borrow.Author.Rules.{rules}
 use Rattle.address_rows.proofs.by_places.Goals as goal
 
 pub loop-i-init : goal.loop-i-init

@@ -1,23 +1,9 @@
 -- `address_rows::by_places` meets its contract: the table is lent to every run; before a run is written, all columns before it have their addresses. Assumes nothing.
-use mathlib.Core.Path.{◌≡◌, refl, sym, ap, ◌∙◌}
+use mathlib.Core.Path.{◌≡◌}
 use mathlib.Core.Bool.{true}
-use Prim.Native.Nat.{ℕ, ◌+◌, ◌-◌, ◌*◌, ◌/◌, ◌≤◌}
-use native.Mathlib.Omega.{arith}
+use Prim.Native.Nat.{◌-◌, ◌/◌, ◌≤◌}
 use lib.ListN.{length}
 use Rattle.address_rows.specs.Rows.{element_at, written}
-use Rattle.address_rows.proofs.Runs.{
-  column_bytes,
-  pair_asked,
-  run_rest,
-  at_fits,
-  fill_asked,
-  put_in,
-  written_none,
-  written_next,
-  written_long,
-  written_all,
-}
-use borrow.Author.Rules.{rules}
 use Rattle.address_rows.proofs.by_places.Given as goal
 
 abbrev pub invariant-loop-i : goal.invariant-loop-i

@@ -1,9 +1,8 @@
 -- `address_rows::by_runs` meets its contract: the rest of the first run, whole runs, and what is left. Assumes nothing.
-use mathlib.Core.Path.{◌≡◌, refl, sym, ◌∙◌}
+use mathlib.Core.Path.{refl, sym, ◌∙◌}
 use mathlib.Core.Bool.{true}
 use Prim.Native.Nat.{◌/◌}
 use native.Mathlib.Omega.{arith}
-use lib.ListN.{length}
 use Rattle.address_rows.specs.Rows.{element_at}
 use Rattle.address_rows.proofs.Listed.{listed_all}
 use Rattle.address_rows.proofs.Runs.{
@@ -18,7 +17,6 @@ use Rattle.address_rows.proofs.Runs.{
   in_three,
   in_two,
 }
-use borrow.Author.Rules.{rules}
 use Rattle.address_rows.proofs.by_runs.Goals as goal
 
 -- a row of no pairs

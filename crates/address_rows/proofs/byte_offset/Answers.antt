@@ -1,7 +1,6 @@
 -- `address_rows::byte_offset` meets its contract: the tile's number, and the table's place. Assumes nothing.
 use native.Mathlib.Omega.{arith}
 use Rattle.address_rows.proofs.Bytes.{number_few, column_few, offset_is}
-use borrow.Author.Rules.{rules}
 use Rattle.address_rows.proofs.byte_offset.Goals as goal
 
 pub overflow_mul-number : goal.overflow_mul-number

@@ -1,13 +1,8 @@
 -- `address_rows::fill` meets its contract: before place j is written, the first j places have their addresses. Assumes nothing.
-use mathlib.Core.Path.{◌≡◌, refl}
-use mathlib.Core.List.{List, ◌++◌}
-use Prim.Native.Nat.{ℕ, ◌+◌, ◌-◌, ◌*◌, ◌≤◌}
+use mathlib.Core.Path.{refl}
 use native.Mathlib.Omega.{arith}
-use native.Mathlib.Nat.{mul-le-mul}
-use lib.ListN.{length, drop, length-set}
-use Rattle.address_rows.specs.Rows.{listed}
+use lib.ListN.{length, length-set}
 use Rattle.address_rows.proofs.Listed.{listed_set, listed_all, below_end}
-use borrow.Author.Rules.{rules}
 use Rattle.address_rows.proofs.fill.Goals as goal
 
 pub loop-j-init : goal.loop-j-init

@@ -1,13 +1,9 @@
 -- `address_rows::fill` meets its contract: before place j is written, the first j places have their addresses. Assumes nothing.
-use mathlib.Core.Path.{◌≡◌, refl}
-use mathlib.Core.List.{List, ◌++◌}
-use Prim.Native.Nat.{ℕ, ◌+◌, ◌-◌, ◌*◌, ◌≤◌}
-use native.Mathlib.Omega.{arith}
-use native.Mathlib.Nat.{mul-le-mul}
-use lib.ListN.{length, drop, length-set}
+use mathlib.Core.Path.{◌≡◌}
+use mathlib.Core.List.{◌++◌}
+use Prim.Native.Nat.{◌+◌, ◌-◌, ◌*◌, ◌≤◌}
+use lib.ListN.{length, drop}
 use Rattle.address_rows.specs.Rows.{listed}
-use Rattle.address_rows.proofs.Listed.{listed_set, listed_all, below_end}
-use borrow.Author.Rules.{rules}
 use Rattle.address_rows.proofs.fill.Given as goal
 
 abbrev pub invariant-loop-j : goal.invariant-loop-j

@@ -7,7 +7,6 @@ use Rattle.layout.proofs.Sizes.{sixteen}
 use Rattle.address_rows.specs.Rows.{element_at}
 use Rattle.address_rows.proofs.Listed.{listed_all}
 use Rattle.address_rows.proofs.Runs.{row_arm, linear_run, written_all}
-use borrow.Author.Rules.{rules}
 use Rattle.address_rows.proofs.linear.Goals as goal
 
 -- a row of no pairs

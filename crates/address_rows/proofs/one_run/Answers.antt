@@ -2,7 +2,6 @@
 use mathlib.Core.Path.{refl}
 use native.Mathlib.Omega.{arith}
 use Rattle.address_rows.proofs.Runs.{pair_asked, at_fits, fill_asked, put_in}
-use borrow.Author.Rules.{rules}
 use Rattle.address_rows.proofs.one_run.Goals as goal
 
 pub offset-requires : goal.offset-requires

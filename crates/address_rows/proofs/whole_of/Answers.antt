@@ -1,10 +1,9 @@
 -- `address_rows::whole_of` meets its contract: each arm hands over its size. Assumes nothing.
-use mathlib.Core.Path.{refl, sym}
+use mathlib.Core.Path.{refl}
 use Rattle.laws.specs.Choice.{pick, place_of}
 use Rattle.layout.proofs.Sizes.{sixteen}
 use Rattle.address.specs.Run.{run_unit}
 use Rattle.address_rows.proofs.Runs.{row_arm, begins_arm}
-use borrow.Author.Rules.{rules}
 use Rattle.address_rows.proofs.whole_of.Goals as goal
 
 pub whole_runs-requires : goal.whole_runs-requires

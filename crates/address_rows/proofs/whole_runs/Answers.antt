@@ -1,12 +1,8 @@
 -- `address_rows::whole_runs` meets its contract: before place i all places from `from` on have their addresses. Assumes nothing.
-use mathlib.Core.Path.{◌≡◌, refl, sym, ap, ◌∙◌}
+use mathlib.Core.Path.{refl, sym, ◌∙◌}
 use mathlib.Core.Bool.{true}
-use Prim.Native.Nat.{◌+◌, ◌-◌, ◌/◌, ◌<◌, ◌≤◌}
 use native.Mathlib.Omega.{arith}
-use lib.ListN.{length}
-use Rattle.address_rows.specs.Rows.{element_at, RunBegins, written}
 use Rattle.address_rows.proofs.Runs.{unit_some, whole_run, begins_next, written_none, written_next, written_long, long_row, long_run}
-use borrow.Author.Rules.{rules}
 use Rattle.address_rows.proofs.whole_runs.Goals as goal
 
 pub loop-i-init : goal.loop-i-init

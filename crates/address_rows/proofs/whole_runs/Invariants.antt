@@ -1,12 +1,9 @@
 -- `address_rows::whole_runs` meets its contract: before place i all places from `from` on have their addresses. Assumes nothing.
-use mathlib.Core.Path.{◌≡◌, refl, sym, ap, ◌∙◌}
+use mathlib.Core.Path.{◌≡◌}
 use mathlib.Core.Bool.{true}
-use Prim.Native.Nat.{◌+◌, ◌-◌, ◌/◌, ◌<◌, ◌≤◌}
-use native.Mathlib.Omega.{arith}
+use Prim.Native.Nat.{◌-◌, ◌/◌, ◌≤◌}
 use lib.ListN.{length}
 use Rattle.address_rows.specs.Rows.{element_at, RunBegins, written}
-use Rattle.address_rows.proofs.Runs.{unit_some, whole_run, begins_next, written_none, written_next, written_long, long_row, long_run}
-use borrow.Author.Rules.{rules}
 use Rattle.address_rows.proofs.whole_runs.Given as goal
 
 abbrev pub invariant-loop-i : goal.invariant-loop-i

@@ -1,13 +1,12 @@
 -- `command_rooms::parameters` meets its contract: each answer crosses as it is told. Assumes nothing.
 use mathlib.Core.Path.{sym, ap, ◌∙◌}
-use mathlib.Core.List.{[], ◌∷◌}
+use mathlib.Core.List.{◌∷◌}
 use Prim.Native.Nat.{ℕ}
 use Rattle.refusal.specs.Told.{gives}
 use Rattle.command.specs.Table.{told_line}
 use Rattle.refusal.proofs.Crossings.{crosses_gives, crosses_refuses}
 use Rattle.command.proofs.Headers.{accepted_listed}
 use Rattle.command.proofs.Known.{on_line, off_line}
-use borrow.Author.Rules.{rules}
 use Rattle.command_rooms.proofs.parameters.Goals as goal
 
 pub count-requires : goal.count-requires

@@ -5,7 +5,6 @@ use Rattle.command.proofs.Headers.{accepted_listed}
 use Rattle.refusal.proofs.Crossings.{crosses_refuses}
 use Rattle.command.proofs.Known.{off_line}
 use Rattle.command_rooms.proofs.Written.{write_known}
-use borrow.Author.Rules.{rules}
 use Rattle.command_rooms.proofs.write.Goals as goal
 
 pub write_line-requires : goal.write_line-requires

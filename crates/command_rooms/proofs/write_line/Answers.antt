@@ -1,6 +1,5 @@
 -- `command_rooms::write_line` meets its contract: by the tests of the line, or as the command is written. Assumes nothing.
 use native.Mathlib.Omega.{arith}
-use borrow.Author.Rules.{rules}
 use Rattle.command_rooms.proofs.Written.{by_line, by_command}
 use Rattle.command_rooms.proofs.write_line.Goals as goal
 

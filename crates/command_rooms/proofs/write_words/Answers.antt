@@ -4,7 +4,6 @@ use native.Mathlib.Omega.{arith}
 use Rattle.rules.specs.Written.{told_written}
 use Rattle.refusal.proofs.Crossings.{crosses_gives, crosses_refuses}
 use Rattle.command_rooms.proofs.Written.{words_few}
-use borrow.Author.Rules.{rules}
 use Rattle.command_rooms.proofs.write_words.Goals as goal
 
 pub overflow_cast-written : goal.overflow_cast-written

@@ -1,7 +1,6 @@
 -- `command_worked::answer_to` is safe and ends; what it hands on came from the entries. Assumes nothing.
 use mathlib.Core.Path.{sym}
 use lib.Seq.{length-take-le}
-use borrow.Author.Rules.{rules}
 use Rattle.command_worked.proofs.answer_to.Goals as goal
 
 pub slice_bounds-last_answer-end : goal.slice_bounds-last_answer-end

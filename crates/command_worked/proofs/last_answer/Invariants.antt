@@ -1,10 +1,7 @@
 -- `command_worked::last_answer` is safe and ends; what it hands on came from the entries. Assumes nothing.
 use lib.ListN.{length}
 use Prim.Native.Nat.{◌-◌}
-use borrow.Author.Rules.{rules}
 use Rattle.state.specs.Asked.{Given}
-use Rattle.session.specs.Step.{step_of}
-use Rattle.session.proofs.Handed.{first_given, word_given}
 use Rattle.command_worked.proofs.last_answer.Given as goal
 
 abbrev pub invariant-loop-i : goal.invariant-loop-i

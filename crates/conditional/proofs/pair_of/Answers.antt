@@ -2,7 +2,6 @@
 use mathlib.Core.Path.{sym, ap, ◌∙◌}
 use Rattle.memory.specs.Elements.{told_place}
 use Rattle.conditional.proofs.Tests.{pair_refused, two_inside, pair_tested}
-use borrow.Author.Rules.{rules}
 use Rattle.conditional.proofs.pair_of.Goals as goal
 
 pub word_at-requires : goal.word_at-requires

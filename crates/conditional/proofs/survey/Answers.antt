@@ -3,7 +3,6 @@ use borrow.Author.Tests.{not-true, not-false}
 use Rattle.conditional.proofs.Entries.{buffer_unset, test_unset, other_format, ready, surveyed_so}
 use Rattle.conditional.proofs.Surveys.{answers_refused}
 use Rattle.conditional.specs.Conditional.{survey_of}
-use borrow.Author.Rules.{rules}
 use Rattle.conditional.proofs.survey.Goals as goal
 
 pub returns-then-not-buffer : goal.returns-then-not-buffer

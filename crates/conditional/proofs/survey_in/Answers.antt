@@ -3,7 +3,6 @@ use mathlib.Core.Path.{sym, ap, ◌∙◌}
 use lib.ListN.{length}
 use Rattle.address.specs.Address.{layout_of, told_translated}
 use Rattle.conditional.proofs.Surveys.{answers_refused, crossed_columns, crossed_rows, last_found, last_refused}
-use borrow.Author.Rules.{rules}
 use Rattle.conditional.proofs.survey_in.Goals as goal
 
 pub returns-then-i1-i0 : goal.returns-then-i1-i0

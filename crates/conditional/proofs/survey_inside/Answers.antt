@@ -6,7 +6,6 @@ use Rattle.layout.specs.Layout.{told_judged}
 use Rattle.address.specs.Address.{layout_of}
 use Rattle.conditional.proofs.Surveys.{answers_refused, wrong_room, product, pairs_few}
 use Rattle.conditional.proofs.Rows.{judged_so, not_refused}
-use borrow.Author.Rules.{rules}
 use Rattle.conditional.proofs.survey_inside.Goals as goal
 
 pub overflow_mul-rows : goal.overflow_mul-rows

@@ -1,9 +1,8 @@
 -- `conditional::survey_judged` meets its contract: what the survey of rows gives, in the words of the definitions. Assumes nothing.
 use mathlib.Core.Path.{sym, ap, ◌∙◌}
-use Prim.Native.Nat.{ℕ, ◌-◌, ◌<◌}
+use Prim.Native.Nat.{ℕ, ◌<◌}
 use native.Mathlib.Omega.{arith}
 use lib.ListN.{length, get_or}
-use borrow.Author.Tests.{not-true, not-false}
 use Rattle.laws.specs.Below.{sum}
 use Rattle.laws.proofs.Below.{sum_same}
 use Rattle.address.specs.Address.{layout_of}
@@ -12,7 +11,6 @@ use Rattle.conditions.proofs.Written.{written_same}
 use Rattle.conditional.specs.Conditional.{bit_at}
 use Rattle.conditional.proofs.Rows.{stride_fits, held_asked, same_held, rows_asked, same_byte, pairs_are}
 use Rattle.conditional.proofs.Surveys.{answers_refused, answers_given, not_held, all_surveyed, written_listed}
-use borrow.Author.Rules.{rules}
 use Rattle.conditional.proofs.survey_judged.Goals as goal
 
 pub overflow_add-columns : goal.overflow_add-columns

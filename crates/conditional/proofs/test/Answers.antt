@@ -3,7 +3,6 @@ use mathlib.Core.Path.{sym}
 use borrow.Author.Tests.{not-true, not-false}
 use Rattle.conditional.proofs.Entries.{buffer_unset, test_unset, other_format, ready, tested_so}
 use Rattle.conditional.specs.Conditional.{test_of}
-use borrow.Author.Rules.{rules}
 use Rattle.conditional.proofs.test.Goals as goal
 
 pub returns-then-not-buffer : goal.returns-then-not-buffer

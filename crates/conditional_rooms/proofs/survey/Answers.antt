@@ -2,7 +2,6 @@
 use mathlib.Core.Path.{sym, ap, ◌∙◌}
 use Rattle.refusal.proofs.Crossings.{crosses_gives, crosses_refuses}
 use Rattle.conditional.specs.Conditional.{told_surveyed}
-use borrow.Author.Rules.{rules}
 use Rattle.conditional_rooms.proofs.survey.Goals as goal
 
 -- refused

@@ -1,6 +1,5 @@
 -- `element_rooms::read` meets its contract: each arm hands over its size. Assumes nothing.
 use Rattle.element_rooms.proofs.Sized.{read_at, read_no, unsized}
-use borrow.Author.Rules.{rules}
 use Rattle.element_rooms.proofs.read.Goals as goal
 
 pub returns-in-1 : goal.returns-in-1

@@ -7,7 +7,6 @@ use Rattle.address.proofs.Answers.{number_small}
 use Rattle.memory.specs.Elements.{told_place}
 use Rattle.memory.proofs.Calls.{ends_inside, end_fits}
 use Rattle.element_rooms.proofs.Sized.{refused_number, started, read_no, read_yes, put_asked}
-use borrow.Author.Rules.{rules}
 use Rattle.element_rooms.proofs.read_sized.Goals as goal
 
 pub overflow_cast-result : goal.overflow_cast-result

@@ -1,7 +1,6 @@
 -- `element_rooms::store` meets its contract: what was put into the array comes out of it. Assumes nothing.
 use mathlib.Core.Path.{◌∙◌}
 use Rattle.element_rooms.proofs.Sized.{taken_again}
-use borrow.Author.Rules.{rules}
 use Rattle.element_rooms.proofs.store.Goals as goal
 
 pub returns : goal.returns

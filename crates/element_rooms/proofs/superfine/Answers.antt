@@ -1,7 +1,6 @@
 -- `element_rooms::superfine` meets its contract: each answer crosses as it is told. Assumes nothing.
 use native.Mathlib.Omega.{arith}
 use Rattle.element_rooms.proofs.Readings.{bytes_few, superfine_given, superfine_refused}
-use borrow.Author.Rules.{rules}
 use Rattle.element_rooms.proofs.superfine.Goals as goal
 
 pub overflow_cast-count : goal.overflow_cast-count

@@ -1,7 +1,6 @@
 -- `element_rooms::write` meets its contract: each arm hands over its size. Assumes nothing.
 use Rattle.memory.proofs.Calls.{write_refused}
 use Rattle.element_rooms.proofs.Sized.{write_at_lem, write_crosses, unsized}
-use borrow.Author.Rules.{rules}
 use Rattle.element_rooms.proofs.write.Goals as goal
 
 pub returns-in-1 : goal.returns-in-1

@@ -6,7 +6,6 @@ use Rattle.address.proofs.Answers.{number_small}
 use Rattle.memory.specs.Elements.{told_place}
 use Rattle.memory.proofs.Calls.{ends_inside, end_fits, write_refused, write_unfit, write_done}
 use Rattle.element_rooms.proofs.Sized.{refused_number, started, store_asked, write_crosses}
-use borrow.Author.Rules.{rules}
 use Rattle.element_rooms.proofs.write_sized.Goals as goal
 
 pub overflow_cast-result : goal.overflow_cast-result

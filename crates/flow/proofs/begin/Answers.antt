@@ -1,6 +1,5 @@
 -- `flow::begin` meets its contract: each return is the answer as far as the tests decide it. Assumes nothing.
 use Rattle.flow.proofs.Beginning.{begin_small, begin_large, begin_no_mode, begin_ready}
-use borrow.Author.Rules.{rules}
 use Rattle.flow.proofs.begin.Goals as goal
 
 pub returns-then-size-lt1 : goal.returns-then-size-lt1

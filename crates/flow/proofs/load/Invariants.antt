@@ -1,10 +1,9 @@
 -- `flow::load` meets its contract. Loop: the first slots hold the words read so far, the others are plain. Assumes nothing.
-use mathlib.Core.Path.{◌≡◌, refl}
+use mathlib.Core.Path.{◌≡◌}
 use Prim.Native.Nat.{◌/◌, ◌-◌, ◌≤◌}
-use native.Mathlib.Omega.{arith}
-use lib.ListN.{length, length-set, length-replicate}
+use lib.ListN.{length}
 use Rattle.flow.specs.Store.{first_words, second_words, plain_first, plain_second}
-use Rattle.flow.proofs.Loading.{partly, partly_none, firsts_turn, seconds_turn, load_odd, load_none, load_many, load_done}
+use Rattle.flow.proofs.Loading.{partly}
 use Rattle.flow.proofs.load.Given as goal
 
 abbrev pub invariant-loop-k : goal.invariant-loop-k

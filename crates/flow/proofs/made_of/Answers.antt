@@ -4,7 +4,6 @@ use borrow.Author.Tests.{lt-ltb, le-ltb}
 use Rattle.laws.proofs.Choice.{pick_yes, pick_no}
 use Rattle.flow.specs.declared.StepsMade.TheVariants as steps_made
 use Rattle.flow.specs.Answers.{made_by}
-use borrow.Author.Rules.{rules}
 use Rattle.flow.proofs.made_of.Goals as goal
 
 pub returns-then-number-gt1 : goal.returns-then-number-gt1

@@ -1,14 +1,12 @@
 -- `flow::make_steps` meets its contract. Loop: the whole is the steps made so far, and then the steps of the masks left. Assumes nothing.
-use mathlib.Core.Path.{◌≡◌, refl, ◌∙◌}
+use mathlib.Core.Path.{◌≡◌}
 use Prim.Native.Nat.{◌*◌, ◌/◌, ◌-◌, ◌≤◌}
-use native.Mathlib.Omega.{arith}
 use lib.ListN.{length, drop}
 use Rattle.group.specs.Group.{group_steps}
 use Rattle.group.specs.Cells.{mode_in, group_of, GroupGiven}
 use Rattle.stepper.specs.Answers.{program_of}
 use Rattle.flow.specs.Answers.{steps_in}
-use Rattle.flow.proofs.Running.{plus, plus_zero, turns_ended, turns_out, turns_refused, turns_again}
-use borrow.Author.Rules.{rules}
+use Rattle.flow.proofs.Running.{plus}
 use Rattle.flow.proofs.make_steps.Given as goal
 
 abbrev pub invariant-loop-made : goal.invariant-loop-made

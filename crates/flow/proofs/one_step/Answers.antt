@@ -4,7 +4,6 @@ use native.Mathlib.Omega.{arith}
 use Rattle.stepper.proofs.Words.{low_field}
 use Rattle.stepper.proofs.Stepping.{word_here, step_ended, step_many, step_forbidden, step_jump, step_loop}
 use Rattle.flow.proofs.Running.{one_made, one_refused}
-use borrow.Author.Rules.{rules}
 use Rattle.flow.proofs.one_step.Goals as goal
 
 -- the program has ended

@@ -1,6 +1,5 @@
 -- `flow::run` meets its contract: the steps on a copy, which takes the place of the cells where none is refused. Assumes nothing.
 use Rattle.flow.proofs.Running.{run_ended, run_made, run_refused}
-use borrow.Author.Rules.{rules}
 use Rattle.flow.proofs.run.Goals as goal
 
 -- the program has ended

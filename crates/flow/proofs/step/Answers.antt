@@ -4,7 +4,6 @@ use Rattle.stepper.specs.Answers.{own_limit}
 use Rattle.stepper.proofs.Stepping.{left_size}
 use Rattle.flow.proofs.Answers.{step_told_lem}
 use Rattle.flow.proofs.Running.{sound_here}
-use borrow.Author.Rules.{rules}
 use Rattle.flow.proofs.step.Goals as goal
 
 pub bounds-cells-7 : goal.bounds-cells-7

@@ -2,7 +2,6 @@
 use mathlib.Core.Path.{refl, sym, ◌∙◌}
 use Rattle.stepper.proofs.Words.{low_field}
 use Rattle.stepper.proofs.Stepping.{word_here, step_ended, step_many, step_forbidden, step_jump, step_loop}
-use borrow.Author.Rules.{rules}
 use Rattle.flow.proofs.step_number.Goals as goal
 
 -- the program has ended

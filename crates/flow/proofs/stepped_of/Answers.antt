@@ -1,6 +1,5 @@
 -- `flow::stepped_of` meets its contract: each return tells what the number does. Assumes nothing.
 use Rattle.flow.proofs.Answers.{told_refused, told_jumped, told_stayed}
-use borrow.Author.Rules.{rules}
 use Rattle.flow.proofs.stepped_of.Goals as goal
 
 -- a number above 1

@@ -2,7 +2,6 @@
 use Rattle.group.specs.Cells.{group_of}
 use Rattle.group.proofs.State.{given_loops}
 use Rattle.flow.proofs.Answers.{loops_told_lem}
-use borrow.Author.Rules.{rules}
 use Rattle.flow.proofs.tell_loops.Goals as goal
 
 pub shown-requires : goal.shown-requires

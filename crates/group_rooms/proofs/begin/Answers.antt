@@ -2,7 +2,6 @@
 use mathlib.Core.Path.{sym, ap, ◌∙◌}
 use Rattle.flow.specs.Answers.{told_begun}
 use Rattle.refusal.specs.Crossing.{status_of}
-use borrow.Author.Rules.{rules}
 use Rattle.group_rooms.proofs.begin.Goals as goal
 
 pub returns-in-Refused : goal.returns-in-Refused

@@ -2,7 +2,6 @@
 use mathlib.Core.Path.{sym, ap, ◌∙◌}
 use Rattle.flow.specs.Answers.{told_ran}
 use Rattle.refusal.proofs.Crossings.{crosses_gives, crosses_refuses}
-use borrow.Author.Rules.{rules}
 use Rattle.group_rooms.proofs.run.Goals as goal
 
 pub returns-in-Refused : goal.returns-in-Refused

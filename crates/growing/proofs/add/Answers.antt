@@ -2,7 +2,6 @@
 use mathlib.Core.Path.{sym, ◌∙◌}
 use Rattle.score.specs.Answers.{lease_line}
 use Rattle.growing.proofs.Adding.{other_edition, no_more, refused_as, may_put, added_as}
-use borrow.Author.Rules.{rules}
 use Rattle.growing.proofs.add.Goals as goal
 
 pub returns-then-sums-born : goal.returns-then-sums-born

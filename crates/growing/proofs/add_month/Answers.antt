@@ -1,7 +1,6 @@
 -- `growing::add_month` meets its contract. Assumes nothing.
 use mathlib.Core.Path.{sym, ◌∙◌}
 use Rattle.growing.proofs.Adding.{no_more_months, month_put, no_month}
-use borrow.Author.Rules.{rules}
 use Rattle.growing.proofs.add_month.Goals as goal
 
 pub returns-then-count-ge-MOST_STATIONS : goal.returns-then-count-ge-MOST_STATIONS

@@ -1,7 +1,6 @@
 -- `growing::begin` meets its contract. Assumes nothing.
 use mathlib.Core.Path.{sym, ◌∙◌}
 use Rattle.growing.proofs.Adding.{begun_as, not_begun}
-use borrow.Author.Rules.{rules}
 use Rattle.growing.proofs.begin.Goals as goal
 
 pub returns-then-is_known : goal.returns-then-is_known

@@ -3,7 +3,6 @@ use mathlib.Core.Path.{sym}
 use borrow.Author.Tests.{eq-eqb, ne_eqb}
 use Rattle.laws.proofs.Choice.{pick_yes, pick_no}
 use Rattle.state.specs.Start.{is_edition}
-use borrow.Author.Rules.{rules}
 use Rattle.growing.proofs.is_edition.Goals as goal
 
 pub returns-then-number : goal.returns-then-number

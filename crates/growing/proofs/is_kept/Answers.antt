@@ -2,7 +2,6 @@
 use mathlib.Core.Path.{ap₂, ◌∙◌}
 use Rattle.laws.specs.Choice.{◌and◌}
 use Rattle.growing.proofs.Judging.{over_judged, kept_judged}
-use borrow.Author.Rules.{rules}
 use Rattle.growing.proofs.is_kept.Goals as goal
 
 pub returns-then-count-gt-MOST_STATIONS : goal.returns-then-count-gt-MOST_STATIONS

@@ -1,6 +1,5 @@
 -- `growing::is_month` meets its contract. Assumes nothing.
 use Rattle.growing.proofs.Adding.{month_tested}
-use borrow.Author.Rules.{rules}
 use Rattle.growing.proofs.is_month.Goals as goal
 
 pub returns : goal.returns

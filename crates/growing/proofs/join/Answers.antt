@@ -1,6 +1,5 @@
 -- `growing::join` meets its contract. Assumes nothing.
 use Rattle.growing.proofs.Adding.{apart_editions, too_many, may_join, joined_as}
-use borrow.Author.Rules.{rules}
 use Rattle.growing.proofs.join.Goals as goal
 
 pub returns-then-edition-other : goal.returns-then-edition-other

@@ -1,6 +1,5 @@
 -- `growing::join_fleets` meets its contract. Assumes nothing.
 use Rattle.growing.proofs.Adding.{joined_fleet}
-use borrow.Author.Rules.{rules}
 use Rattle.growing.proofs.join_fleets.Goals as goal
 
 pub returns : goal.returns

@@ -1,6 +1,5 @@
 -- `growing::put_month` meets its contract. Assumes nothing.
 use Rattle.growing.proofs.Adding.{put_asked, put_as}
-use borrow.Author.Rules.{rules}
 use Rattle.growing.proofs.put_month.Goals as goal
 
 pub add-fleet-requires : goal.add-fleet-requires

@@ -1,7 +1,6 @@
 -- `growing::tell` meets its contract: 64 and 0 where none owes. Assumes nothing.
 use mathlib.Core.Path.{refl}
 use Rattle.growing.proofs.Adding.{none_told, named_told}
-use borrow.Author.Rules.{rules}
 use Rattle.growing.proofs.tell.Goals as goal
 
 pub returns-then-sums-eq0 : goal.returns-then-sums-eq0

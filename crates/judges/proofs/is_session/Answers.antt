@@ -1,6 +1,5 @@
 -- `judges::is_session` meets its contract: a yes is what the entries require. Assumes nothing.
 use Rattle.judges.proofs.Valid.{judged_yes, judged_no, work_asked}
-use borrow.Author.Rules.{rules}
 use Rattle.judges.proofs.is_session.Reads as reads
 use Rattle.judges.proofs.is_session.Lts as lts
 use Rattle.judges.proofs.party.is_kept.Reads as party_is_kept_reads

@@ -3,7 +3,6 @@ use mathlib.Core.Path.{sym, ◌∙◌}
 use borrow.Author.Tests.{eq-eqb, ne_eqb}
 use Rattle.laws.proofs.Choice.{pick_yes, pick_no}
 use Rattle.judges_group.specs.Judged.{counters_fit}
-use borrow.Author.Rules.{rules}
 use Rattle.judges_group.proofs.counters_fit.Goals as goal
 
 pub returns-then-mode-eq-PARTIAL : goal.returns-then-mode-eq-PARTIAL

@@ -1,6 +1,5 @@
 -- `judges_group::in_a_row` meets its contract: a word and its half, place by place. Assumes nothing.
 use Rattle.judges_group.proofs.Words.{row_word}
-use borrow.Author.Rules.{rules}
 use Rattle.judges_group.proofs.in_a_row.Goals as goal
 
 pub returns : goal.returns

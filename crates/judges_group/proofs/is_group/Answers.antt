@@ -3,7 +3,6 @@ use mathlib.Core.Path.{◌≡◌, refl, sym, ap, ◌∙◌}
 use Rattle.judges_group.specs.Judged.{in_aRow, is_group}
 use Rattle.judges_group.proofs.Words.{joined}
 use Rattle.judges_group.proofs.Judging.{judged_given, given_judged}
-use borrow.Author.Rules.{rules}
 use Rattle.judges_group.proofs.is_group.Goals as goal
 
 pub returns : goal.returns

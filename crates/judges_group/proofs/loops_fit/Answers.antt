@@ -1,7 +1,6 @@
 -- `judges_group::loops_fit` meets its contract: the stack's test with each cell's own. Assumes nothing.
-use mathlib.Core.Path.{ap, ◌∙◌}
-use Rattle.judges_group.specs.Judged.{stack_of, loop_fits, loops_fit}
-use borrow.Author.Rules.{rules}
+use mathlib.Core.Path.{◌∙◌}
+use Rattle.judges_group.specs.Judged.{stack_of, loops_fit}
 use Rattle.judges_group.proofs.loops_fit.Goals as goal
 
 pub returns : goal.returns

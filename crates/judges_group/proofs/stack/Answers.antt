@@ -2,7 +2,6 @@
 use mathlib.Core.Path.{refl}
 use Rattle.judges_group.specs.Judged.{stack_of}
 use Rattle.judges_group.proofs.Words.{joined, stacked_on}
-use borrow.Author.Rules.{rules}
 use Rattle.judges_group.proofs.stack.Goals as goal
 
 pub returns : goal.returns

@@ -2,7 +2,6 @@
 use mathlib.Core.Path.{sym, ◌∙◌}
 use borrow.Author.Tests.{eq-eqb, ne_eqb}
 use Rattle.laws.proofs.Choice.{pick_yes, pick_no}
-use borrow.Author.Rules.{rules}
 use Rattle.judges_group.proofs.stacked.Goals as goal
 
 pub returns-then-cell-eq0 : goal.returns-then-cell-eq0

@@ -1,6 +1,5 @@
 -- `judges_log::is_replay` meets its contract: a yes is what the entries require. Assumes nothing.
 use Rattle.judges_log.proofs.Replays.{midnights_few, replay_yes, replay_no}
-use borrow.Author.Rules.{rules}
 use Rattle.judges_log.proofs.is_replay.Reads as reads
 use Rattle.judges_log.proofs.is_replay.Lts as lts
 use Rattle.judges.proofs.is_session.Reads as is_session_reads

@@ -1,6 +1,5 @@
 -- `judges_pair::is_pair` meets its contract: a yes is what the entries require. Assumes nothing.
 use Rattle.judges_pair.proofs.Pairs.{pair_judged}
-use borrow.Author.Rules.{rules}
 use Rattle.judges_pair.proofs.is_pair.Reads as reads
 use Rattle.judges_pair.proofs.is_pair.Lts as lts
 use Rattle.judges.proofs.is_session.Reads as is_session_reads

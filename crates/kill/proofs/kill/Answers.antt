@@ -3,7 +3,6 @@ use mathlib.Core.Path.{sym, ap, ◌∙◌}
 use Prim.Native.Nat.{ℕ, ◌*◌}
 use Rattle.kill.proofs.Taking.{start_size_lem}
 use Rattle.kill.proofs.Answering.{kill_ended, kill_field, kill_length, kill_made}
-use borrow.Author.Rules.{rules}
 use Rattle.kill.proofs.kill.Goals as goal
 
 -- the program has ended

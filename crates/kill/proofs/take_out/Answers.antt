@@ -1,6 +1,5 @@
 -- `kill::take_out` meets its contract: the masks that it stores are those of the group after the kill. Assumes nothing.
 use Rattle.kill.proofs.Taking.{few_channels, taken_out}
-use borrow.Author.Rules.{rules}
 use Rattle.kill.proofs.take_out.Goals as goal
 
 pub kill_mask-requires : goal.kill_mask-requires

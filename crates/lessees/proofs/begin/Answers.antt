@@ -1,7 +1,6 @@
 -- `lessees::begin` meets its contract. Assumes nothing.
 use mathlib.Core.Path.{sym, ◌∙◌}
 use Rattle.lessees.proofs.Begun.{begins, begins_not, may_bounds}
-use borrow.Author.Rules.{rules}
 use Rattle.lessees.proofs.begin.Goals as goal
 
 pub make-requires : goal.make-requires

@@ -1,7 +1,6 @@
 -- `lessees::feed` meets its contract: the parties' numbers are judged before anything is touched. Assumes nothing.
 use native.Mathlib.Omega.{arith}
 use Rattle.lessees.proofs.Folding.{feeds, feeds_not}
-use borrow.Author.Rules.{rules}
 use Rattle.lessees.proofs.feed.Goals as goal
 
 pub take_runs-requires : goal.take_runs-requires

@@ -1,9 +1,6 @@
 -- `lessees::groups_end` meets its contract: each turn passes a group whose words are all the party's. Assumes nothing.
 use mathlib.Core.Path.{◌∙◌}
-use Prim.Native.Nat.{◌*◌, ◌-◌}
 use native.Mathlib.Omega.{arith}
-use borrow.Author.Rules.{rules}
-use Rattle.lessees.specs.Rooms.{RunTo}
 use Rattle.lessees.proofs.Taking.{run_begins, group_on}
 use Rattle.lessees.proofs.groups_end.Goals as goal
 

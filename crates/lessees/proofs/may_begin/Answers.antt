@@ -1,6 +1,5 @@
 -- `lessees::may_begin` meets its contract. Assumes nothing.
 use Rattle.lessees.proofs.Begun.{by_outputs, not_edition, not_inputs}
-use borrow.Author.Rules.{rules}
 use Rattle.lessees.proofs.may_begin.Goals as goal
 
 pub returns-then-inputs-lt-INPUTS : goal.returns-then-inputs-lt-INPUTS

@@ -3,7 +3,6 @@ use mathlib.Core.Path.{sym, ap, ◌∙◌}
 use Rattle.session.specs.declared.stream.First.{First}
 use Rattle.session.specs.Answers.{first_of}
 use Rattle.session.specs.Feed.{first_status}
-use borrow.Author.Rules.{rules}
 use Rattle.lessees.proofs.number_of.Reads as reads
 use Rattle.lessees.proofs.number_of.Lts as lts
 use Rattle.refusal.proofs.number.Reads as number_reads

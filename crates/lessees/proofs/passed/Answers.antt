@@ -1,6 +1,5 @@
 -- `lessees::passed` meets its contract: by groups, or not at all. Assumes nothing.
 use Rattle.lessees.proofs.Taking.{run_begins, passed_groups}
-use borrow.Author.Rules.{rules}
 use Rattle.lessees.proofs.passed.Goals as goal
 
 -- the place begins a group

@@ -1,9 +1,6 @@
 -- `lessees::run_end` meets its contract: each turn passes a word of the party. Assumes nothing.
-use Prim.Native.Nat.{◌-◌}
 use native.Mathlib.Omega.{arith}
-use Rattle.lessees.specs.Rooms.{RunTo}
 use Rattle.lessees.proofs.Taking.{run_on, run_ends, run_out}
-use borrow.Author.Rules.{rules}
 use Rattle.lessees.proofs.run_end.Goals as goal
 
 pub loop-at-init : goal.loop-at-init

@@ -1,7 +1,6 @@
 -- `lessees::take_one` meets its contract: the word's number tells what a run of it does. Assumes nothing.
 use Rattle.session.proofs.Single.{one_open, one_completed, one_refused}
 use Rattle.lessees.proofs.Telling.{one_left}
-use borrow.Author.Rules.{rules}
 use Rattle.lessees.proofs.take_one.Reads as reads
 use Rattle.lessees.proofs.take_one.Lts as lts
 use Rattle.lessees.proofs.tell.Reads as tell_reads

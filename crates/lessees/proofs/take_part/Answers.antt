@@ -1,6 +1,5 @@
 -- `lessees::take_part` meets its contract: a run of one word is that word. Assumes nothing.
 use Rattle.lessees.proofs.Telling.{one_asked, one_run}
-use borrow.Author.Rules.{rules}
 use Rattle.lessees.proofs.take_part.Reads as reads
 use Rattle.lessees.proofs.take_part.Lts as lts
 use Rattle.lessees.proofs.take_one.Reads as take_one_reads

@@ -1,6 +1,5 @@
 -- `lessees::take_run` meets its contract. Assumes nothing.
 use Rattle.lessees.proofs.Telling.{run_room, run_left}
-use borrow.Author.Rules.{rules}
 use Rattle.lessees.proofs.take_run.Reads as reads
 use Rattle.lessees.proofs.take_run.Lts as lts
 use Rattle.lessees.proofs.number_of.Reads as number_of_reads

@@ -1,11 +1,7 @@
 -- `lessees::take_runs` meets its contract: each turn takes a run of one party's words. Assumes nothing.
 use mathlib.Core.Path.{sym}
-use Prim.Native.Nat.{◌-◌}
 use native.Mathlib.Omega.{arith}
-use lib.ListN.{length}
-use borrow.Author.Rules.{rules}
-use Rattle.lessees.specs.Rooms.{pair_of}
-use Rattle.lessees.proofs.Folding.{Fold, fold_begins, asked0, asked1, fold_run0, fold_run1, fold_ends, told_lengths, six, as_party}
+use Rattle.lessees.proofs.Folding.{fold_begins, asked0, asked1, fold_run0, fold_run1, fold_ends, told_lengths, six, as_party}
 use Rattle.lessees.proofs.take_runs.Reads as reads
 use Rattle.lessees.proofs.take_runs.Lts as lts
 use Rattle.lessees.proofs.party_of.Reads as party_of_reads

@@ -1,5 +1,4 @@
 -- `lessees::tell` meets its contract. Assumes nothing.
-use borrow.Author.Rules.{rules}
 use Rattle.lessees.proofs.Telling.{told_first_lem}
 use Rattle.lessees.proofs.tell.Goals as goal
 

@@ -1,7 +1,5 @@
 -- `line_writer::place` meets its contract at each return. Assumes nothing.
 use native.Mathlib.Omega.{arith}
-use borrow.Author.Rules.{rules}
-use borrow.Author.Tests.{not-true, not-false}
 use Rattle.line_writer.proofs.Trying.{unfit, short, stored, counted}
 use Rattle.line_writer.proofs.place.Goals as goal
 

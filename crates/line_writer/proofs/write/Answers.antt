@@ -1,6 +1,5 @@
 -- `line_writer::write` meets its contract: each arm by the command of its line. Assumes nothing.
 use mathlib.Core.Path.{◌∙◌}
-use borrow.Author.Rules.{rules}
 use Rattle.command.specs.Commands.{stored_line, line_of, fields_of, words_of, command_of}
 use Rattle.command.specs.declared.commands.Stored.TheVariants.{Instructions, Floats, Integers, Booleans}
 use Rattle.rules.proofs.Fitting.{store_decided, mask_decided, conditional_mask_decided, test_decided}

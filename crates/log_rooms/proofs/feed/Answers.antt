@@ -2,9 +2,8 @@
 use Rattle.session.specs.Feed.{first_status}
 use Rattle.session.specs.Answers.{first_of}
 use Prim.Native.Nat.{ℕ}
-use mathlib.Core.List.{[], ◌∷◌}
+use mathlib.Core.List.{◌∷◌}
 use mathlib.Core.Path.{sym, ap, ◌∙◌}
-use borrow.Author.Rules.{rules}
 use Rattle.log_rooms.proofs.feed.Goals as goal
 
 pub returns-in-Nothing : goal.returns-in-Nothing

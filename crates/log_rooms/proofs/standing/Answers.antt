@@ -1,7 +1,6 @@
 -- `log_rooms::standing` meets its contract: each answer crosses as it is told. Assumes nothing.
 use Rattle.log_rooms.specs.Rooms.{standing_numbers}
 use mathlib.Core.Path.{refl, ap}
-use borrow.Author.Rules.{rules}
 use Rattle.log_rooms.proofs.standing.Goals as goal
 
 pub returns : goal.returns

@@ -2,7 +2,6 @@
 use mathlib.Core.Path.{sym, ap, ◌∙◌}
 use Rattle.memory.specs.Elements.{told_place}
 use Rattle.memory.proofs.Calls.{told_so, read_refused, ends_inside, end_fits, small_element, read_found}
-use borrow.Author.Rules.{rules}
 use Rattle.memory.proofs.read.Goals as goal
 
 pub overflow_add-a : goal.overflow_add-a

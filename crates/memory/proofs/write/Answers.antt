@@ -2,7 +2,6 @@
 use mathlib.Core.Path.{sym, ap, ◌∙◌}
 use Rattle.memory.specs.Elements.{told_place}
 use Rattle.memory.proofs.Calls.{ends_inside, end_fits, write_refused, write_unfit, write_done}
-use borrow.Author.Rules.{rules}
 use Rattle.memory.proofs.write.Goals as goal
 
 pub returns-then-given-size : goal.returns-then-given-size

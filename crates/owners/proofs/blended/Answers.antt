@@ -1,6 +1,5 @@
 -- `owners::blended` meets its contract. Assumes nothing.
 use Rattle.owners.proofs.Places.{blended_told}
-use borrow.Author.Rules.{rules}
 use Rattle.owners.proofs.blended.Reads as reads
 use Rattle.owners.proofs.blended.Lts as lts
 use Rattle.owners.proofs.chosen.Reads as chosen_reads

@@ -1,6 +1,5 @@
 -- `owners::may_open` meets its contract. Assumes nothing.
 use Rattle.owners.proofs.Places.{common_owned, common_asked}
-use borrow.Author.Rules.{rules}
 use Rattle.owners.proofs.may_open.Reads as reads
 use Rattle.owners.proofs.may_open.Lts as lts
 use Rattle.owners.proofs.is_on.Reads as is_on_reads

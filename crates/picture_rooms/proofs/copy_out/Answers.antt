@@ -2,7 +2,6 @@
 use native.Mathlib.Omega.{arith}
 use Rattle.picture_rooms.proofs.Judging.{goes_so, copy_asked}
 use Rattle.picture_rooms.proofs.Entries.{copy_refused, copy_done, copy_empty}
-use borrow.Author.Rules.{rules}
 use Rattle.picture_rooms.proofs.copy_out.Goals as goal
 
 -- refused

@@ -2,7 +2,6 @@
 use mathlib.Core.Path.{sym}
 use native.Mathlib.Omega.{arith}
 use Rattle.picture_rooms.proofs.Judging.{too_high_lem, too_low, the_rest}
-use borrow.Author.Rules.{rules}
 use Rattle.picture_rooms.proofs.covers.Goals as goal
 
 -- memory is longer than all addresses

@@ -1,12 +1,10 @@
 -- `picture_rooms::judge` meets its contract: a law for each return. Assumes nothing.
 use mathlib.Core.Path.{sym, ap, ◌∙◌}
 use native.Mathlib.Omega.{arith}
-use borrow.Author.Tests.{not-true, not-false}
 use Rattle.layout.specs.Layout.{told_judged}
 use Rattle.refusal.specs.Crossing.{status_of}
 use Rattle.picture_rooms.specs.Rooms.{if_lent}
 use Rattle.picture_rooms.proofs.Judging.{refused_so, taken_so, pairs_few, bytes_few, returns_10, returns_length, returns_uncovered, returns_fine}
-use borrow.Author.Rules.{rules}
 use Rattle.picture_rooms.proofs.judge.Goals as goal
 
 -- a pair is outside

@@ -2,7 +2,6 @@
 use native.Mathlib.Omega.{arith}
 use Rattle.picture_rooms.proofs.Judging.{goes_so, paint_asked}
 use Rattle.picture_rooms.proofs.Entries.{paint_refused, paint_done, paint_empty}
-use borrow.Author.Rules.{rules}
 use Rattle.picture_rooms.proofs.paint.Goals as goal
 
 -- refused

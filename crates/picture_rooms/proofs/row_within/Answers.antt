@@ -2,7 +2,6 @@
 use mathlib.Core.Path.{sym}
 use native.Mathlib.Omega.{arith}
 use Rattle.rectangles.proofs.Inside.{one_out}
-use borrow.Author.Rules.{rules}
 use Rattle.picture_rooms.proofs.row_within.Goals as goal
 
 -- more places than the row has pairs

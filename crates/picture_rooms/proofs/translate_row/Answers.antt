@@ -1,14 +1,12 @@
 -- `picture_rooms::translate_row` meets its contract. Assumes nothing.
-use mathlib.Core.Path.{refl, sym, ap, ◌∙◌}
+use mathlib.Core.Path.{sym, ap, ◌∙◌}
 use native.Mathlib.Omega.{arith}
-use borrow.Author.Tests.{not-true, not-false}
 use Rattle.layout.specs.Layout.{told_judged}
 use Rattle.refusal.proofs.Crossings.{crosses_refuses}
 use Rattle.address.specs.Address.{layout_of}
 use Rattle.address_rows.proofs.Asked.{stride_fits}
 use Rattle.picture_rooms.proofs.Judging.{refused_so, taken_so}
 use Rattle.picture_rooms.proofs.Entries.{row_outside, row_empty, asks, row_done}
-use borrow.Author.Rules.{rules}
 use Rattle.picture_rooms.proofs.translate_row.Goals as goal
 
 -- a pair is outside

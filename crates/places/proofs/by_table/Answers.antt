@@ -4,7 +4,6 @@ use mathlib.Core.List.{List}
 use Prim.Native.Nat.{ℕ, ◌+◌, ◌*◌, ◌%◌, ◌<◌}
 use lib.ListN.{get_or}
 use Rattle.places.proofs.Places.{corrected, inside_lt}
-use borrow.Author.Rules.{rules}
 use Rattle.places.proofs.by_table.Goals as goal
 
 pub returns : goal.returns

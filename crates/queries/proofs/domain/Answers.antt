@@ -1,7 +1,6 @@
 -- `queries::domain` meets its contract: it reads the cell that the view reads. Assumes nothing.
 use mathlib.Core.Path.{refl}
 use Rattle.state.specs.Cells.{party_of, shared_of}
-use borrow.Author.Rules.{rules}
 use Rattle.queries.proofs.domain.Goals as goal
 
 pub returns : goal.returns

@@ -2,7 +2,6 @@
 use mathlib.Core.Path.{◌∙◌, ap}
 use Rattle.queries.specs.Queries.{setting_of}
 use Rattle.queries.proofs.Seen.{input_seen, input_past}
-use borrow.Author.Rules.{rules}
 use Rattle.queries.proofs.input.Goals as goal
 
 pub returns-then-number-lt16 : goal.returns-then-number-lt16

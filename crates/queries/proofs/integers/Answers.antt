@@ -1,6 +1,5 @@
 -- `queries::integers` meets its contract: it reads the cells that the view reads. Assumes nothing.
 use Rattle.state.specs.Cells.{shared_of}
-use borrow.Author.Rules.{rules}
 use Rattle.queries.proofs.integers.Goals as goal
 
 pub returns : goal.returns

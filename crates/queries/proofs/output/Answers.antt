@@ -2,7 +2,6 @@
 use mathlib.Core.Path.{◌∙◌, ap}
 use Rattle.queries.specs.Queries.{setting_of}
 use Rattle.queries.proofs.Seen.{output_seen, output_past}
-use borrow.Author.Rules.{rules}
 use Rattle.queries.proofs.output.Goals as goal
 
 pub returns-then-number-lt4 : goal.returns-then-number-lt4

@@ -2,7 +2,6 @@
 use mathlib.Core.Path.{sym, ap, ◌∙◌}
 use Rattle.refusal.proofs.Crossings.{crosses_gives, crosses_refuses}
 use Rattle.kill.specs.Answers.{told_killed}
-use borrow.Author.Rules.{rules}
 use Rattle.register_rooms.proofs.kill.Goals as goal
 
 -- refused

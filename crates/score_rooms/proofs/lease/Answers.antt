@@ -1,6 +1,5 @@
 -- `score_rooms::lease` meets its contract: the edition first, then the line. Assumes nothing.
 use Rattle.score_rooms.proofs.Lines.{line_judged, edition_refused}
-use borrow.Author.Rules.{rules}
 use Rattle.score_rooms.proofs.lease.Goals as goal
 
 pub returns-then-is_known : goal.returns-then-is_known

@@ -2,7 +2,6 @@
 use mathlib.Core.Path.{sym, ap, ◌∙◌}
 use Rattle.score.specs.Lease.{told_judged}
 use Rattle.refusal.specs.Crossing.{status_of}
-use borrow.Author.Rules.{rules}
 use Rattle.score_rooms.proofs.line_status.Goals as goal
 
 pub returns-in-Accepted : goal.returns-in-Accepted

@@ -1,6 +1,5 @@
 -- `score_rooms::month` meets its contract: each answer crosses as it is told. Assumes nothing.
 use Rattle.score_rooms.proofs.Months.{month_refused, month_given}
-use borrow.Author.Rules.{rules}
 use Rattle.score_rooms.proofs.month.Goals as goal
 
 pub returns-in-Refused : goal.returns-in-Refused

@@ -1,7 +1,6 @@
 -- `session_rooms::feed_one` meets its contract: the word's number tells what a piece of it does. Assumes nothing.
 use Rattle.session.proofs.Single.{one_open, one_completed, one_refused}
 use Rattle.session_rooms.proofs.Words.{one_crosses}
-use borrow.Author.Rules.{rules}
 use Rattle.session_rooms.proofs.feed_one.Goals as goal
 
 -- the command is still open

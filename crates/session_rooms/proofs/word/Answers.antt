@@ -5,7 +5,6 @@ use Rattle.session.specs.Answers.{reply_of}
 use Rattle.session_rooms.specs.Rooms.{reply_told}
 use Rattle.refusal.proofs.Crossings.{crosses_gives, crosses_refuses}
 use Rattle.session_rooms.proofs.Words.{done_told}
-use borrow.Author.Rules.{rules}
 use Rattle.session_rooms.proofs.word.Goals as goal
 
 pub made_header-header-requires : goal.made_header-header-requires

@@ -7,7 +7,6 @@ use Rattle.queries.specs.declared.Setting.{Setting}
 use Rattle.setting_rooms.specs.Rooms.{format_numbers}
 use Rattle.setting_rooms.proofs.Formats.{booleans_line, conditional_line, floats_line, inputs_line, instructions_line, integers_line}
 use Rattle.setting_rooms.proofs.Formats.{other_line, outputs_line}
-use borrow.Author.Rules.{rules}
 use Rattle.setting_rooms.proofs.at_line.Goals as goal
 
 pub returns-in-3 : goal.returns-in-3

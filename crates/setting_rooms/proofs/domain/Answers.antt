@@ -1,6 +1,5 @@
 -- `setting_rooms::domain` meets its contract: the domain as the session has it. Assumes nothing.
 use Rattle.setting_rooms.proofs.Formats.{domain_shows}
-use borrow.Author.Rules.{rules}
 use Rattle.setting_rooms.proofs.domain.Goals as goal
 
 pub returns : goal.returns

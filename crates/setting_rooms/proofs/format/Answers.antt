@@ -5,7 +5,6 @@ use Rattle.setting_rooms.specs.Rooms.{told_found}
 use Rattle.refusal.proofs.Crossings.{crosses_gives, crosses_refuses}
 use Rattle.command.proofs.Known.{on_line, off_line}
 use Rattle.setting_rooms.proofs.Formats.{setting_told}
-use borrow.Author.Rules.{rules}
 use Rattle.setting_rooms.proofs.format.Goals as goal
 
 pub returns-in-Unknown : goal.returns-in-Unknown

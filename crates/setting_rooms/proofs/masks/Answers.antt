@@ -1,6 +1,5 @@
 -- `setting_rooms::masks` meets its contract: the masks and the test as the session has them. Assumes nothing.
 use Rattle.setting_rooms.proofs.Formats.{masks_shows}
-use borrow.Author.Rules.{rules}
 use Rattle.setting_rooms.proofs.masks.Goals as goal
 
 pub returns : goal.returns

@@ -2,7 +2,6 @@
 use mathlib.Core.Path.{sym}
 use native.Mathlib.Omega.{arith}
 use Rattle.setting_rooms.proofs.Formats.{no_header}
-use borrow.Author.Rules.{rules}
 use Rattle.setting_rooms.proofs.open_header.Goals as goal
 
 pub returns-else-line-lt-NO_LINE : goal.returns-else-line-lt-NO_LINE

@@ -2,7 +2,6 @@
 use mathlib.Core.Path.{refl}
 use Rattle.state.specs.Cells.{party_of}
 use Rattle.setting_rooms.proofs.Formats.{standing_shows}
-use borrow.Author.Rules.{rules}
 use Rattle.setting_rooms.proofs.standing.Goals as goal
 
 pub returns : goal.returns

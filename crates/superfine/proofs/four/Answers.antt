@@ -5,7 +5,6 @@ use Rattle.memory.specs.Elements.{told_place}
 use Rattle.memory.proofs.Calls.{told_so}
 use Rattle.superfine.proofs.Channels.{right_unheld, below_unheld, across_unheld, own_unheld}
 use Rattle.superfine.proofs.Channels.{parts_asked, parts_asked_at, four_read, four_read_at}
-use borrow.Author.Rules.{rules}
 use Rattle.superfine.proofs.four.Goals as goal
 
 pub returns-in_default : goal.returns-in_default

@@ -1,10 +1,8 @@
 -- `superfine::superfine` meets its contract: a law for each return. Assumes nothing.
 use mathlib.Core.Path.{sym, ap, ◌∙◌}
-use borrow.Author.Tests.{not-true, not-false}
 use Rattle.superfine.specs.Superfine.{told_corners}
 use Rattle.memory.proofs.Calls.{told_so}
 use Rattle.superfine.proofs.Channels.{word_refused, corners_refused, corners_found, layout_read, four_small}
-use borrow.Author.Rules.{rules}
 use Rattle.superfine.proofs.superfine.Goals as goal
 
 pub returns-then-not-superfine_word : goal.returns-then-not-superfine_word

@@ -1,8 +1,6 @@
 -- `superfine::superfine_word` meets its contract: a law for each return. Assumes nothing.
 use mathlib.Core.Path.{sym, ◌∙◌}
-use borrow.Author.Tests.{not-true, not-false}
 use Rattle.superfine.proofs.Words.{base_refused, format_refused, not_superfine, by_channels}
-use borrow.Author.Rules.{rules}
 use Rattle.superfine.proofs.superfine_word.Goals as goal
 
 pub returns-then-not-is_allowed : goal.returns-then-not-is_allowed

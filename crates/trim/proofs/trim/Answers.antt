@@ -1,6 +1,5 @@
 -- `trim::trim` meets its contract. Assumes nothing.
 use Rattle.trim.proofs.Cells.{all_cut, nothing_cut}
-use borrow.Author.Rules.{rules}
 use Rattle.trim.proofs.trim.Goals as goal
 
 pub returns-then-midnights-gt0 : goal.returns-then-midnights-gt0

@@ -1,6 +1,5 @@
 -- `address::block::code` meets its contract. Assumes nothing.
 use Rattle.address.proofs.Blocks.{code_of_lem, code_lt}
-use Rattle.std.proofs.Common.{rules}
 use Rattle.address.proofs.block.code.Goals as goal
 
 pub returns : goal.returns

@@ -1,6 +1,5 @@
 -- `address::block::find` meets its contract. Assumes nothing.
 use Rattle.address.proofs.Blocks.{block_x_of, block_y_of}
-use Rattle.std.proofs.Common.{rules}
 use Rattle.address.proofs.block.find.Goals as goal
 
 pub returns : goal.returns

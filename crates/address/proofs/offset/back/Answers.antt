@@ -1,5 +1,5 @@
 -- `address::offset::back` meets its contract: the two cases of the definition. Assumes nothing.
-use Rattle.std.proofs.Common.{◌/◌, Bool, sym, ◌∙◌, subst, arith, rules}
+use Rattle.std.proofs.Common.{◌/◌, Bool, sym, ◌∙◌, subst}
 use Rattle.laws.proofs.Choice.{pick_yes, pick_no}
 use Rattle.address.specs.Asked.{StepAsked}
 use Rattle.address.specs.Offset.{x_of, y_of}

@@ -1,5 +1,5 @@
 -- `address::offset::back_in_tiles` meets its contract. Assumes nothing.
-use Rattle.std.proofs.Common.{arith, rules}
+use Rattle.std.proofs.Common.{arith}
 use Rattle.address.proofs.Sums.{tile_sums, back_sums, x_of_lem, y_of}
 use Rattle.address.proofs.offset.back_in_tiles.Goals as goal
 

@@ -1,5 +1,5 @@
 -- `address::offset::in_tiles` meets its contract. Assumes nothing.
-use Rattle.std.proofs.Common.{arith, rules}
+use Rattle.std.proofs.Common.{arith}
 use Rattle.address.proofs.Sums.{sums, offset_of_lem}
 use Rattle.address.proofs.offset.in_tiles.Goals as goal
 

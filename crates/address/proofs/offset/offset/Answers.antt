@@ -1,5 +1,5 @@
 -- `address::offset::offset` meets its contract: the two cases of the definition. Assumes nothing.
-use Rattle.std.proofs.Common.{sym, ◌∙◌, arith, rules}
+use Rattle.std.proofs.Common.{sym, ◌∙◌, arith}
 use Rattle.laws.proofs.Choice.{pick_yes, pick_no}
 use Rattle.address.specs.Offset.{offset_of}
 use Rattle.address.proofs.Sums.{linear_sums}

@@ -1,6 +1,5 @@
 -- `address::owner::linear_owner` meets its contract: the size is asked first. Assumes nothing.
-use Rattle.std.proofs.Common.{false, sym, refl, ◌∙◌, arith, rules}
-use borrow.Author.Tests.{not-true, not-false}
+use Rattle.std.proofs.Common.{false, sym, refl, ◌∙◌, arith}
 use Rattle.refusal.proofs.Crossings.{crosses_refuses, crosses_same}
 use Rattle.address.specs.Address.{locate_of, layout_of}
 use Rattle.address.proofs.Answers.{malformed, form_at, sizeless_form, stride_taken, owned}

@@ -1,6 +1,5 @@
 -- `address::owner::locate` meets its contract: base and pitch are asked first, then the kind. Assumes nothing.
-use Rattle.std.proofs.Common.{Bool, sym, refl, ap, ◌∙◌, rules}
-use borrow.Author.Tests.{not-true, not-false}
+use Rattle.std.proofs.Common.{Bool, sym, refl, ap, ◌∙◌}
 use Rattle.refusal.specs.Told.{Told}
 use Rattle.refusal.proofs.Crossings.{crosses_refuses, crosses_same}
 use Rattle.address.specs.Address.{locate_of, layout_of}

@@ -1,5 +1,5 @@
 -- `address::owner::owner` meets its contract: a law for each return. Assumes nothing.
-use Rattle.std.proofs.Common.{refl, rules}
+use Rattle.std.proofs.Common.{refl}
 use Rattle.refusal.proofs.Crossings.{crosses_gives, crosses_refuses}
 use Rattle.address.proofs.Answers.{owner_ruleless, owner_past, owner_found}
 use Rattle.address.proofs.owner.owner.Goals as goal

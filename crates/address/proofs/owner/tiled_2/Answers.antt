@@ -1,5 +1,5 @@
 -- `address::owner::tiled_2` meets its contract: the owner by the stride is the layout's. Assumes nothing.
-use Rattle.std.proofs.Common.{true, arith, rules}
+use Rattle.std.proofs.Common.{true, arith}
 use Rattle.refusal.proofs.Crossings.{crosses_same}
 use Rattle.address.specs.Address.{layout_of}
 use Rattle.address.proofs.Answers.{stride_taken, owned}

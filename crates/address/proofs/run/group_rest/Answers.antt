@@ -3,7 +3,6 @@ use Rattle.laws.specs.Choice.{place_of}
 use Rattle.layout.proofs.Sizes.{sixteen}
 use Rattle.address.specs.Run.{run_unit}
 use Rattle.address.proofs.Runs.{unit_rest}
-use Rattle.std.proofs.Common.{rules}
 use Rattle.address.proofs.run.group_rest.Goals as goal
 
 pub returns-in-1 : goal.returns-in-1

@@ -1,5 +1,5 @@
 -- `address::run::row_rest` meets its contract: a shift by a size's trailing zeros divides by it. Assumes nothing.
-use Rattle.std.proofs.Common.{ℕ, ◌-◌, ◌*◌, ◌/◌, ap, ◌∙◌, rules}
+use Rattle.std.proofs.Common.{ℕ, ◌-◌, ◌*◌, ◌/◌, ap, ◌∙◌}
 use Rattle.address.proofs.Offsets.{blocks}
 use Rattle.address.proofs.Runs.{size_power, row_rest}
 use Rattle.address.proofs.run.row_rest.Goals as goal

@@ -1,5 +1,5 @@
 -- `address::run::run_from` meets its contract: the two kinds of layout. Assumes nothing.
-use Rattle.std.proofs.Common.{◌∙◌, rules}
+use Rattle.std.proofs.Common.{◌∙◌}
 use Rattle.address.proofs.Runs.{run_tiled, run_linear}
 use Rattle.address.proofs.run.run_from.Goals as goal
 

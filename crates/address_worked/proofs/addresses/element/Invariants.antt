@@ -1,5 +1,5 @@
 -- `address_worked::addresses::element` is safe and ends: it counts up to its end. Assumes nothing.
-use Rattle.std.proofs.Common.{◌-◌, rules}
+use Rattle.std.proofs.Common.{◌-◌}
 use Rattle.address_worked.proofs.addresses.element.Given as goal
 
 abbrev pub invariant-loop-place : goal.invariant-loop-place

@@ -1,5 +1,5 @@
 -- `address_worked::addresses::row` is safe and ends: it counts up to its end. Assumes nothing.
-use Rattle.std.proofs.Common.{◌-◌, rules}
+use Rattle.std.proofs.Common.{◌-◌}
 use Rattle.address_worked.proofs.addresses.row.Given as goal
 
 abbrev pub invariant-loop-x : goal.invariant-loop-x

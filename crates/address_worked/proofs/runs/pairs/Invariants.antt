@@ -1,5 +1,5 @@
 -- `address_worked::runs::pairs` is safe and ends: it counts up to its end. Assumes nothing.
-use Rattle.std.proofs.Common.{◌-◌, rules}
+use Rattle.std.proofs.Common.{◌-◌}
 use Rattle.address_worked.proofs.runs.pairs.Given as goal
 
 abbrev pub invariant-loop-y : goal.invariant-loop-y

@@ -1,6 +1,5 @@
 -- `days::report::began` meets its contract. Assumes nothing.
 use Rattle.days.proofs.Reports.{began_first, began_later}
-use borrow.Author.Rules.{rules}
 use Rattle.days.proofs.report.began.Goals as goal
 
 pub returns-then-k-eq0 : goal.returns-then-k-eq0

@@ -2,7 +2,6 @@
 use Rattle.state.specs.Cells.{party_of}
 use mathlib.Core.Path.{sym, ◌∙◌}
 use Rattle.replay.proofs.Marks.{ended_past, ended_now}
-use borrow.Author.Rules.{rules}
 use Rattle.days.proofs.report.ended.Goals as goal
 
 pub returns-then-k-midnights : goal.returns-then-k-midnights

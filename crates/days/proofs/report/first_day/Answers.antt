@@ -1,7 +1,6 @@
 -- `days::report::first_day` meets its contract. Assumes nothing.
 use native.Mathlib.Omega.{arith}
 use Rattle.days.proofs.Reports.{no_day, first_day_lem}
-use borrow.Author.Rules.{rules}
 use Rattle.days.proofs.report.first_day.Goals as goal
 
 pub returns-then-midnights-eq0 : goal.returns-then-midnights-eq0

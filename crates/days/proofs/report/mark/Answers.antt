@@ -1,6 +1,5 @@
 -- `days::report::mark` meets its contract. Assumes nothing.
 use Rattle.days.proofs.Reports.{mark_numbers}
-use borrow.Author.Rules.{rules}
 use Rattle.days.proofs.report.mark.Goals as goal
 
 pub returns : goal.returns

@@ -1,6 +1,5 @@
 -- `days::report::number_at` meets its contract. Assumes nothing.
 use Rattle.days.proofs.Reports.{past}
-use borrow.Author.Rules.{rules}
 use Rattle.days.proofs.report.number_at.Goals as goal
 
 pub returns-else-place-numbers : goal.returns-else-place-numbers

@@ -1,7 +1,6 @@
 -- `days::report::part` meets its contract. Assumes nothing.
 use Rattle.replay.specs.Cells.{viewed}
 use Rattle.days.proofs.Reports.{part_none, part_some}
-use borrow.Author.Rules.{rules}
 use Rattle.days.proofs.report.part.Goals as goal
 
 pub returns-then-midnights-k : goal.returns-then-midnights-k

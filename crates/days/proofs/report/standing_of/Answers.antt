@@ -1,6 +1,5 @@
 -- `days::report::standing_of` meets its contract. Assumes nothing.
 use Rattle.days.proofs.Reports.{standing}
-use borrow.Author.Rules.{rules}
 use Rattle.days.proofs.report.standing_of.Goals as goal
 
 pub returns : goal.returns

@@ -1,9 +1,7 @@
 -- `fleet::lengths::add_up` meets its contract. Loop: what is left and the lengths so far are the slice. Assumes nothing.
 use Prim.Native.Nat.{◌-◌}
-use native.Mathlib.Omega.{arith}
-use borrow.Author.Rules.{rules}
 use Rattle.fleet.specs.Fleet.{stations_in}
-use Rattle.fleet.proofs.Slices.{Adding, adding_begins, adding_goes, too_long, adding_ends}
+use Rattle.fleet.proofs.Slices.{Adding}
 use Rattle.fleet.proofs.lengths.add_up.Given as goal
 
 abbrev pub invariant-loop-k : goal.invariant-loop-k

@@ -1,6 +1,5 @@
 -- `fleet::parts::add` meets its contract. Assumes nothing.
 use Rattle.fleet.proofs.Adding.{all_added}
-use borrow.Author.Rules.{rules}
 use Rattle.fleet.proofs.parts.next_part.Reads as next_part_reads
 use Rattle.fleet.proofs.parts.add.Goals as goal
 

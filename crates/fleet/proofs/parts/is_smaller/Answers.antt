@@ -1,6 +1,5 @@
 -- `fleet::parts::is_smaller` meets its contract: 64 bits hold both products. Assumes nothing.
 use native.Mathlib.Omega.{arith}
-use borrow.Author.Rules.{rules}
 use Rattle.fleet.proofs.Adding.{product_most}
 use Rattle.fleet.proofs.parts.is_smaller.Goals as goal
 

@@ -1,6 +1,5 @@
 -- `fleet::parts::next_part` meets its contract. Assumes nothing.
 use Rattle.fleet.proofs.Adding.{owes_nothing, first_part, smaller_part, kept_part}
-use borrow.Author.Rules.{rules}
 use Rattle.fleet.proofs.parts.is_smaller.Reads as is_smaller_reads
 use Rattle.fleet.proofs.parts.next_part.Goals as goal
 

@@ -3,7 +3,6 @@ use Rattle.fleet.proofs.Judging.{fleet_asked, too_many, station_refused, all_tol
 use Rattle.fleet.proofs.report.stations.Reads as stations_reads
 use Rattle.fleet.proofs.report.write.Reads as write_reads
 use Rattle.refusal.proofs.number.Reads as number_reads
-use borrow.Author.Rules.{rules}
 use Rattle.fleet.proofs.report.counted.Goals as goal
 
 pub returns-then-numbers-gt-STATIONS : goal.returns-then-numbers-gt-STATIONS

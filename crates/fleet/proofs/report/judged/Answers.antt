@@ -3,7 +3,6 @@ use Rattle.fleet.proofs.Judging.{not_in_fours, room_not_four, not_the_slice, cou
 use Rattle.fleet.proofs.report.counted.Reads as counted_reads
 use Rattle.fleet.proofs.lengths.add_up.Reads as add_up_reads
 use Rattle.refusal.proofs.number.Reads as number_reads
-use borrow.Author.Rules.{rules}
 use Rattle.fleet.proofs.report.judged.Goals as goal
 
 pub returns-then-numbers-ne0 : goal.returns-then-numbers-ne0

@@ -6,7 +6,6 @@ use Rattle.score.specs.Score.{score_of_log}
 use Rattle.fleet.specs.Fleet.{lease_at}
 use Rattle.fleet.specs.Answers.{month_from}
 use Rattle.fleet.proofs.Slices.{log_part}
-use borrow.Author.Rules.{rules}
 use Rattle.fleet.proofs.station.month_of.Reads as month_of_reads
 use Rattle.fleet.proofs.report.month_at.Goals as goal
 

@@ -4,7 +4,6 @@ use Rattle.fleet.proofs.report.judged.Reads as judged_reads
 use Rattle.refusal.proofs.number.Reads as number_reads
 use Rattle.state.proofs.edition.is_known.Reads as is_known_reads
 use mathlib.Core.Path.{sym, ◌∙◌}
-use borrow.Author.Rules.{rules}
 use Rattle.fleet.proofs.report.report.Goals as goal
 
 pub judged-requires : goal.judged-requires

@@ -1,9 +1,7 @@
 -- `fleet::report::stations` meets its contract. Loop: the first stations are summed up, and none of them is refused. Assumes nothing.
 use Prim.Native.Nat.{◌-◌}
-use native.Mathlib.Omega.{arith}
-use borrow.Author.Rules.{rules}
 use Rattle.fleet.specs.Fleet.{stations_in}
-use Rattle.fleet.proofs.Summing.{Summing, summing_begins, month_asked, start_fits, summing_refused, add_asked, summing_goes, summing_ends}
+use Rattle.fleet.proofs.Summing.{Summing}
 use Rattle.fleet.proofs.parts.add.Reads as add_reads
 use Rattle.fleet.proofs.parts.none.Reads as none_reads
 use Rattle.fleet.proofs.report.month_at.Reads as month_at_reads

@@ -1,6 +1,5 @@
 -- `fleet::report::write` meets its contract: the four numbers. Assumes nothing.
 use Rattle.fleet.proofs.Judging.{four_written}
-use borrow.Author.Rules.{rules}
 use Rattle.fleet.proofs.report.write.Goals as goal
 
 pub returns : goal.returns

@@ -1,7 +1,6 @@
 -- `fleet::station::month_of` meets its contract: 21 for a lease line with a number wider than 32 bits. Assumes nothing.
 use Rattle.score.specs.Answers.{lease_line}
 use Rattle.fleet.proofs.Months.{wide_day, wide_days, wide_owed}
-use borrow.Author.Rules.{rules}
 use Rattle.fleet.proofs.station.out_of_bounds.Reads as out_of_bounds_reads
 use Rattle.fleet.proofs.station.replayed.Reads as replayed_reads
 use Rattle.fleet.proofs.station.month_of.Goals as goal

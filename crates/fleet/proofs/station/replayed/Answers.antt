@@ -1,7 +1,6 @@
 -- `fleet::station::replayed` meets its contract: the arrays hold the replay of the bytes. Assumes nothing.
 use Rattle.score.specs.Answers.{lease_line}
 use Rattle.fleet.proofs.Replays.{may_feed, replayed_month}
-use borrow.Author.Rules.{rules}
 use Rattle.fleet.proofs.station.summed.Reads as summed_reads
 use Rattle.station_log.proofs.stream.begin.Reads as begin_reads
 use Rattle.station_log.proofs.stream.feed.Reads as feed_reads

@@ -1,8 +1,6 @@
 -- `fleet::station::silent_days` meets its contract. Loop: the silent days among the first. Assumes nothing.
 use Prim.Native.Nat.{◌-◌}
-use native.Mathlib.Omega.{arith}
-use borrow.Author.Rules.{rules}
-use Rattle.fleet.proofs.Months.{none_owed, Counting, counting_begins, counting_goes, counting_most, counting_ends}
+use Rattle.fleet.proofs.Months.{Counting}
 use Rattle.fleet.proofs.station.silent_days.Given as goal
 
 abbrev pub invariant-loop-k : goal.invariant-loop-k

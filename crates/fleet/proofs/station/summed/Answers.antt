@@ -1,10 +1,7 @@
 -- `fleet::station::summed` meets its contract: the answer tells the score, and the room its served numbers. Assumes nothing.
 use mathlib.Core.Path.{sym, ◌∙◌}
-use mathlib.Core.List.{[]}
-use lib.ListN.{length-replicate}
-use Rattle.score.specs.Answers.{lease_line, replay_for}
+use Rattle.score.specs.Answers.{replay_for}
 use Rattle.fleet.proofs.Months.{told_refused, told_month, told_days, served_length}
-use borrow.Author.Rules.{rules}
 use Rattle.fleet.proofs.station.silent_days.Reads as silent_days_reads
 use Rattle.score.proofs.month.score.Reads as score_reads
 use Rattle.fleet.proofs.station.summed.Goals as goal

@@ -1,6 +1,5 @@
 -- `flow_worked::loops::opened` meets its contract: a step gives out what may be handed in. Assumes nothing.
 use Rattle.flow.proofs.Given.{step_gives}
-use borrow.Author.Rules.{rules}
 use Rattle.flow_worked.proofs.loops.opened.Goals as goal
 
 pub returns : goal.returns

@@ -1,6 +1,5 @@
 -- `flow_worked::steps::bits` is safe and ends: it counts up to 32. Assumes nothing.
 use Prim.Native.Nat.{◌-◌, ◌≤◌}
-use borrow.Author.Rules.{rules}
 use Rattle.flow_worked.proofs.steps.bits.Given as goal
 
 abbrev pub invariant-loop-bit : goal.invariant-loop-bit

@@ -1,6 +1,5 @@
 -- `flow_worked::steps::fresh_in` meets its contract: the size and the mode are allowed, so what is begun is a group. Assumes nothing.
 use Rattle.flow.proofs.Given.{begin_gives}
-use borrow.Author.Rules.{rules}
 use Rattle.flow_worked.proofs.steps.fresh_in.Goals as goal
 
 pub returns : goal.returns

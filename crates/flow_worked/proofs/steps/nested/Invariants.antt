@@ -1,8 +1,6 @@
 -- `flow_worked::steps::nested` meets its contract. Loop: the cells are given out, and at most 100 turns. Assumes nothing.
-use native.Mathlib.Omega.{arith}
 use Prim.Native.Nat.{◌-◌, ◌≤◌}
 use Rattle.group.specs.Cells.{GroupGiven}
-use borrow.Author.Rules.{rules}
 use Rattle.flow_worked.proofs.steps.nested.Given as goal
 
 abbrev pub invariant-loop-deeper : goal.invariant-loop-deeper

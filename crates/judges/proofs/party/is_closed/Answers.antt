@@ -2,7 +2,6 @@
 use mathlib.Core.Path.{refl}
 use Rattle.judges.specs.Judged.{closed_by}
 use Rattle.judges.proofs.Joined.{joined}
-use borrow.Author.Rules.{rules}
 use Rattle.judges.proofs.party.is_closed.Reads as reads
 use Rattle.judges.proofs.party.is_closed.Lts as lts
 use Rattle.judges.proofs.tests.both.Reads as both_reads

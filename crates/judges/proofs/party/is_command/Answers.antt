@@ -3,7 +3,6 @@ use native.Mathlib.Omega.{arith}
 use Rattle.state.specs.Cells.{party_of}
 use Rattle.judges.specs.Judged.{closed_by}
 use Rattle.judges.proofs.Valid.{none_open, no_line, some_open}
-use borrow.Author.Rules.{rules}
 use Rattle.judges.proofs.party.is_command.Reads as reads
 use Rattle.judges.proofs.party.is_command.Lts as lts
 use Rattle.judges.proofs.party.is_closed.Reads as is_closed_reads

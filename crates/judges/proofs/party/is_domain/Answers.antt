@@ -4,7 +4,6 @@ use mathlib.Core.Bool.{Bool, true}
 use Rattle.state.specs.Lawful.{lawful, lawful_domain}
 use Rattle.judges.specs.Judged.{domain_by}
 use Rattle.judges.proofs.Joined.{joined}
-use borrow.Author.Rules.{rules}
 use Rattle.judges.proofs.party.is_domain.Reads as reads
 use Rattle.judges.proofs.party.is_domain.Lts as lts
 use Rattle.judges.proofs.tests.both.Reads as both_reads

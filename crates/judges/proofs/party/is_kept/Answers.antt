@@ -2,7 +2,6 @@
 use Rattle.state.specs.Cells.{party_of}
 use Rattle.judges.specs.Judged.{party_by}
 use Rattle.judges.proofs.Joined.{joined}
-use borrow.Author.Rules.{rules}
 use Rattle.judges.proofs.party.is_kept.Reads as reads
 use Rattle.judges.proofs.party.is_kept.Lts as lts
 use Rattle.judges.proofs.party.is_birth.Reads as is_birth_reads

@@ -3,7 +3,6 @@ use mathlib.Core.Path.{refl, ap}
 use lib.Dec.{ltb}
 use Rattle.judges.specs.Judged.{open_by}
 use Rattle.judges.proofs.Joined.{joined}
-use borrow.Author.Rules.{rules}
 use Rattle.judges.proofs.party.is_open.Reads as reads
 use Rattle.judges.proofs.party.is_open.Lts as lts
 use Rattle.command.proofs.table.parameters.Reads as parameters_reads

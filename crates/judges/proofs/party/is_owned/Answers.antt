@@ -5,7 +5,6 @@ use borrow.Author.Tests.{lt-ltb, le-ltb}
 use Rattle.laws.proofs.Choice.{pick_yes, pick_no}
 use Rattle.judges.specs.Judged.{owned_by}
 use Rattle.judges.proofs.Joined.{joined}
-use borrow.Author.Rules.{rules}
 use Rattle.judges.proofs.party.is_owned.Reads as reads
 use Rattle.judges.proofs.party.is_owned.Lts as lts
 use Rattle.judges.proofs.tests.both.Reads as both_reads

@@ -5,7 +5,6 @@ use Rattle.state.specs.Cells.{party_of}
 use Rattle.judges.specs.Judged.{running_by}
 use Rattle.judges.proofs.Joined.{joined}
 use Rattle.judges.proofs.Valid.{first_allowed}
-use borrow.Author.Rules.{rules}
 use Rattle.judges.proofs.party.is_running.Reads as reads
 use Rattle.judges.proofs.party.is_running.Lts as lts
 use Rattle.judges.proofs.party.is_open.Reads as is_open_reads

@@ -1,6 +1,5 @@
 -- `judges::party::is_tally` meets its contract: no more than the words can have claimed. Assumes nothing.
 use Rattle.judges.specs.Judged.{tally_by}
-use borrow.Author.Rules.{rules}
 use Rattle.judges.proofs.party.is_tally.Reads as reads
 use Rattle.judges.proofs.party.is_tally.Lts as lts
 use Rattle.judges.proofs.tests.both.Reads as both_reads

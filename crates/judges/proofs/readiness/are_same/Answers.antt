@@ -1,13 +1,8 @@
 -- `judges::readiness::are_same` meets its contract: number by number. Assumes nothing.
-use mathlib.Core.Path.{◌≡◌, refl, ◌∙◌}
-use Prim.Native.Nat.{◌+◌, ◌-◌, ◌≤◌}
+use mathlib.Core.Path.{refl, ◌∙◌}
 use native.Mathlib.Omega.{arith}
-use lib.Dec.{eqb}
-use lib.ListN.{get_or}
-use Rattle.laws.specs.Below.{every}
 use Rattle.judges.proofs.Joined.{joined, one_more, none_yet, all_tested}
 use Rattle.judges.proofs.Windows.{numbers_listed}
-use borrow.Author.Rules.{rules}
 use Rattle.judges.proofs.readiness.are_same.Reads as reads
 use Rattle.judges.proofs.readiness.are_same.Lts as lts
 use Rattle.judges.proofs.tests.both.Reads as both_reads

@@ -1,6 +1,5 @@
 -- `judges::readiness::keep_window` meets its contract: one output's window is kept. Assumes nothing.
 use Rattle.judges.proofs.Windows.{window_kept_lem}
-use borrow.Author.Rules.{rules}
 use Rattle.judges.proofs.readiness.keep_window.Reads as reads
 use Rattle.judges.proofs.readiness.keep_window.Lts as lts
 use Rattle.judges.proofs.readiness.window_at.Reads as window_at_reads

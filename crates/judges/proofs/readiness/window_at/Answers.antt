@@ -1,6 +1,5 @@
 -- `judges::readiness::window_at` meets its contract: that of the words where the output is the party's own, of zeros where it isn't. Assumes nothing.
 use Rattle.judges.proofs.Windows.{own_window, others_window}
-use borrow.Author.Rules.{rules}
 use Rattle.judges.proofs.readiness.window_at.Reads as reads
 use Rattle.judges.proofs.readiness.window_at.Lts as lts
 use Rattle.command.proofs.format.window_of.Reads as window_of_reads

@@ -2,7 +2,6 @@
 use native.Mathlib.Omega.{arith}
 use Rattle.start.proofs.Readiness.{kept_length}
 use Rattle.judges.proofs.Windows.{renew_asked, worked_out_lem}
-use borrow.Author.Rules.{rules}
 use Rattle.judges.proofs.readiness.work_out.Reads as reads
 use Rattle.judges.proofs.readiness.work_out.Lts as lts
 use Rattle.judges.proofs.readiness.keep_window.Reads as keep_window_reads

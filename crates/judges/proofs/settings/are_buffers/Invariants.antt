@@ -1,12 +1,9 @@
 -- `judges::settings::are_buffers` meets its contract: one by one. Assumes nothing.
-use mathlib.Core.Path.{◌≡◌, ◌∙◌}
+use mathlib.Core.Path.{◌≡◌}
 use Prim.Native.Nat.{◌+◌, ◌-◌, ◌*◌, ◌≤◌}
-use native.Mathlib.Omega.{arith}
 use Rattle.laws.specs.Below.{every}
 use Rattle.state.specs.Cells.{buffer_at}
 use Rattle.state.specs.Lawful.{lawful_buffer}
-use Rattle.judges.proofs.Joined.{joined, one_more, none_yet, all_tested}
-use borrow.Author.Rules.{rules}
 use Rattle.judges.proofs.settings.are_buffers.Reads as reads
 use Rattle.judges.proofs.settings.are_buffers.Lts as lts
 use Rattle.judges.proofs.settings.is_buffer_at.Reads as is_buffer_at_reads

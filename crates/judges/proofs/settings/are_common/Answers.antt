@@ -2,7 +2,6 @@
 use Rattle.state.specs.Cells.{shared_of}
 use Rattle.judges.specs.Judged.{common_by}
 use Rattle.judges.proofs.Joined.{joined}
-use borrow.Author.Rules.{rules}
 use Rattle.judges.proofs.settings.are_common.Reads as reads
 use Rattle.judges.proofs.settings.are_common.Lts as lts
 use Rattle.judges.proofs.settings.is_buffer_at.Reads as is_buffer_at_reads

@@ -5,7 +5,6 @@ use Rattle.state.specs.Lawful.{lawful_buffer}
 use Rattle.judges.specs.Judged.{settings_by}
 use Rattle.judges.proofs.Joined.{joined}
 use Rattle.judges.proofs.Buffers.{outputs_listed, inputs_listed}
-use borrow.Author.Rules.{rules}
 use Rattle.judges.proofs.settings.are_kept.Reads as reads
 use Rattle.judges.proofs.settings.are_kept.Lts as lts
 use Rattle.judges.proofs.settings.are_buffers.Reads as are_buffers_reads

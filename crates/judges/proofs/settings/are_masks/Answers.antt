@@ -3,7 +3,6 @@ use mathlib.Core.Path.{refl}
 use Rattle.state.specs.Cells.{shared_of}
 use Rattle.judges.specs.Judged.{masks_by}
 use Rattle.judges.proofs.Joined.{joined}
-use borrow.Author.Rules.{rules}
 use Rattle.judges.proofs.settings.are_masks.Reads as reads
 use Rattle.judges.proofs.settings.are_masks.Lts as lts
 use Rattle.judges.proofs.settings.is_word.Reads as is_word_reads

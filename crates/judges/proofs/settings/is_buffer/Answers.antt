@@ -2,7 +2,6 @@
 use mathlib.Core.Path.{refl, ap₂, ◌∙◌}
 use Rattle.state.specs.Lawful.{lawful, lawful_buffer, window}
 use Rattle.judges.proofs.Joined.{joined}
-use borrow.Author.Rules.{rules}
 use Rattle.judges.proofs.settings.is_buffer.Reads as reads
 use Rattle.judges.proofs.settings.is_buffer.Lts as lts
 use Rattle.judges.proofs.settings.is_window.Reads as is_window_reads

@@ -2,7 +2,6 @@
 use mathlib.Core.Path.{refl}
 use Rattle.state.specs.Lawful.{lawful_row}
 use Rattle.judges.proofs.Joined.{joined}
-use borrow.Author.Rules.{rules}
 use Rattle.judges.proofs.settings.is_row.Reads as reads
 use Rattle.judges.proofs.settings.is_row.Lts as lts
 use Rattle.judges.proofs.settings.is_buffer.Reads as is_buffer_reads

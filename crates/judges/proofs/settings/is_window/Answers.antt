@@ -1,7 +1,6 @@
 -- `judges::settings::is_window` meets its contract: words allowed by their kinds, and a window that is accepted. Assumes nothing.
 use Rattle.state.specs.Lawful.{window}
 use Rattle.judges.proofs.Joined.{joined}
-use borrow.Author.Rules.{rules}
 use Rattle.judges.proofs.settings.is_window.Reads as reads
 use Rattle.judges.proofs.settings.is_window.Lts as lts
 use Rattle.command.proofs.kinds.is_allowed.Reads as is_allowed_reads

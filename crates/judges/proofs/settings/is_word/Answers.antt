@@ -2,7 +2,6 @@
 use mathlib.Core.Path.{ap, ◌∙◌}
 use lib.Dec.{eqb}
 use Rattle.state.specs.Lawful.{lawful, lawful_word}
-use borrow.Author.Rules.{rules}
 use Rattle.judges.proofs.settings.is_word.Reads as reads
 use Rattle.judges.proofs.settings.is_word.Lts as lts
 use Rattle.command.proofs.kinds.is_allowed.Reads as is_allowed_reads

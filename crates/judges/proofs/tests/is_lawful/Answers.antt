@@ -3,7 +3,6 @@ use mathlib.Core.Path.{sym, ◌∙◌}
 use borrow.Author.Tests.{eq-eqb, ne_eqb}
 use Rattle.laws.proofs.Choice.{pick_yes, pick_no}
 use Rattle.state.specs.Lawful.{lawful}
-use borrow.Author.Rules.{rules}
 use Rattle.judges.proofs.tests.is_lawful.Reads as reads
 use Rattle.judges.proofs.tests.is_lawful.Lts as lts
 use Rattle.judges.proofs.tests.both.Reads as both_reads

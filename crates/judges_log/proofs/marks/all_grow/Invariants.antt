@@ -1,10 +1,7 @@
 -- `judges_log::marks::all_grow` meets its contract: part by part. Assumes nothing.
-use mathlib.Core.Path.{◌≡◌, ◌∙◌}
+use mathlib.Core.Path.{◌≡◌}
 use Prim.Native.Nat.{◌+◌, ◌-◌, ◌≤◌}
-use native.Mathlib.Omega.{arith}
 use Rattle.laws.specs.Below.{every}
-use Rattle.judges.proofs.Joined.{joined, one_more, none_yet, all_tested}
-use borrow.Author.Rules.{rules}
 use Rattle.days.specs.Reported.{now_in}
 use Rattle.judges_log.specs.Judged.{grows_at}
 use Rattle.judges_log.proofs.marks.all_grow.Reads as reads

@@ -1,7 +1,6 @@
 -- `judges_log::marks::are_kept` meets its contract: they grow, and the rest is 0. Assumes nothing.
 use Rattle.judges.proofs.Joined.{joined}
 use Rattle.judges_log.specs.Judged.{marks_by}
-use borrow.Author.Rules.{rules}
 use Rattle.judges_log.proofs.marks.are_kept.Reads as reads
 use Rattle.judges_log.proofs.marks.are_kept.Lts as lts
 use Rattle.judges.proofs.tests.both.Reads as both_reads

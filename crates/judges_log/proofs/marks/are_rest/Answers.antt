@@ -1,12 +1,7 @@
 -- `judges_log::marks::are_rest` meets its contract: mark by mark. Assumes nothing.
-use mathlib.Core.Path.{◌≡◌, ◌∙◌}
-use Prim.Native.Nat.{◌+◌, ◌-◌, ◌≤◌}
+use mathlib.Core.Path.{◌∙◌}
 use native.Mathlib.Omega.{arith}
-use Rattle.laws.specs.Below.{every}
 use Rattle.judges.proofs.Joined.{joined, one_more, none_yet, all_tested}
-use borrow.Author.Rules.{rules}
-use Rattle.replay.specs.State.{marks_length}
-use Rattle.judges_log.specs.Judged.{rest_at}
 use Rattle.judges_log.proofs.marks.are_rest.Reads as reads
 use Rattle.judges_log.proofs.marks.are_rest.Lts as lts
 use Rattle.judges.proofs.tests.both.Reads as both_reads

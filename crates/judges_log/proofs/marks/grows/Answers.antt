@@ -4,7 +4,6 @@ use lib.Dec.{leb}
 use Rattle.state.specs.State.{Tally}
 use Rattle.judges_log.specs.Judged.{grows_at}
 use Rattle.judges.proofs.Joined.{joined}
-use borrow.Author.Rules.{rules}
 use Rattle.judges_log.proofs.marks.grows.Reads as reads
 use Rattle.judges_log.proofs.marks.grows.Lts as lts
 use Rattle.days.proofs.report.began.Reads as began_reads

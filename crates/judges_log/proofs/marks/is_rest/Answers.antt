@@ -3,7 +3,6 @@ use mathlib.Core.Path.{sym}
 use borrow.Author.Tests.{lt-ltb, le-ltb}
 use Rattle.laws.proofs.Choice.{pick_yes, pick_no}
 use Rattle.judges_log.specs.Judged.{rest_at}
-use borrow.Author.Rules.{rules}
 use Rattle.judges_log.proofs.marks.is_rest.Reads as reads
 use Rattle.judges_log.proofs.marks.is_rest.Lts as lts
 use Rattle.judges_log.proofs.marks.is_rest.Goals as goal

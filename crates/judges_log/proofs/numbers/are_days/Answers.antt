@@ -3,7 +3,6 @@ use mathlib.Core.Path.{sym, ◌∙◌}
 use borrow.Author.Tests.{eq-eqb, ne_eqb}
 use Rattle.laws.proofs.Choice.{pick_yes, pick_no}
 use Rattle.judges_log.specs.Judged.{days_by}
-use borrow.Author.Rules.{rules}
 use Rattle.judges_log.proofs.numbers.are_days.Reads as reads
 use Rattle.judges_log.proofs.numbers.are_days.Lts as lts
 use Rattle.judges.proofs.tests.both.Reads as both_reads

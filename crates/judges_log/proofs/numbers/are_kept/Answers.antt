@@ -2,7 +2,6 @@
 use Rattle.replay.specs.Cells.{viewed}
 use Rattle.judges_log.specs.Judged.{numbers_by}
 use Rattle.judges.proofs.Joined.{joined}
-use borrow.Author.Rules.{rules}
 use Rattle.judges_log.proofs.numbers.are_kept.Reads as reads
 use Rattle.judges_log.proofs.numbers.are_kept.Lts as lts
 use Rattle.judges.proofs.tests.both.Reads as both_reads

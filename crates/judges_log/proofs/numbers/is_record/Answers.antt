@@ -4,7 +4,6 @@ use borrow.Author.Tests.{eq-eqb, ne_eqb}
 use Rattle.laws.proofs.Choice.{pick_yes, pick_no}
 use Rattle.judges_log.specs.Judged.{bytes_by, record_by}
 use Rattle.judges.proofs.Joined.{joined}
-use borrow.Author.Rules.{rules}
 use Rattle.judges_log.proofs.numbers.is_record.Reads as reads
 use Rattle.judges_log.proofs.numbers.is_record.Lts as lts
 use Rattle.judges.proofs.tests.both.Reads as both_reads

@@ -3,7 +3,6 @@ use mathlib.Core.Path.{sym, ◌∙◌}
 use borrow.Author.Tests.{eq-eqb, ne_eqb}
 use Rattle.laws.proofs.Choice.{pick_yes, pick_no}
 use Rattle.judges_log.specs.Judged.{stop_by}
-use borrow.Author.Rules.{rules}
 use Rattle.judges_log.proofs.numbers.is_stop.Reads as reads
 use Rattle.judges_log.proofs.numbers.is_stop.Lts as lts
 use Rattle.judges.proofs.tests.both.Reads as both_reads

@@ -1,6 +1,5 @@
 -- `memory::copy::one` meets its contract. Assumes nothing.
 use Rattle.memory.proofs.Copies.{reading_of_one}
-use borrow.Author.Rules.{rules}
 use Rattle.memory.proofs.copy.one.Goals as goal
 
 pub returns : goal.returns

@@ -2,7 +2,6 @@
 use mathlib.Core.Path.{ap}
 use Prim.Native.Nat.{ℕ, ◌+◌}
 use Rattle.memory.proofs.Copies.{put_back}
-use borrow.Author.Rules.{rules}
 use Rattle.memory.proofs.copy.put.Goals as goal
 
 pub returns : goal.returns

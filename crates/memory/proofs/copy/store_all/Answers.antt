@@ -1,11 +1,10 @@
 -- `memory::copy::store_all` meets its contract: before byte i is copied, the part has the first i given bytes, then its own.
 -- Assumes nothing.
-use Prim.Native.Nat.{ℕ, ◌<◌, ◌≤◌, ◌-◌}
-use mathlib.Core.Path.{◌≡◌, refl, ap, ◌∙◌, subst}
-use mathlib.Core.List.{List, ◌++◌}
+use Prim.Native.Nat.{ℕ, ◌<◌, ◌≤◌}
+use mathlib.Core.Path.{refl, ap, ◌∙◌, subst}
+use mathlib.Core.List.{List}
 use native.Mathlib.Omega.{arith}
-use lib.ListN.{length, take, drop, set, get_or, length-set}
-use borrow.Author.Rules.{rules}
+use lib.ListN.{set, get_or, length-set}
 use Rattle.memory.proofs.Copies.{copy_step, copy_done}
 use Rattle.memory.proofs.copy.store_all.Goals as goal
 

@@ -3,7 +3,6 @@
 use mathlib.Core.Path.{sym, ap, ◌∙◌}
 use Rattle.address.specs.Address.{told_translated}
 use Rattle.memory.proofs.Places.{find_refused, find_started}
-use borrow.Author.Rules.{rules}
 use Rattle.memory.proofs.place.find.Goals as goal
 
 pub returns-in-Refused : goal.returns-in-Refused

@@ -1,7 +1,6 @@
 -- `memory::place::start` meets its contract: a law for each return. Assumes nothing.
 use mathlib.Core.Path.{sym}
 use Rattle.memory.proofs.Places.{too_long, too_high_lem, below_first, past_end, starts}
-use borrow.Author.Rules.{rules}
 use Rattle.memory.proofs.place.start.Goals as goal
 
 pub returns-then-length-gt-MOST_BYTES : goal.returns-then-length-gt-MOST_BYTES

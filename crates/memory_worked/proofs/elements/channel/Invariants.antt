@@ -1,5 +1,5 @@
 -- `memory_worked::elements::channel` is safe and ends: it counts up to its end. Assumes nothing.
-use Rattle.std.proofs.Common.{◌-◌, rules}
+use Rattle.std.proofs.Common.{◌-◌}
 use Rattle.memory_worked.proofs.elements.channel.Given as goal
 
 abbrev pub invariant-loop-k : goal.invariant-loop-k

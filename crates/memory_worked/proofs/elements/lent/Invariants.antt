@@ -1,5 +1,5 @@
 -- `memory_worked::elements::lent` is safe and ends: it counts up to its end, and the bytes that it writes to stay as many. Assumes nothing.
-use Rattle.std.proofs.Common.{◌≡◌, ◌-◌, length, rules}
+use Rattle.std.proofs.Common.{◌≡◌, ◌-◌, length}
 use Rattle.memory_worked.proofs.elements.lent.Given as goal
 
 abbrev pub invariant-loop-n : goal.invariant-loop-n

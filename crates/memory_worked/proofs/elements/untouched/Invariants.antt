@@ -1,5 +1,5 @@
 -- `memory_worked::elements::untouched` is safe and ends: it counts up to its end. Assumes nothing.
-use Rattle.std.proofs.Common.{◌-◌, rules}
+use Rattle.std.proofs.Common.{◌-◌}
 use Rattle.memory_worked.proofs.elements.untouched.Given as goal
 
 abbrev pub invariant-loop-k : goal.invariant-loop-k

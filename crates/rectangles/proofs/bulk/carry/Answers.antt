@@ -2,7 +2,6 @@
 use native.Mathlib.Omega.{arith}
 use Rattle.rectangles.proofs.Rectangles.{size_of, columns_most, stride_fits, block_few, rect_asked, rect_told}
 use Rattle.rectangles.proofs.Lines.{start_fits, lines_asked, lines_told}
-use borrow.Author.Rules.{rules}
 use Rattle.rectangles.proofs.bulk.carry.Goals as goal
 
 pub row_step-step-requires : goal.row_step-step-requires

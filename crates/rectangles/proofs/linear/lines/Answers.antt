@@ -1,7 +1,6 @@
 -- `rectangles::linear::lines` meets its contract: row after row, each one stretch. Assumes nothing.
-use Prim.Native.Nat.{ℕ, ◌-◌}
 use native.Mathlib.Omega.{arith}
-use Rattle.rectangles.proofs.Lines.{LinesGoing, lines_start, lines_done, line_asked, lines_fit, lines_next}
+use Rattle.rectangles.proofs.Lines.{lines_start, lines_done, line_asked, lines_fit, lines_next}
 use Rattle.rectangles.proofs.linear.lines.Goals as goal
 
 pub loop-j-init : goal.loop-j-init

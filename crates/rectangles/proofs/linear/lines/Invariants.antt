@@ -1,7 +1,6 @@
 -- `rectangles::linear::lines` meets its contract: row after row, each one stretch. Assumes nothing.
-use Prim.Native.Nat.{ℕ, ◌-◌}
-use native.Mathlib.Omega.{arith}
-use Rattle.rectangles.proofs.Lines.{LinesGoing, lines_start, lines_done, line_asked, lines_fit, lines_next}
+use Prim.Native.Nat.{◌-◌}
+use Rattle.rectangles.proofs.Lines.{LinesGoing}
 use Rattle.rectangles.proofs.linear.lines.Given as goal
 
 abbrev pub invariant-loop-j : goal.invariant-loop-j

@@ -1,10 +1,9 @@
 -- `rectangles::parts::carry` meets its contract. Assumes nothing.
-use mathlib.Core.Path.{sym, ap, ◌∙◌}
+use mathlib.Core.Path.{◌∙◌}
 use Prim.Native.Nat.{◌-◌}
 use native.Mathlib.Omega.{arith}
 use Rattle.memory.proofs.Copies.{put_back}
 use Rattle.rectangles.proofs.Moves.{held_part, part_long, part_to, part_end}
-use borrow.Author.Rules.{rules}
 use Rattle.rectangles.proofs.parts.carry.Goals as goal
 
 pub returns : goal.returns

@@ -1,8 +1,7 @@
 -- `rectangles::parts::four_pairs` meets its contract: each arm carries the same eight parts. Assumes nothing.
-use mathlib.Core.Path.{refl, sym}
+use mathlib.Core.Path.{refl}
 use mathlib.Core.Bool.{true, false}
 use Rattle.rectangles.proofs.Moves.{pairs_first, pairs_last, eight_moved}
-use borrow.Author.Rules.{rules}
 use Rattle.rectangles.proofs.parts.four_pairs.Goals as goal
 
 pub two_pairs-requires : goal.two_pairs-requires

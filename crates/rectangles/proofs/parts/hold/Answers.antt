@@ -1,7 +1,6 @@
 -- `rectangles::parts::hold` meets its contract. Assumes nothing.
 use native.Mathlib.Omega.{arith}
 use Rattle.memory.proofs.Copies.{put_back}
-use borrow.Author.Rules.{rules}
 use Rattle.rectangles.proofs.parts.hold.Goals as goal
 
 pub returns : goal.returns

@@ -1,6 +1,5 @@
 -- `rectangles::parts::turn` meets its contract. Assumes nothing.
 use Rattle.rectangles.proofs.Moves.{out_asked, in_asked, turned_out, turned_in}
-use borrow.Author.Rules.{rules}
 use Rattle.rectangles.proofs.parts.turn.Goals as goal
 
 pub carry-requires : goal.carry-requires

@@ -1,7 +1,6 @@
 -- `rectangles::parts::two_pairs` meets its contract: four parts, one after the other. Assumes nothing.
 use mathlib.Core.Path.{◌∙◌}
 use Rattle.rectangles.proofs.Moves.{second_asked, third_asked, fourth_asked, four_moved}
-use borrow.Author.Rules.{rules}
 use Rattle.rectangles.proofs.parts.two_pairs.Goals as goal
 
 pub turn-requires-2 : goal.turn-requires-2

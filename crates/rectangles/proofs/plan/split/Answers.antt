@@ -1,7 +1,5 @@
 -- `rectangles::plan::split` meets its contract. Assumes nothing.
-use native.Mathlib.Omega.{arith}
 use Rattle.rectangles.proofs.Plans.{plain_plan, split_fits, split_plan}
-use borrow.Author.Rules.{rules}
 use Rattle.rectangles.proofs.plan.split.Goals as goal
 
 pub overflow_mul-lead : goal.overflow_mul-lead

@@ -3,7 +3,6 @@ use mathlib.Core.Bool.{true}
 use Prim.Native.Nat.{◌/◌}
 use Rattle.rectangles.specs.Moves.{element_place}
 use Rattle.rectangles.proofs.RowParts.{none_in_row}
-use borrow.Author.Rules.{rules}
 use Rattle.rectangles.proofs.rows.first_edge.Goals as goal
 
 pub returns-else-lead-gt0 : goal.returns-else-lead-gt0

@@ -4,7 +4,6 @@ use Prim.Native.Nat.{◌+◌, ◌*◌, ◌/◌}
 use native.Mathlib.Omega.{arith}
 use Rattle.rectangles.specs.Moves.{element_place}
 use Rattle.rectangles.proofs.RowParts.{none_in_row, rest_fits, rest_asked}
-use borrow.Author.Rules.{rules}
 use Rattle.rectangles.proofs.rows.last_edge.Goals as goal
 
 pub overflow_mul-here : goal.overflow_mul-here

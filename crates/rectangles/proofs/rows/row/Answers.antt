@@ -2,7 +2,6 @@
 use mathlib.Core.Path.{◌∙◌}
 use native.Mathlib.Omega.{arith}
 use Rattle.rectangles.proofs.RowParts.{bytes_fit, start_fit, lead_fit, before_fit, lead_asked, tail_asked, tiles_asked, three_parts}
-use borrow.Author.Rules.{rules}
 use Rattle.rectangles.proofs.rows.row.Goals as goal
 
 pub overflow_mul-bytes : goal.overflow_mul-bytes

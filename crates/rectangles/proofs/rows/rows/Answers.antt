@@ -1,10 +1,7 @@
 -- `rectangles::rows::rows` meets its contract: row after row. Assumes nothing.
-use mathlib.Core.Path.{◌∙◌}
-use Prim.Native.Nat.{ℕ, ◌+◌, ◌-◌, ◌*◌, ◌/◌}
 use native.Mathlib.Omega.{arith}
 use mathlib.Core.Bool.{true}
-use Rattle.rectangles.specs.Moves.{element_place}
-use Rattle.rectangles.proofs.RowParts.{RectGoing, rect_start, rect_next, rect_done, row_asked, rect_bytes, line_in}
+use Rattle.rectangles.proofs.RowParts.{rect_start, rect_next, rect_done, row_asked, rect_bytes, line_in}
 use Rattle.rectangles.proofs.rows.rows.Goals as goal
 
 pub overflow_add-bytes : goal.overflow_add-bytes

@@ -1,10 +1,8 @@
 -- `rectangles::rows::rows` meets its contract: row after row. Assumes nothing.
-use mathlib.Core.Path.{◌∙◌}
-use Prim.Native.Nat.{ℕ, ◌+◌, ◌-◌, ◌*◌, ◌/◌}
-use native.Mathlib.Omega.{arith}
+use Prim.Native.Nat.{◌+◌, ◌-◌, ◌/◌}
 use mathlib.Core.Bool.{true}
 use Rattle.rectangles.specs.Moves.{element_place}
-use Rattle.rectangles.proofs.RowParts.{RectGoing, rect_start, rect_next, rect_done, row_asked, rect_bytes, line_in}
+use Rattle.rectangles.proofs.RowParts.{RectGoing}
 use Rattle.rectangles.proofs.rows.rows.Given as goal
 
 abbrev pub invariant-loop-j : goal.invariant-loop-j

@@ -1,10 +1,6 @@
 -- `rectangles::runs::by_runs` meets its contract: each run is one stretch. Assumes nothing.
 use mathlib.Core.Bool.{true}
-use Prim.Native.Nat.{ℕ, ◌-◌, ◌/◌, ◌≤◌}
 use native.Mathlib.Omega.{arith}
-use borrow.Author.Rules.{rules}
-use Rattle.rectangles.specs.Moves.{element_place}
-use Rattle.rectangles.proofs.RowMoves.{RowGoing}
 use Rattle.rectangles.proofs.Stretches.{runs_start, runs_done, column_asked, column_small, place_small, some, bytes_small, run_asked, runs_next}
 use Rattle.rectangles.proofs.runs.by_runs.Goals as goal
 

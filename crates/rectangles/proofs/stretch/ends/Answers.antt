@@ -1,7 +1,6 @@
 -- `rectangles::stretch::ends` meets its contract: the second move may go over bytes of the first. Assumes nothing.
 use native.Mathlib.Omega.{arith}
 use Rattle.rectangles.proofs.Stretches.{begun, stretch_end, stretch_done}
-use borrow.Author.Rules.{rules}
 use Rattle.rectangles.proofs.stretch.ends.Goals as goal
 
 pub turn-requires-2 : goal.turn-requires-2

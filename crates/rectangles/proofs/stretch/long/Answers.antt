@@ -1,8 +1,8 @@
 -- `rectangles::stretch::long` meets its contract: wide moves, and one that ends with the stretch. Assumes nothing.
 use mathlib.Core.Path.{◌∙◌}
-use Prim.Native.Nat.{ℕ, ◌-◌}
+use Prim.Native.Nat.{◌-◌}
 use native.Mathlib.Omega.{arith}
-use Rattle.rectangles.proofs.Stretches.{StretchGoing, stretch_start, part_asked, sums_fit, stretch_next, stretch_done, stretch_end}
+use Rattle.rectangles.proofs.Stretches.{stretch_start, part_asked, sums_fit, stretch_next, stretch_done, stretch_end}
 use Rattle.rectangles.proofs.stretch.long.Goals as goal
 
 pub overflow_sub-last : goal.overflow_sub-last

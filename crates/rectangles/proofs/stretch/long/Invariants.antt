@@ -1,8 +1,6 @@
 -- `rectangles::stretch::long` meets its contract: wide moves, and one that ends with the stretch. Assumes nothing.
-use mathlib.Core.Path.{◌∙◌}
-use Prim.Native.Nat.{ℕ, ◌-◌}
-use native.Mathlib.Omega.{arith}
-use Rattle.rectangles.proofs.Stretches.{StretchGoing, stretch_start, part_asked, sums_fit, stretch_next, stretch_done, stretch_end}
+use Prim.Native.Nat.{◌-◌}
+use Rattle.rectangles.proofs.Stretches.{StretchGoing}
 use Rattle.rectangles.proofs.stretch.long.Given as goal
 
 abbrev pub invariant-loop-i : goal.invariant-loop-i

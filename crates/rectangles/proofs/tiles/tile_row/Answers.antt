@@ -2,7 +2,6 @@
 use mathlib.Core.Path.{◌∙◌}
 use native.Mathlib.Omega.{arith}
 use Rattle.rectangles.proofs.TileRows.{at_most, eight_asked, eight_blocks}
-use borrow.Author.Rules.{rules}
 use Rattle.rectangles.proofs.tiles.tile_row.Goals as goal
 
 pub overflow_add-at-4 : goal.overflow_add-at-4

@@ -1,10 +1,6 @@
 -- `rectangles::tiles::tiles` meets its contract: tile after tile. Assumes nothing.
-use mathlib.Core.Path.{◌≡◌, sym, ap, ◌∙◌, subst}
-use Prim.Native.Nat.{ℕ, ◌+◌, ◌*◌, ◌-◌, ◌≤◌}
 use native.Mathlib.Omega.{arith}
-use borrow.Author.Rules.{rules}
-use Rattle.rectangles.specs.Moves.{block_place}
-use Rattle.rectangles.proofs.RowMoves.{RowGoing, one_tile, line_small, tiles_start, tiles_next, tiles_done}
+use Rattle.rectangles.proofs.RowMoves.{one_tile, line_small, tiles_start, tiles_next, tiles_done}
 use Rattle.rectangles.proofs.tiles.tiles.Goals as goal
 
 pub loop-k-init : goal.loop-k-init

@@ -1,7 +1,6 @@
 -- `replay::bytes::kind_byte` meets its contract. Assumes nothing.
 use mathlib.Core.Path.{sym, ◌∙◌}
 use Rattle.replay.proofs.Midnights.{kind_taken, kind_refused}
-use borrow.Author.Rules.{rules}
 use Rattle.replay.proofs.bytes.kind_byte.Goals as goal
 
 pub returns-then-is_kind : goal.returns-then-is_kind

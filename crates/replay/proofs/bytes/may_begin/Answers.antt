@@ -1,6 +1,5 @@
 -- `replay::bytes::may_begin` meets its contract. Assumes nothing.
 use Rattle.replay.proofs.Midnights.{first_midnight, later_midnight, too_many}
-use borrow.Author.Rules.{rules}
 use Rattle.replay.proofs.bytes.may_begin.Goals as goal
 
 pub returns-then-midnights-eq0 : goal.returns-then-midnights-eq0

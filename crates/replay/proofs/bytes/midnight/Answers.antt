@@ -2,7 +2,6 @@
 use native.Mathlib.Omega.{arith}
 use mathlib.Core.Path.{sym, ◌∙◌}
 use Rattle.replay.proofs.Midnights.{few, midnight_taken, midnight_refused}
-use borrow.Author.Rules.{rules}
 use Rattle.replay.proofs.bytes.midnight.Goals as goal
 
 pub overflow_cast-at : goal.overflow_cast-at

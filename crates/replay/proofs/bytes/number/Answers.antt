@@ -1,7 +1,6 @@
 -- `replay::bytes::number` meets its contract. Assumes nothing.
 use mathlib.Core.Path.{refl}
 use Rattle.replay.specs.Step.{number_from}
-use borrow.Author.Rules.{rules}
 use Rattle.replay.proofs.bytes.number.Goals as goal
 
 pub returns : goal.returns

@@ -1,6 +1,5 @@
 -- `replay::own::add` meets its contract. Assumes nothing.
 use Rattle.replay.proofs.Changes.{added}
-use borrow.Author.Rules.{rules}
 use Rattle.replay.proofs.own.add.Goals as goal
 
 pub returns : goal.returns

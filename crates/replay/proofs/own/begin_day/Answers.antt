@@ -1,6 +1,5 @@
 -- `replay::own::begin_day` meets its contract. Assumes nothing.
 use Rattle.replay.proofs.Changes.{begins}
-use borrow.Author.Rules.{rules}
 use Rattle.replay.proofs.own.begin_day.Goals as goal
 
 pub returns : goal.returns

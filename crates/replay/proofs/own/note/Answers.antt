@@ -1,6 +1,5 @@
 -- `replay::own::note` meets its contract. Assumes nothing.
 use Rattle.replay.proofs.Changes.{notes, notes_not}
-use borrow.Author.Rules.{rules}
 use Rattle.replay.proofs.own.note.Goals as goal
 
 pub returns-then-log-eq0 : goal.returns-then-log-eq0

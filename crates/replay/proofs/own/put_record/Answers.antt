@@ -1,6 +1,5 @@
 -- `replay::own::put_record` meets its contract. Assumes nothing.
 use Rattle.replay.proofs.Changes.{put}
-use borrow.Author.Rules.{rules}
 use Rattle.replay.proofs.own.put_record.Goals as goal
 
 pub returns : goal.returns

@@ -1,6 +1,5 @@
 -- `replay::own::stop` meets its contract. Assumes nothing.
 use Rattle.replay.proofs.Changes.{stops}
-use borrow.Author.Rules.{rules}
 use Rattle.replay.proofs.own.stop.Goals as goal
 
 pub returns : goal.returns

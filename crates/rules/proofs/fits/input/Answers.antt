@@ -1,5 +1,4 @@
 -- `rules::fits::input` meets its contract. Assumes nothing.
-use borrow.Author.Rules.{rules}
 use Rattle.rules.proofs.Fitting.{input_past, superfine_unfit, input_decided}
 use Rattle.rules.proofs.fits.input.Goals as goal
 

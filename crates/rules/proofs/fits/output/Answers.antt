@@ -1,5 +1,4 @@
 -- `rules::fits::output` meets its contract. Assumes nothing.
-use borrow.Author.Rules.{rules}
 use Rattle.rules.proofs.Fitting.{output_past, output_decided}
 use Rattle.rules.proofs.fits.output.Goals as goal
 

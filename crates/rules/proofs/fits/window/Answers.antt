@@ -1,5 +1,4 @@
 -- `rules::fits::window` meets its contract. Assumes nothing.
-use borrow.Author.Rules.{rules}
 use Rattle.rules.proofs.Fitting.{base_unfit, height_unfit, format_unfit, window_decides}
 use Rattle.rules.proofs.fits.window.Goals as goal
 

@@ -1,7 +1,6 @@
 -- `rules::last::domain_kept` meets its contract: a domain by its ends, any other command by the definition.
 -- Assumes nothing.
 use borrow.Enum.Refused.{opened}
-use borrow.Author.Rules.{rules}
 use Rattle.rules.proofs.Rule.{domain_ordered, domain_crossed, domain_other}
 use Rattle.rules.proofs.last.domain_kept.Goals as goal
 

@@ -1,6 +1,5 @@
 -- `rules::last::is_window` meets its contract. Assumes nothing.
 use mathlib.Core.Path.{ap}
-use borrow.Author.Rules.{rules}
 use Rattle.command.specs.declared.format.Window.{Window}
 use Rattle.rules.proofs.last.is_window.Goals as goal
 

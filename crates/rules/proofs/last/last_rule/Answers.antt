@@ -1,7 +1,5 @@
 -- `rules::last::last_rule` meets its contract: 5, then 6, then fine. Assumes nothing.
 use mathlib.Core.Path.{sym, ◌∙◌}
-use borrow.Author.Rules.{rules}
-use borrow.Author.Tests.{not-true, not-false}
 use Rattle.rules.proofs.Rule.{rule_five, rule_six, rule_fine}
 use Rattle.rules.proofs.last.last_rule.Goals as goal
 

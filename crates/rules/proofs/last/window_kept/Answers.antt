@@ -1,6 +1,5 @@
 -- `rules::last::window_kept` meets its contract: each arm by the definition at that variant. Assumes nothing.
 use mathlib.Core.Path.{sym, ap, ◌∙◌}
-use borrow.Author.Rules.{rules}
 use Rattle.rules.specs.Rules.{window_kept}
 use Rattle.rules.proofs.last.window_kept.Goals as goal
 

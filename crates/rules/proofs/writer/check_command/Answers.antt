@@ -1,6 +1,5 @@
 -- `rules::writer::check_command` meets its contract: the fields' refusal, or the rules' answer. Assumes nothing.
 use mathlib.Core.Path.{ap}
-use borrow.Author.Rules.{rules}
 use Rattle.command.specs.Kinds.{told_checked}
 use Rattle.command.proofs.WriteBack.{lined}
 use Rattle.rules.proofs.Judging.{command_refused, command_ruled}

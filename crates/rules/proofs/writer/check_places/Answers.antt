@@ -1,6 +1,5 @@
 -- `rules::writer::check_places` meets its contract: each return is the first refusal in the order asked. Assumes nothing.
 use mathlib.Core.Path.{ap, ◌∙◌}
-use borrow.Author.Rules.{rules}
 use Rattle.command.specs.declared.kinds.Kind.{Kind}
 use Rattle.command.specs.Kinds.{check_of, told_checked}
 use Rattle.rules.proofs.Judging.{refused_second, refused_third, refused_fourth, judged_first}

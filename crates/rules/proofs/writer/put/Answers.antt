@@ -1,10 +1,9 @@
 -- `rules::writer::put` meets its contract: the stores on the way are those of the words at the room's front.
 -- Assumes nothing.
-use mathlib.Core.List.{[], ◌∷◌}
+use mathlib.Core.List.{◌∷◌}
 use native.Mathlib.Omega.{arith}
 use lib.Dec.{lit≤}
 use lib.ListN.{length-set}
-use borrow.Author.Rules.{rules}
 use Rattle.rules.proofs.Room.{front}
 use Rattle.rules.proofs.writer.put.Goals as goal
 

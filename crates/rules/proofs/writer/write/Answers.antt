@@ -1,6 +1,5 @@
 -- `rules::writer::write` meets its contract: each answer with the room at return. Assumes nothing.
 use mathlib.Core.Path.{sym, ap, ◌∙◌}
-use borrow.Author.Rules.{rules}
 use Rattle.command.specs.Kinds.{told_checked}
 use Rattle.rules.proofs.Room.{room_fits, write_refused, write_short, write_done}
 use Rattle.command.proofs.WriteBack.{lined}

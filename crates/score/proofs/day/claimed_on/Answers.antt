@@ -2,7 +2,6 @@
 use mathlib.Core.Path.{sym, ◌∙◌}
 use native.Mathlib.Omega.{arith}
 use Rattle.score.proofs.Dates.{not_after, not_before, claimed_part, claimed_none}
-use borrow.Author.Rules.{rules}
 use Rattle.score.proofs.day.claimed_on.Goals as goal
 
 pub overflow_sub-last : goal.overflow_sub-last

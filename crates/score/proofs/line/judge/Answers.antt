@@ -1,7 +1,6 @@
 -- `score::line::judge` meets its contract. Assumes nothing.
 use native.Mathlib.Omega.{arith}
 use Rattle.score.proofs.Lines.{no_days, many_days, much_owed, past_last, line_taken}
-use borrow.Author.Rules.{rules}
 use Rattle.score.proofs.line.judge.Goals as goal
 
 pub returns-then-days-lt1 : goal.returns-then-days-lt1

@@ -1,9 +1,7 @@
 -- `score::month::fill` meets its contract. Loop: the first days' numbers stand in the rooms, and are summed. Assumes nothing.
 use Prim.Native.Nat.{◌-◌}
-use native.Mathlib.Omega.{arith}
-use borrow.Author.Rules.{rules}
 use Rattle.score.specs.Answers.{lease_line, replay_for}
-use Rattle.score.proofs.Filling.{Filling, filling_begins, claimed_length, served_length, total_most, counted_most, filling_goes, filling_ends}
+use Rattle.score.proofs.Filling.{Filling}
 use Rattle.score.proofs.month.fill.Given as goal
 
 abbrev pub invariant-loop-k : goal.invariant-loop-k

@@ -3,7 +3,6 @@ use mathlib.Core.Path.{◌∙◌}
 use native.Mathlib.Omega.{arith}
 use Rattle.score.proofs.Lines.{bounds}
 use Rattle.score.proofs.Scores.{was_taken, was_refused, was_21, owed_small, score_line, score_stopped, score_given}
-use borrow.Author.Rules.{rules}
 use Rattle.score.proofs.month.score.Goals as goal
 
 pub returns-in-Refused : goal.returns-in-Refused

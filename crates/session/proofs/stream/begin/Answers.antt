@@ -1,6 +1,5 @@
 -- `session::stream::begin` meets its contract. Assumes nothing.
 use Rattle.session.proofs.Taking.{begins, begins_not}
-use borrow.Author.Rules.{rules}
 use Rattle.refusal.proofs.number.Reads as number_reads
 use Rattle.session.proofs.stream.make.Reads as make_reads
 use Rattle.state.proofs.edition.is_known.Reads as is_known_reads

@@ -2,7 +2,6 @@
 use mathlib.Core.Path.{refl, ◌∙◌}
 use Rattle.session.proofs.LastWords.{last_asked, last_length, last_done, refusal_asked, last_refused}
 use Rattle.session.proofs.Numbers.{numbered}
-use borrow.Author.Rules.{rules}
 use Rattle.session.proofs.stream.complete.Goals as goal
 
 pub take_last-requires : goal.take_last-requires

@@ -1,12 +1,8 @@
 -- `session::stream::feed` meets its contract: each turn takes the commands that lie whole, and one word. Assumes nothing.
 use Prim.Native.Nat.{◌-◌}
-use native.Mathlib.Omega.{arith}
 use lib.ListN.{length}
 use Rattle.state.specs.Cells.{session_of}
 use Rattle.session.specs.Asked.{Fold}
-use Rattle.session.proofs.Feeding.{fold_begins, fold_joined, fold_refused, fold_open, fold_completed, fold_ends}
-use Rattle.session.proofs.Numbers.{step_number_lem}
-use borrow.Author.Rules.{rules}
 use Rattle.session.proofs.stream.feed.Given as goal
 
 abbrev pub invariant-loop-i : goal.invariant-loop-i

@@ -1,7 +1,6 @@
 -- `session::stream::finish` meets its contract: the command is the one that the cells held. Assumes nothing.
 use Rattle.state.specs.Cells.{party_of}
 use Rattle.session.proofs.Numbers.{finish_done, finish_number, finish_refused}
-use borrow.Author.Rules.{rules}
 use Rattle.session.proofs.stream.finish.Goals as goal
 
 pub build-requires : goal.build-requires

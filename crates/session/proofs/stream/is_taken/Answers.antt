@@ -1,7 +1,6 @@
 -- `session::stream::is_taken` meets its contract: two tests, one after the other. Assumes nothing.
 use mathlib.Core.Path.{sym, ◌∙◌}
 use Rattle.laws.proofs.Choice.{and_yes, and_no_left}
-use borrow.Author.Rules.{rules}
 use Rattle.session.proofs.stream.is_taken.Goals as goal
 
 pub may_name-requires : goal.may_name-requires

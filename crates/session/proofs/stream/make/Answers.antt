@@ -1,6 +1,5 @@
 -- `session::stream::make` meets its contract. Assumes nothing.
 use Rattle.session.proofs.Taking.{begun}
-use borrow.Author.Rules.{rules}
 use Rattle.session.proofs.stream.make.Goals as goal
 
 pub returns : goal.returns

@@ -1,6 +1,5 @@
 -- `session::stream::parameter` meets its contract. Assumes nothing.
 use Rattle.session.proofs.Taking.{kind_asked, parameter_asked, not_taken, kind_passed}
-use borrow.Author.Rules.{rules}
 use Rattle.session.proofs.stream.parameter.Goals as goal
 
 pub is_taken-requires : goal.is_taken-requires

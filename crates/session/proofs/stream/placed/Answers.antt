@@ -2,7 +2,6 @@
 use native.Mathlib.Omega.{arith}
 use Rattle.session.proofs.Numbers.{numbered, read_answered, read_whole}
 use Rattle.session.proofs.Stepping.{place_asked, count_fits, placed_asked, placed_open, complete_asked, placed_whole}
-use borrow.Author.Rules.{rules}
 use Rattle.session.proofs.stream.placed.Goals as goal
 
 pub place-requires : goal.place-requires

@@ -2,7 +2,6 @@
 use native.Mathlib.Omega.{arith}
 use Rattle.state.specs.Cells.{party_of}
 use Rattle.session.proofs.Feeding.{no_reach}
-use borrow.Author.Rules.{rules}
 use Rattle.session.proofs.stream.reach.Goals as goal
 
 pub returns-then-own-eq1 : goal.returns-then-own-eq1

@@ -5,7 +5,6 @@ use Rattle.command.proofs.Headers.{accepted_listed}
 use native.Mathlib.Omega.{arith}
 use Rattle.session.proofs.Numbers.{numbered, read_answered}
 use Rattle.session.proofs.Taking.{word_stopped, word_full, open_asked, word_parameter, line_asked, word_unknown, word_header, word_foreign}
-use borrow.Author.Rules.{rules}
 use Rattle.session.proofs.stream.read.Goals as goal
 
 pub returns-then-own-eq1 : goal.returns-then-own-eq1

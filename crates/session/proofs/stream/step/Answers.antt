@@ -1,6 +1,5 @@
 -- `session::stream::step` meets its contract: a word that was read, and the completion of a whole command. Assumes nothing.
 use Rattle.session.proofs.Numbers.{numbered_as}
-use borrow.Author.Rules.{rules}
 use Rattle.session.proofs.stream.step.Goals as goal
 
 pub complete-requires : goal.complete-requires

@@ -1,11 +1,8 @@
 -- `session::stream::take_commands` meets its contract: each turn takes a whole command. Assumes nothing.
-use Prim.Native.Nat.{◌+◌, ◌-◌, ◌<◌, ◌≤◌}
 use native.Mathlib.Omega.{arith}
-use lib.ListN.{length, drop, length-drop}
-use Rattle.state.specs.Cells.{party_of, session_of}
-use Rattle.session.specs.Asked.{Fold, Reach}
+use lib.ListN.{length-drop}
+use Rattle.state.specs.Cells.{party_of}
 use Rattle.session.proofs.Feeding.{fold_begins, fold_whole, fold_same, fold_reach, reach_as, reach_ready, begun_there, begun_most}
-use borrow.Author.Rules.{rules}
 use Rattle.session.proofs.stream.take_commands.Goals as goal
 
 pub overflow_sub-words : goal.overflow_sub-words

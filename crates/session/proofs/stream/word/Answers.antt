@@ -1,7 +1,6 @@
 -- `session::stream::word` meets its contract: each number is answered as what it tells. Assumes nothing.
 use native.Mathlib.Omega.{arith}
 use Rattle.session.proofs.Numbers.{left_as, step_open, step_number_lem, step_refused}
-use borrow.Author.Rules.{rules}
 use Rattle.session.proofs.stream.word.Goals as goal
 
 pub finish-requires : goal.finish-requires

@@ -1,5 +1,5 @@
 -- `silent_worked::outputs::nibbles` is safe and ends: 16 turns. Assumes nothing.
-use Rattle.std.proofs.Common.{◌-◌, rules}
+use Rattle.std.proofs.Common.{◌-◌}
 use Rattle.silent_worked.proofs.outputs.nibbles.Given as goal
 
 abbrev pub invariant-loop-nibble : goal.invariant-loop-nibble

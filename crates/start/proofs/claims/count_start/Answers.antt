@@ -5,7 +5,6 @@ use lib.ListN.{get_or}
 use Rattle.state.specs.Cells.{party_of, shared_of}
 use Rattle.state.proofs.OwnPuts.{second_tally, start_tallies}
 use Rattle.start.proofs.Readiness.{claim_asked, claim_kept}
-use borrow.Author.Rules.{rules}
 use Rattle.start.proofs.claims.count_start.Goals as goal
 
 pub claim-claimed-requires : goal.claim-claimed-requires

@@ -2,7 +2,6 @@
 use mathlib.Core.Path.{refl}
 use native.Mathlib.Omega.{arith}
 use Rattle.start.proofs.Readiness.{pairs_most}
-use borrow.Author.Rules.{rules}
 use Rattle.start.proofs.claims.pairs.Goals as goal
 
 pub overflow_mul-result : goal.overflow_mul-result

@@ -1,6 +1,5 @@
 -- `start::ready::by_channel` meets its contract. Assumes nothing.
 use Rattle.start.proofs.Readiness.{channels_told}
-use borrow.Author.Rules.{rules}
 use Rattle.start.proofs.ready.by_channel.Reads as reads
 use Rattle.start.proofs.ready.by_channel.Lts as lts
 use Rattle.owners.proofs.is_on.Reads as is_on_reads

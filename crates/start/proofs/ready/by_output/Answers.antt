@@ -1,6 +1,5 @@
 -- `start::ready::by_output` meets its contract. Assumes nothing.
 use Rattle.start.proofs.Readiness.{count_told_lem}
-use borrow.Author.Rules.{rules}
 use Rattle.start.proofs.ready.digit.Reads as digit_reads
 use Rattle.start.proofs.ready.by_output.Goals as goal
 

@@ -1,6 +1,5 @@
 -- `start::ready::channel_bits` meets its contract: the bits read at each code. Assumes nothing.
 use Rattle.start.proofs.Channels.{bits_past, bits_read}
-use borrow.Author.Rules.{rules}
 use Rattle.start.proofs.ready.channel_bits.Goals as goal
 
 pub returns-then-code-gt-LAST_CODE : goal.returns-then-code-gt-LAST_CODE

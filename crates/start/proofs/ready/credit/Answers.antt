@@ -1,6 +1,5 @@
 -- `start::ready::credit` meets its contract. Assumes nothing.
 use Rattle.start.proofs.Readiness.{credit_channels, credit_outputs}
-use borrow.Author.Rules.{rules}
 use Rattle.start.proofs.ready.credit.Reads as reads
 use Rattle.start.proofs.ready.credit.Lts as lts
 use Rattle.start.proofs.ready.by_channel.Reads as by_channel_reads

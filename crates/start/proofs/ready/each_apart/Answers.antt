@@ -1,6 +1,5 @@
 -- `start::ready::each_apart` meets its contract: the chain of tests is the definition's. Assumes nothing.
 use Rattle.start.proofs.Readiness.{each_apart_lem}
-use borrow.Author.Rules.{rules}
 use Rattle.start.proofs.ready.each_apart.Goals as goal
 
 pub returns : goal.returns

@@ -1,5 +1,4 @@
 -- `start::ready::first_of` meets its contract: 7, then 8, then 9. Assumes nothing.
-use borrow.Author.Tests.{not-true, not-false}
 use Rattle.start.proofs.Readiness.{first_seven, first_eight, first_nine, first_fine}
 use Rattle.start.proofs.ready.first_of.Goals as goal
 

@@ -1,6 +1,5 @@
 -- `start::ready::is_counted` meets its contract: the mask is asked where the flag is 1. Assumes nothing.
 use Rattle.start.proofs.Readiness.{counts_set, counts_unset}
-use borrow.Author.Rules.{rules}
 use Rattle.start.proofs.ready.is_counted.Goals as goal
 
 pub returns-then-flag-eq1 : goal.returns-then-flag-eq1

@@ -1,6 +1,5 @@
 -- `start::ready::keeps_apart` meets its contract: spans are compared where both outputs count. Assumes nothing.
 use Rattle.start.proofs.Readiness.{apart_counted, apart_uncounted}
-use borrow.Author.Rules.{rules}
 use Rattle.start.proofs.ready.keeps_apart.Goals as goal
 
 pub returns-then-both : goal.returns-then-both

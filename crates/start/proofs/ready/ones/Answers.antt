@@ -1,8 +1,5 @@
 -- `start::ready::ones` meets its contract: the digit read for each number of four bits. Assumes nothing.
-use mathlib.Core.Path.{◌∙◌, refl, sym}
-use native.Mathlib.Omega.{arith}
 use Rattle.start.proofs.Channels.{ones_read, ones_most}
-use borrow.Author.Rules.{rules}
 use Rattle.start.proofs.ready.ones.Goals as goal
 
 pub returns : goal.returns

@@ -1,7 +1,6 @@
 -- `start::ready::renew` meets its contract. Assumes nothing.
 use native.Mathlib.Omega.{arith}
 use Rattle.start.proofs.Readiness.{gauge_told, kept_length, renew_told}
-use borrow.Author.Rules.{rules}
 use Rattle.start.proofs.ready.renew.Reads as reads
 use Rattle.start.proofs.ready.renew.Lts as lts
 use Rattle.owners.proofs.is_on.Reads as is_on_reads

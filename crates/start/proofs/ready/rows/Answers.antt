@@ -1,6 +1,5 @@
 -- `start::ready::rows` meets its contract. Assumes nothing.
 use Rattle.start.proofs.Readiness.{rows_told}
-use borrow.Author.Rules.{rules}
 use Rattle.start.proofs.ready.extent_left.Reads as extent_left_reads
 use Rattle.start.proofs.ready.lesser.Reads as lesser_reads
 use Rattle.start.proofs.ready.rows.Goals as goal

@@ -1,6 +1,5 @@
 -- `start::ready::settle` meets its contract. Assumes nothing.
 use Rattle.start.proofs.Readiness.{settled_told}
-use borrow.Author.Rules.{rules}
 use Rattle.start.proofs.ready.both.Reads as both_reads
 use Rattle.start.proofs.ready.first_of.Reads as first_of_reads
 use Rattle.state.proofs.own.set_readiness.Reads as set_readiness_reads

@@ -1,6 +1,5 @@
 -- `start::ready::some_set` meets its contract: the chain of tests is the definition's. Assumes nothing.
 use Rattle.start.proofs.Readiness.{some_set_lem}
-use borrow.Author.Rules.{rules}
 use Rattle.start.proofs.ready.some_set.Goals as goal
 
 pub returns : goal.returns

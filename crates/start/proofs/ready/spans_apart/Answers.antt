@@ -1,6 +1,5 @@
 -- `start::ready::spans_apart` meets its contract: both ends fit 64 bits. Assumes nothing.
 use Rattle.start.specs.Windows.{spans_apart}
-use borrow.Author.Rules.{rules}
 use Rattle.start.proofs.ready.spans_apart.Goals as goal
 
 pub returns : goal.returns

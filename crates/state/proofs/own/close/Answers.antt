@@ -1,6 +1,5 @@
 -- `state::own::close` meets its contract. Assumes nothing.
 use Rattle.state.proofs.Puts.{close_cells}
-use borrow.Author.Rules.{rules}
 use Rattle.state.proofs.own.close.Goals as goal
 
 pub returns : goal.returns

@@ -2,7 +2,6 @@
 use native.Mathlib.Omega.{arith}
 use Rattle.state.specs.Cells.{party_of}
 use Rattle.state.proofs.Puts.{took_cells}
-use borrow.Author.Rules.{rules}
 use Rattle.state.proofs.own.count_word.Goals as goal
 
 pub overflow_add-own : goal.overflow_add-own

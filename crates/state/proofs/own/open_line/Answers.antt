@@ -2,7 +2,6 @@
 use mathlib.Core.Path.{◌∙◌}
 use lib.ListN.{length-set}
 use Rattle.state.proofs.Puts.{line_taken, line_cells}
-use borrow.Author.Rules.{rules}
 use Rattle.state.proofs.own.open_line.Goals as goal
 
 pub count_word-requires : goal.count_word-requires

@@ -1,6 +1,5 @@
 -- `state::own::place` meets its contract. Assumes nothing.
 use Rattle.state.proofs.Puts.{place_cells}
-use borrow.Author.Rules.{rules}
 use Rattle.state.proofs.own.place.Goals as goal
 
 pub returns : goal.returns

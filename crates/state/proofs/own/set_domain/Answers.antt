@@ -1,6 +1,5 @@
 -- `state::own::set_domain` meets its contract. Assumes nothing.
 use Rattle.state.proofs.Puts.{domain_cells}
-use borrow.Author.Rules.{rules}
 use Rattle.state.proofs.own.set_domain.Goals as goal
 
 pub returns : goal.returns

@@ -1,6 +1,5 @@
 -- `state::own::set_gauge` meets its contract. Assumes nothing.
 use Rattle.state.proofs.Puts.{gauge_cells}
-use borrow.Author.Rules.{rules}
 use Rattle.state.proofs.own.set_gauge.Goals as goal
 
 pub returns : goal.returns

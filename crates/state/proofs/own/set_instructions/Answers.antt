@@ -1,6 +1,5 @@
 -- `state::own::set_instructions` meets its contract. Assumes nothing.
 use Rattle.state.proofs.Puts.{instructions_cells}
-use borrow.Author.Rules.{rules}
 use Rattle.state.proofs.own.set_instructions.Goals as goal
 
 pub returns : goal.returns

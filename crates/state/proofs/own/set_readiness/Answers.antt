@@ -1,6 +1,5 @@
 -- `state::own::set_readiness` meets its contract. Assumes nothing.
 use Rattle.state.proofs.Puts.{number_cells}
-use borrow.Author.Rules.{rules}
 use Rattle.state.proofs.own.set_readiness.Goals as goal
 
 pub returns : goal.returns

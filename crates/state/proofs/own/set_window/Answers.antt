@@ -1,6 +1,5 @@
 -- `state::own::set_window` meets its contract. Assumes nothing.
 use Rattle.state.proofs.Puts.{window_cells}
-use borrow.Author.Rules.{rules}
 use Rattle.state.proofs.own.set_window.Goals as goal
 
 pub returns : goal.returns

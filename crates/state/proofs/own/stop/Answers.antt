@@ -1,7 +1,6 @@
 -- `state::own::stop` meets its contract. Assumes nothing.
 use mathlib.Core.Path.{◌∙◌}
 use Rattle.state.proofs.Puts.{stop_cells}
-use borrow.Author.Rules.{rules}
 use Rattle.state.proofs.own.stop.Goals as goal
 
 pub returns : goal.returns

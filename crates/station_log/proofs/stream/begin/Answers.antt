@@ -1,6 +1,5 @@
 -- `log::stream::begin` meets its contract. Assumes nothing.
 use Rattle.station_log.proofs.Handed.{begins, begins_not}
-use borrow.Author.Rules.{rules}
 use Rattle.session.proofs.stream.begin.Reads as begin_reads
 use Rattle.station_log.proofs.stream.begin.Goals as goal
 

@@ -1,13 +1,8 @@
 -- `log::stream::feed` meets its contract. Assumes nothing.
-use Rattle.station_log.proofs.Feeding.{Fold, fold_begins, fold_ends, fold_refused, fold_goes, fold_records, fold_same, asked}
-use Rattle.replay.specs.Cells.{replay_in}
-use Rattle.session.specs.declared.stream.First.TheVariants.{Nothing}
+use Rattle.station_log.proofs.Feeding.{fold_begins, fold_ends, fold_refused, fold_goes, fold_records, fold_same, asked}
 use borrow.Author.Rules.{rules}
-use lib.ListN.{length}
 use native.Mathlib.Omega.{arith}
-use Prim.Native.Nat.{◌-◌}
-use mathlib.Core.Path.{◌≡◌, refl, sym}
-use Rattle.station_log.specs.Asked.{batch}
+use mathlib.Core.Path.{refl, sym}
 use Rattle.station_log.proofs.stream.feed.Goals as goal
 
 pub loop-i-init : goal.loop-i-init

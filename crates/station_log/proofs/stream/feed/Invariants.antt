@@ -1,12 +1,10 @@
 -- `log::stream::feed` meets its contract. Assumes nothing.
-use Rattle.station_log.proofs.Feeding.{Fold, fold_begins, fold_ends, fold_refused, fold_goes, fold_records, fold_same, asked}
+use Rattle.station_log.proofs.Feeding.{Fold}
 use Rattle.replay.specs.Cells.{replay_in}
 use Rattle.session.specs.declared.stream.First.TheVariants.{Nothing}
-use borrow.Author.Rules.{rules}
 use lib.ListN.{length}
-use native.Mathlib.Omega.{arith}
 use Prim.Native.Nat.{◌-◌}
-use mathlib.Core.Path.{◌≡◌, refl, sym}
+use mathlib.Core.Path.{◌≡◌}
 use Rattle.station_log.specs.Asked.{batch}
 use Rattle.station_log.proofs.stream.feed.Given as goal
 

@@ -1,10 +1,6 @@
 -- `log::stream::gather` meets its contract. Assumes nothing.
-use Prim.Native.Nat.{◌-◌, ◌≤◌}
-use mathlib.Core.Path.{◌≡◌, sym, ◌∙◌}
+use mathlib.Core.Path.{sym, ◌∙◌}
 use native.Mathlib.Omega.{arith}
-use lib.ListN.{length, drop}
-use borrow.Author.Rules.{rules}
-use Rattle.station_log.specs.Asked.{batch, Gathered}
 use Rattle.station_log.proofs.Records.{gathered_none}
 use Rattle.station_log.proofs.stream.gather.Goals as goal
 

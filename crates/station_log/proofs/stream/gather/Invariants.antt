@@ -1,11 +1,8 @@
 -- `log::stream::gather` meets its contract. Assumes nothing.
 use Prim.Native.Nat.{◌-◌, ◌≤◌}
-use mathlib.Core.Path.{◌≡◌, sym, ◌∙◌}
-use native.Mathlib.Omega.{arith}
+use mathlib.Core.Path.{◌≡◌}
 use lib.ListN.{length, drop}
-use borrow.Author.Rules.{rules}
 use Rattle.station_log.specs.Asked.{batch, Gathered}
-use Rattle.station_log.proofs.Records.{gathered_none}
 use Rattle.station_log.proofs.stream.gather.Given as goal
 
 abbrev pub invariant-loop-n : goal.invariant-loop-n

@@ -1,9 +1,8 @@
 -- `log::stream::gather_next` meets its contract. Assumes nothing.
-use Prim.Native.Nat.{◌+◌, ◌-◌, ◌*◌, ◌≤◌}
-use mathlib.Core.Path.{◌≡◌, sym, ◌∙◌}
+use Prim.Native.Nat.{◌+◌, ◌*◌}
+use mathlib.Core.Path.{sym, ◌∙◌}
 use native.Mathlib.Omega.{arith}
-use lib.ListN.{length, drop, length-set}
-use Rattle.station_log.specs.Asked.{batch, Gathered}
+use lib.ListN.{length-set}
 use Rattle.station_log.proofs.Records.{gathered_as, gathered_more}
 use Rattle.station_log.proofs.stream.gather_next.Goals as goal
 

@@ -3,7 +3,6 @@ use Rattle.station_log.proofs.Steps.{added, opened}
 use Rattle.station_log.specs.Asked.{grown, ungrown}
 use mathlib.Core.Path.{sym, ◌∙◌}
 use native.Mathlib.Omega.{arith}
-use borrow.Author.Rules.{rules}
 use Rattle.station_log.proofs.stream.grows.Goals as goal
 
 pub returns-then-log-ne0 : goal.returns-then-log-ne0

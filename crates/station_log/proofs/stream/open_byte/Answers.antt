@@ -1,6 +1,5 @@
 -- `log::stream::open_byte` meets its contract. Assumes nothing.
 use Rattle.station_log.proofs.Steps.{byte_added, word_read, midnight_read, number_asked, words_asked}
-use borrow.Author.Rules.{rules}
 use Rattle.station_log.proofs.stream.open_byte.Goals as goal
 
 pub returns-then-count-lt4 : goal.returns-then-count-lt4

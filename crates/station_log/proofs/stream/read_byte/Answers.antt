@@ -1,6 +1,5 @@
 -- `log::stream::read_byte` meets its contract. Assumes nothing.
 use Rattle.station_log.proofs.Steps.{again, begins, goes_on, cause}
-use borrow.Author.Rules.{rules}
 use Rattle.station_log.proofs.stream.read_byte.Goals as goal
 
 pub stop_cause-requires : goal.stop_cause-requires

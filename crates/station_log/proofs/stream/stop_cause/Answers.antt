@@ -1,6 +1,5 @@
 -- `log::stream::stop_cause` meets its contract. Assumes nothing.
 use Rattle.station_log.proofs.Steps.{other_cause}
-use borrow.Author.Rules.{rules}
 use Rattle.station_log.proofs.stream.stop_cause.Goals as goal
 
 pub returns-else-number-eq-BY_KIND : goal.returns-else-number-eq-BY_KIND

@@ -1,6 +1,5 @@
 -- `log::stream::take_byte` meets its contract. Assumes nothing.
 use Rattle.station_log.proofs.Singles.{byte_grown, still_given, byte_taken, byte_refused}
-use borrow.Author.Rules.{rules}
 use Rattle.station_log.proofs.stream.take_byte.Goals as goal
 
 -- it only added to a record

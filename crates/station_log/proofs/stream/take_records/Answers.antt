@@ -4,7 +4,6 @@ use mathlib.Core.Path.{sym, ◌∙◌}
 use native.Mathlib.Omega.{arith}
 use Rattle.station_log.specs.Asked.{unread}
 use Rattle.station_log.proofs.Feeding.{records_left, none_left}
-use borrow.Author.Rules.{rules}
 use Rattle.station_log.proofs.stream.take_records.Goals as goal
 
 pub returns-then-bytes-at-lt-RECORD : goal.returns-then-bytes-at-lt-RECORD

@@ -1,7 +1,6 @@
 -- `log::stream::take_word` meets its contract. Assumes nothing.
 use borrow.Enum.Refused.{opened}
 use Rattle.station_log.proofs.Steps.{word_fine, word_noted}
-use borrow.Author.Rules.{rules}
 use Rattle.station_log.proofs.stream.take_word.Goals as goal
 
 pub returns-in-Refused : goal.returns-in-Refused

@@ -3,7 +3,6 @@ use Rattle.session.specs.Feed.{first}
 use Rattle.session.specs.Answers.{first_of}
 use mathlib.Core.Path.{sym, ap, ◌∙◌}
 use Rattle.station_log.proofs.Steps.{words_fine, words_noted}
-use borrow.Author.Rules.{rules}
 use Rattle.station_log.proofs.stream.take_words.Goals as goal
 
 pub returns-in-Refused : goal.returns-in-Refused

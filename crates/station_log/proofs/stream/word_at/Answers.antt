@@ -1,5 +1,4 @@
 -- `log::stream::word_at` meets its contract. Assumes nothing.
-use borrow.Author.Rules.{rules}
 use mathlib.Core.Path.{◌∙◌}
 use Rattle.replay.specs.Step.{number_from}
 use Rattle.station_log.proofs.stream.word_at.Goals as goal

@@ -4,7 +4,6 @@ use Rattle.group.specs.Cells.{with_active}
 use Rattle.group.specs.Masks.{with_masks}
 use Rattle.group.proofs.Places.{masks_shown, branch_lower, branch_raise, branch_none}
 use Rattle.stepper.proofs.Going.{active_cell}
-use borrow.Author.Rules.{rules}
 use Rattle.steps.proofs.looping.branch.Goals as goal
 
 pub returns-then-op-eq-DECREMENT : goal.returns-then-op-eq-DECREMENT

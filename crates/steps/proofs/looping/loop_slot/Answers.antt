@@ -3,7 +3,6 @@ use Rattle.group.specs.Proc.{counter_limit}
 use Rattle.group.specs.Cells.{mode_in, group_of}
 use Rattle.group.proofs.State.{given_loops, sound_mode, loop_sound}
 use Rattle.stepper.proofs.Stepping.{loop_bad, loop_stops, loop_refused, loop_stored, left_size}
-use borrow.Author.Rules.{rules}
 use Rattle.steps.proofs.looping.loop_slot.Goals as goal
 
 pub turn-t-requires : goal.turn-t-requires

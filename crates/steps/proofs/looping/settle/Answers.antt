@@ -5,7 +5,6 @@ use Rattle.group.specs.Group.{a_op, jump_address, way_of}
 use Rattle.group.specs.Cells.{position_in, group_of}
 use Rattle.stepper.proofs.Going.{gone_named, gone_masks}
 use Rattle.stepper.proofs.Stepping.{over_full, settle_over, settle_refused, settle_made}
-use borrow.Author.Rules.{rules}
 use Rattle.steps.proofs.looping.settle.Goals as goal
 
 pub over_limit-requires : goal.over_limit-requires

@@ -2,7 +2,6 @@
 use Rattle.group.specs.Proc.{counter_limit}
 use Rattle.group.proofs.State.{given_masks}
 use Rattle.stepper.proofs.Stepping.{slot_refused, slot_masks, slot_done}
-use borrow.Author.Rules.{rules}
 use Rattle.steps.proofs.looping.step_slot.Goals as goal
 
 pub turn_if-active-requires : goal.turn_if-active-requires

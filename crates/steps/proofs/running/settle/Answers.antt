@@ -5,7 +5,6 @@ use Rattle.group.specs.Cells.{position_in, group_of}
 use Rattle.stepper.specs.Answers.{own_limit}
 use Rattle.stepper.proofs.Going.{gone_named, gone_masks}
 use Rattle.stepper.proofs.Stepping.{over_own, settle_over, settle_refused, settle_made}
-use borrow.Author.Rules.{rules}
 use Rattle.steps.proofs.running.settle.Goals as goal
 
 pub over_own_limit-requires : goal.over_own_limit-requires

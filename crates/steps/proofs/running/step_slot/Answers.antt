@@ -2,7 +2,6 @@
 use Rattle.group.proofs.State.{given_masks}
 use Rattle.stepper.specs.Answers.{own_limit}
 use Rattle.stepper.proofs.Stepping.{slot_refused, slot_masks, slot_done}
-use borrow.Author.Rules.{rules}
 use Rattle.steps.proofs.running.step_slot.Goals as goal
 
 pub turn_if-active-requires : goal.turn_if-active-requires

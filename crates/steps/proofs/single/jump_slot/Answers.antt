@@ -1,7 +1,6 @@
 -- `steps::single::jump_slot` meets its contract: the second word, and then the step that the wishes decide. Assumes nothing.
 use Rattle.stepper.specs.Answers.{own_limit}
 use Rattle.stepper.proofs.Stepping.{jump_refused, jump_done}
-use borrow.Author.Rules.{rules}
 use Rattle.steps.proofs.single.jump_slot.Goals as goal
 
 pub step_slot-requires : goal.step_slot-requires

@@ -1,8 +1,6 @@
 -- `stream_worked::streams::by_word` is safe and ends; what it hands on came from the entries. Assumes nothing.
-use Rattle.std.proofs.Common.{◌-◌, length, rules}
+use Rattle.std.proofs.Common.{◌-◌, length}
 use Rattle.state.specs.Asked.{Given}
-use Rattle.session.specs.Step.{step_of}
-use Rattle.session.proofs.Handed.{first_given, word_given}
 use Rattle.stream_worked.proofs.streams.by_word.Given as goal
 
 abbrev pub invariant-loop-i : goal.invariant-loop-i

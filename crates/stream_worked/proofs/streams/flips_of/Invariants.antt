@@ -1,5 +1,5 @@
 -- `stream_worked::streams::flips_of` is safe and ends; what it hands on came from the entries. Assumes nothing.
-use Rattle.std.proofs.Common.{◌-◌, rules}
+use Rattle.std.proofs.Common.{◌-◌}
 use Rattle.stream_worked.proofs.streams.flips_of.Given as goal
 
 abbrev pub invariant-loop-b : goal.invariant-loop-b

@@ -1,5 +1,5 @@
 -- `stream_worked::streams::in_two` is safe and ends; what it hands on came from the entries. Assumes nothing.
-use Rattle.std.proofs.Common.{sym, arith, length-take-le, rules}
+use Rattle.std.proofs.Common.{sym, length-take-le}
 use Rattle.session.proofs.Handed.{first_given, piece_given}
 use Rattle.stream_worked.proofs.streams.in_two.Goals as goal
 

@@ -1,7 +1,6 @@
 -- `stream_worked::streams::limit` is safe and ends; what it hands on came from the entries. Assumes nothing.
-use Rattle.std.proofs.Common.{◌-◌, rules}
+use Rattle.std.proofs.Common.{◌-◌}
 use Rattle.state.specs.Asked.{Given}
-use Rattle.session.proofs.Handed.{first_given, word_given, piece_given}
 use Rattle.stream_worked.proofs.streams.limit.Given as goal
 
 abbrev pub invariant-loop-k : goal.invariant-loop-k

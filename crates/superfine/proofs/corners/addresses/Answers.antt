@@ -3,11 +3,9 @@ use mathlib.Core.Path.{sym, ◌∙◌}
 use mathlib.Core.Bool.{true, false}
 use Prim.Native.Nat.{◌+◌}
 use native.Mathlib.Omega.{arith}
-use borrow.Author.Tests.{not-true, not-false}
 use Rattle.address.proofs.Answers.{bytes_fit}
 use Rattle.superfine.proofs.Around.{corners_malformed, corners_ruleless, past_all_rows, past_the_row}
 use Rattle.superfine.proofs.Around.{own_out, below_out, kind_asked, kind_found}
-use borrow.Author.Rules.{rules}
 use Rattle.superfine.proofs.corners.addresses.Goals as goal
 
 pub returns-then-not-well_formed : goal.returns-then-not-well_formed

@@ -1,6 +1,5 @@
 -- `superfine::corners::around` meets its contract: the four addresses one by one. Assumes nothing.
 use Rattle.superfine.proofs.Around.{corners_told}
-use borrow.Author.Rules.{rules}
 use Rattle.superfine.proofs.corners.around.Goals as goal
 
 pub returns : goal.returns

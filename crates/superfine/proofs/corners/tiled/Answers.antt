@@ -2,7 +2,6 @@
 use mathlib.Core.Path.{◌∙◌}
 use mathlib.Core.Bool.{true}
 use Rattle.superfine.proofs.Around.{asked_at, corners_at_lem}
-use borrow.Author.Rules.{rules}
 use Rattle.superfine.proofs.corners.tiled.Goals as goal
 
 pub tiled_2-requires : goal.tiled_2-requires

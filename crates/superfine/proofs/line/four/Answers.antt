@@ -2,7 +2,6 @@
 use mathlib.Core.Path.{refl}
 use Rattle.superfine.specs.InLine.{in_line}
 use Rattle.superfine.proofs.InLine.{reading_of_four}
-use borrow.Author.Rules.{rules}
 use Rattle.superfine.proofs.line.four.Goals as goal
 
 pub returns : goal.returns

@@ -4,7 +4,6 @@ use mathlib.Core.List.{List}
 use Prim.Native.Nat.{ℕ, ◌*◌}
 use Rattle.memory.specs.Elements.{overwritten}
 use Rattle.superfine.specs.InLine.{in_line}
-use borrow.Author.Rules.{rules}
 use Rattle.superfine.proofs.line.in_line.Goals as goal
 
 pub returns : goal.returns

@@ -1,7 +1,6 @@
 -- `survey::held::all_held` meets its contract: memory that isn't fit, memory that covers the window, and row by row. Assumes nothing.
 use native.Mathlib.Omega.{arith}
 use Rattle.survey.proofs.Holds.{too_long, too_high_lem, covered}
-use borrow.Author.Rules.{rules}
 use Rattle.survey.proofs.held.all_held.Goals as goal
 
 pub returns-then-length-gt-MOST_BYTES : goal.returns-then-length-gt-MOST_BYTES

@@ -1,11 +1,8 @@
 -- `survey::held::rows_held` meets its contract: the numbers of the rows before row j are held. Assumes nothing.
-use mathlib.Core.Path.{◌≡◌, ap}
+use mathlib.Core.Path.{◌≡◌}
 use mathlib.Core.Bool.{true}
 use Prim.Native.Nat.{ℕ, ◌-◌, ◌*◌, ◌/◌, ◌<◌, ◌≤◌}
-use native.Mathlib.Omega.{arith}
-use borrow.Author.Tests.{not-true, not-false}
 use Rattle.survey.specs.Rows.{domain_held}
-use Rattle.survey.proofs.Holds.{all_so_far, row_unheld, rows_so_far}
 use Rattle.survey.proofs.held.rows_held.Given as goal
 
 abbrev pub invariant-loop-j : goal.invariant-loop-j

@@ -1,16 +1,13 @@
 -- `survey::rows::groups` meets its contract: before turn i, the bytes of the turns before are written and `passed` is their sum. Assumes
 -- nothing.
 use mathlib.Core.Path.{◌≡◌, ap, ◌∙◌}
-use Prim.Native.Nat.{◌+◌, ◌-◌, ◌*◌, ◌/◌, ◌≤◌}
+use Prim.Native.Nat.{◌+◌, ◌*◌, ◌/◌}
 use mathlib.Core.Bool.{true}
 use native.Mathlib.Omega.{arith}
 use lib.ListN.{length}
-use Rattle.laws.specs.Below.{sum}
-use Rattle.conditions.specs.Spans.{span_bit, written}
+use Rattle.conditions.specs.Spans.{span_bit}
 use Rattle.conditions.proofs.Written.{length_written, written_next, written_none, counted_next, none_counted, sum_few, bit_few}
-use Rattle.survey.specs.Rows.{row_byte}
 use Rattle.survey.proofs.Numbers.{place_asked, stretch_asked, same_bytes, group_of, row_few}
-use borrow.Author.Rules.{rules}
 use Rattle.survey.proofs.rows.groups.Goals as goal
 
 pub loop-i-init : goal.loop-i-init

@@ -1,6 +1,5 @@
 -- `survey::rows::place` meets its contract: the address that the offset gives, in memory. Assumes nothing.
 use Rattle.survey.proofs.Numbers.{pair_asked}
-use borrow.Author.Rules.{rules}
 use Rattle.survey.proofs.rows.place.Goals as goal
 
 pub offset-requires : goal.offset-requires

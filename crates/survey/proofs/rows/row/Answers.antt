@@ -3,7 +3,6 @@ use mathlib.Core.Path.{refl, ◌∙◌}
 use Rattle.laws.proofs.Below.{sum_same}
 use Rattle.conditions.proofs.Written.{written_same}
 use Rattle.survey.proofs.Parts.{first_place, linear_asked, linear_bytes}
-use borrow.Author.Rules.{rules}
 use Rattle.survey.proofs.rows.row.Goals as goal
 
 pub tiled_row-requires : goal.tiled_row-requires

@@ -1,16 +1,10 @@
 -- `survey::rows::rows` meets its contract: before row j, the bytes of the rows before are written and `passed` is their sum. Assumes
 -- nothing.
-use mathlib.Core.Path.{◌≡◌, refl, ap, ◌∙◌}
-use Prim.Native.Nat.{ℕ, ◌+◌, ◌-◌, ◌*◌, ◌/◌, ◌<◌, ◌≤◌}
-use native.Mathlib.Omega.{arith}
-use lib.ListN.{length}
+use mathlib.Core.Path.{◌≡◌}
+use Prim.Native.Nat.{◌-◌, ◌*◌, ◌/◌, ◌≤◌}
 use Rattle.laws.specs.Below.{sum}
 use Rattle.conditions.specs.Spans.{written}
-use Rattle.conditions.proofs.Written.{length_written, written_next, written_none, counted_next, none_counted}
-use Rattle.survey.specs.Rows.{row_byte, domain_byte}
-use Rattle.survey.proofs.Numbers.{row_few}
-use Rattle.survey.proofs.Parts.{rows_few, rows_row, next_line, domain_few, row_bytes}
-use borrow.Author.Rules.{rules}
+use Rattle.survey.specs.Rows.{domain_byte}
 use Rattle.survey.proofs.rows.rows.Given as goal
 
 abbrev pub invariant-loop-j : goal.invariant-loop-j

@@ -1,16 +1,13 @@
 -- `survey::rows::singles` meets its contract: before turn i, the bytes of the turns before are written and `passed` is their sum. Assumes
 -- nothing.
 use mathlib.Core.Path.{◌≡◌, ap, ◌∙◌}
-use Prim.Native.Nat.{◌-◌, ◌/◌, ◌≤◌}
+use Prim.Native.Nat.{◌/◌}
 use mathlib.Core.Bool.{true}
 use native.Mathlib.Omega.{arith}
 use lib.ListN.{length}
-use Rattle.laws.specs.Below.{sum}
-use Rattle.conditions.specs.Spans.{span_bit, written}
+use Rattle.conditions.specs.Spans.{span_bit}
 use Rattle.conditions.proofs.Written.{length_written, written_one, written_none, counted_one, none_counted}
-use Rattle.survey.specs.Rows.{row_byte}
 use Rattle.survey.proofs.Numbers.{place_asked, whole_number, row_few}
-use borrow.Author.Rules.{rules}
 use Rattle.survey.proofs.rows.singles.Goals as goal
 
 pub loop-i-init : goal.loop-i-init

@@ -7,7 +7,6 @@ use lib.ListN.{length}
 use Rattle.conditions.proofs.Written.{length_written}
 use Rattle.survey.proofs.Numbers.{row_part, row_few}
 use Rattle.survey.proofs.Parts.{row_front, parts_counted, parts_written}
-use borrow.Author.Rules.{rules}
 use Rattle.survey.proofs.rows.tiled_row.Goals as goal
 
 pub singles-before-requires : goal.singles-before-requires

@@ -1,5 +1,4 @@
 -- `worked::tally::Tally::and` meets its contract: both counts are sums modulo 2^64. Assumes nothing.
-use Rattle.std.proofs.Common.{rules}
 use Rattle.worked.proofs.tally.Tally.and.Goals as goal
 
 pub returns : goal.returns

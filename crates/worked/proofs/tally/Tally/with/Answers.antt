@@ -1,6 +1,5 @@
 -- `worked::tally::Tally::with` meets its contract: the count that the check belongs to is one more. Assumes nothing.
 use Rattle.worked.specs.Counts.{counted}
-use Rattle.std.proofs.Common.{rules}
 use Rattle.worked.proofs.tally.Tally.with.Goals as goal
 
 -- it agreed
