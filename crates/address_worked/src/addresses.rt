@@ -2,6 +2,7 @@
 // address.
 use address::{Located, Translated};
 use layout::{ByteAddress, Judged, Layout};
+use std::io;
 use worked::tally::Tally;
 use worked::windows::{linear, tiled, window_of};
 
@@ -216,9 +217,9 @@ fn edges() -> Tally {
     t.with(unlocated(tiled(1, 4294965248, 64, 33), 4294965248, 6))
 }
 
-pub fn run() {
-    cases().print(b"C1 to C8");
-    steps().print(b"row steps");
-    windows().print(b"windows there and back");
-    edges().print(b"the last bytes");
+pub fn run(rt: &impl Print) -> io::Result<()> {
+    cases().print(rt, "C1 to C8")?;
+    steps().print(rt, "row steps")?;
+    windows().print(rt, "windows there and back")?;
+    edges().print(rt, "the last bytes")
 }

@@ -2,12 +2,14 @@
 // file holds what it must print; every line ends in '0 differed'.
 #![tactic(auto)]
 
+use std::io;
+
 mod addresses;
 mod refusals;
 mod runs;
 
-fn main() {
-    addresses::run();
-    refusals::run();
-    runs::run();
+fn main(rt: HostRuntime) -> io::Result<()> {
+    addresses::run(&rt)?;
+    refusals::run(&rt)?;
+    runs::run(&rt)
 }

@@ -2,6 +2,7 @@
 // combinations, with the number that the paper's order gives.
 use crate::addresses::{goes_to, leads_to, refused, unlocated};
 use layout::{ByteAddress, Layout};
+use std::io;
 use worked::tally::Tally;
 
 // One combination: the first value of each list is good, those after it are bad (the height 4,096 is good too).
@@ -80,6 +81,6 @@ fn trials() -> Tally {
     t
 }
 
-pub fn run() {
-    trials().print(b"refusals 3, 6, 10 and 12");
+pub fn run(rt: &impl Print) -> io::Result<()> {
+    trials().print(rt, "refusals 3, 6, 10 and 12")
 }

@@ -2,6 +2,7 @@
 use crate::addresses::goes_to;
 use address::Translated;
 use layout::{Judged, Layout};
+use std::io;
 use worked::tally::Tally;
 use worked::windows::{linear, tiled, window_of};
 
@@ -73,7 +74,7 @@ fn windows() -> Tally {
     t
 }
 
-pub fn run() {
-    cases().print(b"runs of C1 to C6");
-    windows().print(b"runs, element by element");
+pub fn run(rt: &impl Print) -> io::Result<()> {
+    cases().print(rt, "runs of C1 to C6")?;
+    windows().print(rt, "runs, element by element")
 }

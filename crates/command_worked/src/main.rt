@@ -8,6 +8,7 @@ use rules::writer::Written;
 use session::stream;
 use session::stream::Answer;
 use state::edition;
+use std::io;
 use worked::streams::whole_stream;
 use worked::tally::Tally;
 
@@ -120,9 +121,9 @@ fn start_back() -> Tally {
     t.with(writes(found, &start))
 }
 
-fn main() {
+fn main(rt: HostRuntime) -> io::Result<()> {
     settings_back()
         .and(effectless_back())
         .and(start_back())
-        .print(b"commands written and read again");
+        .print(&rt, "commands written and read again")
 }

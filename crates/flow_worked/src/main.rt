@@ -2,12 +2,14 @@
 // differed. Its stdout file holds what it must print; every line ends in '0 differed'.
 #![tactic(auto)]
 
-mod loops;
-mod programs;
-mod steps;
+use std::io;
 
-fn main() {
-    steps::run();
-    programs::run();
-    loops::run();
+mod programs;
+mod stepping;
+mod turning;
+
+fn main(rt: HostRuntime) -> io::Result<()> {
+    stepping::run(&rt)?;
+    programs::run(&rt)?;
+    turning::run(&rt)
 }

@@ -2,6 +2,7 @@
 ghost use Rattle.std.specs.Prelude.{◌≤◌};
 
 use flow::{Begun, Loaded, Ran};
+use std::io;
 use worked::tally::Tally;
 
 // The mask of a fresh group, or 0 where the size or the mode gets 13.
@@ -13,23 +14,23 @@ fn mask_of(size: u32, mode: u32) -> u32 {
     }
 }
 
-fn sizes() {
+fn sizes(rt: &impl Print) -> io::Result<()> {
     Tally::new()
         .with(mask_of(0, group::FULL) == 0)
         .with(mask_of(1, group::FULL) == 1)
         .with(mask_of(31, group::FULL) == 0x7FFFFFFF)
         .with(mask_of(32, group::FULL) == 0xFFFFFFFF)
         .with(mask_of(33, group::FULL) == 0)
-        .print(b"sizes of groups");
+        .print(rt, "sizes of groups")
 }
 
-fn modes() {
+fn modes(rt: &impl Print) -> io::Result<()> {
     Tally::new()
         .with(mask_of(4, group::FULL) == 15)
         .with(mask_of(4, group::PARTIAL) == 15)
         .with(mask_of(4, 2) == 0)
         .with(mask_of(33, group::PARTIAL) == 0)
-        .print(b"modes of groups");
+        .print(rt, "modes of groups")
 }
 
 // The slots of a program of these words, or 1000 where it gets 15.
@@ -42,7 +43,7 @@ fn slots_of(words: &[u32]) -> u32 {
     }
 }
 
-fn lengths() {
+fn lengths(rt: &impl Print) -> io::Result<()> {
     let words = [0u32; 1026];
     Tally::new()
         .with(slots_of(&words[..0]) == 1000)
@@ -51,7 +52,7 @@ fn lengths() {
         .with(slots_of(&words[..1024]) == 512)
         .with(slots_of(&words[..1025]) == 1000)
         .with(slots_of(&words) == 1000)
-        .print(b"lengths of programs");
+        .print(rt, "lengths of programs")
 }
 
 // Whether a run of a program on a fresh group of four makes so many steps, with this first active processor and number of
@@ -71,7 +72,7 @@ fn runs(
         Loaded::Refused(_) => 0,
     };
     let mut cells = [0u32; group::CELLS];
-    crate::steps::fresh(4, &mut cells);
+    crate::stepping::fresh(4, &mut cells);
     let ran = flow::run(&firsts, &seconds, slots, &mut cells, masks, 0, &[3]);
     if cells[group::POSITION] != position {
         return false;
@@ -93,7 +94,7 @@ fn runs(
 //   3        the other body                                                          active 1100
 //   4 ENDIF  counters lose 1, all wake                                               active 1111, the program's end
 // With the condition true for nobody the group goes 0, 3, 4. Nine masks are four steps.
-fn branches() {
+fn branches(rt: &impl Print) -> io::Result<()> {
     let program = [
         0x0A000F00,
         0x30000,
@@ -112,16 +113,16 @@ fn branches() {
         .with(runs(&program, &masks, 5, 0, 4, 5))
         .with(runs(&program, &masks[..9], 4, 2, 2, 4))
         .with(runs(&program, &masks[2..], 3, 0, 4, 5))
-        .print(b"if, else, endif");
+        .print(rt, "if, else, endif")?;
     Tally::new()
         .with(runs(&program, &masks[..0], 0, 0, 4, 0))
         .with(runs(&program, &masks[..1], 0, 0, 4, 0))
-        .print(b"short lists");
+        .print(rt, "short lists")
 }
 
 // 0 calls slot 2; 2 is the body; 3 returns to 1; 1 jumps to the program's end. And a program whose second slot isn't allowed:
 // the run gets 13 and the position is 0 as before.
-fn calls() {
+fn calls(rt: &impl Print) -> io::Result<()> {
     let program = [
         0xFF80,
         0x20000,
@@ -135,11 +136,11 @@ fn calls() {
     let masks = [0, 0, 0, 0, 0, 0, 0, 0];
     Tally::new()
         .with(runs(&program, &masks, 4, 0, 4, 4))
-        .print(b"call and return");
+        .print(rt, "call and return")?;
     let bad = [flow::PLAIN_FIRST, flow::PLAIN_SECOND, 5, 0];
     Tally::new()
         .with(runs(&bad, &masks, 13, 0, 0, 0))
-        .print(b"refused whole");
+        .print(rt, "refused whole")
 }
 
 // A run that ends its program of one plain slot, and then another one with no masks at all, which gets 16.
@@ -149,7 +150,7 @@ fn again() -> u32 {
     let words = [flow::PLAIN_FIRST, flow::PLAIN_SECOND];
     flow::load(&words, &mut firsts, &mut seconds);
     let mut cells = [0u32; group::CELLS];
-    crate::steps::fresh(4, &mut cells);
+    crate::stepping::fresh(4, &mut cells);
     let masks = [0, 0];
     flow::run(&firsts, &seconds, 1, &mut cells, &masks, 0, &[3]);
     match flow::run(&firsts, &seconds, 1, &mut cells, &masks[..0], 0, &[3]) {
@@ -168,24 +169,24 @@ fn tells(mask: u32, first: u32, number: u32) -> bool {
 }
 
 // The empty mask, the full one, and every mask of one processor.
-fn counts() {
+fn counts(rt: &impl Print) -> io::Result<()> {
     let mut tally = Tally::new()
         .with(tells(0, 32, 0))
         .with(tells(0xFFFFFFFF, 0, 32));
     for bit in 0u32..32 {
         tally = tally.with(tells(1u32 << bit, bit, 1));
     }
-    tally.print(b"first active and number active");
+    tally.print(rt, "first active and number active")
 }
 
-pub fn run() {
-    sizes();
-    modes();
-    lengths();
-    branches();
-    calls();
+pub fn run(rt: &impl Print) -> io::Result<()> {
+    sizes(rt)?;
+    modes(rt)?;
+    lengths(rt)?;
+    branches(rt)?;
+    calls(rt)?;
     Tally::new()
         .with(again() == 16)
-        .print(b"a run after the end");
-    counts();
+        .print(rt, "a run after the end")?;
+    counts(rt)
 }

@@ -3,6 +3,7 @@
 use address::{Located, Translated};
 use layout::{ByteAddress, Judged, Layout};
 use memory::{Answer, Reading, Written};
+use std::io;
 use worked::tally::Tally;
 use worked::windows::{linear, tiled, window_of};
 
@@ -409,10 +410,10 @@ fn superfines(memory: &[u8]) -> Tally {
 }
 
 // One memory for all of them.
-pub fn run() {
+pub fn run(rt: &impl Print) -> io::Result<()> {
     let mut memory = [0u8; 65537];
-    windows(&mut memory).print(b"elements written and read");
-    trials(&mut memory).print(b"memory and data of every length");
+    windows(&mut memory).print(rt, "elements written and read")?;
+    trials(&mut memory).print(rt, "memory and data of every length")?;
     fill(&mut memory);
-    superfines(&memory).print(b"superfine reads");
+    superfines(&memory).print(rt, "superfine reads")
 }

@@ -2,8 +2,10 @@
 // file holds what it must print; every line ends in '0 differed'.
 #![tactic(auto)]
 
+use std::io;
+
 mod elements;
 
-fn main() {
-    elements::run();
+fn main(rt: HostRuntime) -> io::Result<()> {
+    elements::run(&rt)
 }

@@ -2,8 +2,10 @@
 // trials agreed and how many differed. Its stdout file holds what it must print; every line ends in '0 differed'.
 #![tactic(auto)]
 
+use std::io;
+
 mod outputs;
 
-fn main() {
-    outputs::run();
+fn main(rt: HostRuntime) -> io::Result<()> {
+    outputs::run(&rt)
 }

@@ -3,6 +3,7 @@
 use session::stream;
 use session::stream::First;
 use state::edition;
+use std::io;
 use worked::tally::Tally;
 
 // Where the two windows and the domain lie: apart with the domain inside both, the domain past the first window alone, or both
@@ -198,18 +199,18 @@ fn changing() -> bool {
     is(come(&words), 0, 3, 16)
 }
 
-pub fn run() {
-    outputs(Lie::Apart, 0).print(b"code 0, one channel, each output under each nibble");
-    outputs(Lie::Apart, 1).print(b"code 1, four channels, each output under each nibble");
-    outputs(Lie::Apart, 2).print(b"code 2, one channel, each output under each nibble");
-    outputs(Lie::Apart, 3).print(b"code 3, two channels, each output under each nibble");
-    outputs(Lie::Apart, 4).print(b"code 4, four channels, each output under each nibble");
-    codes(Lie::Outside).print(b"a domain outside an output: 8, or the output is silent");
-    codes(Lie::Together).print(b"two outputs on the same bytes: 9, or one is silent");
-    all_silent().print(b"every output silent");
+pub fn run(rt: &impl Print) -> io::Result<()> {
+    outputs(Lie::Apart, 0).print(rt, "code 0, one channel, each output under each nibble")?;
+    outputs(Lie::Apart, 1).print(rt, "code 1, four channels, each output under each nibble")?;
+    outputs(Lie::Apart, 2).print(rt, "code 2, one channel, each output under each nibble")?;
+    outputs(Lie::Apart, 3).print(rt, "code 3, two channels, each output under each nibble")?;
+    outputs(Lie::Apart, 4).print(rt, "code 4, four channels, each output under each nibble")?;
+    codes(Lie::Outside).print(rt, "a domain outside an output: 8, or the output is silent")?;
+    codes(Lie::Together).print(rt, "two outputs on the same bytes: 9, or one is silent")?;
+    all_silent().print(rt, "every output silent")?;
     let t = Tally::new().with(none_set(0)).with(none_set(65535));
-    t.print(b"no output set: 7 under any mask");
+    t.print(rt, "no output set: 7 under any mask")?;
     Tally::new()
         .with(changing())
-        .print(b"three starts under three masks");
+        .print(rt, "three starts under three masks")
 }

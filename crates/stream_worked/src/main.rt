@@ -2,8 +2,10 @@
 // file holds what it must print; every line ends in '0 differed'.
 #![tactic(auto)]
 
+use std::io;
+
 mod streams;
 
-fn main() {
-    streams::run();
+fn main(rt: HostRuntime) -> io::Result<()> {
+    streams::run(&rt)
 }

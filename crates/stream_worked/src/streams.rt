@@ -3,6 +3,7 @@
 use session::stream;
 use session::stream::{Answer, First};
 use state::edition;
+use std::io;
 use worked::streams::whole_stream;
 use worked::tally::Tally;
 
@@ -366,22 +367,22 @@ fn limit() -> Tally {
         .with(own[1] == 1000000000)
 }
 
-pub fn run() {
-    whole().print(b"the whole stream, word by word and at every cut");
-    unknown().print(b"streams that earn 2, then 1");
-    malformed().print(b"streams that earn 3, then 1");
-    too_high().print(b"streams that earn 4, then 1");
-    crossed().print(b"streams that earn 5, then 1");
-    broken().print(b"streams that earn 6, then 1");
-    unset().print(b"streams that earn 7, then 1");
-    outside().print(b"streams that earn 8, then 1");
-    overlapping().print(b"streams that earn 9, then 1, and one that doesn't");
-    standing().print(b"what stands after a refusal");
-    flips(0).print(b"flipped bits that are accepted");
-    flips(3).print(b"flipped bits that earn 3");
-    flips(4).print(b"flipped bits that earn 4");
-    flips(5).print(b"flipped bits that earn 5");
-    flips(6).print(b"flipped bits that earn 6");
-    flips(8).print(b"flipped bits that earn 8");
-    limit().print(b"a session at its limit of words");
+pub fn run(rt: &impl Print) -> io::Result<()> {
+    whole().print(rt, "the whole stream, word by word and at every cut")?;
+    unknown().print(rt, "streams that earn 2, then 1")?;
+    malformed().print(rt, "streams that earn 3, then 1")?;
+    too_high().print(rt, "streams that earn 4, then 1")?;
+    crossed().print(rt, "streams that earn 5, then 1")?;
+    broken().print(rt, "streams that earn 6, then 1")?;
+    unset().print(rt, "streams that earn 7, then 1")?;
+    outside().print(rt, "streams that earn 8, then 1")?;
+    overlapping().print(rt, "streams that earn 9, then 1, and one that doesn't")?;
+    standing().print(rt, "what stands after a refusal")?;
+    flips(0).print(rt, "flipped bits that are accepted")?;
+    flips(3).print(rt, "flipped bits that earn 3")?;
+    flips(4).print(rt, "flipped bits that earn 4")?;
+    flips(5).print(rt, "flipped bits that earn 5")?;
+    flips(6).print(rt, "flipped bits that earn 6")?;
+    flips(8).print(rt, "flipped bits that earn 8")?;
+    limit().print(rt, "a session at its limit of words")
 }

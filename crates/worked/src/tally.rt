@@ -2,7 +2,7 @@
 ghost use Rattle.std.specs.Prelude.{◌≡◌};
 ghost use Rattle.worked.specs.Counts.{unchecked, counted, together};
 
-use libc::STDOUT_FILENO;
+use std::io;
 
 #[derive(Drop)]
 pub struct Tally {
@@ -48,13 +48,11 @@ impl Tally {
         }
     }
 
-    // A line of the report. It returns nothing, and what is written no contract can say: the programs' stdout files do.
-    pub fn print(self, name: &[u8]) {
-        io::write_all(STDOUT_FILENO, name);
-        io::write_all(STDOUT_FILENO, b": ");
-        io::print_decimal(STDOUT_FILENO, self.agreed);
-        io::write_all(STDOUT_FILENO, b" agreed, ");
-        io::print_decimal(STDOUT_FILENO, self.differed);
-        io::write_all(STDOUT_FILENO, b" differed\n");
+    // A line of the report. It fails where the writing does, and what is written no contract can say: the programs' stdout files do.
+    pub fn print(self, rt: &impl Print, name: &str) -> io::Result<()> {
+        println!(rt;
+            "{name}: {} agreed, {} differed",
+            self.agreed, self.differed
+        )
     }
 }

@@ -2,6 +2,7 @@
 ghost use Rattle.std.specs.Prelude.{◌≤◌};
 ghost use Rattle.group.specs.Cells.{GroupGiven};
 
+use std::io;
 use stepper::Stepped;
 use worked::tally::Tally;
 
@@ -68,7 +69,7 @@ fn steps(
 }
 
 // C9, C11 and C12, one after the other, and C10.
-fn worked() {
+fn worked(rt: &impl Print) -> io::Result<()> {
     let mut cells = [0u32; group::CELLS];
     fresh(4, &mut cells);
     let c9 = steps(&mut cells, 0x02000F00, 0, 3, STAYED, 3);
@@ -78,14 +79,14 @@ fn worked() {
         .with(c9)
         .with(c11)
         .with(c12)
-        .print(b"C9, C11, C12");
+        .print(rt, "C9, C11, C12")?;
     fresh(4, &mut cells);
     let c10 = steps(&mut cells, 0x02000F00, 0, 0, JUMPED, 15);
-    Tally::new().with(c10).print(b"C10");
+    Tally::new().with(c10).print(rt, "C10")
 }
 
 // Four calls; the fifth (14, though its address is past the end too), and the fifth with a reserved bit too (13).
-fn calls() {
+fn calls(rt: &impl Print) -> io::Result<()> {
     let mut cells = [0u32; group::CELLS];
     fresh(4, &mut cells);
     let first = steps(&mut cells, 0xFF80, 0, 0, JUMPED, 15);
@@ -101,11 +102,11 @@ fn calls() {
         .with(fourth)
         .with(full)
         .with(reserved)
-        .print(b"calls");
+        .print(rt, "calls")
 }
 
 // Two calls, two returns and the third (14).
-fn returns() {
+fn returns(rt: &impl Print) -> io::Result<()> {
     let mut cells = [0u32; group::CELLS];
     fresh(4, &mut cells);
     let called = steps(&mut cells, 0xFF80, 0, 0, JUMPED, 15);
@@ -119,11 +120,11 @@ fn returns() {
         .with(back)
         .with(first)
         .with(empty)
-        .print(b"returns");
+        .print(rt, "returns")
 }
 
 // A jump past the end (15), a jump to the end, and the step after it (16, though its word has a reserved bit).
-fn ends() {
+fn ends(rt: &impl Print) -> io::Result<()> {
     let mut cells = [0u32; group::CELLS];
     fresh(4, &mut cells);
     let past = steps(&mut cells, 0xFF00, 0x50000, 0, 15, 15);
@@ -133,7 +134,7 @@ fn ends() {
         .with(past)
         .with(to)
         .with(after)
-        .print(b"to the end and past it");
+        .print(rt, "to the end and past it")
 }
 
 // How often a branch may nest: two processors leave, and then each further branch adds 1 to their counters.
@@ -157,7 +158,7 @@ fn nested(mode: u32) -> u32
 
 // What partial mode forbids: an opening without its integer word and a close with nothing open, which full mode gives 13 and 14 for; a push
 // and a pop, on a jump and on a stay; and what it allows.
-fn partial() {
+fn partial(rt: &impl Print) -> io::Result<()> {
     let mut cells = [0u32; group::CELLS];
     fresh_in(4, group::PARTIAL, &mut cells);
     let opening = one(0x00000001, 0x00000500, &mut cells, 0, 0, 0);
@@ -173,11 +174,11 @@ fn partial() {
         .with(pop == 13)
         .with(kept == 13)
         .with(plain == JUMPED)
-        .print(b"partial mode");
+        .print(rt, "partial mode")
 }
 
 // B_ELSE leaves nobody active: JUMP_ANY 0 then jumps whatever JUMP_FUNC is, JUMP_ANY 1 stays.
-fn nobody() {
+fn nobody(rt: &impl Print) -> io::Result<()> {
     let mut cells = [0u32; group::CELLS];
     fresh(4, &mut cells);
     let turned = steps(&mut cells, 0x10, 0, 0, JUMPED, 0);
@@ -187,11 +188,11 @@ fn nobody() {
         .with(turned)
         .with(all)
         .with(any)
-        .print(b"nobody active");
+        .print(rt, "nobody active")
 }
 
 // Those that B_ELSE idled gain 1 in the same step, so that they wake with the second decrement.
-fn idled() {
+fn idled(rt: &impl Print) -> io::Result<()> {
     let mut cells = [0u32; group::CELLS];
     fresh(4, &mut cells);
     let turned = steps(&mut cells, 0x08000010, 0, 0, JUMPED, 0);
@@ -201,11 +202,11 @@ fn idled() {
         .with(turned)
         .with(lowered)
         .with(woken)
-        .print(b"idled and counted up");
+        .print(rt, "idled and counted up")
 }
 
 // Mask bits above the group are ignored: by JUMP_ANY 0 and by JUMP_ANY 1.
-fn above() {
+fn above(rt: &impl Print) -> io::Result<()> {
     let mut cells = [0u32; group::CELLS];
     fresh(4, &mut cells);
     let all = steps(&mut cells, 0x02000F00, 0, 0xFFFFFFF3, STAYED, 3);
@@ -213,7 +214,7 @@ fn above() {
     Tally::new()
         .with(all)
         .with(any)
-        .print(b"masks above the group");
+        .print(rt, "masks above the group")
 }
 
 // One processor with these bits of the masks and this boolean, number 5, under a JUMP_FUNC of one bit.
@@ -233,14 +234,14 @@ fn wishes(bit: u32, alu: u32, predicate: u32, boolean: u32) -> u32
 }
 
 // Each of JUMP_FUNC's bits is the wish of one choice of alu, predicate and boolean.
-fn functions() {
+fn functions(rt: &impl Print) -> io::Result<()> {
     let mut tally = Tally::new();
     for n in 0u32..64 {
         let bit = n / 8;
         let jumps = wishes(bit, n / 4 % 2, n / 2 % 2, n % 2) == JUMPED;
         tally = tally.with(jumps == (bit == n % 8));
     }
-    tally.print(b"bits of JUMP_FUNC");
+    tally.print(rt, "bits of JUMP_FUNC")
 }
 
 // A step on a fresh group with one word that isn't 0, the first or the second.
@@ -265,7 +266,7 @@ fn bits(reserved: u32, in_first: bool) -> Tally {
 }
 
 // The code 3 of A_OP, B_OP0 and B_OP1.
-fn codes() {
+fn codes(rt: &impl Print) -> io::Result<()> {
     let mut cells = [0u32; group::CELLS];
     fresh(4, &mut cells);
     let returning = steps(&mut cells, 0xC0, 0, 0, 13, 15);
@@ -275,25 +276,25 @@ fn codes() {
         .with(returning)
         .with(stay)
         .with(jump)
-        .print(b"codes");
+        .print(rt, "codes")
 }
 
-pub fn run() {
-    worked();
-    calls();
-    returns();
-    ends();
+pub fn run(rt: &impl Print) -> io::Result<()> {
+    worked(rt)?;
+    calls(rt)?;
+    returns(rt)?;
+    ends(rt)?;
     Tally::new()
         .with(nested(group::FULL) == 31)
         .with(nested(group::PARTIAL) == 5)
-        .print(b"nested branches");
-    partial();
-    nobody();
-    idled();
-    above();
-    functions();
+        .print(rt, "nested branches")?;
+    partial(rt)?;
+    nobody(rt)?;
+    idled(rt)?;
+    above(rt)?;
+    functions(rt)?;
     // Bits 3, 23:21 and 31:28 of the first word (bits 2 to 0 are ops of loops), 15:5 and 31:25 of the second.
-    bits(0xF0E00008, true).print(b"reserved bits of first words");
-    bits(0xFE00FFE0, false).print(b"reserved bits of second words");
-    codes();
+    bits(0xF0E00008, true).print(rt, "reserved bits of first words")?;
+    bits(0xFE00FFE0, false).print(rt, "reserved bits of second words")?;
+    codes(rt)
 }

@@ -1,6 +1,6 @@
--- `flow_worked::steps::bits` is safe and ends: it counts up to 32. Assumes nothing.
+-- `flow_worked::stepping::bits` is safe and ends: it counts up to 32. Assumes nothing.
 use Prim.Native.Nat.{◌-◌, ◌≤◌}
-use Rattle.flow_worked.proofs.steps.bits.Given as goal
+use Rattle.flow_worked.proofs.stepping.bits.Given as goal
 
 abbrev pub invariant-loop-bit : goal.invariant-loop-bit
 invariant-loop-bit l = l.bit ≤ 32

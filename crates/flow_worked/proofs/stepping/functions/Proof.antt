@@ -1,8 +1,8 @@
--- `flow_worked::steps::functions` is safe and ends: it counts up to 64. Assumes nothing.
+-- `flow_worked::stepping::functions` is safe and ends: it counts up to 64. Assumes nothing.
 use Prim.Native.Nat.{◌-◌, ◌≤◌}
 use borrow.Author.Rules.{rules}
-use Rattle.flow_worked.proofs.steps.functions.Statement.{statement}
-use Rattle.flow_worked.proofs.steps.functions.Tie as tie
+use Rattle.flow_worked.proofs.stepping.functions.Statement.{statement}
+use Rattle.flow_worked.proofs.stepping.functions.Tie as tie
 
 abbrev invariant-loop : tie.invariant-loop
 invariant-loop tally₀ n₀ t5 tally n = n ≤ 64

@@ -2,6 +2,7 @@
 ghost use Rattle.group.specs.Cells.{GroupGiven};
 
 use flow::{Loaded, Ran};
+use std::io;
 use worked::tally::Tally;
 
 // The ops.
@@ -34,7 +35,7 @@ fn steps_of(open: u32, close: u32, integer: u32) -> usize {
         Loaded::Refused(_) => 0,
     };
     let mut cells = [0u32; group::CELLS];
-    crate::steps::fresh(4, &mut cells);
+    crate::stepping::fresh(4, &mut cells);
     let masks = [0u32; 64];
     match flow::run(&firsts, &seconds, slots, &mut cells, &masks, 0, &[integer]) {
         Ran::Report {
@@ -47,7 +48,7 @@ fn steps_of(open: u32, close: u32, integer: u32) -> usize {
 }
 
 // A loop of count n makes its opening's step, and n times its body's and its close's. A count of 0 leaves at once.
-fn counts() {
+fn counts(rt: &impl Print) -> io::Result<()> {
     Tally::new()
         .with(steps_of(REP, ENDREP, 0) == 1)
         .with(steps_of(REP, ENDREP, 1) == 3)
@@ -55,22 +56,22 @@ fn counts() {
         .with(steps_of(LOOP, ENDLOOP, 0) == 1)
         .with(steps_of(LOOP, ENDLOOP, 1) == 3)
         .with(steps_of(LOOP, ENDLOOP, 5) == 11)
-        .print(b"turns of a loop");
+        .print(rt, "turns of a loop")
 }
 
 // A close of the other kind gets 14, an integer word with a bit above 23 gets 13, and a REP reads nothing but the count.
-fn kinds() {
+fn kinds(rt: &impl Print) -> io::Result<()> {
     Tally::new()
         .with(steps_of(LOOP, ENDREP, 5) == 1014)
         .with(steps_of(REP, ENDLOOP, 5) == 1014)
         .with(steps_of(LOOP, ENDLOOP, 0x1000005) == 1013)
         .with(steps_of(REP, ENDREP, 0x1000000) == 1013)
         .with(steps_of(REP, ENDREP, 0x7FFF05) == 11)
-        .print(b"kinds of loops");
+        .print(rt, "kinds of loops")
 }
 
 // aL may reach 0 and 255; beyond them the close that jumps gets 14, and the last close adds nothing.
-fn steps_of_al() {
+fn steps_of_al(rt: &impl Print) -> io::Result<()> {
     Tally::new()
         .with(steps_of(LOOP, ENDLOOP, 0x05FA02) == 5)
         .with(steps_of(LOOP, ENDLOOP, 0x06FA02) == 1014)
@@ -78,7 +79,7 @@ fn steps_of_al() {
         .with(steps_of(LOOP, ENDLOOP, 0xFB0502) == 5)
         .with(steps_of(LOOP, ENDLOOP, 0xFA0502) == 1014)
         .with(steps_of(LOOP, ENDLOOP, 0x06FA01) == 3)
-        .print(b"aL within 0 to 255");
+        .print(rt, "aL within 0 to 255")
 }
 
 // Opens a loop: every slot has these two words, so that the position doesn't matter.
@@ -88,7 +89,7 @@ fn opened(op: u32, second: u32, cells: &mut [u32; group::CELLS]) -> u32
 {
     let firsts = [op; group::SLOTS];
     let seconds = [second; group::SLOTS];
-    crate::steps::told(flow::step(
+    crate::stepping::told(flow::step(
         &firsts,
         &seconds,
         300,
@@ -102,9 +103,9 @@ fn opened(op: u32, second: u32, cells: &mut [u32; group::CELLS]) -> u32
 
 // Opens loops one after the other on a fresh group, each with an integer word of its own and a jump to slot 128: LOOP with aL 7,
 // REP, LOOP with aL 9, REP, and what is told then; a fifth one gets 14, and with a count of 0 it jumps.
-fn nested() {
+fn nested(rt: &impl Print) -> io::Result<()> {
     let mut cells = [0u32; group::CELLS];
-    crate::steps::fresh(4, &mut cells);
+    crate::stepping::fresh(4, &mut cells);
     let mut room = [0u32; flow::LOOPS_TOLD];
     opened(LOOP, 0x800000, &mut cells);
     opened(REP, 0x800100, &mut cells);
@@ -123,13 +124,13 @@ fn nested() {
         .with(room[7] == REP && (room[8] == 3 && room[9] == 0))
         .with(room[10] == LOOP && (room[11] == 2 && room[12] == 7))
         .with(full == 14)
-        .with(skipped == crate::steps::JUMPED)
-        .print(b"nested loops");
+        .with(skipped == crate::stepping::JUMPED)
+        .print(rt, "nested loops")
 }
 
-pub fn run() {
-    counts();
-    kinds();
-    steps_of_al();
-    nested();
+pub fn run(rt: &impl Print) -> io::Result<()> {
+    counts(rt)?;
+    kinds(rt)?;
+    steps_of_al(rt)?;
+    nested(rt)
 }

@@ -1,7 +1,7 @@
--- `flow_worked::steps::nested` meets its contract. Loop: the cells are given out, and at most 100 turns. Assumes nothing.
+-- `flow_worked::stepping::nested` meets its contract. Loop: the cells are given out, and at most 100 turns. Assumes nothing.
 use Prim.Native.Nat.{◌-◌, ◌≤◌}
 use Rattle.group.specs.Cells.{GroupGiven}
-use Rattle.flow_worked.proofs.steps.nested.Given as goal
+use Rattle.flow_worked.proofs.stepping.nested.Given as goal
 
 abbrev pub invariant-loop-deeper : goal.invariant-loop-deeper
 invariant-loop-deeper l =

@@ -1,6 +1,6 @@
--- `flow_worked::steps::nested` meets its contract. Loop: the cells are given out, and at most 100 turns. Assumes nothing.
+-- `flow_worked::stepping::nested` meets its contract. Loop: the cells are given out, and at most 100 turns. Assumes nothing.
 use native.Mathlib.Omega.{arith}
-use Rattle.flow_worked.proofs.steps.nested.Goals as goal
+use Rattle.flow_worked.proofs.stepping.nested.Goals as goal
 
 pub fresh_in-requires : goal.fresh_in-requires
 fresh_in-requires c = omega arith
