@@ -18,7 +18,7 @@ use Rattle.command.specs.declared.commands.Command.{Command}
 use Rattle.command.proofs.Headers.{count_most}
 use Rattle.command.proofs.WriteBack.{lined}
 use Rattle.command_rooms.specs.Rooms.{command_with, CommandCrosses, WordsCross}
-use Rattle.command.proofs.Known.{on_line}
+use Rattle.command.proofs.Known.{on_line_lem}
 
 module _ {before after written written' : List ℕ} {r : ℕ} where
   pub write_known :
@@ -26,8 +26,8 @@ module _ {before after written written' : List ℕ} {r : ℕ} where
       WordsCross (command_with fields line) r before after written written' → CommandCrosses header fields r before after written written'
   write_known header line fields known w =
       record {
-        answer = subst (λ (t : Told). Crosses t r written written') (sym (on_line header _ _ line known)) w.answer;
-        room = w.room ∙ sym (on_line header _ _ line known);
+        answer = subst (λ (t : Told). Crosses t r written written') (sym (on_line_lem header _ _ line known)) w.answer;
+        room = w.room ∙ sym (on_line_lem header _ _ line known);
       }
 
 -- what is told after a check that passed

@@ -6,7 +6,7 @@ use Rattle.refusal.specs.Told.{gives}
 use Rattle.command.specs.Table.{told_line}
 use Rattle.refusal.proofs.Crossings.{crosses_gives, crosses_refuses}
 use Rattle.command.proofs.Headers.{accepted_listed}
-use Rattle.command.proofs.Known.{on_line, off_line}
+use Rattle.command.proofs.Known.{on_line_lem, off_line}
 use Rattle.command_rooms.proofs.parameters.Goals as goal
 
 pub count-requires : goal.count-requires
@@ -21,5 +21,5 @@ returns-in-Unknown c =
 pub returns-in-At : goal.returns-in-At
 returns-in-At c =
     crosses_gives _ _ _
-    (on_line _ _ _ _ (sym c.line_of.ensures ∙ ap told_line c.in-At.is) ∙
+    (on_line_lem _ _ _ _ (sym c.line_of.ensures ∙ ap told_line c.in-At.is) ∙
     ap (λ (n : ℕ). gives (n ∷ [])) (sym c.count.ensures))

@@ -3,7 +3,7 @@ use mathlib.Core.Path.{sym, ap, ◌∙◌}
 use Rattle.command.specs.Table.{told_line}
 use Rattle.setting_rooms.specs.Rooms.{told_found}
 use Rattle.refusal.proofs.Crossings.{crosses_gives, crosses_refuses}
-use Rattle.command.proofs.Known.{on_line, off_line}
+use Rattle.command.proofs.Known.{on_line_lem, off_line}
 use Rattle.setting_rooms.proofs.Formats.{setting_told}
 use Rattle.setting_rooms.proofs.format.Goals as goal
 
@@ -15,11 +15,11 @@ returns-in-Unknown c =
 pub returns-in-Refused : goal.returns-in-Refused
 returns-in-Refused c =
     crosses_refuses _ _ _ _ c.number-in-Refused.ensures
-    (on_line _ _ _ _ (sym c.line_of.ensures ∙ ap told_line c.in-At.is) ∙
+    (on_line_lem _ _ _ _ (sym c.line_of.ensures ∙ ap told_line c.in-At.is) ∙
     sym c.at_line.ensures ∙ ap told_found c.in-Refused.is)
 
 pub returns-in-Is : goal.returns-in-Is
 returns-in-Is c =
     crosses_gives _ _ _
-    (on_line _ _ _ _ (sym c.line_of.ensures ∙ ap told_line c.in-At.is) ∙
+    (on_line_lem _ _ _ _ (sym c.line_of.ensures ∙ ap told_line c.in-At.is) ∙
     sym c.at_line.ensures ∙ ap told_found c.in-Is.is ∙ setting_told _ _ c.flag_of-set.ensures)
