@@ -1,6 +1,6 @@
 -- The answers of translation and of the way back, as far as the tests on the way decide them: one law a return of the code.
 -- Assumes nothing.
-use Rattle.std.proofs.Common.{◌≡◌, ℕ, ◌+◌, ◌-◌, ◌*◌, ◌/◌, ◌%◌, ◌^◌, ◌<◌, ◌≤◌, Bool, true, false, eqb, ltb, leb, List, ◌∷◌, get_or, sym, refl, ap, ◌∙◌, ap₂, mul-le-mul, lt_of_mul-lt-mul_right, le_of_mul-le-mul_right, mul-div_cancel, arith, ltb-false, ltb-true, le-ltb, lt-ltb, eq-eqb, ne_eqb, eqb-true, le-leb, leb-false, leb-true}
+use Rattle.std.proofs.Common.{[], ◌≡◌, ℕ, ◌+◌, ◌-◌, ◌*◌, ◌/◌, ◌%◌, ◌^◌, ◌<◌, ◌≤◌, Bool, true, false, eqb, ltb, leb, List, ◌∷◌, get_or, sym, refl, ap, ◌∙◌, ap₂, mul-le-mul, lt_of_mul-lt-mul_right, le_of_mul-le-mul_right, mul-div_cancel, arith, ltb-false, ltb-true, le-ltb, lt-ltb, eq-eqb, ne_eqb, eqb-true, le-leb, leb-false, leb-true}
 use borrow.Author.Tests.{eqb-false}
 use Rattle.laws.specs.Choice.{◌and◌, place_of}
 use Rattle.laws.proofs.Choice.{pick_yes, pick_no, and_intro, and_left, and_right, and_no_left, and_no_right, Tested, tested, holds, fails}

@@ -1,4 +1,5 @@
 -- What the routines of a report ask, and what their answers tell. Assumes nothing.
+use mathlib.Core.List.{[]}
 use Rattle.std.specs.Prelude.{◌≡◌, true, List, ◌∷◌, ℕ, ◌+◌, ◌*◌, ◌%◌, ◌<◌, ◌≤◌, eqb, ltb, length}
 use Rattle.laws.specs.Choice.{pick}
 use Rattle.refusal.specs.Told.{Told, gives, refuses}

@@ -18,28 +18,28 @@ one_run-requires c =
     let entry = c.requires in
     let if1 = c.if-count-eq0 in
     let match = c.in-1 in
-    let row = row_arm match.keys1 entry in (row, linear_run row (omega (arith, if1.false)))
+    let row = row_arm match.is entry in (row, linear_run row (omega (arith, if1.false)))
 
 pub one_run-requires-in-2 : goal.one_run-requires-in-2
 one_run-requires-in-2 c =
     let entry = c.requires in
     let if1 = c.if-count-eq0 in
     let match = c.in-2 in
-    let row = row_arm match.keys2 entry in (row, linear_run row (omega (arith, if1.false)))
+    let row = row_arm match.is entry in (row, linear_run row (omega (arith, if1.false)))
 
 pub one_run-requires-in-4 : goal.one_run-requires-in-4
 one_run-requires-in-4 c =
     let entry = c.requires in
     let if1 = c.if-count-eq0 in
     let match = c.in-4 in
-    let row = row_arm match.keys3 entry in (row, linear_run row (omega (arith, if1.false)))
+    let row = row_arm match.is entry in (row, linear_run row (omega (arith, if1.false)))
 
 pub one_run-requires-in-8 : goal.one_run-requires-in-8
 one_run-requires-in-8 c =
     let entry = c.requires in
     let if1 = c.if-count-eq0 in
     let match = c.in-8 in
-    let row = row_arm match.keys4 entry in (row, linear_run row (omega (arith, if1.false)))
+    let row = row_arm match.is entry in (row, linear_run row (omega (arith, if1.false)))
 
 pub one_run-requires-in_default : goal.one_run-requires-in_default
 one_run-requires-in_default c =

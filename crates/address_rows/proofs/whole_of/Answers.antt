@@ -11,21 +11,21 @@ unfolding run_unit place_of pick
 whole_runs-requires c =
     let entry = c.requires in
     let match = c.in-2 in
-    (refl, row_arm match.keys1 entry.0, begins_arm match.keys1 entry.2)
+    (refl, row_arm match.is entry.0, begins_arm match.is entry.2)
 
 pub whole_runs-requires-in-4 : goal.whole_runs-requires-in-4
 unfolding run_unit place_of pick
 whole_runs-requires-in-4 c =
     let entry = c.requires in
     let match = c.in-4 in
-    (refl, row_arm match.keys2 entry.0, begins_arm match.keys2 entry.2)
+    (refl, row_arm match.is entry.0, begins_arm match.is entry.2)
 
 pub whole_runs-requires-in-8 : goal.whole_runs-requires-in-8
 unfolding run_unit place_of pick
 whole_runs-requires-in-8 c =
     let entry = c.requires in
     let match = c.in-8 in
-    (refl, row_arm match.keys3 entry.0, begins_arm match.keys3 entry.2)
+    (refl, row_arm match.is entry.0, begins_arm match.is entry.2)
 
 pub whole_runs-requires-in_default : goal.whole_runs-requires-in_default
 unfolding run_unit place_of pick

@@ -1,6 +1,6 @@
 -- `command_rooms::parameters` meets its contract: each answer crosses as it is told. Assumes nothing.
 use mathlib.Core.Path.{sym, ap, ◌∙◌}
-use mathlib.Core.List.{◌∷◌}
+use mathlib.Core.List.{[], ◌∷◌}
 use Prim.Native.Nat.{ℕ}
 use Rattle.refusal.specs.Told.{gives}
 use Rattle.command.specs.Table.{told_line}

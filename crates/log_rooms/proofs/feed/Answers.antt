@@ -2,7 +2,7 @@
 use Rattle.session.specs.Feed.{first_status}
 use Rattle.session.specs.Answers.{first_of}
 use Prim.Native.Nat.{ℕ}
-use mathlib.Core.List.{◌∷◌}
+use mathlib.Core.List.{[], ◌∷◌}
 use mathlib.Core.Path.{sym, ap, ◌∙◌}
 use Rattle.log_rooms.proofs.feed.Goals as goal
 

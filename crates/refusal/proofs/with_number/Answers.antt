@@ -1,6 +1,6 @@
 -- `refusal::with_number` meets its contract: each arm by its number, and the last by the one that is left. Assumes nothing.
 use mathlib.Core.Path.{◌≡◌, sym}
-use mathlib.Core.List.{List, ◌∷◌}
+use mathlib.Core.List.{[], List, ◌∷◌}
 use Prim.Native.Nat.{ℕ}
 use native.Mathlib.Omega.{arith}
 use Rattle.laws.proofs.Table.{NoneOf, none_at}

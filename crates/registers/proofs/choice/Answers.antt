@@ -1,5 +1,5 @@
 -- `registers::choice` meets its contract: channel by channel. Assumes nothing.
-use mathlib.Core.List.{◌∷◌}
+use mathlib.Core.List.{[], ◌∷◌}
 use Rattle.registers.proofs.choice.Goals as goal
 
 -- the four channels are those of the definition

@@ -1,5 +1,5 @@
 -- `registers::maximum` meets its contract: channel by channel. Assumes nothing.
-use mathlib.Core.List.{◌∷◌}
+use mathlib.Core.List.{[], ◌∷◌}
 use Rattle.registers.proofs.maximum.Goals as goal
 
 -- the four channels are those of the definition

@@ -1,6 +1,6 @@
 -- `session_rooms::feed` meets its contract: each answer crosses as it is told. Assumes nothing.
 use mathlib.Core.Path.{sym, ap, ap₂, ◌∙◌}
-use mathlib.Core.List.{◌∷◌}
+use mathlib.Core.List.{[], ◌∷◌}
 use Prim.Native.Nat.{ℕ}
 use Rattle.session.specs.Answers.{first_of}
 use Rattle.session.specs.Feed.{first_status}

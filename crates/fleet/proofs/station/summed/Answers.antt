@@ -1,4 +1,5 @@
 -- `fleet::station::summed` meets its contract: the answer tells the score, and the room its served numbers. Assumes nothing.
+use mathlib.Core.List.{[]}
 use mathlib.Core.Path.{sym, ◌∙◌}
 use Rattle.score.specs.Answers.{replay_for}
 use Rattle.fleet.proofs.Months.{told_refused, told_month, told_days, served_length}

@@ -1,6 +1,6 @@
 -- `rules::writer::put` meets its contract: the stores on the way are those of the words at the room's front.
 -- Assumes nothing.
-use mathlib.Core.List.{◌∷◌}
+use mathlib.Core.List.{[], ◌∷◌}
 use native.Mathlib.Omega.{arith}
 use lib.Dec.{lit≤}
 use lib.ListN.{length-set}
