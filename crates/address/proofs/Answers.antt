@@ -1,12 +1,12 @@
 -- The answers of translation and of the way back, as far as the tests on the way decide them: one law a return of the code.
 -- Assumes nothing.
-use Rattle.std.proofs.Common.{[], ◌≡◌, ℕ, ◌+◌, ◌-◌, ◌*◌, ◌/◌, ◌%◌, ◌^◌, ◌<◌, ◌≤◌, Bool, true, false, eqb, ltb, leb, List, ◌∷◌, get_or, sym, refl, ap, ◌∙◌, ap₂, mul-le-mul, lt_of_mul-lt-mul_right, le_of_mul-le-mul_right, mul-div_cancel, arith, ltb-false, ltb-true, le-ltb, lt-ltb, eq-eqb, ne_eqb, eqb-true, le-leb, leb-false, leb-true}
+use Rattle.std.proofs.Common.{◌≡◌, ℕ, ◌+◌, ◌-◌, ◌*◌, ◌/◌, ◌%◌, ◌^◌, ◌<◌, ◌≤◌, Bool, true, false, eqb, ltb, leb, List, [], ◌∷◌, get_or, sym, refl, ap, ◌∙◌, subst, ap₂, mul-le-mul, lt_of_mul-lt-mul_right, le_of_mul-le-mul_right, mul-div_cancel, arith, ltb-false, ltb-true, le-ltb, lt-ltb, eq-eqb, ne_eqb, eqb-true, le-leb, leb-false, leb-true}
 use borrow.Author.Tests.{eqb-false}
-use Rattle.laws.specs.Choice.{◌and◌, place_of}
+use Rattle.laws.specs.Choice.{◌and◌, pick, place_of}
 use Rattle.laws.proofs.Choice.{pick_yes, pick_no, and_intro, and_left, and_right, and_no_left, and_no_right, Tested, tested, holds, fails}
 use Rattle.refusal.specs.Told.{Told, gives, refuses}
 use Rattle.refusal.specs.Crossing.{Crosses, status_of, room_of}
-use Rattle.layout.specs.Sizes.{sizes, is_size}
+use Rattle.layout.specs.Sizes.{sizes, is_size, width_of}
 use Rattle.layout.proofs.Sizes.{no_size}
 use Rattle.laws.proofs.Table.{NoneOf}
 use Rattle.layout.specs.Layout.{well_formed, span_of, window_rule, stride_of}

@@ -1,12 +1,11 @@
 -- What the routines of a report ask, and what their answers tell. Assumes nothing.
-use mathlib.Core.List.{[]}
-use Rattle.std.specs.Prelude.{◌≡◌, true, List, ◌∷◌, ℕ, ◌+◌, ◌*◌, ◌%◌, ◌<◌, ◌≤◌, eqb, ltb, length}
+use Rattle.std.specs.Prelude.{◌≡◌, true, List, [], ◌∷◌, ℕ, ◌+◌, ◌*◌, ◌%◌, ◌<◌, ◌≤◌, eqb, ltb, length}
 use Rattle.laws.specs.Choice.{pick}
 use Rattle.refusal.specs.Told.{Told, gives, refuses}
 use Rattle.state.specs.Start.{is_edition}
 use Rattle.replay.specs.Cells.{replay_in}
 use Rattle.score.specs.Lease.{Lease}
-use Rattle.score.specs.Score.{Score, score_of}
+use Rattle.score.specs.Score.{Score, scored, refused, score_of}
 use Rattle.fleet.specs.Fleet.{refusal_in, served_in, owed_in, silent_days, most_month, no_station, stations_in, length_at, start_at, add_up}
 use Rattle.fleet.specs.declared.station.Month.{Month}
 use Rattle.fleet.specs.declared.parts.Part.{Part}

@@ -1,6 +1,7 @@
 -- What a step's number stands for: 1 for a jump, 0 for a stay, 13 to 16 for a refusal; and what tells the open loops. Assumes nothing.
 use mathlib.Core.Path.{◌≡◌, refl, sym, ap, ap₂, ◌∙◌, subst}
-use mathlib.Core.List.{[], List, ◌∷◌}
+use mathlib.Core.Bool.{Bool, true}
+use mathlib.Core.List.{List, [], ◌∷◌}
 use Prim.Native.Nat.{ℕ, ◌+◌, ◌-◌, ◌/◌, ◌%◌, ◌<◌, ◌≤◌}
 use native.Mathlib.Omega.{arith}
 use lib.Dec.{eqb}
@@ -16,7 +17,7 @@ use Rattle.refusal.specs.Told.{gives, refuses}
 use Rattle.refusal.specs.declared.Refusal.{Refusal}
 use Rattle.loops.specs.Loops.{Opened, shown_aL, kind_at, loops_told, Held}
 use Rattle.loops.proofs.Stack.{told_of}
-use Rattle.group.specs.Group.{Outcome, Steps, Fails}
+use Rattle.group.specs.Group.{Outcome, Steps, Fails, step_told}
 use Rattle.group.specs.Cells.{position_in}
 use Rattle.group.proofs.State.{SoundAfter}
 use Rattle.stepper.specs.declared.Stepped.{Stepped}

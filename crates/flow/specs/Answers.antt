@@ -1,7 +1,6 @@
 -- What each answer of the entries tells, in document 01's numbers and values, and what a routine leaves in what it is lent (of
 -- a step: crates/stepper/specs/Answers.antt). Assumes nothing.
-use mathlib.Core.List.{[]}
-use Rattle.std.specs.Prelude.{◌≡◌, List, ◌∷◌, ℕ, eqb, ltb}
+use Rattle.std.specs.Prelude.{◌≡◌, List, [], ◌∷◌, ℕ, eqb, ltb}
 use Rattle.laws.specs.Choice.{pick}
 use Rattle.refusal.specs.declared.Refusal.{Refusal}
 use Rattle.refusal.specs.declared.Refusal.TheVariants.{AtLimit, PastEnd, FlowField, Ended}

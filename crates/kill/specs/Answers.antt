@@ -1,6 +1,5 @@
 -- What the answer of a kill tells, and what its routines leave in the cells. Assumes nothing.
-use mathlib.Core.List.{[]}
-use Rattle.std.specs.Prelude.{◌≡◌, List, ◌∷◌, ℕ, ◌*◌, length, Float}
+use Rattle.std.specs.Prelude.{◌≡◌, List, [], ◌∷◌, ℕ, ◌*◌, length, Float}
 use Rattle.refusal.specs.Number.{number_of}
 use Rattle.refusal.specs.Told.{Told, gives, refuses}
 use Rattle.registers.specs.Registers.{channel_count}

@@ -1,7 +1,6 @@
 -- What the routines of a score ask, what their answers tell, and what they leave in the rooms that they are lent.
 -- Assumes nothing.
-use mathlib.Core.List.{[]}
-use Rattle.std.specs.Prelude.{◌≡◌, List, ℕ, ◌+◌, ◌≤◌, eqb}
+use Rattle.std.specs.Prelude.{◌≡◌, List, [], ℕ, ◌+◌, ◌≤◌, eqb}
 use Rattle.laws.specs.Choice.{pick}
 use Rattle.replay.specs.State.{Replay}
 use Rattle.replay.specs.Cells.{replay_in}

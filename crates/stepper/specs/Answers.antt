@@ -1,6 +1,5 @@
 -- What the answer of a step tells, in document 01's numbers and values, and what a step leaves in the cells. Assumes nothing.
-use mathlib.Core.List.{[]}
-use Rattle.std.specs.Prelude.{◌≡◌, Bool, true, List, ◌∷◌, ℕ, ◌≤◌, eqb, leb, length, get_or, set}
+use Rattle.std.specs.Prelude.{◌≡◌, Bool, true, List, [], ◌∷◌, ℕ, ◌≤◌, eqb, leb, length, get_or, set}
 use Rattle.laws.specs.Choice.{pick}
 use Rattle.laws.specs.Masks.{digit, on}
 use Rattle.refusal.specs.Number.{number_of}
