@@ -32,9 +32,9 @@ abbrev pub pair_at : PairArrays → Pair
 pair_at a = pair_of a.own0 a.tallies0 a.own1 a.tallies1 a.shared
 
 -- a party's own cells and its tallies
-abbrev pub field_own : Bool → PairArrays → List ℕ
-field_own false a = a.own0
-field_own true a = a.own1
+abbrev pub own_at : Bool → PairArrays → List ℕ
+own_at false a = a.own0
+own_at true a = a.own1
 
 abbrev pub tallies_at : Bool → PairArrays → List ℕ
 tallies_at false a = a.tallies0
@@ -42,7 +42,7 @@ tallies_at true a = a.tallies1
 
 -- the session that they hold with the shared cells
 abbrev pub session_at : Bool → PairArrays → Session
-session_at p a = session_of (field_own p a) (tallies_at p a) a.shared
+session_at p a = session_of (own_at p a) (tallies_at p a) a.shared
 
 -- the arrays after a call with one party's own and the shared ones
 abbrev pub with_party : Bool → List ℕ → List ℕ → List ℕ → PairArrays → PairArrays
