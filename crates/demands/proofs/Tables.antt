@@ -1,4 +1,4 @@
--- The table of places is of 2,048 and, corrected for x6 and y5, the bit rule at every pair; so the address of every pair of a one_byte tiled layout
+-- The table of places is of 2,048 and, corrected for x6 and y5, the bit rule at every pair; so the address of every pair of a one-byte tiled layout
 -- is that by the table. Assumes nothing.
 use mathlib.Core.Path.{◌≡◌, refl, sym, ap, ap₂, ◌∙◌}
 use mathlib.Core.Bool.{Bool, true}
