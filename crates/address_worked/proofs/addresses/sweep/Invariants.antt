@@ -1,9 +1,0 @@
--- `address_worked::addresses::sweep` is safe and ends: it counts up to its end. Assumes nothing.
-use Rattle.std.proofs.Common.{◌-◌}
-use Rattle.address_worked.proofs.addresses.sweep.Given as goal
-
-abbrev pub invariant-loop-k : goal.invariant-loop-k
-invariant-loop-k l = Unit {0}
-
-abbrev pub decreases-loop-k : goal.decreases-loop-k
-decreases-loop-k l = l.count - l.k

@@ -1,9 +1,0 @@
--- `memory_worked::elements::superfines` is safe and ends: it counts up to its end. Assumes nothing.
-use Rattle.std.proofs.Common.{◌-◌}
-use Rattle.memory_worked.proofs.elements.superfines.Given as goal
-
-abbrev pub invariant-loop-k : goal.invariant-loop-k
-invariant-loop-k l = Unit {0}
-
-abbrev pub decreases-loop-k : goal.decreases-loop-k
-decreases-loop-k l = 18432 - l.k

@@ -1,9 +1,0 @@
--- `memory_worked::elements::trials` is safe and ends: it counts up to its end, and the bytes that it writes to stay as many. Assumes nothing.
-use Rattle.std.proofs.Common.{◌≡◌, ◌-◌, length}
-use Rattle.memory_worked.proofs.elements.trials.Given as goal
-
-abbrev pub invariant-loop-k : goal.invariant-loop-k
-invariant-loop-k l = length l.memory ≡ length l.initial.memory
-
-abbrev pub decreases-loop-k : goal.decreases-loop-k
-decreases-loop-k l = 5040 - l.k
