@@ -8,9 +8,9 @@ BOX, ROW, GAP = 132, 66, 12
 
 
 def crates_listed(text):
-    """The lines of crates.txt, `NAME: DEP DEP ..`: each crate and what it uses of the house."""
+    """The lines of crates.txt, `NAME: DEP DEP ..` or `NAME staticlib: DEP ..`: each crate and what it uses of the house."""
     rows = (line.split("#")[0].split(":", 1) for line in text.splitlines() if ":" in line.split("#")[0])
-    uses = {name.strip(): others.split() for name, others in rows}
+    uses = {front.split()[0]: others.split() for front, others in rows}
     return {name: [other for other in others if other in uses] for name, others in uses.items()}
 
 

@@ -6,7 +6,7 @@ import re
 
 # A declaration in a file of definitions or proofs, from the start of its line.
 ANTT = re.compile(r"^ *(?:(?:pub|abbrev|unfoldable) )*(?:(?:record|data) )?([^\s(){}:=]+)(?: \((?:[^()]|\([^()]*\))*\)| \{[^{}]*\})* :")
-USED = re.compile(r"use Rattle·(\w+)(?:·\w+)?\.(specs|proofs)\.([\w.]+)\.\{([^}]*)\}")
+USED = re.compile(r"use Rattle\.(\w+)\.(specs|proofs)\.([\w.]+)\.\{([^}]*)\}")
 COMMENT = {".antt": "--", ".rt": "//", ".rs": "//", ".edit": "#"}
 # A test's text is shown up to here; a longer one is in its file.
 MOST = 30
@@ -111,7 +111,7 @@ def source_end(text, at):
     """A function up to its body, which stands below its contract; anything else to its end."""
     line = text[at - 1]
     if re.search(r"\bfn\b", line):
-        last = next((n for n in range(at, len(text) + 1) if text[n - 1].rstrip().endswith(("{", ";")) and "ensures {" not in text[n - 1]), at)
+        last = next((n for n in range(at, len(text) + 1) if text[n - 1].rstrip().endswith(("{", ";")) and not re.match(r" *(requires|ensures)\b", text[n - 1])), at)
         return last - 1 if text[last - 1].strip() == "{" else last
     return until(text, at, "}") if line.rstrip().endswith("{") else until(text, at, ";")
 

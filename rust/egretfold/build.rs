@@ -86,7 +86,7 @@ fn manifest_folder() -> PathBuf {
 
 fn give_up(archive: &Path) -> ! {
     eprintln!("There is no {}.", archive.display());
-    eprintln!("Run `rt staticlib egretfold` at the repository's root first,");
+    eprintln!("Run `tools/prepare` at the repository's root first, which builds it,");
     eprintln!("or let EGRETFOLD_LIB name the folder that holds {ARCHIVE}.");
     exit(1)
 }
