@@ -194,10 +194,6 @@ def turn_invariant(code, name, new, variables, changed):
     if not m:
         raise Odd("an invariant with a pattern")
     given = m[1].split()
-    meant = []
-    for v, c in zip(variables, changed):
-        if c:
-            meant.append(f"l.initial.{v}")
     # The old order: what each variable was, where it changes, and the others as they are; then what each is now.
     first, last = [], []
     for v, c in zip(variables, changed):
