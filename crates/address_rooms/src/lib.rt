@@ -36,7 +36,7 @@ pub fn judge(
         tiled,
     };
     match layout::judge(layout) {
-        Judged::Refused(why) => refusal::number(why),
+        Judged::Refused(why) => u32::from(why),
         Judged::Accepted { step, span } => {
             *room = [step, span];
             0

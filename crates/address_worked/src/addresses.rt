@@ -18,7 +18,7 @@ pub fn goes_to(layout: Layout, x: u32, y: u32, at: u32) -> bool {
 pub fn refused(layout: Layout, x: u32, y: u32, number: u32) -> bool {
     match address::translate(layout, x, y) {
         Translated::At { address: _, run: _ } => false,
-        Translated::Refused(why) => refusal::number(why) == number,
+        Translated::Refused(why) => u32::from(why) == number,
     }
 }
 
@@ -42,7 +42,7 @@ pub fn unlocated(layout: Layout, at: u32, number: u32) -> bool {
             y: _,
             place: _,
         } => false,
-        Located::Refused(why) => refusal::number(why) == number,
+        Located::Refused(why) => u32::from(why) == number,
     }
 }
 
@@ -53,7 +53,7 @@ fn has_step(layout: Layout, step: u32) -> bool {
             step: found,
             span: _,
         } => found == step,
-        Judged::Refused(why) => step == 0 && refusal::number(why) == 6,
+        Judged::Refused(why) => step == 0 && u32::from(why) == 6,
     }
 }
 
@@ -149,7 +149,7 @@ impl Swept {
                 }
             }
             Located::Refused(why) => {
-                if refusal::number(why) == 12 {
+                if u32::from(why) == 12 {
                     Swept {
                         owned: self.owned,
                         nobody: std::num::wrapping_add_u64(self.nobody, 1),

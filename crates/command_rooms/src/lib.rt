@@ -23,7 +23,7 @@ pub fn parameters(header: u32, count: &mut [u32; 1]) -> u32
     ensures { Crosses (parameters_of header) result count.old count.new }
 {
     match table::line_of(header) {
-        Line::Unknown => refusal::number(Refusal::UnknownHeader),
+        Line::Unknown => u32::from(Refusal::UnknownHeader),
         Line::At(line) => {
             *count = [table::count(line)];
             0
@@ -36,7 +36,7 @@ fn write_words(command: Command, room: &mut [u32], written: &mut [u32; 1]) -> u3
     ensures { WordsCross command result room.old room.new written.old written.new }
 {
     match writer::write(command, room) {
-        Written::Refused(why) => refusal::number(why),
+        Written::Refused(why) => u32::from(why),
         Written::Words(n) => {
             *written = [n as u32];
             0
@@ -73,7 +73,7 @@ pub fn write(header: u32, fields: &[u32; FIELDS], room: &mut [u32], written: &mu
     ensures { CommandCrosses header fields.now result room.old room.new written.old written.new }
 {
     match table::line_of(header) {
-        Line::Unknown => refusal::number(Refusal::UnknownHeader),
+        Line::Unknown => u32::from(Refusal::UnknownHeader),
         Line::At(line) => write_line(
             line, header, fields[0], fields[1], fields[2], fields[3], room, written,
         ),

@@ -31,7 +31,7 @@ pub fn test(
     ensures { Crosses (test_of (shared_of shared.now) value first memory.now x y) result passed.old passed.new }
 {
     match conditional::test(shared, value, x, y, memory, ByteAddress(first)) {
-        Tested::Refused(why) => refusal::number(why),
+        Tested::Refused(why) => u32::from(why),
         Tested::Result(result) => {
             *passed = [flag_of(result)];
             0
@@ -55,7 +55,7 @@ pub fn survey(
     ensures { SurveyCrosses (shared_of shared.now) value first memory.now i0 j0 i1 j1 result room.old room.new passed.old passed.new }
 {
     match conditional::survey(shared, value, i0, j0, i1, j1, memory, first, room) {
-        Surveyed::Refused(why) => refusal::number(why),
+        Surveyed::Refused(why) => u32::from(why),
         Surveyed::Passed(count) => {
             *passed = [count];
             0

@@ -41,7 +41,7 @@ fn read_sized(
     }
     let at = ByteAddress((number % address::RUN_UNIT) as u32);
     match place::start(at, size, ByteAddress(first), memory.len()) {
-        Place::Refused(why) => refusal::number(why),
+        Place::Refused(why) => u32::from(why),
         Place::At(a) => {
             let n = size as usize;
             *bytes = copy::put([0; BYTES], 0, &memory[a..a + n], n);
@@ -71,7 +71,7 @@ pub fn read(
         4 => read_sized(base, pitch, height, 4, tiled, x, y, memory, first, bytes),
         8 => read_sized(base, pitch, height, 8, tiled, x, y, memory, first, bytes),
         16 => read_sized(base, pitch, height, 16, tiled, x, y, memory, first, bytes),
-        _ => refusal::number(Refusal::Malformed),
+        _ => u32::from(Refusal::Malformed),
     }
 }
 
@@ -106,11 +106,11 @@ fn write_sized(
     }
     let at = ByteAddress((number % address::RUN_UNIT) as u32);
     match place::start(at, size, ByteAddress(first), memory.len()) {
-        Place::Refused(why) => refusal::number(why),
+        Place::Refused(why) => u32::from(why),
         Place::At(a) => {
             let n = size as usize;
             if given.len() != n {
-                return refusal::number(Refusal::WrongLength);
+                return u32::from(Refusal::WrongLength);
             }
             store(&mut memory[a..a + n], given, n);
             0
@@ -139,7 +139,7 @@ pub fn write(
         4 => write_sized(base, pitch, height, 4, tiled, x, y, memory, first, given),
         8 => write_sized(base, pitch, height, 8, tiled, x, y, memory, first, given),
         16 => write_sized(base, pitch, height, 16, tiled, x, y, memory, first, given),
-        _ => refusal::number(Refusal::Malformed),
+        _ => u32::from(Refusal::Malformed),
     }
 }
 
@@ -169,7 +169,7 @@ pub fn superfine(
     let answer = reading.answer;
     let read = reading.bytes;
     match answer {
-        Answer::Refused(why) => refusal::number(why),
+        Answer::Refused(why) => u32::from(why),
         Answer::Bytes(n) => {
             *bytes = read;
             *count = [n as u32];

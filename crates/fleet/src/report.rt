@@ -69,7 +69,7 @@ fn counted(edition: u32, logs: &[u8], numbers: &[u64], room: &mut [u64]) -> u32
     ensures { Crosses (counted_told edition logs.now numbers.now) result room.old room.new }
 {
     if crate::STATIONS < numbers.len() / crate::NUMBERS {
-        return refusal::number(Refusal::TooManyLogs);
+        return u32::from(Refusal::TooManyLogs);
     }
     let answer = stations(edition, logs, numbers);
     match answer {
@@ -87,16 +87,16 @@ fn judged(edition: u32, logs: &[u8], numbers: &[u64], room: &mut [u64]) -> u32
     ensures { Crosses (judged_told edition logs.now numbers.now (length room.old)) result room.old room.new }
 {
     if numbers.len() % crate::NUMBERS != 0 {
-        return refusal::number(Refusal::WrongLength);
+        return u32::from(Refusal::WrongLength);
     }
     if room.len() != crate::ROOM {
-        return refusal::number(Refusal::WrongLength);
+        return u32::from(Refusal::WrongLength);
     }
     let whole = lengths::add_up(numbers, logs.len() as u64);
     if whole {
         return counted(edition, logs, numbers, room);
     }
-    refusal::number(Refusal::WrongLength)
+    u32::from(Refusal::WrongLength)
 }
 
 // The report of a fleet: the logs as one slice, four numbers a station, and a room of four: what was served and owed in all, the silent
@@ -107,5 +107,5 @@ pub fn report(edition: u32, logs: &[u8], numbers: &[u64], room: &mut [u64]) -> u
     if edition::is_known(edition) {
         return judged(edition, logs, numbers, room);
     }
-    refusal::number(Refusal::Malformed)
+    u32::from(Refusal::Malformed)
 }

@@ -102,10 +102,10 @@ fn step_number(
 {
     let here = cells[group::POSITION];
     if slots <= here {
-        return refusal::number(Refusal::Ended);
+        return u32::from(Refusal::Ended);
     }
     if STORE_SLOTS < slots {
-        return refusal::number(Refusal::PastEnd);
+        return u32::from(Refusal::PastEnd);
     }
     let at = here as usize;
     let first = firsts[at];
@@ -119,7 +119,7 @@ fn step_number(
             first, second, slots, cells, word, alu, predicate, booleans,
         );
     }
-    refusal::number(Refusal::FlowField)
+    u32::from(Refusal::FlowField)
 }
 
 // A step of the group under a program: the first and second words of its slots, how many slots run, and the integer words that

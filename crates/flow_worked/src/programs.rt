@@ -83,7 +83,7 @@ fn runs(
             first: f,
             active: a,
         } => n == steps && (f == first && a == active),
-        Ran::Refused(why) => refusal::number(why) as usize == steps,
+        Ran::Refused(why) => u32::from(why) as usize == steps,
     }
 }
 
@@ -159,7 +159,7 @@ fn again() -> u32 {
             first: _,
             active: _,
         } => 0,
-        Ran::Refused(why) => refusal::number(why),
+        Ran::Refused(why) => u32::from(why),
     }
 }
 

@@ -15,7 +15,7 @@ pub fn told(answer: Stepped) -> u32 {
     match answer {
         Stepped::Jumped(_) => JUMPED,
         Stepped::Stayed(_) => STAYED,
-        Stepped::Refused(why) => refusal::number(why),
+        Stepped::Refused(why) => u32::from(why),
     }
 }
 

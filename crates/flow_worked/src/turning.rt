@@ -43,7 +43,7 @@ fn steps_of(open: u32, close: u32, integer: u32) -> usize {
             first: _,
             active: _,
         } => n,
-        Ran::Refused(why) => 1000 + refusal::number(why) as usize,
+        Ran::Refused(why) => 1000 + u32::from(why) as usize,
     }
 }
 

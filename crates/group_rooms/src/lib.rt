@@ -27,7 +27,7 @@ pub fn load(
     ensures { LoadCrosses words.now result firsts.old firsts.new seconds.old seconds.new slots.old slots.new }
 {
     match flow::load(words, firsts, seconds) {
-        Loaded::Refused(why) => refusal::number(why),
+        Loaded::Refused(why) => u32::from(why),
         Loaded::Slots(n) => {
             *slots = [n];
             0
@@ -40,7 +40,7 @@ pub fn begin(size: u32, mode: u32, cells: &mut [u32; group::CELLS]) -> u32
     ensures { BeginCrosses size mode result cells.old cells.new }
 {
     match flow::begin(size, mode, cells) {
-        Begun::Refused(why) => refusal::number(why),
+        Begun::Refused(why) => u32::from(why),
         Begun::Ready => 0,
     }
 }
@@ -63,7 +63,7 @@ pub fn step(
     match flow::step(
         firsts, seconds, slots, cells, alu, predicate, booleans, integers,
     ) {
-        Stepped::Refused(why) => refusal::number(why),
+        Stepped::Refused(why) => u32::from(why),
         Stepped::Jumped(at) => {
             *taken = [1, at.0];
             0
@@ -90,7 +90,7 @@ pub fn run(
     ensures { RunCrosses (run_in firsts.now seconds.now slots cells.old masks.now booleans integers.now) result cells.old cells.new report.old report.new }
 {
     match flow::run(firsts, seconds, slots, cells, masks, booleans, integers) {
-        Ran::Refused(why) => refusal::number(why),
+        Ran::Refused(why) => u32::from(why),
         Ran::Report {
             steps,
             first,

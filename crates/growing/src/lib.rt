@@ -73,7 +73,7 @@ pub fn begin(sums: &mut [u64; SUMS], edition: u32) -> u32
         put(sums, edition as u64, 0, parts::none());
         return 0;
     }
-    refusal::number(Refusal::Malformed)
+    u32::from(Refusal::Malformed)
 }
 
 // One station more, by its month's numbers.
@@ -111,10 +111,10 @@ pub fn add(
 {
     let born = edition_in(own);
     if sums[0] != born as u64 {
-        return refusal::number(Refusal::Malformed);
+        return u32::from(Refusal::Malformed);
     }
     if sums[1] >= MOST_STATIONS {
-        return refusal::number(Refusal::TooManyLogs);
+        return u32::from(Refusal::TooManyLogs);
     }
     let month = station::summed(log, marks, tallies, first_day, days, owed);
     if month.status != 0 {
@@ -142,13 +142,13 @@ pub fn add_month(sums: &mut [u64; SUMS], served: u64, owed: u64, silent: u64) ->
 {
     let count = sums[1];
     if count >= MOST_STATIONS {
-        return refusal::number(Refusal::TooManyLogs);
+        return u32::from(Refusal::TooManyLogs);
     }
     if is_month(served, owed, silent) {
         put_month(sums, served, owed, silent);
         return 0;
     }
-    refusal::number(Refusal::LeaseLine)
+    u32::from(Refusal::LeaseLine)
 }
 
 // Two fleets, the second of which is numbered on from the `count` stations of the first. The second's smallest part is a part like
@@ -177,12 +177,12 @@ pub fn join(sums: &mut [u64; SUMS], other: &[u64; SUMS]) -> u32
 {
     let edition = sums[0];
     if edition != other[0] {
-        return refusal::number(Refusal::Malformed);
+        return u32::from(Refusal::Malformed);
     }
     let before = sums[1];
     let count = before + other[1];
     if count > MOST_STATIONS {
-        return refusal::number(Refusal::TooManyLogs);
+        return u32::from(Refusal::TooManyLogs);
     }
     let fleet = join_fleets(totals_in(sums), before, totals_in(other));
     put(sums, edition, count, fleet);

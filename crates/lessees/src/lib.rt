@@ -81,7 +81,7 @@ pub fn begin(
         );
         return 0;
     }
-    refusal::number(Refusal::Malformed)
+    u32::from(Refusal::Malformed)
 }
 
 // The party of a word: bit k of number i is word 32 i + k's.
@@ -154,7 +154,7 @@ fn number_of(refusal: First) -> u64
 {
     match refusal {
         First::Nothing => 0,
-        First::Refused(why) => refusal::number(why) as u64,
+        First::Refused(why) => u32::from(why) as u64,
     }
 }
 
@@ -277,5 +277,5 @@ pub fn feed(
         take_runs(own0, tallies0, own1, tallies1, shared, words, parties, fed);
         return 0;
     }
-    refusal::number(Refusal::WrongLength)
+    u32::from(Refusal::WrongLength)
 }

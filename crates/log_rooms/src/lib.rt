@@ -40,7 +40,7 @@ pub fn feed(
     let refusal = piece.refusal;
     match refusal {
         First::Nothing => 0,
-        First::Refused(why) => refusal::number(why),
+        First::Refused(why) => u32::from(why),
     }
 }
 

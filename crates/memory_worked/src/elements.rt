@@ -34,7 +34,7 @@ fn element(x: u32, y: u32) -> [u8; 16] {
 // What a memory at `first` of `length` bytes must make of a pair's element: 0 where it holds it, or the number.
 fn expected(layout: Layout, x: u32, y: u32, first: u32, length: usize) -> u32 {
     match address::translate(layout, x, y) {
-        Translated::Refused(why) => refusal::number(why),
+        Translated::Refused(why) => u32::from(why),
         Translated::At { address, run: _ } => {
             if 65536 < length {
                 return 11;
@@ -51,7 +51,7 @@ fn expected(layout: Layout, x: u32, y: u32, first: u32, length: usize) -> u32 {
 fn number(w: Written) -> u32 {
     match w {
         Written::Done => 0,
-        Written::Refused(why) => refusal::number(why),
+        Written::Refused(why) => u32::from(why),
     }
 }
 
@@ -61,7 +61,7 @@ fn reads(r: Reading, wanted: u32, bytes: [u8; 16], size: usize) -> bool {
     let answer = r.answer;
     match answer {
         Answer::Bytes(n) => wanted == 0 && (n == size && same(got, bytes, n)),
-        Answer::Refused(why) => refusal::number(why) == wanted && same(got, [0; 16], 16),
+        Answer::Refused(why) => u32::from(why) == wanted && same(got, [0; 16], 16),
     }
 }
 
@@ -353,7 +353,7 @@ fn channels(layout: Layout, f: Fine, memory: &[u8], r: Reading) -> bool {
 
 fn four_expected(layout: Layout, f: Fine, length: usize) -> u32 {
     if let Judged::Refused(why) = layout::judge(layout) {
-        return refusal::number(why);
+        return u32::from(why);
     }
     if f.x == 4294967295 || f.y == 4294967295 {
         return 10;

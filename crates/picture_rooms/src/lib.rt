@@ -52,7 +52,7 @@ fn judge(
     ensures { result ≡ status_of (rectangle_of layout x y columns rows first room length) }
 {
     match layout::judge(layout) {
-        Judged::Refused(why) => refusal::number(why),
+        Judged::Refused(why) => u32::from(why),
         Judged::Accepted { step, span } => {
             if !bulk::within(step, layout.height, x, y, columns, rows) {
                 return PAIR_OUTSIDE;
@@ -169,7 +169,7 @@ pub fn translate_row(
         tiled,
     };
     match layout::judge(layout) {
-        Judged::Refused(why) => refusal::number(why),
+        Judged::Refused(why) => u32::from(why),
         Judged::Accepted { step, span: _ } => {
             if !row_within(step, height, x, y, addresses.len()) {
                 return PAIR_OUTSIDE;

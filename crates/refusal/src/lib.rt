@@ -5,7 +5,7 @@
 ghost use Rattle.std.specs.Prelude.{◌≡◌};
 ghost use Rattle.refusal.specs.Number.{IsNumber, number_of};
 
-#[derive(Clone, Copy)]
+#[derive(Clone, Copy, Debug, PartialEq, Eq)]
 pub enum Refusal {
     // 1: the session is stopped.
     Stopped,
@@ -54,32 +54,34 @@ pub enum Refusal {
 }
 
 // The number of a refusal, 1 to 22.
-pub fn number(r: Refusal) -> u32
-    ensures { result ≡ number_of r }
-{
-    match r {
-        Refusal::Stopped => 1,
-        Refusal::UnknownHeader => 2,
-        Refusal::Malformed => 3,
-        Refusal::NumberTooHigh => 4,
-        Refusal::DomainCrossed => 5,
-        Refusal::WindowRule => 6,
-        Refusal::StartUnset => 7,
-        Refusal::DomainOutside => 8,
-        Refusal::SpansShared => 9,
-        Refusal::PairOutside => 10,
-        Refusal::WrongLength => 11,
-        Refusal::Unowned => 12,
-        Refusal::FlowField => 13,
-        Refusal::AtLimit => 14,
-        Refusal::PastEnd => 15,
-        Refusal::Ended => 16,
-        Refusal::WordLimit => 17,
-        Refusal::RecordKind => 18,
-        Refusal::MidnightDay => 19,
-        Refusal::NotOwned => 20,
-        Refusal::LeaseLine => 21,
-        Refusal::TooManyLogs => 22,
+impl From<Refusal> for u32 {
+    ghost from_gives = { λ r n. n ≡ number_of r };
+
+    fn from(r: Refusal) -> u32 {
+        match r {
+            Refusal::Stopped => 1,
+            Refusal::UnknownHeader => 2,
+            Refusal::Malformed => 3,
+            Refusal::NumberTooHigh => 4,
+            Refusal::DomainCrossed => 5,
+            Refusal::WindowRule => 6,
+            Refusal::StartUnset => 7,
+            Refusal::DomainOutside => 8,
+            Refusal::SpansShared => 9,
+            Refusal::PairOutside => 10,
+            Refusal::WrongLength => 11,
+            Refusal::Unowned => 12,
+            Refusal::FlowField => 13,
+            Refusal::AtLimit => 14,
+            Refusal::PastEnd => 15,
+            Refusal::Ended => 16,
+            Refusal::WordLimit => 17,
+            Refusal::RecordKind => 18,
+            Refusal::MidnightDay => 19,
+            Refusal::NotOwned => 20,
+            Refusal::LeaseLine => 21,
+            Refusal::TooManyLogs => 22,
+        }
     }
 }
 

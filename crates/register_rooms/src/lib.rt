@@ -22,7 +22,7 @@ pub fn kill(
     ensures { KillCrosses (kill_of slots registers.now mask (group_of cells.old)) result cells.old cells.new killed.old killed.new }
 {
     match kill::kill(slots, cells, mask, registers) {
-        Killed::Refused(why) => refusal::number(why),
+        Killed::Refused(why) => u32::from(why),
         Killed::Now(processors) => {
             *killed = [processors];
             0

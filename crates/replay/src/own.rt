@@ -27,7 +27,7 @@ pub const SECOND: usize = 8;
 
 pub const THIRD: usize = 9;
 
-// The numbers that stop a replay, as its first number keeps them: `refusal::number` of the kind's and of the day's refusal.
+// The numbers that stop a replay, as its first number keeps them: the numbers of the kind's and of the day's refusal.
 pub const BY_KIND: u32 = 18;
 
 pub const BY_DAY: u32 = 19;

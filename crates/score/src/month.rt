@@ -88,7 +88,7 @@ pub fn score(
 {
     let judged = line::judge(first_day, days, owed);
     if let Judged::Refused(why) = judged {
-        return Scored::Refused(refusal::number(why));
+        return Scored::Refused(u32::from(why));
     }
     let by = log[own::STOPPED_BY];
     if by != 0 {

@@ -24,7 +24,7 @@ fn line_status(first_day: u32, days: u32, owed: u32) -> u32
     let judged = line::judge(first_day, days, owed);
     match judged {
         Judged::Accepted => 0,
-        Judged::Refused(why) => refusal::number(why),
+        Judged::Refused(why) => u32::from(why),
     }
 }
 
@@ -35,7 +35,7 @@ pub fn lease(edition: u32, first_day: u32, days: u32, owed: u32) -> u32
     if edition::is_known(edition) {
         return line_status(first_day, days, owed);
     }
-    refusal::number(Refusal::Malformed)
+    u32::from(Refusal::Malformed)
 }
 
 fn verdict_number(verdict: Verdict) -> u64

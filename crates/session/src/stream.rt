@@ -82,7 +82,7 @@ fn complete(
     }
     let why = refusal_of(own, line);
     own::stop(own);
-    refusal::number(why)
+    u32::from(why)
 }
 
 // A parameter that its kind allows. The last one is placed and not yet counted: the command is still to be judged.
@@ -283,7 +283,7 @@ pub fn begin(
         make(own, tallies, shared, edition);
         return 0;
     }
-    refusal::number(Refusal::Malformed)
+    u32::from(Refusal::Malformed)
 }
 
 // The first refusal of a piece, or none.

@@ -31,7 +31,7 @@ pub fn word(
     ensures { WordCrosses (step_of (session_of own.old tallies.old shared.old) word) result own.new tallies.new shared.new command.old command.new }
 {
     match stream::word(own, tallies, shared, word) {
-        Answer::Refused(why) => refusal::number(why),
+        Answer::Refused(why) => u32::from(why),
         Answer::Open => {
             *command = [0; COMMAND_NUMBERS];
             0
@@ -88,6 +88,6 @@ pub fn feed(
     let refusal = piece.refusal;
     match refusal {
         First::Nothing => 0,
-        First::Refused(why) => refusal::number(why),
+        First::Refused(why) => u32::from(why),
     }
 }

@@ -151,9 +151,9 @@ pub fn format(
     ensures { Crosses (format_of (party_of own.now []) (shared_of shared.now) header number) result format.old format.new }
 {
     match table::line_of(header) {
-        Line::Unknown => refusal::number(Refusal::UnknownHeader),
+        Line::Unknown => u32::from(Refusal::UnknownHeader),
         Line::At(line) => match at_line(own, shared, line, number) {
-            Found::Refused(why) => refusal::number(why),
+            Found::Refused(why) => u32::from(why),
             Found::Is(setting) => {
                 let set = flag_of(setting.present);
                 *format = [set, setting.base, setting.format, setting.height];

@@ -26,7 +26,7 @@ struct Came {
 fn first_number(answer: First) -> u32 {
     match answer {
         First::Nothing => 0,
-        First::Refused(why) => refusal::number(why),
+        First::Refused(why) => u32::from(why),
     }
 }
 

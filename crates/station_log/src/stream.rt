@@ -63,7 +63,7 @@ fn take_words(
     own::close(log);
     let first = piece.refusal;
     if let First::Refused(why) = first {
-        own::note(log, refusal::number(why))
+        own::note(log, u32::from(why))
     }
 }
 
@@ -81,7 +81,7 @@ fn take_word(
     let answer = stream::word(own, tallies, shared, word);
     own::close(log);
     if let stream::Answer::Refused(why) = answer {
-        own::note(log, refusal::number(why))
+        own::note(log, u32::from(why))
     }
 }
 
@@ -287,7 +287,7 @@ pub fn take_byte(
     let answer = read_byte(log, marks, own, tallies, shared, number);
     match answer {
         Answer::Taken => 0,
-        Answer::Refused(why) => refusal::number(why),
+        Answer::Refused(why) => u32::from(why),
     }
 }
 

@@ -28,10 +28,10 @@ fn pop(slots: u32, cells: &mut [u32; group::CELLS]) -> u32
 {
     let at = cells[group::RETURN_0];
     if at == 0 {
-        return refusal::number(Refusal::AtLimit);
+        return u32::from(Refusal::AtLimit);
     }
     if slots < at {
-        return refusal::number(Refusal::PastEnd);
+        return u32::from(Refusal::PastEnd);
     }
     let r1 = cells[group::RETURN_1];
     let r2 = cells[group::RETURN_2];
@@ -47,10 +47,10 @@ fn push(address: SlotNumber, slots: u32, cells: &mut [u32; group::CELLS]) -> u32
 {
     let to = address.0;
     if cells[group::RETURN_3] != 0 {
-        return refusal::number(Refusal::AtLimit);
+        return u32::from(Refusal::AtLimit);
     }
     if slots < to {
-        return refusal::number(Refusal::PastEnd);
+        return u32::from(Refusal::PastEnd);
     }
     let position = cells[group::POSITION];
     let r0 = cells[group::RETURN_0];
@@ -66,7 +66,7 @@ fn jump_to(address: SlotNumber, slots: u32, cells: &mut [u32; group::CELLS]) -> 
     ensures { GoDone cells.old cells.new result slots true (Goes address.0 (group_of cells.old).returns) }
 {
     if slots < address.0 {
-        return refusal::number(Refusal::PastEnd);
+        return u32::from(Refusal::PastEnd);
     }
     cells[group::POSITION] = address.0;
     1

@@ -65,7 +65,7 @@ fn settle(
 {
     let op = slot::branch_op(first, jump);
     if planes::over_limit(op, cells) {
-        return refusal::number(Refusal::AtLimit);
+        return u32::from(Refusal::AtLimit);
     }
     let went = place::go(
         first / slot::A_OP % slot::CODES,
@@ -114,7 +114,7 @@ fn step_slot(
         let jump = stepper::overrule(decision, wanted);
         return settle(first, second, slots, cells, active, wish, jump);
     }
-    refusal::number(Refusal::FlowField)
+    u32::from(Refusal::FlowField)
 }
 
 // Stores the open loops.
@@ -165,5 +165,5 @@ pub fn loop_slot(
         put_loops(cells, t);
         return number;
     }
-    refusal::number(Refusal::FlowField)
+    u32::from(Refusal::FlowField)
 }

@@ -66,7 +66,7 @@ fn settle(
 {
     let op = slot::branch_op(first, jump);
     if planes::over_own_limit(op, cells) {
-        return refusal::number(Refusal::AtLimit);
+        return u32::from(Refusal::AtLimit);
     }
     let went = place::go(
         first / slot::A_OP % slot::CODES,
@@ -115,7 +115,7 @@ fn step_slot(
         let jump = stepper::overrule(decision, wanted);
         return settle(first, second, slots, cells, active, wish, jump);
     }
-    refusal::number(Refusal::FlowField)
+    u32::from(Refusal::FlowField)
 }
 
 // A step of op 0, document 01's: the wishes decide.
@@ -143,5 +143,5 @@ pub fn jump_slot(
             stepper::WISHES,
         );
     }
-    refusal::number(Refusal::FlowField)
+    u32::from(Refusal::FlowField)
 }

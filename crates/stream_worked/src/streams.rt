@@ -24,7 +24,7 @@ fn number_of(answer: Answer) -> u32 {
     match answer {
         Answer::Open => 0,
         Answer::Done(_) => 0,
-        Answer::Refused(why) => refusal::number(why),
+        Answer::Refused(why) => u32::from(why),
     }
 }
 
@@ -39,7 +39,7 @@ fn completed(answer: Answer) -> u64 {
 fn first_number(answer: First) -> u32 {
     match answer {
         First::Nothing => 0,
-        First::Refused(why) => refusal::number(why),
+        First::Refused(why) => u32::from(why),
     }
 }
 

@@ -6,7 +6,7 @@ use Rattle.address_rooms.proofs.judge.Goals as goal
 
 pub returns-in-Refused : goal.returns-in-Refused
 returns-in-Refused c =
-    crosses_refuses _ _ _ _ c.number.ensures
+    crosses_refuses _ _ _ _ c.from.ensures
     (sym c.judge.ensures ∙ ap told_judged c.in-Refused.is)
 
 pub returns-in-Accepted : goal.returns-in-Accepted

@@ -15,7 +15,7 @@ count-requires c =
 
 pub returns-in-Unknown : goal.returns-in-Unknown
 returns-in-Unknown c =
-    crosses_refuses _ _ _ _ c.number.ensures
+    crosses_refuses _ _ _ _ c.from.ensures
     (off_line _ _ _ (sym c.line_of.ensures ∙ ap told_line c.in-Unknown.is))
 
 pub returns-in-At : goal.returns-in-At

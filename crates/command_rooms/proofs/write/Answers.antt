@@ -16,7 +16,7 @@ pub returns-in-Unknown : goal.returns-in-Unknown
 returns-in-Unknown c =
     record {
       answer =
-          crosses_refuses _ _ _ _ c.number.ensures
+          crosses_refuses _ _ _ _ c.from.ensures
           (off_line _ _ _ (sym c.line_of.ensures ∙ ap told_line c.in-Unknown.is));
       room = sym (off_line _ _ _ (sym c.line_of.ensures ∙ ap told_line c.in-Unknown.is));
     }

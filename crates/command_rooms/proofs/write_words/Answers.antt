@@ -17,7 +17,7 @@ overflow_cast-written c =
 pub returns-in-Refused : goal.returns-in-Refused
 returns-in-Refused c =
     record {
-      answer = crosses_refuses _ _ _ _ c.number.ensures (sym c.write.ensures.answer ∙ ap told_written c.in-Refused.is);
+      answer = crosses_refuses _ _ _ _ c.from.ensures (sym c.write.ensures.answer ∙ ap told_written c.in-Refused.is);
       room = c.write.ensures.room;
     }
 

@@ -9,7 +9,7 @@ pub returns-in-Refused : goal.returns-in-Refused
 returns-in-Refused c =
     record {
       answer =
-          crosses_refuses _ _ _ _ c.number.ensures
+          crosses_refuses _ _ _ _ c.from.ensures
           (sym c.survey.ensures.answer ∙ ap told_surveyed c.in-Refused.is);
       bytes = c.survey.ensures.room;
     }

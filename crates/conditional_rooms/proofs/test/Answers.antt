@@ -10,7 +10,7 @@ use Rattle.conditional_rooms.proofs.test.Goals as goal
 -- refused
 pub returns-in-Refused : goal.returns-in-Refused
 returns-in-Refused c =
-    crosses_refuses _ _ _ _ c.number.ensures (sym c.test.ensures ∙ ap told_tested c.in-Refused.is)
+    crosses_refuses _ _ _ _ c.from.ensures (sym c.test.ensures ∙ ap told_tested c.in-Refused.is)
 
 -- tested
 pub returns-in-Result : goal.returns-in-Result

@@ -18,4 +18,4 @@ pub returns-in-16 : goal.returns-in-16
 returns-in-16 c = read_at _ _ _ _ _ _ _ _ _ _ _ _ _ c.in-16.is c.read_sized-in-16.ensures
 
 pub returns-in_default : goal.returns-in_default
-returns-in_default c = read_no _ _ _ _ _ _ _ _ (unsized _ _ _ _ _ _ _ _ _ c.in_default.in_default-own.rest) c.number.ensures
+returns-in_default c = read_no _ _ _ _ _ _ _ _ (unsized _ _ _ _ _ _ _ _ _ c.in_default.in_default-own.rest) c.from.ensures

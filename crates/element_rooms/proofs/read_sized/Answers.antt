@@ -46,7 +46,7 @@ returns-in-Refused c =
     let begins =
     started _ _ _ _ _ _ c.translate_numbers-number.ensures c.if-number-ge-REFUSED.false _ c.start.ensures ∙
     ap told_place c.in-Refused.is in
-    read_no _ _ _ _ _ _ _ _ begins c.number.ensures
+    read_no _ _ _ _ _ _ _ _ begins c.from.ensures
 
 -- the element is read
 pub returns-in-At : goal.returns-in-At

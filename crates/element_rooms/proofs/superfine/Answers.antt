@@ -9,7 +9,7 @@ overflow_cast-count c = record { fits = omega (arith, bytes_few _ _ c.superfine-
 pub returns-in-Refused : goal.returns-in-Refused
 returns-in-Refused c =
     superfine_refused _ _ c.superfine-reading.ensures _ c.in-Refused.is _
-    c.number.ensures _ _
+    c.from.ensures _ _
 
 pub returns-in-Bytes : goal.returns-in-Bytes
 returns-in-Bytes c = superfine_given _ _ c.superfine-reading.ensures _ c.in-Bytes.is _ _

@@ -19,4 +19,4 @@ pub returns-in-16 : goal.returns-in-16
 returns-in-16 c = write_at_lem _ _ _ _ _ _ _ _ _ c.in-16.is c.write_sized-in-16.ensures
 
 pub returns-in_default : goal.returns-in_default
-returns-in_default c = write_crosses _ c.number.ensures (write_refused _ _ _ _ _ _ _ (unsized _ _ _ _ _ _ _ _ _ c.in_default.in_default-own.rest))
+returns-in_default c = write_crosses _ c.from.ensures (write_refused _ _ _ _ _ _ _ (unsized _ _ _ _ _ _ _ _ _ c.in_default.in_default-own.rest))

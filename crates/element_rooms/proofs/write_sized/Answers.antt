@@ -24,7 +24,7 @@ returns-then-given-n c =
     let begins =
     started _ _ _ _ _ _ c.translate_numbers-number.ensures c.if-number-ge-REFUSED.false _ c.start.ensures ∙
     ap told_place c.in-At.is in
-    write_crosses _ c.number-then-given-n.ensures (write_unfit _ _ _ _ _ _ _ begins c.if-given-n.true)
+    write_crosses _ c.from-then-given-n.ensures (write_unfit _ _ _ _ _ _ _ begins c.if-given-n.true)
 
 pub overflow_add-a : goal.overflow_add-a
 overflow_add-a c =
@@ -54,7 +54,7 @@ returns-in-Refused c =
     let begins =
     started _ _ _ _ _ _ c.translate_numbers-number.ensures c.if-number-ge-REFUSED.false _ c.start.ensures ∙
     ap told_place c.in-Refused.is in
-    write_crosses _ c.number.ensures (write_refused _ _ _ _ _ _ _ begins)
+    write_crosses _ c.from.ensures (write_refused _ _ _ _ _ _ _ begins)
 
 -- the element is stored
 pub returns-else-given-n : goal.returns-else-given-n

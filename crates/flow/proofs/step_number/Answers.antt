@@ -8,13 +8,13 @@ use Rattle.flow.proofs.step_number.Goals as goal
 pub returns-then-slots-here : goal.returns-then-slots-here
 returns-then-slots-here c =
     step_ended c.args.cells.now c.args.firsts.now c.args.seconds.now c.args.slots c.args.alu
-    c.args.predicate c.args.booleans c.args.integers.now c.number.ensures c.if-slots-here.true
+    c.args.predicate c.args.booleans c.args.integers.now c.from.ensures c.if-slots-here.true
 
 -- more slots than a store has
 pub returns-then-slots-gt-STORE_SLOTS : goal.returns-then-slots-gt-STORE_SLOTS
 returns-then-slots-gt-STORE_SLOTS c =
     step_many c.args.cells.now c.args.firsts.now c.args.seconds.now c.args.slots c.args.alu
-    c.args.predicate c.args.booleans c.args.integers.now c.if-slots-here.false c.number-then-slots-gt-STORE_SLOTS.ensures c.if-slots-gt-STORE_SLOTS.true
+    c.args.predicate c.args.booleans c.args.integers.now c.if-slots-here.false c.from-then-slots-gt-STORE_SLOTS.ensures c.if-slots-gt-STORE_SLOTS.true
 
 pub jump_slot-requires : goal.jump_slot-requires
 jump_slot-requires c =
@@ -40,4 +40,4 @@ pub returns : goal.returns
 returns c =
     step_forbidden c.args.cells.now c.args.firsts.now c.args.seconds.now c.args.slots c.args.alu
     c.args.predicate c.args.booleans c.args.integers.now
-    c.if-slots-here.false c.if-slots-gt-STORE_SLOTS.false c.permitted.ensures c.number-2.ensures c.if-permitted.false refl
+    c.if-slots-here.false c.if-slots-gt-STORE_SLOTS.false c.permitted.ensures c.from-2.ensures c.if-permitted.false refl

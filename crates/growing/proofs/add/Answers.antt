@@ -7,12 +7,12 @@ use Rattle.growing.proofs.add.Goals as goal
 pub returns-then-sums-born : goal.returns-then-sums-born
 returns-then-sums-born c =
     other_edition (lease_line _ _ _) _ _ _ _ _ (λ e. c.if-sums-born.true (e ∙ sym c.edition_in-born.ensures))
-    c.number.ensures
+    c.from.ensures
 
 pub returns-then-sums-ge-MOST_STATIONS : goal.returns-then-sums-ge-MOST_STATIONS
 returns-then-sums-ge-MOST_STATIONS c =
     no_more (lease_line _ _ _) _ _ _ _ _ (c.if-sums-born.false ∙ c.edition_in-born.ensures) c.if-sums-ge-MOST_STATIONS.true
-    c.number-then-sums-ge-MOST_STATIONS.ensures
+    c.from-then-sums-ge-MOST_STATIONS.ensures
 
 pub returns-then-month-ne0 : goal.returns-then-month-ne0
 returns-then-month-ne0 c =

@@ -8,4 +8,4 @@ returns-then-is_known c =
     begun_as _ _ (sym c.is_known.ensures ∙ c.if-is_known.true) c.none.ensures c.put.ensures
 
 pub returns : goal.returns
-returns c = not_begun _ _ (sym c.is_known.ensures ∙ c.if-is_known.false) c.number.ensures
+returns c = not_begun _ _ (sym c.is_known.ensures ∙ c.if-is_known.false) c.from.ensures

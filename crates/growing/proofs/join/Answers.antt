@@ -4,11 +4,11 @@ use Rattle.growing.proofs.join.Goals as goal
 
 pub returns-then-edition-other : goal.returns-then-edition-other
 returns-then-edition-other c =
-    apart_editions _ c.args.other.now c.if-edition-other.true c.number.ensures
+    apart_editions _ c.args.other.now c.if-edition-other.true c.from.ensures
 
 pub returns-then-count-gt-MOST_STATIONS : goal.returns-then-count-gt-MOST_STATIONS
 returns-then-count-gt-MOST_STATIONS c =
-    too_many _ c.args.other.now c.if-edition-other.false c.if-count-gt-MOST_STATIONS.true c.number-then-count-gt-MOST_STATIONS.ensures
+    too_many _ c.args.other.now c.if-edition-other.false c.if-count-gt-MOST_STATIONS.true c.from-then-count-gt-MOST_STATIONS.ensures
 
 pub join_fleets-fleet-requires : goal.join_fleets-fleet-requires
 join_fleets-fleet-requires c =

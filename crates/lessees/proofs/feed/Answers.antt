@@ -10,4 +10,4 @@ pub returns-then-parties-groups : goal.returns-then-parties-groups
 returns-then-parties-groups c = feeds (omega (arith, c.if-parties-groups.true)) c.take_runs.ensures
 
 pub returns : goal.returns
-returns c = feeds_not (λ e. c.if-parties-groups.false (omega arith)) c.number.ensures
+returns c = feeds_not (λ e. c.if-parties-groups.false (omega arith)) c.from.ensures

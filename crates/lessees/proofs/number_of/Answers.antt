@@ -5,8 +5,7 @@ use Rattle.session.specs.Answers.{first_of}
 use Rattle.session.specs.Feed.{first_status}
 use Rattle.lessees.proofs.number_of.Reads as reads
 use Rattle.lessees.proofs.number_of.Lts as lts
-use Rattle.refusal.proofs.number.Reads as number_reads
 use Rattle.lessees.proofs.number_of.Goals as goal
 
 pub returns-in-Refused : goal.returns-in-Refused
-returns-in-Refused c = c.number.ensures ∙ sym (ap (λ (x : First). first_status (first_of x)) c.in-Refused.is)
+returns-in-Refused c = c.from.ensures ∙ sym (ap (λ (x : First). first_status (first_of x)) c.in-Refused.is)

@@ -18,7 +18,7 @@ pub returns-in-Refused : goal.returns-in-Refused
 returns-in-Refused c =
     record {
       status =
-          c.number.ensures ∙ ap first_status
+          c.from.ensures ∙ ap first_status
           (sym (ap first_of c.in-Refused.is) ∙ c.feed-piece.ensures.refusal);
       room = ap (λ (a : ℕ). a ∷ []) c.feed-piece.ensures.taken;
       held = c.feed-piece.ensures.held;

@@ -40,7 +40,7 @@ returns-then-not-covers c =
 pub returns-in-Refused : goal.returns-in-Refused
 unfolding if_lent
 returns-in-Refused c =
-    c.number.ensures ∙
+    c.from.ensures ∙
     sym (ap status_of (refused_so _ _ _ (sym c.judge.ensures ∙ ap told_judged c.in-Refused.is)))
 
 pub returns-else-not-covers : goal.returns-else-not-covers

@@ -35,7 +35,7 @@ addresses-requires c =
 pub returns-in-Refused : goal.returns-in-Refused
 returns-in-Refused c =
     let args = c.args in
-    crosses_refuses _ _ _ _ c.number.ensures
+    crosses_refuses _ _ _ _ c.from.ensures
     (refused_so (layout_of args.base args.pitch args.height args.size args.tiled) _ _
     (sym c.judge.ensures ∙ ap told_judged c.in-Refused.is))
 

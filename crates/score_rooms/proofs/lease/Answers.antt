@@ -8,4 +8,4 @@ returns-then-is_known c =
 
 pub returns : goal.returns
 returns c =
-    edition_refused _ _ c.is_known.ensures c.if-is_known.false c.number.ensures
+    edition_refused _ _ c.is_known.ensures c.if-is_known.false c.from.ensures

@@ -9,5 +9,5 @@ returns-in-Accepted c = ap status_of (sym (ap told_judged c.in-Accepted.is) ∙ 
 
 pub returns-in-Refused : goal.returns-in-Refused
 returns-in-Refused c =
-    c.number.ensures ∙ ap status_of
+    c.from.ensures ∙ ap status_of
     (sym (ap told_judged c.in-Refused.is) ∙ c.judge-judged.ensures)

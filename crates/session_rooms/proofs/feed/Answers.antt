@@ -26,7 +26,7 @@ pub returns-in-Refused : goal.returns-in-Refused
 returns-in-Refused c =
     record {
       status =
-          c.number.ensures ∙ ap first_status
+          c.from.ensures ∙ ap first_status
           (sym (ap first_of c.in-Refused.is) ∙ c.feed-piece.ensures.refusal);
       room =
           ap₂ (λ (a b : ℕ). a ∷ b ∷ []) c.feed-piece.ensures.taken

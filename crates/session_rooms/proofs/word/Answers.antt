@@ -14,7 +14,7 @@ pub returns-in-Refused : goal.returns-in-Refused
 returns-in-Refused c =
     record {
       answer =
-          crosses_refuses _ _ _ _ c.number.ensures
+          crosses_refuses _ _ _ _ c.from.ensures
           (ap reply_told (sym c.word.ensures.reply ∙ ap reply_of c.in-Refused.is));
       held = c.word.ensures.held;
     }

@@ -9,12 +9,12 @@ use Rattle.setting_rooms.proofs.format.Goals as goal
 
 pub returns-in-Unknown : goal.returns-in-Unknown
 returns-in-Unknown c =
-    crosses_refuses _ _ _ _ c.number.ensures
+    crosses_refuses _ _ _ _ c.from.ensures
     (off_line _ _ _ (sym c.line_of.ensures ∙ ap told_line c.in-Unknown.is))
 
 pub returns-in-Refused : goal.returns-in-Refused
 returns-in-Refused c =
-    crosses_refuses _ _ _ _ c.number-in-Refused.ensures
+    crosses_refuses _ _ _ _ c.from-in-Refused.ensures
     (on_line_lem _ _ _ _ (sym c.line_of.ensures ∙ ap told_line c.in-At.is) ∙
     sym c.at_line.ensures ∙ ap told_found c.in-Refused.is)
 

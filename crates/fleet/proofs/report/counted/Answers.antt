@@ -2,11 +2,10 @@
 use Rattle.fleet.proofs.Judging.{fleet_asked, too_many, station_refused, all_told}
 use Rattle.fleet.proofs.report.stations.Reads as stations_reads
 use Rattle.fleet.proofs.report.write.Reads as write_reads
-use Rattle.refusal.proofs.number.Reads as number_reads
 use Rattle.fleet.proofs.report.counted.Goals as goal
 
 pub returns-then-numbers-gt-STATIONS : goal.returns-then-numbers-gt-STATIONS
-returns-then-numbers-gt-STATIONS c = too_many _ _ _ _ c.if-numbers-gt-STATIONS.true c.number.ensures
+returns-then-numbers-gt-STATIONS c = too_many _ _ _ _ c.if-numbers-gt-STATIONS.true c.from.ensures
 
 pub stations-answer-requires : goal.stations-answer-requires
 stations-answer-requires c = fleet_asked _ _ _ c.requires c.if-numbers-gt-STATIONS.false

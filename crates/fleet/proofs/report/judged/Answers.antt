@@ -2,14 +2,13 @@
 use Rattle.fleet.proofs.Judging.{not_in_fours, room_not_four, not_the_slice, counted_asked, then_counted}
 use Rattle.fleet.proofs.report.counted.Reads as counted_reads
 use Rattle.fleet.proofs.lengths.add_up.Reads as add_up_reads
-use Rattle.refusal.proofs.number.Reads as number_reads
 use Rattle.fleet.proofs.report.judged.Goals as goal
 
 pub returns-then-numbers-ne0 : goal.returns-then-numbers-ne0
-returns-then-numbers-ne0 c = not_in_fours _ _ _ _ c.if-numbers-ne0.true c.number.ensures
+returns-then-numbers-ne0 c = not_in_fours _ _ _ _ c.if-numbers-ne0.true c.from.ensures
 
 pub returns-then-room-ne-ROOM : goal.returns-then-room-ne-ROOM
-returns-then-room-ne-ROOM c = room_not_four _ _ _ _ c.if-room-ne-ROOM.true c.number-then-room-ne-ROOM.ensures
+returns-then-room-ne-ROOM c = room_not_four _ _ _ _ c.if-room-ne-ROOM.true c.from-then-room-ne-ROOM.ensures
 
 pub counted-requires : goal.counted-requires
 counted-requires c =
@@ -21,4 +20,4 @@ returns-then-whole c =
     then_counted _ _ _ _ c.add_up-whole.ensures c.if-numbers-ne0.false c.if-room-ne-ROOM.false c.if-whole.true c.counted.ensures
 
 pub returns : goal.returns
-returns c = not_the_slice _ _ _ _ c.add_up-whole.ensures c.if-whole.false c.number-2.ensures
+returns c = not_the_slice _ _ _ _ c.add_up-whole.ensures c.if-whole.false c.from-2.ensures

@@ -1,7 +1,6 @@
 -- `fleet::report::report` meets its contract: 3 for the edition first. Assumes nothing.
 use Rattle.fleet.proofs.Judging.{then_judged, edition_refused}
 use Rattle.fleet.proofs.report.judged.Reads as judged_reads
-use Rattle.refusal.proofs.number.Reads as number_reads
 use Rattle.state.proofs.edition.is_known.Reads as is_known_reads
 use mathlib.Core.Path.{sym, ◌∙◌}
 use Rattle.fleet.proofs.report.report.Goals as goal
@@ -14,4 +13,4 @@ returns-then-is_known c =
     then_judged _ _ _ _ c.is_known.ensures c.if-is_known.true c.judged.ensures
 
 pub returns : goal.returns
-returns c = edition_refused _ _ _ _ c.is_known.ensures c.if-is_known.false c.number.ensures
+returns c = edition_refused _ _ _ _ c.is_known.ensures c.if-is_known.false c.from.ensures

@@ -8,7 +8,7 @@ use Rattle.score.proofs.month.score.Goals as goal
 pub returns-in-Refused : goal.returns-in-Refused
 returns-in-Refused c =
     score_line _ _ _ _ _ _ (was_refused _ _ c.judge-judged.ensures _ c.in-Refused.is) _
-    (c.number.ensures ∙ was_21 _ _ c.judge-judged.ensures _ c.in-Refused.is)
+    (c.from.ensures ∙ was_21 _ _ c.judge-judged.ensures _ c.in-Refused.is)
 
 pub returns-then-by-ne0 : goal.returns-then-by-ne0
 returns-then-by-ne0 c =

@@ -1,6 +1,5 @@
 -- `session::stream::begin` meets its contract. Assumes nothing.
 use Rattle.session.proofs.Taking.{begins, begins_not}
-use Rattle.refusal.proofs.number.Reads as number_reads
 use Rattle.session.proofs.stream.make.Reads as make_reads
 use Rattle.state.proofs.edition.is_known.Reads as is_known_reads
 use Rattle.session.proofs.stream.begin.Goals as goal
@@ -13,4 +12,4 @@ returns-then-is_known c =
 pub returns : goal.returns
 returns c =
     -- it is neither, and nothing was touched
-    begins_not _ c.is_known.ensures c.if-is_known.false c.number.ensures
+    begins_not _ c.is_known.ensures c.if-is_known.false c.from.ensures

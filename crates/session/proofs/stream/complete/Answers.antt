@@ -41,4 +41,4 @@ returns c =
     let args = c.args in
     numbered
     (last_refused args.own.now args.tallies.now args.shared.now c.requires _ _ _ _
-    c.take_last.ensures c.if-take_last-gt0.false _ (c.number.ensures ∙ c.refusal_of-why.ensures) _ c.stop.ensures)
+    c.take_last.ensures c.if-take_last-gt0.false _ (c.from.ensures ∙ c.refusal_of-why.ensures) _ c.stop.ensures)

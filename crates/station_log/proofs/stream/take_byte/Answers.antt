@@ -23,4 +23,4 @@ returns-in-Taken c =
 pub returns-in-Refused : goal.returns-in-Refused
 returns-in-Refused c =
     byte_refused _ _ _ _ _ c.requires _ _ c.wide-number.ensures.value _ _ c.grows.ensures c.if-grows.false
-    c.wide-number.ensures.most _ _ _ _ _ _ c.read_byte-answer.ensures _ c.in-Refused.is _ c.number.ensures
+    c.wide-number.ensures.most _ _ _ _ _ _ c.read_byte-answer.ensures _ c.in-Refused.is _ c.from.ensures

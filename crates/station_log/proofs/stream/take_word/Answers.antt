@@ -6,7 +6,7 @@ use Rattle.station_log.proofs.stream.take_word.Goals as goal
 pub returns-in-Refused : goal.returns-in-Refused
 returns-in-Refused c =
     word_noted _ _ _ _ _ _ _ _ _ c.requires.session_given _ c.word-answer.ensures c.close.ensures _ _ c.note.ensures _
-    c.in-Refused.is c.number.ensures
+    c.in-Refused.is c.from.ensures
 
 pub returns-in_default : goal.returns-in_default
 returns-in_default c =

@@ -10,7 +10,7 @@ returns-in-Refused c = words_noted _ _ _ _ _ _ _ _ _
     c.requires.session_given _
     c.feed-piece.ensures _ _
     c.close.ensures c.note.ensures
-    (ap first c.number.ensures ∙ sym (ap first_of c.in-Refused.is)
+    (ap first c.from.ensures ∙ sym (ap first_of c.in-Refused.is)
     ∙ c.feed-piece.ensures.refusal)
 
 pub returns-in_default : goal.returns-in_default

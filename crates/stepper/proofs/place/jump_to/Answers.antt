@@ -11,7 +11,7 @@ pub returns-then-slots-address : goal.returns-then-slots-address
 returns-then-slots-address c =
     let cells = c.args.cells.now in
     gone_past cells c.args.slots true (same_returns c.args.address.0 (group_of cells).returns (given_stack cells c.requires))
-    c.if-slots-address.true c.number.ensures
+    c.if-slots-address.true c.from.ensures
 
 pub returns : goal.returns
 unfolding digit

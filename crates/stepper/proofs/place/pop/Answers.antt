@@ -11,13 +11,13 @@ pub returns-then-at-eq0 : goal.returns-then-at-eq0
 returns-then-at-eq0 c =
     let cells = c.args.cells.now in
     gone_stuck cells c.args.slots true
-    (pop_empty (group_of cells).returns (given_stack cells c.requires) c.if-at-eq0.true) c.number.ensures
+    (pop_empty (group_of cells).returns (given_stack cells c.requires) c.if-at-eq0.true) c.from.ensures
 
 pub returns-then-slots-at : goal.returns-then-slots-at
 returns-then-slots-at c =
     let cells = c.args.cells.now in
     gone_past cells c.args.slots true
-    (pop_last (group_of cells).returns (given_stack cells c.requires) c.if-at-eq0.false) c.if-slots-at.true c.number-then-slots-at.ensures
+    (pop_last (group_of cells).returns (given_stack cells c.requires) c.if-at-eq0.false) c.if-slots-at.true c.from-then-slots-at.ensures
 
 pub put_place-requires : goal.put_place-requires
 put_place-requires c =

@@ -12,14 +12,14 @@ returns-then-cells-ne0 c =
     let cells = c.args.cells.now in
     gone_stuck cells c.args.slots true
     (push_full (position_in cells) c.args.address.0 (group_of cells).returns
-    (given_stack cells c.requires.0) c.if-cells-ne0.true) c.number.ensures
+    (given_stack cells c.requires.0) c.if-cells-ne0.true) c.from.ensures
 
 pub returns-then-slots-to : goal.returns-then-slots-to
 returns-then-slots-to c =
     let cells = c.args.cells.now in
     gone_past cells c.args.slots true
     (push_last (position_in cells) c.args.address.0 (group_of cells).returns
-    (given_stack cells c.requires.0) c.if-cells-ne0.false) c.if-slots-to.true c.number-then-slots-to.ensures
+    (given_stack cells c.requires.0) c.if-cells-ne0.false) c.if-slots-to.true c.from-then-slots-to.ensures
 
 pub put_place-requires : goal.put_place-requires
 put_place-requires c =

@@ -41,4 +41,4 @@ returns-then-allowed_loop c =
 pub returns : goal.returns
 returns c =
     loop_bad c.args.cells.now c.args.first c.args.second c.args.slots c.args.word c.args.alu
-    c.args.predicate c.args.booleans c.allowed_loop.ensures c.number.ensures c.if-allowed_loop.false
+    c.args.predicate c.args.booleans c.allowed_loop.ensures c.from.ensures c.if-allowed_loop.false

@@ -15,7 +15,7 @@ returns-then-over_limit c =
     settle_over counter_limit c.args.cells.now c.args.first c.args.second c.args.slots c.args.active
     c.args.wish c.args.jump c.requires.0 c.requires.3 c.branch_op-op.ensures
     (over_full c.args.cells.now c.requires.3 c.args.first c.args.jump c.branch_op-op.ensures c.over_limit.ensures)
-    c.number.ensures c.if-over_limit.true
+    c.from.ensures c.if-over_limit.true
 
 pub returns-then-went-gt1 : goal.returns-then-went-gt1
 returns-then-went-gt1 c =

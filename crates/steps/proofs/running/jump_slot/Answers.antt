@@ -17,4 +17,4 @@ returns-then-plain_second c =
 pub returns : goal.returns
 returns c =
     jump_refused (own_limit c.args.cells.now) c.args.cells.now c.args.first c.args.second c.args.slots c.args.alu c.args.predicate
-    c.args.booleans c.requires.3 c.plain_second.ensures c.number.ensures c.if-plain_second.false
+    c.args.booleans c.requires.3 c.plain_second.ensures c.from.ensures c.if-plain_second.false

@@ -15,7 +15,7 @@ returns-then-over_own_limit c =
     settle_over (own_limit c.args.cells.now) c.args.cells.now c.args.first c.args.second c.args.slots c.args.active
     c.args.wish c.args.jump c.requires.0 c.requires.3 c.branch_op-op.ensures
     (over_own c.args.cells.now c.requires.3 c.args.first c.args.jump c.branch_op-op.ensures c.over_own_limit.ensures)
-    c.number.ensures c.if-over_own_limit.true
+    c.from.ensures c.if-over_own_limit.true
 
 pub returns-then-went-gt1 : goal.returns-then-went-gt1
 returns-then-went-gt1 c =

@@ -30,4 +30,4 @@ pub returns : goal.returns
 returns c =
     slot_refused (own_limit c.args.cells.now) c.args.cells.now c.args.first c.args.second c.args.slots c.args.decision c.args.alu
     c.args.predicate c.args.booleans c.requires.0 c.fits_first.ensures
-    c.number.ensures c.if-fits_first.false
+    c.from.ensures c.if-fits_first.false
