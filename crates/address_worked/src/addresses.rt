@@ -1,7 +1,8 @@
 // Addresses: C1 to C8, row steps, and small windows of every size and kind, pair by pair, byte by byte and address by
 // address.
-use address::{Located, Translated};
-use layout::{ByteAddress, Judged, Layout};
+use address::Located;
+use layout::{Accepted, ByteAddress, Layout};
+use refusal::Refusal;
 use std::io;
 use worked::tally::Tally;
 use worked::windows::{linear, tiled, window_of};
@@ -9,51 +10,40 @@ use worked::windows::{linear, tiled, window_of};
 // Whether a pair goes to this address.
 pub fn goes_to(layout: Layout, x: u32, y: u32, at: u32) -> bool {
     match address::translate(layout, x, y) {
-        Translated::At { address, run: _ } => address.0 == at,
-        Translated::Refused(_) => false,
+        Ok(found) => found.address.0 == at,
+        Err(_) => false,
     }
 }
 
 // Whether translating a pair is refused with this number.
 pub fn refused(layout: Layout, x: u32, y: u32, number: u32) -> bool {
     match address::translate(layout, x, y) {
-        Translated::At { address: _, run: _ } => false,
-        Translated::Refused(why) => u32::from(why) == number,
+        Ok(_) => false,
+        Err(why) => u32::from(why) == number,
     }
 }
 
 // Whether the byte at an address leads back to this pair and place.
 pub fn leads_to(layout: Layout, at: u32, x: u32, y: u32, place: u32) -> bool {
     match address::locate(layout, ByteAddress(at)) {
-        Located::Pair {
-            x: found_x,
-            y: found_y,
-            place: found,
-        } => found_x == x && (found_y == y && found == place),
-        Located::Refused(_) => false,
+        Ok(found) => found == Located { x, y, place },
+        Err(_) => false,
     }
 }
 
 // Whether locating an address is refused with this number.
 pub fn unlocated(layout: Layout, at: u32, number: u32) -> bool {
     match address::locate(layout, ByteAddress(at)) {
-        Located::Pair {
-            x: _,
-            y: _,
-            place: _,
-        } => false,
-        Located::Refused(why) => u32::from(why) == number,
+        Ok(_) => false,
+        Err(why) => u32::from(why) == number,
     }
 }
 
 // Whether a layout is accepted with this row step, or, for 0, refused with 6.
 fn has_step(layout: Layout, step: u32) -> bool {
     match layout::judge(layout) {
-        Judged::Accepted {
-            step: found,
-            span: _,
-        } => found == step,
-        Judged::Refused(why) => step == 0 && u32::from(why) == 6,
+        Ok(taken) => taken.step == step,
+        Err(why) => step == 0 && u32::from(why) == 6,
     }
 }
 
@@ -99,13 +89,13 @@ fn steps() -> Tally {
 fn element(layout: Layout, x: u32, y: u32) -> Tally {
     let mut t = Tally::new();
     match address::translate(layout, x, y) {
-        Translated::At { address, run: _ } => {
+        Ok(found) => {
             for place in 0..layout.size {
-                let at = std::num::wrapping_add_u32(address.0, place);
+                let at = std::num::wrapping_add_u32(found.address.0, place);
                 t = t.with(leads_to(layout, at, x, y, place));
             }
         }
-        Translated::Refused(_) => t = t.with(false),
+        Err(_) => t = t.with(false),
     }
     t
 }
@@ -137,7 +127,7 @@ struct Swept {
 impl Swept {
     fn with(self, layout: Layout, at: u32) -> Self {
         match address::locate(layout, ByteAddress(at)) {
-            Located::Pair { x, y, place } => {
+            Ok(Located { x, y, place }) => {
                 let begins = std::num::wrapping_sub_u32(at, place);
                 if goes_to(layout, x, y, begins) {
                     Swept {
@@ -148,8 +138,8 @@ impl Swept {
                     self
                 }
             }
-            Located::Refused(why) => {
-                if u32::from(why) == 12 {
+            Err(why) => {
+                if why == Refusal::Unowned {
                     Swept {
                         owned: self.owned,
                         nobody: std::num::wrapping_add_u64(self.nobody, 1),
@@ -177,7 +167,7 @@ fn sweep(layout: Layout, first: u32, count: u32) -> Swept {
 // the pairs' bytes are owned.
 fn window(layout: Layout) -> Tally {
     match layout::judge(layout) {
-        Judged::Accepted { step, span } => {
+        Ok(Accepted { step, span }) => {
             let t = pairs(layout, step);
             let around = std::num::wrapping_add_u32(span, 4096);
             let swept = sweep(
@@ -190,7 +180,7 @@ fn window(layout: Layout) -> Tally {
             let t = t.with(swept.owned == bytes);
             t.with(std::num::wrapping_add_u64(swept.nobody, bytes) == around as u64)
         }
-        Judged::Refused(_) => Tally::new().with(false),
+        Err(_) => Tally::new().with(false),
     }
 }
 

@@ -1,7 +1,7 @@
 // Runs: those of C1 to C6, and of every pair of small windows of every size and kind, element by element.
 use crate::addresses::goes_to;
 use address::Translated;
-use layout::{Judged, Layout};
+use layout::Layout;
 use std::io;
 use worked::tally::Tally;
 use worked::windows::{linear, tiled, window_of};
@@ -9,8 +9,8 @@ use worked::windows::{linear, tiled, window_of};
 // Whether this is a pair's run.
 fn has_run(layout: Layout, x: u32, y: u32, wanted: u32) -> bool {
     match address::translate(layout, x, y) {
-        Translated::At { address: _, run } => run == wanted,
-        Translated::Refused(_) => false,
+        Ok(found) => found.run == wanted,
+        Err(_) => false,
     }
 }
 
@@ -29,7 +29,7 @@ fn cases() -> Tally {
 fn element(layout: Layout, x: u32, y: u32) -> Tally {
     let mut t = Tally::new();
     match address::translate(layout, x, y) {
-        Translated::At { address, run } => {
+        Ok(Translated { address, run }) => {
             let mut at = address.0;
             for k in 0..run {
                 t = t.with(goes_to(layout, std::num::wrapping_add_u32(x, k), y, at));
@@ -38,7 +38,7 @@ fn element(layout: Layout, x: u32, y: u32) -> Tally {
             let next = goes_to(layout, std::num::wrapping_add_u32(x, run), y, at);
             t = t.with(!next);
         }
-        Translated::Refused(_) => t = t.with(false),
+        Err(_) => t = t.with(false),
     }
     t
 }
@@ -61,8 +61,8 @@ fn pairs(layout: Layout, step: u32) -> Tally {
 
 fn window(layout: Layout) -> Tally {
     match layout::judge(layout) {
-        Judged::Accepted { step, span: _ } => pairs(layout, step),
-        Judged::Refused(_) => Tally::new().with(false),
+        Ok(taken) => pairs(layout, taken.step),
+        Err(_) => Tally::new().with(false),
     }
 }
 

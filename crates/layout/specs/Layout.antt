@@ -1,11 +1,11 @@
 -- Document 01, "Layouts and windows": when a layout is accepted, its row step and its span. Assumes nothing.
-use Rattle.std.specs.Prelude.{Bool, [], ◌∷◌, ℕ, ◌+◌, ◌-◌, ◌*◌, ◌/◌, ◌%◌, ◌^◌, leb, eqb}
+use Rattle.std.specs.Prelude.{Bool, Result, Ok, Err, [], ◌∷◌, ℕ, ◌+◌, ◌-◌, ◌*◌, ◌/◌, ◌%◌, ◌^◌, leb, eqb}
 use Rattle.laws.specs.Choice.{◌and◌, pick}
 use Rattle.refusal.specs.Number.{number_of}
 use Rattle.refusal.specs.Told.{Told, gives, refuses}
 use Rattle.layout.specs.Sizes.{is_size, width_of, height_of}
-use Rattle.layout.specs.declared.Judged.{Judged}
-use Rattle.layout.specs.declared.Judged.TheVariants.{Accepted, Refused}
+use Rattle.refusal.specs.declared.Refusal.{Refusal}
+use Rattle.layout.specs.declared.Accepted.{Accepted}
 
 -- "Base is a multiple of 2,048, pitch a multiple of 4 up to 8,188, else 3"; a size is one of the five
 unfoldable pub well_formed : ℕ → ℕ → ℕ → Bool
@@ -54,6 +54,6 @@ judge_of base pitch h s tiled =
     (refuses 3)
 
 -- what the judgement of a layout tells, case by case
-abbrev pub told_judged : Judged → Told
-told_judged (Accepted step span) = gives (step ∷ span ∷ [])
-told_judged (Refused why) = refuses (number_of why)
+abbrev pub told_judged : Result Accepted Refusal → Told
+told_judged (Ok taken) = gives (taken.step ∷ taken.span ∷ [])
+told_judged (Err why) = refuses (number_of why)

@@ -27,11 +27,11 @@ pub struct Layout {
     pub tiled: bool,
 }
 
-// A layout's row step (document 01's E) and span, or the refusal.
-#[derive(Drop)]
-pub enum Judged {
-    Accepted { step: u32, span: u32 },
-    Refused(Refusal),
+// What a layout that is accepted has: its row step (document 01's E) and its span.
+#[derive(Clone, Copy)]
+pub struct Accepted {
+    pub step: u32,
+    pub span: u32,
 }
 
 // Bases are multiples of 2,048, pitches of 4 and at most 8,188.
@@ -299,25 +299,27 @@ fn table_rows(height: u32, size: u32, tiled: bool) -> u32
 }
 
 // A layout's row step and span, by the tables; or 3 where base, pitch or size is malformed, or 6 where the window rule is broken.
-pub fn judge(layout: Layout) -> Judged
+pub fn judge(layout: Layout) -> Result<Accepted, Refusal>
     ensures { told_judged result ≡ judge_of layout.base.0 layout.pitch layout.height layout.size layout.tiled }
 {
-    let base = layout.base.0;
-    let pitch = layout.pitch;
-    let height = layout.height;
-    let size = layout.size;
-    let tiled = layout.tiled;
+    let Layout {
+        base: ByteAddress(base),
+        pitch,
+        height,
+        size,
+        tiled,
+    } = layout;
     if !well_formed(base, pitch, size) {
-        return Judged::Refused(Refusal::Malformed);
+        return Err(Refusal::Malformed);
     }
     let stride = window_stride(base, pitch, height, size, tiled);
     if stride < 1 {
-        return Judged::Refused(Refusal::WindowRule);
+        return Err(Refusal::WindowRule);
     }
     let step = table_step(pitch, size, tiled);
     let rows = table_rows(height, size, tiled);
-    Judged::Accepted {
+    Ok(Accepted {
         step,
         span: rows * stride,
-    }
+    })
 }

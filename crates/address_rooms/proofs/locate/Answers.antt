@@ -1,0 +1,11 @@
+-- `address_rooms::locate` meets its contract: each answer crosses as it is told. Assumes nothing.
+use Rattle.std.proofs.Common.{sym, ap, ◌∙◌}
+use Rattle.address.specs.Address.{told_located}
+use Rattle.refusal.proofs.Crossings.{crosses_gives, crosses_refuses}
+use Rattle.address_rooms.proofs.locate.Goals as goal
+
+pub returns-in-Ok : goal.returns-in-Ok
+returns-in-Ok c = crosses_gives _ _ _ (sym c.locate.ensures ∙ ap told_located c.in-Ok.is)
+
+pub returns-in-Err : goal.returns-in-Err
+returns-in-Err c = crosses_refuses _ _ _ _ c.from.ensures (sym c.locate.ensures ∙ ap told_located c.in-Err.is)
