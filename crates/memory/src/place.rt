@@ -2,7 +2,6 @@
 ghost use Rattle.std.specs.Prelude.{◌≡◌};
 ghost use Rattle.memory.specs.Elements.{start_of, find_of, told_place};
 
-use address::Translated;
 use layout::{ByteAddress, Layout};
 use refusal::Refusal;
 
@@ -49,8 +48,6 @@ pub fn find(
 ) -> Result<usize, Refusal>
     ensures { told_place result ≡ find_of layout x y first.0 length }
 {
-    match address::translate(layout, x, y) {
-        Translated::Refused(why) => Err(why),
-        Translated::At { address, run: _ } => start(address, layout.size, first, length),
-    }
+    let found = address::translate(layout, x, y)?;
+    start(found.address, layout.size, first, length)
 }

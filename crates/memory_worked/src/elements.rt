@@ -1,7 +1,6 @@
 // Elements in lent memory: windows written pair by pair and read back, memory of every length and place that decides, data
 // of every wrong length, and superfine reads.
-use address::{Located, Translated};
-use layout::{ByteAddress, Judged, Layout};
+use layout::{Accepted, ByteAddress, Layout};
 use memory::{Answer, Reading, Written};
 use std::io;
 use worked::tally::Tally;
@@ -34,14 +33,14 @@ fn element(x: u32, y: u32) -> [u8; 16] {
 // What a memory at `first` of `length` bytes must make of a pair's element: 0 where it holds it, or the number.
 fn expected(layout: Layout, x: u32, y: u32, first: u32, length: usize) -> u32 {
     match address::translate(layout, x, y) {
-        Translated::Refused(why) => u32::from(why),
-        Translated::At { address, run: _ } => {
+        Err(why) => u32::from(why),
+        Ok(found) => {
             if 65536 < length {
                 return 11;
             }
             let begin = first as u64;
             let end = begin + length as u64;
-            let at = address.0 as u64;
+            let at = found.address.0 as u64;
             let held = end <= 4294967296 && (begin <= at && at + layout.size as u64 <= end);
             if held { 0 } else { 11 }
         }
@@ -133,7 +132,7 @@ fn untouched(layout: Layout, memory: &[u8], first: u32) -> Tally {
     let mut differed = 0u64;
     for k in 0..memory.len() {
         let at = std::num::wrapping_add_u32(first, (k % 65536) as u32);
-        if let Located::Refused(_) = address::locate(layout, ByteAddress(at)) {
+        if let Err(_) = address::locate(layout, ByteAddress(at)) {
             if memory[k] != pattern(k) {
                 differed = std::num::wrapping_add_u64(differed, 1);
             }
@@ -146,12 +145,12 @@ fn untouched(layout: Layout, memory: &[u8], first: u32) -> Tally {
 fn written(layout: Layout, memory: &mut [u8], first: u32) -> Tally {
     fill(memory);
     match layout::judge(layout) {
-        Judged::Accepted { step, span: _ } => {
+        Ok(Accepted { step, span: _ }) => {
             let t = rows(layout, step, memory, first);
             let t = t.and(rows_again(layout, step, memory, first));
             t.and(untouched(layout, memory, first))
         }
-        Judged::Refused(_) => Tally::new().with(false),
+        Err(_) => Tally::new().with(false),
     }
 }
 
@@ -228,8 +227,8 @@ fn lent(t: Trial, memory: &mut [u8]) -> Tally {
     let size = t.layout.size as usize;
     let wanted = expected(t.layout, t.x, t.y, t.first, memory.len());
     let mut from = 0;
-    if let Translated::At { address, run: _ } = address::translate(t.layout, t.x, t.y) {
-        from = std::num::wrapping_sub_u32(address.0, t.first);
+    if let Ok(found) = address::translate(t.layout, t.x, t.y) {
+        from = std::num::wrapping_sub_u32(found.address.0, t.first);
     }
     let bytes = bytes_from(memory, from as usize);
     let got = memory::read(t.layout, t.x, t.y, memory, first);
@@ -352,7 +351,7 @@ fn channels(layout: Layout, f: Fine, memory: &[u8], r: Reading) -> bool {
 }
 
 fn four_expected(layout: Layout, f: Fine, length: usize) -> u32 {
-    if let Judged::Refused(why) = layout::judge(layout) {
+    if let Err(why) = layout::judge(layout) {
         return u32::from(why);
     }
     if f.x == 4294967295 || f.y == 4294967295 {
