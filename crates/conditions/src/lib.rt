@@ -29,19 +29,12 @@ pub fn passes_test(test: u32, v: u32, b: u32) -> bool
     }
 }
 
-fn wide(byte: u8) -> u16
-    ensures value { result ≡ byte }
-    ensures most { result < 256 }
-{
-    byte as u16
-}
-
 // The two bytes at a place of memory, low byte first.
 pub fn word_at(memory: &[u8], at: usize) -> u16
     requires { at + 2 ≤ length memory.now }
     ensures { result ≡ word_in memory.now at }
 {
-    wide(memory[at]) + 256 * wide(memory[at + 1])
+    u16::from(memory[at]) + 256 * u16::from(memory[at + 1])
 }
 
 // The numbers that a condition passes with a value: those of a span, or all others.
@@ -152,12 +145,10 @@ fn each_bit(
     ensures bytes { room.new ≡ written line (λ i. span_bit low top outside memory.now (at + 2 * i)) n room.old }
 {
     let mut passed = 0;
-    let mut i = 0;
-    while i < n {
+    for i in 0..n {
         let bit = bit_at(low, top, outside, memory, at + 2 * i);
         room[line + i] = bit as u8;
         passed += bit;
-        i += 1;
     }
     passed
 }

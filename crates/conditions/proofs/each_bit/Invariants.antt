@@ -6,8 +6,5 @@ use Rattle.conditions.proofs.each_bit.Given as goal
 
 abbrev pub invariant-loop-i : goal.invariant-loop-i
 invariant-loop-i l =
-    (l.i ≤ l.n) × (l.passed ≡ sum l.i (λ j. span_bit l.low l.top l.outside l.memory (l.at + 2 * j))) ×
+    (l.passed ≡ sum l.i (λ j. span_bit l.low l.top l.outside l.memory (l.at + 2 * j))) ×
     (l.room ≡ written l.line (λ j. span_bit l.low l.top l.outside l.memory (l.at + 2 * j)) l.i l.initial.room)
-
-abbrev pub decreases-loop-i : goal.decreases-loop-i
-decreases-loop-i l = l.n - l.i
