@@ -24,18 +24,9 @@ fn fill(part: &mut [u32], at: u32, size: u32)
     requires { (at + length part.old * size ≤ 2 ^ 32) × (length part.old ≤ 4096) × (0 < size) }
     ensures { part.new ≡ listed (λ j. at + j * size) 0 (length part.old) }
 {
-    let mut j = 0;
-    while j < part.len() {
+    for j in 0..part.len() {
         part[j] = at + j as u32 * size;
-        j += 1;
     }
-}
-
-fn smaller(a: u32, b: usize) -> usize
-    ensures { (result ≤ a) × (result ≤ b) × (result < b → result ≡ a) }
-{
-    let wide = a as usize;
-    if wide < b { wide } else { b }
 }
 
 // The addresses from place i up to `end`, at most where the run of the first of them ends.
@@ -113,7 +104,7 @@ fn by_runs(base: u32, size: u32, stride: u32, x: u32, y: u32, room: &mut [u32])
     if count == 0 {
         return;
     }
-    let head = smaller(run::run_from(true, size, stride, x), count);
+    let head = (run::run_from(true, size, stride, x) as usize).min(count);
     one_run(base, size, true, stride, x, y, room, 0, head);
     let past = whole_of(base, size, stride, x, y, room, head);
     if past < count {
@@ -158,7 +149,7 @@ fn by_places(base: u32, stride: u32, x: u32, y: u32, room: &mut [u32])
     let mut i = 0;
     while i < count {
         let column = x + i as u32;
-        let many = smaller(run::run_from(true, 1, stride, column), count - i);
+        let many = (run::run_from(true, 1, stride, column) as usize).min(count - i);
         let at = base + byte_offset(&table, stride, column, y);
         fill(&mut room[i..i + many], at, 1);
         i += many;
