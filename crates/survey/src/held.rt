@@ -14,12 +14,6 @@ const MOST_BYTES: usize = 65536;
 
 const ADDRESSED: u64 = 0x1_0000_0000;
 
-fn smaller(a: u32, b: u32) -> u32
-    ensures { (result ≤ a) × (result ≤ b) × (0 < a → 0 < b → 0 < result) }
-{
-    if a < b { a } else { b }
-}
-
 // Whether memory of `length` bytes holds `count` numbers of a row, run by run: the first and the last of each.
 fn row_held(
     base: u32,
@@ -41,7 +35,7 @@ fn row_held(
         if at < first {
             return false;
         }
-        let many = smaller(run::run_from(tiled, SIZE, stride, x + i), count - i);
+        let many = run::run_from(tiled, SIZE, stride, x + i).min(count - i);
         if end < at as u64 + (SIZE * many) as u64 {
             return false;
         }
@@ -65,12 +59,10 @@ fn rows_held(
     requires { RowsHeldAsked base stride tiled x y columns rows first «length» × (0 < columns) }
     ensures { result ≡ every (rows * columns) (domain_held base tiled (stride / 2) first «length» x y columns) }
 {
-    let mut j = 0;
-    while j < rows {
+    for j in 0..rows {
         if !row_held(base, stride, tiled, x, y + j, columns, first, length) {
             return false;
         }
-        j += 1;
     }
     true
 }
