@@ -12,6 +12,7 @@ const ADDRESSED: u64 = 0x1_0000_0000;
 
 // Where the element at an address begins, counted from memory's first byte; or 11: memory is over 65,536 bytes, ends above 2^32, or
 // doesn't hold the whole element. Sums are taken at 64 bits, where they can't wrap.
+#[inline(always)]
 pub fn start(
     address: ByteAddress,
     size: u32,
@@ -39,6 +40,7 @@ pub fn start(
 }
 
 // Where a pair's element begins, or 3, 6, 10 or 11.
+#[inline(always)]
 pub fn find(
     layout: Layout,
     x: u32,

@@ -5,7 +5,7 @@ use Prim.Native.Nat.{◌+◌}
 use native.Mathlib.Omega.{arith}
 use Rattle.address.proofs.Answers.{bytes_fit}
 use Rattle.superfine.proofs.Around.{corners_malformed, corners_ruleless, past_all_rows, past_the_row}
-use Rattle.superfine.proofs.Around.{own_out, below_out, kind_asked, kind_found}
+use Rattle.superfine.proofs.Around.{own_out, below_out, kind_asked, kind_found, asked_at, corners_at_lem}
 use Rattle.superfine.proofs.corners.addresses.Goals as goal
 
 pub returns-then-not-well_formed : goal.returns-then-not-well_formed
@@ -51,24 +51,54 @@ returns-then-layout-y-2 c =
 
 pub tiled-requires : goal.tiled-requires
 tiled-requires c =
-    let well-formed-told = sym c.well_formed-2.ensures ∙ c.if-not-well_formed.false in
-    kind_asked c.args.layout _ _ well-formed-told _ c.window_stride-stride.ensures
+    let formed = sym c.well_formed-2.ensures ∙ c.if-not-well_formed.false in
+    asked_at _ _ _ true _ _ 2 c.in-2.is
+    (kind_asked c.args.layout _ _ formed _ c.window_stride-stride.ensures
+    c.if-stride-lt1.false c.if-stride-x.false c.if-layout-y-2.false true c.if-layout.true)
+
+pub tiled-requires-in-4 : goal.tiled-requires-in-4
+tiled-requires-in-4 c =
+    let formed = sym c.well_formed-2.ensures ∙ c.if-not-well_formed.false in
+    asked_at _ _ _ true _ _ 4 c.in-4.is
+    (kind_asked c.args.layout _ _ formed _ c.window_stride-stride.ensures
+    c.if-stride-lt1.false c.if-stride-x.false c.if-layout-y-2.false true c.if-layout.true)
+
+pub around-requires : goal.around-requires
+around-requires c =
+    let formed = sym c.well_formed-2.ensures ∙ c.if-not-well_formed.false in
+    kind_asked c.args.layout _ _ formed _ c.window_stride-stride.ensures
     c.if-stride-lt1.false c.if-stride-x.false c.if-layout-y-2.false true c.if-layout.true
 
-pub linear-requires : goal.linear-requires
-linear-requires c =
-    let well-formed-told = sym c.well_formed-2.ensures ∙ c.if-not-well_formed.false in
-    kind_asked c.args.layout _ _ well-formed-told _ c.window_stride-stride.ensures
+pub linear-corners-requires : goal.linear-corners-requires
+linear-corners-requires c =
+    let formed = sym c.well_formed-2.ensures ∙ c.if-not-well_formed.false in
+    kind_asked c.args.layout _ _ formed _ c.window_stride-stride.ensures
     c.if-stride-lt1.false c.if-stride-x.false c.if-layout-y-2.false false c.if-layout.false
 
-pub returns-then-layout : goal.returns-then-layout
-returns-then-layout c =
-    let well-formed-told = sym c.well_formed-2.ensures ∙ c.if-not-well_formed.false in
-    c.tiled.ensures ∙ kind_found c.args.layout _ _ well-formed-told _ c.window_stride-stride.ensures
+pub returns-in-2 : goal.returns-in-2
+returns-in-2 c =
+    let formed = sym c.well_formed-2.ensures ∙ c.if-not-well_formed.false in
+    c.tiled.ensures ∙ corners_at_lem _ _ _ true _ _ 2 c.in-2.is ∙
+    kind_found c.args.layout _ _ formed _ c.window_stride-stride.ensures
+    c.if-stride-lt1.false c.if-stride-x.false c.if-layout-y-2.false true c.if-layout.true
+
+pub returns-in-4 : goal.returns-in-4
+returns-in-4 c =
+    let formed = sym c.well_formed-2.ensures ∙ c.if-not-well_formed.false in
+    c.tiled-in-4.ensures ∙ corners_at_lem _ _ _ true _ _ 4 c.in-4.is ∙
+    kind_found c.args.layout _ _ formed _ c.window_stride-stride.ensures
+    c.if-stride-lt1.false c.if-stride-x.false c.if-layout-y-2.false true c.if-layout.true
+
+pub returns-in_default : goal.returns-in_default
+returns-in_default c =
+    let formed = sym c.well_formed-2.ensures ∙ c.if-not-well_formed.false in
+    c.around.ensures ∙
+    kind_found c.args.layout _ _ formed _ c.window_stride-stride.ensures
     c.if-stride-lt1.false c.if-stride-x.false c.if-layout-y-2.false true c.if-layout.true
 
 pub returns-else-layout : goal.returns-else-layout
 returns-else-layout c =
-    let well-formed-told = sym c.well_formed-2.ensures ∙ c.if-not-well_formed.false in
-    c.linear.ensures ∙ kind_found c.args.layout _ _ well-formed-told _ c.window_stride-stride.ensures
+    let formed = sym c.well_formed-2.ensures ∙ c.if-not-well_formed.false in
+    c.linear-corners.ensures ∙
+    kind_found c.args.layout _ _ formed _ c.window_stride-stride.ensures
     c.if-stride-lt1.false c.if-stride-x.false c.if-layout-y-2.false false c.if-layout.false
