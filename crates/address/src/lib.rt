@@ -62,15 +62,12 @@ fn sized(layout: Layout, x: u32, y: u32) -> Result<Translated, Refusal>
 {
     let Layout {
         base: ByteAddress(base),
-        pitch,
+        pitch: _,
         height,
         size,
         tiled,
     } = layout;
-    let stride = layout::window_stride(base, pitch, height, size, tiled);
-    if stride < 1 {
-        return Err(Refusal::WindowRule);
-    }
+    let stride = layout::window_stride(layout)?;
     // up to the greatest row step the product can't wrap
     if STEP_MOST < x || stride <= x * size || height <= y {
         return Err(Refusal::PairOutside);

@@ -25,15 +25,12 @@ fn owner(layout: Layout, address: u32) -> Result<Located, Refusal>
 {
     let Layout {
         base: ByteAddress(base),
-        pitch,
+        pitch: _,
         height,
         size,
         tiled,
     } = layout;
-    let stride = layout::window_stride(base, pitch, height, size, tiled);
-    if stride < 1 {
-        return Err(Refusal::WindowRule);
-    }
+    let stride = layout::window_stride(layout)?;
     let o = distance(base, address);
     let pair = offset::back(tiled, size, stride, o);
     if height <= pair.y {

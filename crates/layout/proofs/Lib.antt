@@ -1,4 +1,5 @@
 pub mod Powers
 pub mod Rows
 pub mod Sizes
+pub mod Strides
 pub mod Window

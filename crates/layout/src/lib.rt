@@ -6,7 +6,7 @@ ghost use Rattle.std.specs.Prelude.{◌≡◌, true, ◌*◌, ◌/◌, ◌^◌, 
 ghost use Rattle.laws.specs.Choice.{pick};
 ghost use Rattle.layout.specs.Sizes.{is_size, width_of, height_of};
 ghost use Rattle.layout.specs.Powers.{power_at, Powers};
-ghost use Rattle.layout.specs.Layout.{well_formed, unit_of, row_step, rows_taken, stride_of, judge_of, told_judged};
+ghost use Rattle.layout.specs.Layout.{well_formed, unit_of, row_step, rows_taken, stride_of, strided, judge_of, told_judged};
 ghost use Rattle.layout.specs.Asked.{StrideAsked};
 
 use refusal::Refusal;
@@ -189,76 +189,55 @@ pub fn rows_taken(height: u32, size: u32, tiled: bool) -> u32
     (height + ((1u32 << log) - 1)) >> log << log
 }
 
-// The stride, or 0 where the window rule is broken, by the powers of what strides and rows are multiples of. It is a number, so
-// that it stays in a register; a stride is at most 2^16 and a window has 2^12 rows, so the span is at most 2^28.
-fn stride_by(
-    base: u32,
-    pitch: u32,
-    height: u32,
-    size: u32,
-    tiled: bool,
-    stride_log: u32,
-    rows_log: u32,
-) -> u32
-    requires { StrideAsked base pitch size tiled stride_log rows_log }
-    ensures { result ≡ stride_of base pitch height size tiled }
+// The stride, or 6 where the window rule is broken, by the powers of what strides and rows are multiples of. A stride is at most 2^16
+// and a window has 2^12 rows, so the span is at most 2^28. It is expanded where it is called, so that no answer goes through memory.
+#[inline(always)]
+fn stride_by(layout: Layout, stride_log: u32, rows_log: u32) -> Result<u32, Refusal>
+    requires { StrideAsked layout.base.0 layout.pitch layout.size layout.tiled stride_log rows_log }
+    ensures { result ≡ strided (stride_of layout.base.0 layout.pitch layout.height layout.size layout.tiled) }
 {
+    let Layout {
+        base: ByteAddress(base),
+        pitch,
+        height,
+        size,
+        tiled: _,
+    } = layout;
     let stride = pitch * size >> stride_log << stride_log;
-    if stride < 1 {
-        return 0;
-    }
-    if SIDE_MOST * size < stride {
-        return 0;
-    }
-    if height < 1 {
-        return 0;
-    }
-    if SIDE_MOST < height {
-        return 0;
+    if stride < 1 || SIDE_MOST * size < stride || height < 1 || SIDE_MOST < height {
+        return Err(Refusal::WindowRule);
     }
     let rows = (height + ((1u32 << rows_log) - 1)) >> rows_log << rows_log;
     // base plus span is at most 2^32, asked so that nothing wraps
     if LAST_ADDRESS - base < rows * stride - 1 {
-        return 0;
+        return Err(Refusal::WindowRule);
     }
-    stride
+    Ok(stride)
 }
 
-// The stride, document 01's E in bytes: the bytes from one row to the next; or 0 where the window rule is broken. For callers
-// whose layouts are mostly alike, so that a branch is guessed and a linear stride waits for nothing but its pitch.
-pub fn window_stride(base: u32, pitch: u32, height: u32, size: u32, tiled: bool) -> u32
-    requires { well_formed base pitch size ≡ true }
-    ensures { result ≡ stride_of base pitch height size tiled }
+// The stride, document 01's E in bytes: the bytes from one row to the next; or 6 where the window rule is broken. For the windows of
+// a stream, which can't be foretold: no branch on the kind.
+#[inline(always)]
+pub fn stream_stride(layout: Layout) -> Result<u32, Refusal>
+    requires { well_formed layout.base.0 layout.pitch layout.size ≡ true }
+    ensures { result ≡ strided (stride_of layout.base.0 layout.pitch layout.height layout.size layout.tiled) }
 {
-    if tiled {
-        stride_by(
-            base,
-            pitch,
-            height,
-            size,
-            true,
-            stride_log(size, true),
-            rows_log(size, true),
-        )
+    let stride_log = stride_log(layout.size, layout.tiled);
+    let rows_log = rows_log(layout.size, layout.tiled);
+    stride_by(layout, stride_log, rows_log)
+}
+
+// The same for callers whose layouts are mostly alike, so that a branch is guessed and a linear stride waits for nothing but its pitch.
+#[inline(always)]
+pub fn window_stride(layout: Layout) -> Result<u32, Refusal>
+    requires { well_formed layout.base.0 layout.pitch layout.size ≡ true }
+    ensures { result ≡ strided (stride_of layout.base.0 layout.pitch layout.height layout.size layout.tiled) }
+{
+    if layout.tiled {
+        stream_stride(layout)
     } else {
-        stride_by(base, pitch, height, size, false, LINEAR_UNIT_LOG, 0)
+        stride_by(layout, LINEAR_UNIT_LOG, 0)
     }
-}
-
-// The same for the windows of a stream, which can't be foretold: no branch.
-pub fn stream_stride(base: u32, pitch: u32, height: u32, size: u32, tiled: bool) -> u32
-    requires { well_formed base pitch size ≡ true }
-    ensures { result ≡ stride_of base pitch height size tiled }
-{
-    stride_by(
-        base,
-        pitch,
-        height,
-        size,
-        tiled,
-        stride_log(size, tiled),
-        rows_log(size, tiled),
-    )
 }
 
 // What row steps are multiples of, by the table.
@@ -302,22 +281,12 @@ fn table_rows(height: u32, size: u32, tiled: bool) -> u32
 pub fn judge(layout: Layout) -> Result<Accepted, Refusal>
     ensures { told_judged result ≡ judge_of layout.base.0 layout.pitch layout.height layout.size layout.tiled }
 {
-    let Layout {
-        base: ByteAddress(base),
-        pitch,
-        height,
-        size,
-        tiled,
-    } = layout;
-    if !well_formed(base, pitch, size) {
+    if !well_formed(layout.base.0, layout.pitch, layout.size) {
         return Err(Refusal::Malformed);
     }
-    let stride = window_stride(base, pitch, height, size, tiled);
-    if stride < 1 {
-        return Err(Refusal::WindowRule);
-    }
-    let step = table_step(pitch, size, tiled);
-    let rows = table_rows(height, size, tiled);
+    let stride = window_stride(layout)?;
+    let step = table_step(layout.pitch, layout.size, layout.tiled);
+    let rows = table_rows(layout.height, layout.size, layout.tiled);
     Ok(Accepted {
         step,
         span: rows * stride,
