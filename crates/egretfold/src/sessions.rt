@@ -22,7 +22,10 @@ pub extern "C" fn egretfold_session_begin(
 ) -> u32
     ensures { Begins edition result own.old tallies.old shared.old own.new tallies.new shared.new }
 {
-    stream::begin(own, tallies, shared, edition)
+    match stream::begin(own, tallies, shared, edition) {
+        Ok(()) => 0,
+        Err(why) => u32::from(why),
+    }
 }
 
 // One word: whether it completed a command, and that command's header and parameters; 1 to 9, 17, or 20 where the cells are a
