@@ -14,7 +14,7 @@ use Rattle.session.specs.declared.stream.Progress.TheVariants.{Open, Whole}
 use Rattle.session.proofs.Numbers.{told_open, told_whole}
 
 -- a piece's answer in three numbers, and cells that hold the session after it
-pub record Fed_as (f : Fed) (taken commands number : ℕ) (own tallies shared : List ℕ) : Type 0 where
+pub record Fed_in (f : Fed) (taken commands number : ℕ) (own tallies shared : List ℕ) : Type 0 where
   pub words : taken ≡ f.taken
   pub whole : commands ≡ length f.commands
   pub status : number ≡ first_status f.refusal
@@ -26,21 +26,21 @@ module _ (s : Session) (w : ℕ) {l t c : List ℕ} where
   alone y e = ap (λ (x : Reply). proceed x (step_of s w).session (ended nothing (step_of s w).session)) (sym e.reply)
 
   -- the command is still open
-  pub one_open : {p : Progress} → p ≡ Open → Told (step_of s w) (Ok p) l t c → Fed_as (feed_of s (w ∷ [])) 1 0 0 l t c
+  pub one_open : {p : Progress} → p ≡ Open → Told (step_of s w) (Ok p) l t c → Fed_in (feed_of s (w ∷ [])) 1 0 0 l t c
   one_open e h =
       let left = told_open (step_of s w) e h in
-      subst (λ (f : Fed). Fed_as f 1 0 0 l t c) (sym (alone still_open left))
+      subst (λ (f : Fed). Fed_in f 1 0 0 l t c) (sym (alone still_open left))
       (unfold proceed in record { words = refl; whole = refl; status = refl; held = left.held })
 
   -- the word completed it
-  pub one_completed : {p : Progress} → p ≡ Whole → Told (step_of s w) (Ok p) l t c → Fed_as (feed_of s (w ∷ [])) 1 1 0 l t c
+  pub one_completed : {p : Progress} → p ≡ Whole → Told (step_of s w) (Ok p) l t c → Fed_in (feed_of s (w ∷ [])) 1 1 0 l t c
   one_completed e h =
       let done = told_whole (step_of s w) e h in
-      subst (λ (f : Fed). Fed_as f 1 1 0 l t c) (sym (alone (completed done.command) done.left))
+      subst (λ (f : Fed). Fed_in f 1 1 0 l t c) (sym (alone (completed done.command) done.left))
       (unfold proceed in record { words = refl; whole = refl; status = refl; held = done.left.held })
 
   -- the word is refused
-  pub one_refused : (n : ℕ) → Left (step_of s w) (refused n) l t c → Fed_as (feed_of s (w ∷ [])) 0 0 n l t c
-  one_refused n h =
-      subst (λ (f : Fed). Fed_as f 0 0 n l t c) (sym (alone (refused n) h))
-      (unfold proceed in record { words = refl; whole = refl; status = refl; held = h.held })
+  pub one_refused : (n k : ℕ) → k ≡ n → Left (step_of s w) (refused n) l t c → Fed_in (feed_of s (w ∷ [])) 0 0 k l t c
+  one_refused n k e h =
+      subst (λ (f : Fed). Fed_in f 0 0 k l t c) (sym (alone (refused n) h))
+      (unfold proceed in record { words = refl; whole = refl; status = e; held = h.held })

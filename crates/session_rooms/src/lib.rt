@@ -5,6 +5,7 @@
 ghost use Rattle.std.specs.Prelude.{[], ◌∷◌};
 ghost use Rattle.state.specs.Asked.{Given};
 ghost use Rattle.state.specs.Cells.{session_of};
+ghost use Rattle.session.specs.Answers.{Begins};
 ghost use Rattle.session.specs.Feed.{feed_of};
 ghost use Rattle.session.specs.Step.{step_of};
 ghost use Rattle.session_rooms.specs.Rooms.{FeedCrosses, WordCrosses};
@@ -18,6 +19,21 @@ use refusal::Refusal;
 pub const COMMAND_NUMBERS: usize = 6;
 
 pub const PIECE_NUMBERS: usize = 2;
+
+// A new session of an edition; 3.
+pub fn begin(
+    own: &mut [u32; state::OWN_CELLS],
+    tallies: &mut [u64; state::TALLIES],
+    shared: &mut [u32; state::SHARED_CELLS],
+    edition: u32,
+) -> u32
+    ensures { Begins edition result own.old tallies.old shared.old own.new tallies.new shared.new }
+{
+    match stream::begin(own, tallies, shared, edition) {
+        Ok(()) => 0,
+        Err(why) => u32::from(why),
+    }
+}
 
 // One word: whether it completed a command, and that command's header and parameters; 1 to 9, 17, or 20 where the cells are a
 // party's of a pair.

@@ -79,7 +79,7 @@ fn take_word(
     requires { WordsAsked log.old own.old tallies.old shared.old }
     ensures { WordsLeft (word ∷ []) log.old own.old tallies.old shared.old log.new own.new tallies.new shared.new }
 {
-    let answer = stream::word(own, tallies, shared, word);
+    let answer = stream::step(own, tallies, shared, word);
     own::close(log);
     if let Err(why) = answer {
         own::note(log, u32::from(why))
