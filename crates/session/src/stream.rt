@@ -14,7 +14,6 @@ ghost use Rattle.session.specs.Answers.{Begins, PieceLeft, begun_status, last_re
 ghost use Rattle.session.specs.Feed.{feed_of};
 
 use command::commands::Command;
-use command::table::Line;
 use command::{commands, kinds, table};
 use refusal;
 use refusal::Refusal;
@@ -138,11 +137,11 @@ fn read(
         return parameter(own, tallies, shared, word);
     }
     match table::line_of(word) {
-        Line::Unknown => {
+        None => {
             own::stop(own);
             Err(Refusal::UnknownHeader)
         }
-        Line::At(line) => {
+        Some(line) => {
             if owners::may_open(own[own::MINE], line) {
                 own::open_line(own, line);
                 return Ok(Progress::Open);

@@ -8,7 +8,6 @@ ghost use Rattle.refusal.specs.Crossing.{Crosses, Shows, flag};
 ghost use Rattle.setting_rooms.specs.Rooms.{domain_numbers, format_at, format_of, mask_numbers, open_header, standing_numbers, tally_numbers, told_found};
 
 use command::table;
-use command::table::Line;
 use queries::Setting;
 use refusal::Refusal;
 use state::own;
@@ -151,8 +150,8 @@ pub fn format(
     ensures { Crosses (format_of (party_of own.now []) (shared_of shared.now) header number) result format.old format.new }
 {
     match table::line_of(header) {
-        Line::Unknown => u32::from(Refusal::UnknownHeader),
-        Line::At(line) => match at_line(own, shared, line, number) {
+        None => u32::from(Refusal::UnknownHeader),
+        Some(line) => match at_line(own, shared, line, number) {
             Found::Refused(why) => u32::from(why),
             Found::Is(setting) => {
                 let set = flag_of(setting.present);

@@ -7,19 +7,19 @@ use Rattle.command.proofs.Known.{on_line_lem, off_line}
 use Rattle.setting_rooms.proofs.Formats.{setting_told}
 use Rattle.setting_rooms.proofs.format.Goals as goal
 
-pub returns-in-Unknown : goal.returns-in-Unknown
-returns-in-Unknown c =
+pub returns-in-None : goal.returns-in-None
+returns-in-None c =
     crosses_refuses _ _ _ _ c.from.ensures
-    (off_line _ _ _ (sym c.line_of.ensures ∙ ap told_line c.in-Unknown.is))
+    (off_line _ _ _ (sym c.line_of.ensures ∙ ap told_line c.in-None.is))
 
 pub returns-in-Refused : goal.returns-in-Refused
 returns-in-Refused c =
     crosses_refuses _ _ _ _ c.from-in-Refused.ensures
-    (on_line_lem _ _ _ _ (sym c.line_of.ensures ∙ ap told_line c.in-At.is) ∙
+    (on_line_lem _ _ _ _ (sym c.line_of.ensures ∙ ap told_line c.in-Some.is) ∙
     sym c.at_line.ensures ∙ ap told_found c.in-Refused.is)
 
 pub returns-in-Is : goal.returns-in-Is
 returns-in-Is c =
     crosses_gives _ _ _
-    (on_line_lem _ _ _ _ (sym c.line_of.ensures ∙ ap told_line c.in-At.is) ∙
+    (on_line_lem _ _ _ _ (sym c.line_of.ensures ∙ ap told_line c.in-Some.is) ∙
     sym c.at_line.ensures ∙ ap told_found c.in-Is.is ∙ setting_told _ _ c.flag_of-set.ensures)

@@ -30,7 +30,7 @@ returns-then-own-ne-NO_LINE c =
 
 pub may_open-requires : goal.may_open-requires
 may_open-requires c =
-    (accepted_listed _ _ (sym c.line_of.ensures ∙ ap told_line c.in-At.is)).line
+    (accepted_listed _ _ (sym c.line_of.ensures ∙ ap told_line c.in-Some.is)).line
 
 pub open_line-requires : goal.open_line-requires
 open_line-requires c =
@@ -43,19 +43,19 @@ pub returns-then-may_open : goal.returns-then-may_open
 returns-then-may_open c =
     let args = c.args in
     word_header args.own.now args.tallies.now args.shared.now args.word c.requires c.if-own-eq1.false c.if-own-ge-WORD_LIMIT.false
-    c.if-own-ne-NO_LINE.false _ (sym c.line_of.ensures ∙ ap told_line c.in-At.is)
+    c.if-own-ne-NO_LINE.false _ (sym c.line_of.ensures ∙ ap told_line c.in-Some.is)
     (sym c.may_open.ensures ∙ c.if-may_open.true) _ c.open_line.ensures
 
-pub returns-in-Unknown : goal.returns-in-Unknown
-returns-in-Unknown c =
+pub returns-in-None : goal.returns-in-None
+returns-in-None c =
     let args = c.args in
     word_unknown args.own.now args.tallies.now args.shared.now args.word c.requires c.if-own-eq1.false c.if-own-ge-WORD_LIMIT.false
-    c.if-own-ne-NO_LINE.false (sym c.line_of.ensures ∙ ap told_line c.in-Unknown.is) _ c.stop-in-Unknown.ensures
+    c.if-own-ne-NO_LINE.false (sym c.line_of.ensures ∙ ap told_line c.in-None.is) _ c.stop-in-None.ensures
 
 -- one that sets what is party 0's
 pub returns-else-may_open : goal.returns-else-may_open
 returns-else-may_open c =
     let args = c.args in
     word_foreign args.own.now args.tallies.now args.shared.now args.word c.requires c.if-own-eq1.false c.if-own-ge-WORD_LIMIT.false
-    c.if-own-ne-NO_LINE.false _ (sym c.line_of.ensures ∙ ap told_line c.in-At.is)
-    (sym c.may_open.ensures ∙ c.if-may_open.false) _ c.stop-in-At.ensures
+    c.if-own-ne-NO_LINE.false _ (sym c.line_of.ensures ∙ ap told_line c.in-Some.is)
+    (sym c.may_open.ensures ∙ c.if-may_open.false) _ c.stop-in-Some.ensures
