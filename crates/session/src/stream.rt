@@ -110,7 +110,7 @@ fn parameter(
     if is_taken(own[own::MINE], line, count, word) {
         return Ok(placed(own, tallies, shared, word));
     }
-    let fault = refusal::with_number(owners::fault_at(line, count, word));
+    let fault = owners::fault_at(line, count, word);
     own::stop(own);
     Err(fault)
 }
