@@ -1,6 +1,6 @@
 -- A command that sets an output or the mask, cell by cell as the code takes it: the windows that are kept are the outputs', so that
 -- what is renewed from them is what the settings give. Assumes nothing.
-use mathlib.Core.Path.{◌≡◌, refl, sym, ap, ◌∙◌, subst}
+use mathlib.Core.Path.{◌≡◌, refl, sym, ap, ap₂, ◌∙◌, subst}
 use mathlib.Core.Bool.{Bool, true}
 use mathlib.Core.List.{List, [], ◌∷◌}
 use Prim.Native.Nat.{ℕ, ◌+◌, ◌*◌, ◌<◌}
@@ -11,6 +11,8 @@ use Rattle.laws.proofs.Table.{each, ◌&◌}
 use Rattle.owners.specs.Owners.{mask_by, owns_output}
 use Rattle.command.specs.Format.{window_of, window_seen}
 use Rattle.command.specs.declared.format.Window as seen
+use Rattle.command.proofs.Windows.{seen_values}
+use Rattle.std.specs.Prelude.{Some}
 use Rattle.command.specs.declared.commands.Command.{Command}
 use Rattle.command.specs.declared.commands.Command.TheVariants as command
 use Rattle.state.specs.State.{Buffer, Window, Readiness, Party, Shared, unset}
@@ -108,11 +110,11 @@ module _ (l l1 h h1 : List ℕ) (m : ℕ) (e : l1 ≡ party_cells (took_words m 
       }
 
   module _ (n b f k : ℕ) (less : n < 4) (owns : owns_output (party_of l []).birth.mine n ≡ true) (w : seen.Window)
-      (judged : w ≡ window_seen (window_of b f k)) (l2 : List ℕ)
+      (judged : window_seen (window_of b f k) ≡ Some w) (l2 : List ℕ)
       (e2 : l2 ≡ party_cells (with_readiness (with_window n (window_from w.step w.span) (party_of l1 []).readiness) (party_of l1 []))) where
     judged_window : window_from w.step w.span ≡ window_for (buffer b f k)
     unfolding window_for step_of_buffer span_of_buffer
-    judged_window = ap (λ (x : seen.Window). window_from x.step x.span) judged
+    judged_window = let values = seen_values _ w judged in ap₂ (λ (x y : ℕ). window_from x y) values.0 values.1
 
     set_readiness : (party_of l2 []).readiness ≡ with_window n (window_from w.step w.span) (party_of l []).readiness
     set_readiness = stored ∙ ap (λ (r : Readiness). with_window n (window_from w.step w.span) r) counted_readiness

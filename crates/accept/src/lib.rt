@@ -14,7 +14,6 @@ ghost use Rattle.state.specs.Asked.{OwnAsked};
 ghost use Rattle.start.specs.Gauge.{RenewAsked};
 ghost use Rattle.accept.specs.Whole.{Begun, KeptAt, LineTried, OwnTried, Ready, RoomFor, SharedTried, Tried, every_word, last_word, most_words};
 
-use command::table::Line;
 use command::{format, table};
 use rules::fits;
 use start::{claims, ready};
@@ -170,7 +169,7 @@ fn take_output(
                 format,
                 height,
             );
-            let window = format::window_of(base, format, height);
+            let window = format::window_of(base, format, height).unwrap();
             own::set_window(own, number, window.step, window.span);
             ready::renew(own, shared);
             words
@@ -349,8 +348,8 @@ pub fn take(
 {
     let at = from.0 as usize;
     match table::line_of(words[at]) {
-        Line::Unknown => 0,
-        Line::At(line) => take_line(
+        None => 0,
+        Some(line) => take_line(
             own,
             tallies,
             shared,

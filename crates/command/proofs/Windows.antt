@@ -13,12 +13,14 @@ use Rattle.laws.specs.Choice.{◌and◌, pick, place_of}
 use Rattle.laws.proofs.Below.{every_at}
 use Rattle.laws.proofs.Choice.{pick_yes, and_intro, and_left, and_right}
 use Rattle.laws.proofs.Table.{NoneOf}
-use Rattle.refusal.specs.Told.{gives, refuses, is_given}
+use Rattle.refusal.specs.Told.{Told, gives, refuses, is_given}
 use Rattle.layout.specs.Sizes.{is_size}
 use Rattle.layout.specs.Layout.{well_formed, window_rule, row_step, span_of, judge_of}
 use Rattle.layout.proofs.Window.{judged_malformed, judged_broken, judged_accepted}
 use Rattle.command.specs.Format.{pitch_of, tiled_of, code_of, size_of, channels_of, window_of, value_of, window_seen}
 use Rattle.command.specs.declared.format.Window.{Window}
+use Rattle.std.specs.Prelude.{Some, None, is_some, unwrap_or}
+use Rattle.std.proofs.lemmas.Option.{same_Some, none-some}
 use Rattle.command.specs.Kinds.{format_allowed, allowed}
 use Rattle.command.specs.declared.kinds.Kind.TheVariants.{Base, Format, InputFormat}
 
@@ -68,25 +70,39 @@ module _
     (es : s ≡ size_of k)
     (et : t ≡ tiled_of format)
   where
-    abbrev refused_window : Window
-    refused_window = record { given = false; step = 0; span = 0 }
-
     abbrev read : judge_of base p h s t ≡ window_of base format h
     read = window_read base format h p k s t ep ek es et
 
-    pub seen_malformed : well_formed base p s ≡ false → refused_window ≡ window_seen (window_of base format h)
-    unfolding value_of is_given
+    pub seen_malformed : well_formed base p s ≡ false → None ≡ window_seen (window_of base format h)
     seen_malformed w = ap window_seen (sym (judged_malformed base p h s t w) ∙ read)
 
     module _ (w : well_formed base p s ≡ true) where
-      pub seen_broken : window_rule base t s (row_step t s p) h ≡ false → refused_window ≡ window_seen (window_of base format h)
-      unfolding value_of is_given
+      pub seen_broken : window_rule base t s (row_step t s p) h ≡ false → None ≡ window_seen (window_of base format h)
       seen_broken r = ap window_seen (sym (judged_broken base p h s t w r) ∙ read)
 
       pub seen_accepted : (e n : ℕ) → e ≡ row_step t s p → n ≡ span_of t s (row_step t s p) h → window_rule base t s (row_step t s p) h ≡ true →
-          record { given = true; step = e; span = n } ≡ window_seen (window_of base format h)
-      unfolding value_of is_given
+          Some (record { step = e; span = n }) ≡ window_seen (window_of base format h)
       seen_accepted e n step span r = ap window_seen (sym (judged_accepted base p h s t w e n step span r) ∙ read)
+
+-- a window is seen where it is accepted
+pub seen_given : (t : Told) → is_some (window_seen t) ≡ is_given t
+unfolding is_given
+seen_given (gives values) = refl
+seen_given (refuses number) = refl
+
+-- the row step and the span of a window that is seen; those of one that isn't are 0
+pub seen_values : (t : Told) (w : Window) → window_seen t ≡ Some w → (w.step ≡ value_of t 0) × (w.span ≡ value_of t 1)
+unfolding value_of
+seen_values (gives values) w e =
+    let same = same_Some _ _ e in
+    (sym (ap (λ (v : Window). v.step) same), sym (ap (λ (v : Window). v.span) same))
+seen_values (refuses number) w e = absurd (none-some _ e)
+
+pub default_values : (t : Told) (w : Window) → w ≡ unwrap_or (window_seen t) (record { step = 0; span = 0 }) →
+    (w.step ≡ value_of t 0) × (w.span ≡ value_of t 1)
+unfolding value_of
+default_values (gives values) w e = (ap (λ (v : Window). v.step) e, ap (λ (v : Window). v.span) e)
+default_values (refuses number) w e = (ap (λ (v : Window). v.step) e, ap (λ (v : Window). v.span) e)
 
 -- what an allowed format word has
 pub record Allowed (w : ℕ) : Type 0 where

@@ -1,7 +1,7 @@
 -- Document 01, "The command words": the fields of a format word, and the window that base, format and height describe.
 -- Assumes nothing.
-use Rattle.std.specs.Prelude.{Bool, [], ◌∷◌, ℕ, ◌/◌, ◌%◌, ◌^◌, eqb, get_or}
-use Rattle.refusal.specs.Told.{Told, gives, refuses, is_given}
+use Rattle.std.specs.Prelude.{Bool, Option, Some, None, [], ◌∷◌, ℕ, ◌/◌, ◌%◌, ◌^◌, eqb, get_or}
+use Rattle.refusal.specs.Told.{Told, gives, refuses}
 use Rattle.layout.specs.Layout.{judge_of}
 use Rattle.command.specs.declared.format.Window.{Window}
 
@@ -37,6 +37,7 @@ unfoldable pub value_of : Told → ℕ → ℕ
 value_of (gives values) k = get_or values k 0
 value_of (refuses number) k = 0
 
--- what that judgement tells of a window: whether it is accepted, its row step and its span
-abbrev pub window_seen : Told → Window
-window_seen t = record { given = is_given t; step = value_of t 0; span = value_of t 1 }
+-- what that judgement tells of a window: its row step and its span, nothing of one that isn't accepted
+abbrev pub window_seen : Told → Option Window
+window_seen (gives values) = Some (record { step = get_or values 0 0; span = get_or values 1 0 })
+window_seen (refuses number) = None

@@ -1,6 +1,6 @@
 -- Document 01, "The command words": the kinds of parameter word, what each allows, and the kind of each parameter of each
 -- line of the table. Assumes nothing.
-use Rattle.std.specs.Prelude.{Bool, true, List, [], ◌∷◌, ℕ, ◌/◌, ◌%◌, ◌^◌, eqb, leb, ltb, get_or}
+use Rattle.std.specs.Prelude.{Bool, Result, Ok, Err, true, List, [], ◌∷◌, ℕ, ◌/◌, ◌%◌, ◌^◌, eqb, leb, ltb, get_or}
 use Rattle.laws.specs.Choice.{◌and◌, pick}
 use Rattle.refusal.specs.Number.{number_of}
 use Rattle.refusal.specs.Told.{Told, gives, refuses}
@@ -19,8 +19,7 @@ use Rattle.command.specs.declared.kinds.Kind.TheVariants.{
   ConditionalMaskBit,
   TestBits,
 }
-use Rattle.command.specs.declared.kinds.Checked.{Checked}
-use Rattle.command.specs.declared.kinds.Checked.TheVariants.{Fine, Refused}
+use Rattle.refusal.specs.declared.Refusal.{Refusal}
 
 -- "All bits not named are reserved": a format word's named bits are 12:2, 16, 17 and 26:24, so 1:0, 15:13, 23:18 and 31:27 are
 -- zero; "5 to 7 refused"
@@ -100,6 +99,6 @@ unfoldable pub kind_of : ℕ → ℕ → Kind
 kind_of line k = get_or (get_or kinds line []) k Reserved
 
 -- what the check of a word tells, case by case
-abbrev pub told_checked : Checked → Told
-told_checked Fine = gives []
-told_checked (Refused why) = refuses (number_of why)
+abbrev pub told_checked : Result Unit Refusal → Told
+told_checked (Ok done) = gives []
+told_checked (Err why) = refuses (number_of why)

@@ -1,10 +1,8 @@
 -- Document 01, "The command words": a command's line in the table of commands, "Only these are known". Assumes nothing.
-use Rattle.std.specs.Prelude.{[], ◌∷◌, ℕ, ltb, length, get_or}
+use Rattle.std.specs.Prelude.{[], ◌∷◌, ℕ, ltb, length, get_or, Option, Some, None}
 use Rattle.laws.specs.Choice.{pick, place_of}
 use Rattle.refusal.specs.Told.{Told, gives, refuses}
 pub use Rattle.tables.specs.Tables.{headers, counts}
-use Rattle.command.specs.declared.table.Line.{Line}
-use Rattle.command.specs.declared.table.Line.TheVariants.{At, Unknown}
 
 -- the lines by the names of their commands
 abbrev pub set_domain : ℕ
@@ -82,6 +80,6 @@ unfoldable pub line_with : ℕ → Told
 line_with header = pick (ltb (place_of header headers) (length headers)) (gives (place_of header headers ∷ [])) (refuses 2)
 
 -- what a search in the table tells, case by case
-abbrev pub told_line : Line → Told
-told_line (At line) = gives (line ∷ [])
-told_line Unknown = refuses 2
+abbrev pub told_line : Option ℕ → Told
+told_line (Some line) = gives (line ∷ [])
+told_line None = refuses 2

@@ -57,40 +57,32 @@ pub fn channels(code: u32) -> u32
     }
 }
 
-// A window as base, format word and height describe it: whether it is accepted, its row step and its span; 0 and 0 of one that
-// isn't.
-#[derive(Drop)]
+// An accepted window, as base, format word and height describe it: its row step and its span.
+#[derive(Clone, Copy)]
 pub struct Window {
-    pub given: bool,
     pub step: u32,
     pub span: u32,
 }
 
-// The window that the words describe. Its layout is asked by numbers, so that nothing goes through memory.
-pub fn window_of(base: u32, format: u32, height: u32) -> Window
+// What is kept in its place where a window isn't accepted.
+pub const NO_WINDOW: Window = Window { step: 0, span: 0 };
+
+// The window that the words describe, none where it isn't accepted. Its layout is asked by numbers, so that nothing goes through memory.
+pub fn window_of(base: u32, format: u32, height: u32) -> Option<Window>
     ensures { result ≡ window_seen (window_of base format height) }
 {
     let pitch = pitch(format);
     let size = size(code(format));
     let tiled = tiled(format);
     if !layout::well_formed(base, pitch, size) {
-        return Window {
-            given: false,
-            step: 0,
-            span: 0,
-        };
+        return None;
     }
     let row = layout::stream_stride(base, pitch, height, size, tiled);
     if row < 1 {
-        return Window {
-            given: false,
-            step: 0,
-            span: 0,
-        };
+        return None;
     }
-    Window {
-        given: true,
+    Some(Window {
         step: layout::row_step(pitch, size, tiled),
         span: layout::rows_taken(height, size, tiled) * row,
-    }
+    })
 }

@@ -31,12 +31,6 @@ pub enum Kind {
     TestBits,
 }
 
-#[derive(Drop)]
-pub enum Checked {
-    Fine,
-    Refused(Refusal),
-}
-
 // The kind of parameter `k` of a line, the first being 0. Parameters that a line doesn't have count as reserved.
 pub fn kind_at(line: u32, k: u32) -> Kind
     requires { (line < 21) × (k < 4) }
@@ -77,40 +71,24 @@ pub fn kind_at(line: u32, k: u32) -> Kind
 pub fn format_allowed(word: u32) -> bool
     ensures { result ≡ format_allowed word }
 {
-    if word % 4 != 0 {
-        return false;
-    }
-    if word / 8192 % 8 != 0 {
-        return false;
-    }
-    if word / 262144 % 64 != 0 {
-        return false;
-    }
-    if word / 134217728 != 0 {
-        return false;
-    }
-    code(word) <= 4
+    word % 4 == 0
+        && word / 8192 % 8 == 0
+        && word / 262144 % 64 == 0
+        && word / 134217728 == 0
+        && code(word) <= 4
 }
 
 // Whether an input's format word is superfine with one channel only, or not superfine.
 pub fn superfine_allowed(word: u32) -> bool
     ensures { result ≡ superfine_allowed word }
 {
-    if superfine(word) {
-        channels(code(word)) <= 1
-    } else {
-        true
-    }
+    !superfine(word) || channels(code(word)) <= 1
 }
 
 fn input_format_allowed(word: u32) -> bool
     ensures { result ≡ allowed Kind.InputFormat word }
 {
-    if format_allowed(word) {
-        superfine_allowed(word)
-    } else {
-        false
-    }
+    format_allowed(word) && superfine_allowed(word)
 }
 
 // Whether a word is allowed where a parameter of the kind stands.
@@ -180,12 +158,12 @@ pub fn fault(kind: Kind) -> Refusal
 }
 
 // A parameter word judged by its kind: fine, 3 or 4.
-pub fn check(kind: Kind, word: u32) -> Checked
+pub fn check(kind: Kind, word: u32) -> Result<(), Refusal>
     ensures { told_checked result ≡ check_of kind word }
 {
     if is_allowed(kind, word) {
-        Checked::Fine
+        Ok(())
     } else {
-        Checked::Refused(fault(kind))
+        Err(fault(kind))
     }
 }

@@ -3,13 +3,6 @@
 ghost use Rattle.std.specs.Prelude.{◌≡◌, ◌<◌};
 ghost use Rattle.command.specs.Table.{header_of, count_of, line_with, told_line};
 
-// The line of a header, or none: document 01's 2.
-#[derive(Drop)]
-pub enum Line {
-    At(u32),
-    Unknown,
-}
-
 // The lines by the names of their commands.
 pub const SET_DOMAIN: u32 = 0;
 
@@ -101,21 +94,16 @@ pub fn made_header(line: u32) -> u32
     0xC000_0000 + (parameters(line) - 1) * 65536 + (line + FIRST_OPERATION) * 256
 }
 
-// The line of a header word. Its operation names the only line that it can be, so one compare decides.
-pub fn line_of(word: u32) -> Line
+// The line of a header word, none where it stands in none: document 01's 2. Its operation names the only line that it can be, so
+// one compare decides.
+pub fn line_of(word: u32) -> Option<u32>
     ensures { told_line result ≡ line_with word }
 {
     let operation = word / 256 % 256;
-    if operation < FIRST_OPERATION {
-        return Line::Unknown;
-    }
-    let line = operation - FIRST_OPERATION;
-    if SET_COND_TEST < line {
-        return Line::Unknown;
-    }
-    if made_header(line) == word {
-        Line::At(line)
+    let line = operation.checked_sub(FIRST_OPERATION)?;
+    if line <= SET_COND_TEST && made_header(line) == word {
+        Some(line)
     } else {
-        Line::Unknown
+        None
     }
 }

@@ -9,11 +9,9 @@ ghost use Rattle.command.specs.Commands.{command_of};
 ghost use Rattle.command_rooms.specs.Rooms.{parameters_of, CommandCrosses, WordsCross};
 
 use command::commands::Command;
-use command::table::Line;
 use command::{commands, table};
 use refusal::Refusal;
 use rules::writer;
-use rules::writer::Written;
 
 // The most parameters of a command, and so the length of its fields.
 pub const FIELDS: usize = 4;
@@ -23,8 +21,8 @@ pub fn parameters(header: u32, count: &mut [u32; 1]) -> u32
     ensures { Crosses (parameters_of header) result count.old count.new }
 {
     match table::line_of(header) {
-        Line::Unknown => u32::from(Refusal::UnknownHeader),
-        Line::At(line) => {
+        None => u32::from(Refusal::UnknownHeader),
+        Some(line) => {
             *count = [table::count(line)];
             0
         }
@@ -36,8 +34,8 @@ fn write_words(command: Command, room: &mut [u32], written: &mut [u32; 1]) -> u3
     ensures { WordsCross command result room.old room.new written.old written.new }
 {
     match writer::write(command, room) {
-        Written::Refused(why) => u32::from(why),
-        Written::Words(n) => {
+        Err(why) => u32::from(why),
+        Ok(n) => {
             *written = [n as u32];
             0
         }
@@ -73,8 +71,8 @@ pub fn write(header: u32, fields: &[u32; FIELDS], room: &mut [u32], written: &mu
     ensures { CommandCrosses header fields.now result room.old room.new written.old written.new }
 {
     match table::line_of(header) {
-        Line::Unknown => u32::from(Refusal::UnknownHeader),
-        Line::At(line) => write_line(
+        None => u32::from(Refusal::UnknownHeader),
+        Some(line) => write_line(
             line, header, fields[0], fields[1], fields[2], fields[3], room, written,
         ),
     }

@@ -4,7 +4,6 @@
 
 use command::commands::{Command, NoEffect, Stored};
 use rules::writer;
-use rules::writer::Written;
 use session::stream;
 use session::stream::Answer;
 use state::edition;
@@ -35,11 +34,7 @@ fn same_five(a: &[u32; 5], b: &[u32; 5]) -> bool {
 // Whether a command writes these words.
 fn writes(command: Command, words: &[u32; 5]) -> bool {
     let mut room: [u32; 5] = [0; 5];
-    let written = writer::write(command, &mut room);
-    let Written::Words(_) = written else {
-        return false;
-    };
-    same_five(&room, words)
+    writer::write(command, &mut room).is_ok() && same_five(&room, words)
 }
 
 // The answer to the last of the room's first words; still open where the room has fewer.
@@ -53,8 +48,7 @@ fn answer_to(room: &[u32], count: usize) -> Answer {
 // Whether a command, written and read by a new session, is answered by a command that writes the same.
 fn back(command: Command) -> bool {
     let mut room: [u32; 5] = [0; 5];
-    let written = writer::write(command, &mut room);
-    let Written::Words(count) = written else {
+    let Ok(count) = writer::write(command, &mut room) else {
         return false;
     };
     let answer = answer_to(&room, count);

@@ -10,8 +10,6 @@ ghost use Rattle.session.specs.Answers.{Begins};
 ghost use Rattle.session_rooms.specs.Rooms.{FeedCrosses, WordCrosses};
 ghost use Rattle.setting_rooms.specs.Rooms.{domain_numbers, format_of, mask_numbers, standing_numbers, tally_numbers};
 
-use session::stream;
-
 // A new session of an edition: nothing set, mask 65535; 3.
 #[unsafe(no_mangle)]
 pub extern "C" fn egretfold_session_begin(
@@ -22,7 +20,7 @@ pub extern "C" fn egretfold_session_begin(
 ) -> u32
     ensures { Begins edition result own.old tallies.old shared.old own.new tallies.new shared.new }
 {
-    stream::begin(own, tallies, shared, edition)
+    session_rooms::begin(own, tallies, shared, edition)
 }
 
 // One word: whether it completed a command, and that command's header and parameters; 1 to 9, 17, or 20 where the cells are a

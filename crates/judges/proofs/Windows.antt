@@ -1,5 +1,5 @@
 -- What is kept of readiness, worked out anew: the windows of a party's own outputs, then the gauge and the number. Assumes nothing.
-use mathlib.Core.Path.{◌≡◌, refl, sym, ap, ◌∙◌, subst}
+use mathlib.Core.Path.{◌≡◌, refl, sym, ap, ap₂, ◌∙◌, subst}
 use mathlib.Core.Bool.{Bool, true, false}
 use mathlib.Core.List.{List, []}
 use Prim.Native.Nat.{ℕ, ◌+◌, ◌*◌, ◌<◌}
@@ -10,8 +10,11 @@ use Rattle.laws.specs.Below.{every}
 use Rattle.laws.specs.Masks.{on}
 use Rattle.laws.proofs.Choice.{pick_yes, pick_no}
 use Rattle.laws.proofs.Table.{each, ◌&◌}
-use Rattle.command.specs.Format.{window_of, window_seen}
-use Rattle.command.specs.declared.format.Window as seen
+use Rattle.std.specs.Prelude.{unwrap_or}
+use Rattle.command.specs.Format.{value_of, window_of, window_seen}
+use Rattle.command.specs.declared.format.Window.{Window as Accepted}
+use Rattle.command.proofs.Windows.{default_values}
+use Rattle.start.proofs.New.{unset_kept}
 use Rattle.state.specs.State.{Buffer, Window, Party, Shared, unset}
 use Rattle.state.specs.Valid.{DomainValid}
 use Rattle.state.specs.Cells.{buffer_at, party_of, party_cells, shared_of}
@@ -24,18 +27,18 @@ use Rattle.start.proofs.Readiness.{kept_length}
 use Rattle.judges.specs.Judged.{WorkAsked, same_readiness, window_kept}
 
 -- the window that the words of a buffer describe
-described : (b : Buffer) (w : seen.Window) → w ≡ window_seen (window_of b.base b.format b.height) →
-    window_from w.step w.span ≡ window_for b
+described : (b : Buffer) (w : Accepted) → w.step ≡ value_of (window_of b.base b.format b.height) 0 →
+    w.span ≡ value_of (window_of b.base b.format b.height) 1 → window_from w.step w.span ≡ window_for b
 unfolding window_for step_of_buffer span_of_buffer
-described b w e = ap (λ (v : seen.Window). window_from v.step v.span) e
+described b w step span = ap₂ (λ (x y : ℕ). window_from x y) step span
 
-module _ {owned : Bool} (b : Buffer) (w : seen.Window) where
-  pub own_window : owned ≡ true → w ≡ window_seen (window_of b.base b.format b.height) →
+module _ {owned : Bool} (b : Buffer) (w : Accepted) where
+  pub own_window : owned ≡ true → w ≡ unwrap_or (window_seen (window_of b.base b.format b.height)) (record { step = 0; span = 0 }) →
       window_from w.step w.span ≡ window_for (pick owned b unset)
-  own_window y e = described b w e ∙ ap window_for (sym (pick_yes b unset y))
+  own_window y e = let values = default_values _ w e in described b w values.0 values.1 ∙ ap window_for (sym (pick_yes b unset y))
 
-  pub others_window : owned ≡ false → w ≡ window_seen (window_of 0 0 0) → window_from w.step w.span ≡ window_for (pick owned b unset)
-  others_window n e = described unset w e ∙ ap window_for (sym (pick_no b unset n))
+pub others_window : {owned : Bool} (b : Buffer) → owned ≡ false → window_from 0 0 ≡ window_for (pick owned b unset)
+others_window b n = sym unset_kept ∙ ap window_for (sym (pick_no b unset n))
 
 -- an output as its party sees it, by its place in the cells
 seen_output : (mine : ℕ) (l : List ℕ) (n : ℕ) → n < 4 →

@@ -22,9 +22,9 @@ fn window_at(owned: bool, shared: &[u32; state::SHARED_CELLS], at: usize) -> Win
     ensures { window_from result.step result.span ≡ window_for (pick owned (buffer_at shared.now at) unset) }
 {
     if owned {
-        format::window_of(shared[at + 1], shared[at + 2], shared[at + 3])
+        format::window_of(shared[at + 1], shared[at + 2], shared[at + 3]).unwrap_or(format::NO_WINDOW)
     } else {
-        format::window_of(0, 0, 0)
+        format::NO_WINDOW
     }
 }
 

@@ -15,12 +15,10 @@ ghost use Rattle.lessees.specs.Rooms.{PairBegins, PairFeeds, PairGiven, PairHeld
 use refusal;
 use refusal::Refusal;
 use session::stream;
-use session::stream::First;
+use session::stream::{Fed, Progress};
 use state::edition;
 
 // What a piece tells a party: words taken, commands completed, first refusal; and both parties.
-const PART: usize = 3;
-
 pub const PARTS: usize = 6;
 
 // The numbers of inputs and of outputs that there are, as bits.
@@ -105,14 +103,12 @@ fn groups_end(parties: &[u32], groups: usize, from: usize, party: bool) -> usize
     ensures { RunTo parties.now (32 * groups) (32 * from) party (32 * result) }
 {
     let whole = whole_group(party);
-    let mut at = from;
-    while at < groups {
+    for at in from..groups {
         if parties[at] != whole {
             return at;
         }
-        at = at + 1;
     }
-    at
+    groups
 }
 
 // How far one party's words surely go from a place on: whole groups where the place begins one, else nowhere.
@@ -131,100 +127,83 @@ fn run_end(parties: &[u32], length: usize, from: usize, party: bool) -> usize
     requires { (from ≤ length) × (length ≤ 32 * lib.ListN.length parties.now) }
     ensures { RunEnds parties.now length from party result }
 {
-    let mut at = passed(parties, length, from, party);
-    while at < length {
+    for at in passed(parties, length, from, party)..length {
         if party_of(parties, at) != party {
             return at;
         }
-        at = at + 1;
     }
-    at
+    length
 }
 
-// The earlier of two refusals, 0 for none.
-fn earlier(before: u64, now: u64) -> u64
-    ensures { result ≡ earlier_number before now }
-{
-    if before == 0 { now } else { before }
+// What a party is told of a piece: the words taken, the commands that they completed, and the first refusal, if any.
+#[derive(Drop)]
+struct Told {
+    taken: u64,
+    commands: u64,
+    refusal: Option<Refusal>,
 }
 
-// A piece's first refusal as a number, 0 for none.
-fn number_of(refusal: First) -> u64
-    ensures { result ≡ first_status (first_of refusal) }
-{
-    match refusal {
-        First::Nothing => 0,
-        First::Refused(why) => u32::from(why) as u64,
+impl Told {
+    // Nothing yet.
+    fn new() -> Told
+    {
+        Told {
+            taken: 0,
+            commands: 0,
+            refusal: None,
+        }
+    }
+
+    // What a run tells its party, added to what it was told before: a first refusal stays.
+    fn add(&mut self, run: Fed)
+    {
+        self.taken = self.taken + run.taken.0;
+        self.commands = self.commands + run.commands;
+        self.refusal = self.refusal.or(run.refusal);
+    }
+
+    // The same of a run of one word.
+    fn add_word(&mut self, answer: Result<Progress, Refusal>)
+    {
+        match answer {
+            Ok(progress) => {
+                self.taken = self.taken + 1;
+                if let Progress::Whole = progress {
+                    self.commands = self.commands + 1;
+                }
+            }
+            Err(why) => {
+                self.refusal = self.refusal.or(Some(why));
+            }
+        }
+    }
+
+    // The first refusal as a number, 0 for none.
+    fn number(&self) -> u64
+    {
+        match self.refusal {
+            None => 0,
+            Some(why) => u32::from(why) as u64,
+        }
     }
 }
 
-// What a run tells its party, added to what it was told before: a first refusal stays.
-fn tell(told: &mut [u64; PART], taken: u64, commands: u64, refusal: u64)
-    requires { RoomFor told.old taken commands }
-    ensures { told.new ≡ told_more told.old taken commands refusal }
-{
-    let before = told[2];
-    let first = earlier(before, refusal);
-    *told = [told[0] + taken, told[1] + commands, first];
-}
-
-// A run of one party's words. Those after a refused one change nothing: the party is stopped.
+// The run of a piece's words from a place up to its end. Words after a refused one change nothing: the party is stopped.
 fn take_run(
-    own: &mut [u32; state::OWN_CELLS],
-    tallies: &mut [u64; state::TALLIES],
-    shared: &mut [u32; state::SHARED_CELLS],
-    words: &[u32],
-    told: &mut [u64; PART],
-)
-    requires { RunAsked own.old tallies.old shared.old words.now told.old }
-    ensures { RunLeft (feed_of (session_of own.old tallies.old shared.old) words.now) own.new tallies.new shared.new told.old told.new }
-{
-    let piece = stream::feed(own, tallies, shared, words);
-    let refusal = piece.refusal;
-    tell(told, piece.taken.0, piece.commands, number_of(refusal));
-}
-
-// A run of one word. Its answer is a number all the way: parties whose words alternate pay for each run as for a word.
-fn take_one(
-    own: &mut [u32; state::OWN_CELLS],
-    tallies: &mut [u64; state::TALLIES],
-    shared: &mut [u32; state::SHARED_CELLS],
-    word: u32,
-    told: &mut [u64; PART],
-)
-    requires { RunAsked own.old tallies.old shared.old (word ∷ []) told.old }
-    ensures { RunLeft (feed_of (session_of own.old tallies.old shared.old) (word ∷ [])) own.new tallies.new shared.new told.old told.new }
-{
-    let number = stream::step(own, tallies, shared, word);
-    if number == stream::OPEN {
-        tell(told, 1, 0, 0);
-        return;
-    }
-    if number == stream::COMPLETED {
-        tell(told, 1, 1, 0);
-        return;
-    }
-    tell(told, 0, 0, number as u64);
-}
-
-// The run of a piece's words from a place up to its end.
-fn take_part(
     own: &mut [u32; state::OWN_CELLS],
     tallies: &mut [u64; state::TALLIES],
     shared: &mut [u32; state::SHARED_CELLS],
     words: &[u32],
     from: usize,
     end: usize,
-    told: &mut [u64; PART],
+    told: &mut Told,
 )
-    requires { (from ≤ end) × (end ≤ length words.now) × RunAsked own.old tallies.old shared.old (run_of words.now from end) told.old }
-    ensures { RunLeft (feed_of (session_of own.old tallies.old shared.old) (run_of words.now from end)) own.new tallies.new shared.new told.old told.new }
 {
     if end - from == 1 {
-        take_one(own, tallies, shared, words[from], told);
+        told.add_word(stream::step(own, tallies, shared, words[from]));
         return;
     }
-    take_run(own, tallies, shared, &words[from..end], told);
+    told.add(stream::feed(own, tallies, shared, &words[from..end]));
 }
 
 // A piece of both parties' words with their parties' numbers, one for each 32 words: runs of one party's words, one after the other.
@@ -241,20 +220,27 @@ fn take_runs(
     requires { PairGiven own0.old tallies0.old own1.old tallies1.old shared.old × (length parties.now ≡ groups_of (length words.now)) }
     ensures { PairLeft (piece_of (pair_of own0.old tallies0.old own1.old tallies1.old shared.old) (sent_of words.now parties.now)) own0.new tallies0.new own1.new tallies1.new shared.new fed.new }
 {
-    let mut told0: [u64; PART] = [0; PART];
-    let mut told1: [u64; PART] = [0; PART];
+    let mut told0 = Told::new();
+    let mut told1 = Told::new();
     let mut at: usize = 0;
     while at < words.len() {
         let party = party_of(parties, at);
         let end = run_end(parties, words.len(), at, party);
         if party {
-            take_part(own1, tallies1, shared, words, at, end, &mut told1);
+            take_run(own1, tallies1, shared, words, at, end, &mut told1);
         } else {
-            take_part(own0, tallies0, shared, words, at, end, &mut told0);
+            take_run(own0, tallies0, shared, words, at, end, &mut told0);
         }
         at = end;
     }
-    *fed = [told0[0], told0[1], told0[2], told1[0], told1[1], told1[2]];
+    *fed = [
+        told0.taken,
+        told0.commands,
+        told0.number(),
+        told1.taken,
+        told1.commands,
+        told1.number(),
+    ];
 }
 
 // A piece of both parties' words: it runs on past a refused one. 11, where the parties' numbers aren't one for each 32 words, and

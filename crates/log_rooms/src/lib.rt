@@ -14,7 +14,6 @@ ghost use Rattle.setting_rooms.specs.Rooms.{tally_numbers};
 ghost use Rattle.log_rooms.specs.Rooms.{FeedCrosses, standing_numbers};
 
 use days::report;
-use session::stream::First;
 use station_log::stream;
 
 // Lengths of rooms: where a replay stands, in seven numbers; runs and claims.
@@ -39,8 +38,8 @@ pub fn feed(
     *taken = [piece.taken.0];
     let refusal = piece.refusal;
     match refusal {
-        First::Nothing => 0,
-        First::Refused(why) => u32::from(why),
+        None => 0,
+        Some(why) => u32::from(why),
     }
 }
 

@@ -1,11 +1,11 @@
 -- Laws of a blend of two masks. Assumes nothing.
-use mathlib.Core.Path.{◌≡◌, refl, sym, ap, ap₂, ◌∙◌, subst}
+use mathlib.Core.Path.{◌≡◌, refl, ap, ap₂, ◌∙◌}
 use mathlib.Core.Bool.{Bool, true, false}
-use Prim.Native.Nat.{ℕ, zero, suc, ◌+◌, ◌*◌, ◌/◌, ◌%◌, ◌^◌, ◌<◌, ◌≤◌}
+use Prim.Native.Nat.{ℕ, zero, suc, ◌+◌, ◌*◌, ◌/◌, ◌%◌, ◌^◌, ◌<◌}
 use native.Mathlib.Nat.{pow-suc}
 use native.Mathlib.Omega.{arith}
 use Rattle.laws.specs.Choice.{pick}
-use Rattle.laws.proofs.Choice.{pick_yes, pick_no, by_pick}
+use Rattle.laws.proofs.Choice.{pick_yes, by_pick}
 use Rattle.owners.specs.Owners.{blend, mask_by, owns_output}
 
 nibble_lt : (t : Bool) (a b : ℕ) → pick t (a % 16) (b % 16) < 16

@@ -1,12 +1,11 @@
 -- A command that sets nothing but what the party owns: its header and each of its parameters pass, and one whose header and first
 -- parameter passed is such a one. Assumes nothing.
 use mathlib.Core.Path.{◌≡◌, refl}
-use mathlib.Core.Bool.{Bool, true, false}
+use mathlib.Core.Bool.{true}
 use mathlib.Core.List.{List, [], ◌∷◌}
 use Prim.Native.Nat.{ℕ, ◌<◌}
 use lib.ListN.{get_or}
 use Rattle.laws.specs.Choice.{pick, place_of}
-use Rattle.laws.specs.Masks.{on}
 use Rattle.laws.proofs.Table.{each, ◌&◌}
 use Rattle.command.specs.Table.{count_of}
 use Rattle.command.specs.Kinds.{kind_of}
@@ -16,7 +15,7 @@ use Rattle.command.specs.declared.commands.NoEffect.TheVariants as no_effect
 use Rattle.command.specs.declared.commands.Stored.TheVariants as stored
 use Rattle.command.specs.declared.commands.Command.{Command}
 use Rattle.command.specs.declared.commands.Command.TheVariants as command
-use Rattle.owners.specs.Owners.{sets_common, may_open, may_name, owned, everything, owns_output}
+use Rattle.owners.specs.Owners.{sets_common, may_open, may_name, owned}
 
 module _ (mine : ℕ) where
   effectless_opens : (what : NoEffect) → may_open mine (no_effect_line what) ≡ true

@@ -1,22 +1,21 @@
 -- Laws of who may send what, by the lines and the places of the table. Assumes nothing.
 use mathlib.Core.Path.{◌≡◌, refl, sym, ap, ◌∙◌}
 use mathlib.Core.Bool.{Bool, true, false, not}
-use mathlib.Core.List.{List, [], ◌∷◌}
-use Prim.Native.Nat.{ℕ, ◌+◌, ◌*◌, ◌/◌, ◌%◌, ◌^◌, ◌<◌, ◌≤◌}
-use native.Mathlib.Nat.{div-div-eq-div-mul}
+use mathlib.Core.List.{[], ◌∷◌}
+use Prim.Native.Nat.{ℕ, ◌+◌, ◌*◌, ◌/◌, ◌%◌, ◌<◌}
 use native.Mathlib.Omega.{arith}
-use lib.Dec.{eqb, leb, ltb}
-use borrow.Author.Tests.{leb-true, eqb-true, le-leb, lt-leb}
+use lib.Dec.{leb}
+use borrow.Author.Tests.{leb-true}
 use Rattle.laws.specs.Below.{every}
 use Rattle.laws.specs.Choice.{◌and◌, pick, place_of}
 use Rattle.laws.specs.Masks.{on}
-use Rattle.laws.proofs.Choice.{pick_yes, pick_no, and_no_left, Tested, tested, holds, fails}
+use Rattle.laws.proofs.Choice.{pick_no, Tested, tested, holds, fails}
 use Rattle.laws.proofs.Table.{NoneOf, named_or, otherwise, each, ◌&◌}
 use Rattle.command.specs.Kinds.{allowed, fault_of, kind_of}
 use Rattle.command.specs.declared.kinds.Kind.{Kind}
 use Rattle.command.specs.declared.kinds.Kind.TheVariants as kind
 use Rattle.command.proofs.Words.{kind_at, kind_at_place}
-use Rattle.owners.specs.Owners.{sets_common, may_open, may_name, fault_at, blend, owns_output, mask_by, everything}
+use Rattle.owners.specs.Owners.{sets_common, may_open, may_name, fault_at, blend, mask_by}
 
 -- a kind that isn't a number's
 is_plain : Kind → Bool

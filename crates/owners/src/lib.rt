@@ -5,8 +5,11 @@
 ghost use Rattle.std.specs.Prelude.{◌≡◌, true, false, ℕ, ◌%◌, ◌<◌, leb};
 ghost use Rattle.laws.specs.Choice.{◌and◌, pick};
 ghost use Rattle.laws.specs.Masks.{on};
+ghost use Rattle.refusal.specs.Number.{number_of};
 ghost use Rattle.command.specs.Kinds.{allowed, kind_of};
 ghost use Rattle.owners.specs.Owners.{fault_at, mask_by, may_name, may_open};
+
+use refusal::Refusal;
 
 // All sixteen inputs, all four outputs and what belongs to party 0.
 pub const EVERYTHING: u32 = 2097151;
@@ -19,13 +22,6 @@ pub const COMMON: u32 = 20;
 // The lines of the table that set what belongs to party 0, a bit each: the conditional output's format, mask and test, and the formats
 // of the three kinds of constants.
 const COMMON_LINES: u32 = 0x1803C0;
-
-// The refusals: a reserved bit or code, a number that there isn't, and one that the party doesn't own.
-const MALFORMED: u32 = 3;
-
-const TOO_HIGH: u32 = 4;
-
-pub const NOT_OWNED: u32 = 20;
 
 // Whether a bit is set.
 pub fn is_on(bits: u32, place: u32) -> bool
@@ -40,10 +36,7 @@ pub fn may_open(mine: u32, line: u32) -> bool
     requires { line < 21 }
     ensures { result ≡ may_open mine line }
 {
-    if is_on(mine, COMMON) {
-        return true;
-    }
-    !is_on(COMMON_LINES, line)
+    is_on(mine, COMMON) || !is_on(COMMON_LINES, line)
 }
 
 // Whether the party may send a word as parameter `k` of a line: an input's or an output's number is one that it owns.
@@ -59,21 +52,25 @@ pub fn may_name(mine: u32, line: u32, k: u32, word: u32) -> bool
 }
 
 // The refusal of an input's or output's number that isn't taken, by the highest that there is.
-fn number_fault(word: u32, most: u32) -> u32
-    ensures { result ≡ pick (leb word most) 20 4 }
+fn number_fault(word: u32, most: u32) -> Refusal
+    ensures { number_of result ≡ pick (leb word most) 20 4 }
 {
-    if word <= most { NOT_OWNED } else { TOO_HIGH }
+    if word <= most {
+        Refusal::NotOwned
+    } else {
+        Refusal::NumberTooHigh
+    }
 }
 
 // The refusal of a word that isn't taken as parameter `k` of a line: 3 or 4 by its kind, and 20 where that allows it.
-pub fn fault_at(line: u32, k: u32, word: u32) -> u32
+pub fn fault_at(line: u32, k: u32, word: u32) -> Refusal
     requires { (line < 21) × (k < 4) }
-    ensures { (mine : ℕ) → (allowed (kind_of line k) word and may_name mine (kind_of line k) word) ≡ false → result ≡ fault_at (kind_of line k) word }
+    ensures { (mine : ℕ) → (allowed (kind_of line k) word and may_name mine (kind_of line k) word) ≡ false → number_of result ≡ fault_at (kind_of line k) word }
 {
     match line * 4 + k {
         16 => number_fault(word, 15),
         20 => number_fault(word, 3),
-        _ => MALFORMED,
+        _ => Refusal::Malformed,
     }
 }
 

@@ -6,11 +6,11 @@ use Prim.Native.Nat.{ℕ, ◌<◌, ◌≤◌, ◌%◌, ◌^◌}
 use native.Mathlib.Omega.{arith}
 use lib.Dec.{eqb, leb, ltb}
 use lib.ListN.{get_or}
-use borrow.Author.Tests.{eqb-true, leb-true, ltb-true, eq-eqb, le-leb, lt-ltb}
+use borrow.Author.Tests.{leb-true, ltb-true, le-leb, lt-ltb}
 use Rattle.laws.specs.Choice.{◌and◌, pick}
 use Rattle.laws.proofs.Choice.{Tested, holds, fails, tested, and_intro, and_left, and_right}
 use Rattle.laws.proofs.Table.{each, ◌&◌}
-use Rattle.refusal.specs.Told.{Told, gives, refuses, is_given}
+use Rattle.refusal.specs.Told.{gives, refuses, is_given}
 use Rattle.command.specs.Table.{count_of}
 use Rattle.command.specs.Kinds.{allowed, format_allowed, superfine_allowed, kind_of}
 use Rattle.command.specs.Commands.{no_effect_line, stored_line, line_of, fields_of, EachAllowed}
@@ -206,24 +206,19 @@ module _ (i0 j0 i1 j1 : ℕ) where
   abbrev domain : Command
   domain = Domain i0 j0 i1 j1
 
-  pub column_past : 4095 < i1 → false ≡ is_given (judge_command_of domain)
-  unfolding line_of fields_of count_of kind_of allowed
-  column_past h = unfit domain (λ e. let l = ltb-true i1 (2 ^ 12) (field_allowed domain e 2 (omega arith)) in omega arith)
-
-  pub row_past : 4095 < j1 → false ≡ is_given (judge_command_of domain)
-  unfolding line_of fields_of count_of kind_of allowed
-  row_past h = unfit domain (λ e. let l = ltb-true j1 (2 ^ 12) (field_allowed domain e 3 (omega arith)) in omega arith)
-
-  pub columns_crossed : i1 < i0 → false ≡ is_given (judge_command_of domain)
-  unfolding domain_kept
-  columns_crossed h =
-      unfit domain (λ e. let l = leb-true i0 i1 (and_left (leb i0 i1) (leb j0 j1) (both_kept domain e).0) in omega arith)
-
-  pub rows_decide : i1 ≤ 4095 → j1 ≤ 4095 → i0 ≤ i1 → leb j0 j1 ≡ is_given (judge_command_of domain)
-  unfolding domain_kept
-  rows_decide hi hj oi =
-      decides domain (leb j0 j1) (λ e. domain_fits i0 j0 i1 j1 hi hj oi (leb-true j0 j1 e))
-      (λ e. and_right (leb i0 i1) (leb j0 j1) (both_kept domain e).0)
+  -- accepted exactly where the code's tests hold
+  pub domain_decided : (leb i1 4095 and leb j1 4095 and leb i0 i1 and leb j0 j1) ≡ is_given (judge_command_of domain)
+  unfolding line_of fields_of count_of kind_of allowed domain_kept
+  domain_decided =
+      decides domain _
+      (λ e.
+      domain_fits i0 j0 i1 j1 (leb-true i1 4095 (and_left _ _ e)) (leb-true j1 4095 (and_left _ _ (and_right _ _ e)))
+      (leb-true i0 i1 (and_left _ _ (and_right _ _ (and_right _ _ e))))
+      (leb-true j0 j1 (and_right _ _ (and_right _ _ (and_right _ _ e)))))
+      (λ e.
+      let columns : i1 < 2 ^ 12 = ltb-true i1 (2 ^ 12) (field_allowed domain e 2 (omega arith)) in
+      let rows : j1 < 2 ^ 12 = ltb-true j1 (2 ^ 12) (field_allowed domain e 3 (omega arith)) in
+      and_intro (le-leb i1 4095 (omega arith)) (and_intro (le-leb j1 4095 (omega arith)) (both_kept domain e).0))
 
 -- base, format and height, as the code asks them: the command of a conditional output has just these
 module _ (base format height : ℕ) where
@@ -243,32 +238,25 @@ module _ (base format height : ℕ) where
         window_given = (both_kept conditional e).1;
       }
 
-  pub base_unfit : (base % 2048 ≡ 0 → ⊥) → false ≡ Fit
+  pub window_decided :
+      (eqb (base % 2048) 0 and leb height 8191 and format_allowed format and is_given (window_of base format height)) ≡ Fit
   unfolding allowed
-  base_unfit n = unfit conditional (λ e. n (eqb-true (base % 2048) 0 (fits_back e).base_allowed))
-
-  pub height_unfit : 8191 < height → false ≡ Fit
-  unfolding allowed
-  height_unfit h = unfit conditional (λ e. let l = ltb-true height (2 ^ 13) (fits_back e).height_allowed in omega arith)
-
-  pub format_unfit : (r : Bool) → r ≡ format_allowed format → r ≡ false → false ≡ Fit
-  unfolding allowed
-  format_unfit r e n = unfit conditional (λ j. false_true (sym n ∙ e ∙ (fits_back j).format_allowed_lem))
-
-  pub window_decides : base % 2048 ≡ 0 → height ≤ 8191 → (r : Bool) → r ≡ format_allowed format → r ≡ true →
-      (w : Bool) → w ≡ is_given (window_of base format height) → w ≡ Fit
-  unfolding allowed
-  window_decides b h r e y w k =
-      decides conditional w
-      (λ t.
+  window_decided =
+      decides conditional _
+      (λ e.
+      let height_most : height ≤ 8191 = leb-true height 8191 (and_left _ _ (and_right _ _ e)) in
       conditional_fits base format height
       (record {
-        base_allowed = eq-eqb _ _ b;
-        format_allowed_lem = sym e ∙ y;
+        base_allowed = and_left _ _ e;
+        format_allowed_lem = and_left _ _ (and_right _ _ (and_right _ _ e));
         height_allowed = lt-ltb height (2 ^ 13) (omega arith);
-        window_given = sym k ∙ t;
+        window_given = and_right _ _ (and_right _ _ (and_right _ _ e));
       }))
-      (λ j. k ∙ (fits_back j).window_given)
+      (λ e.
+      let back = fits_back e in
+      let height_below : height < 2 ^ 13 = ltb-true height (2 ^ 13) back.height_allowed in
+      and_intro back.base_allowed
+      (and_intro (le-leb height 8191 (omega arith)) (and_intro back.format_allowed_lem back.window_given)))
 
   given_back : Fit ≡ true → WindowFits base format height
   given_back e = fits_back (given_fine conditional e)
@@ -281,17 +269,14 @@ module _ (base format height : ℕ) where
     abbrev input : Command
     input = Input number base format height
 
-    pub output_past : 3 < number → false ≡ is_given (judge_command_of output)
-    unfolding line_of fields_of count_of kind_of allowed
-    output_past h = unfit output (λ e. let l = leb-true number 3 (field_allowed output e 0 (omega arith)) in omega arith)
-
-    pub output_decided : number ≤ 3 → (r : Bool) → r ≡ Fit → r ≡ is_given (judge_command_of output)
-    unfolding line_of fields_of count_of kind_of window_kept
-    output_decided n r k =
-        decides output r (λ t. output_fits base format height (given_back (sym k ∙ t)) number n)
+    pub output_decided : (leb number 3 and Fit) ≡ is_given (judge_command_of output)
+    unfolding line_of fields_of count_of kind_of window_kept allowed
+    output_decided =
+        decides output _
+        (λ e. output_fits base format height (given_back (and_right _ _ e)) number (leb-true number 3 (and_left _ _ e)))
         (λ e.
-        k ∙
-        sym
+        and_intro (field_allowed output e 0 (omega arith))
+        (sym
         (fine_given conditional
         (conditional_fits base format height
         (record {
@@ -299,37 +284,36 @@ module _ (base format height : ℕ) where
           format_allowed_lem = field_allowed output e 2 (omega arith);
           height_allowed = field_allowed output e 3 (omega arith);
           window_given = (both_kept output e).1;
-        }))))
+        })))))
 
-    pub input_past : 15 < number → false ≡ is_given (judge_command_of input)
-    unfolding line_of fields_of count_of kind_of allowed
-    input_past h = unfit input (λ e. let l = leb-true number 15 (field_allowed input e 0 (omega arith)) in omega arith)
+    -- an output that is accepted has a window
+    pub output_window : judge_command_of output ≡ gives [] → is_given (window_of base format height) ≡ true
+    unfolding window_kept
+    output_window e = (both_kept output e).1
 
     input_format : judge_command_of input ≡ gives [] → (format_allowed format and superfine_allowed format) ≡ true
     unfolding line_of fields_of count_of kind_of allowed
     input_format e = field_allowed input e 2 (omega arith)
 
-    pub superfine_unfit : (r : Bool) → r ≡ superfine_allowed format → r ≡ false → false ≡ is_given (judge_command_of input)
-    superfine_unfit r e n =
-        unfit input
-        (λ j. false_true (sym n ∙ e ∙ and_right (format_allowed format) (superfine_allowed format) (input_format j)))
-
-    pub input_decided : number ≤ 15 → (s : Bool) → s ≡ superfine_allowed format → s ≡ true → (r : Bool) → r ≡ Fit →
-        r ≡ is_given (judge_command_of input)
-    unfolding line_of fields_of count_of kind_of window_kept
-    input_decided n s q y r k =
-        decides input r (λ t. input_fits base format height (given_back (sym k ∙ t)) number n (sym q ∙ y))
+    pub input_decided : (leb number 15 and superfine_allowed format and Fit) ≡ is_given (judge_command_of input)
+    unfolding line_of fields_of count_of kind_of window_kept allowed
+    input_decided =
+        decides input _
         (λ e.
-        k ∙
-        sym
+        input_fits base format height (given_back (and_right _ _ (and_right _ _ e))) number (leb-true number 15 (and_left _ _ e))
+        (and_left _ _ (and_right _ _ e)))
+        (λ e.
+        and_intro (field_allowed input e 0 (omega arith))
+        (and_intro (and_right (format_allowed format) (superfine_allowed format) (input_format e))
+        (sym
         (fine_given conditional
         (conditional_fits base format height
         (record {
           base_allowed = field_allowed input e 1 (omega arith);
-          format_allowed_lem = unfold allowed in and_left (format_allowed format) (superfine_allowed format) (input_format e);
+          format_allowed_lem = and_left (format_allowed format) (superfine_allowed format) (input_format e);
           height_allowed = field_allowed input e 3 (omega arith);
           window_given = (both_kept input e).1;
-        }))))
+        }))))))
 
 -- a format of height 1 is accepted where a conditional output of that height is
 pub store_decided : (base format : ℕ) (what : Stored) →

@@ -1,5 +1,5 @@
 -- Document 01's rules on a whole command, judged at its last parameter: 5 and 6. Assumes nothing.
-use Rattle.std.specs.Prelude.{Bool, true, false, [], leb}
+use Rattle.std.specs.Prelude.{Bool, true, [], leb}
 use Rattle.laws.specs.Choice.{◌and◌, pick}
 use Rattle.refusal.specs.Told.{Told, gives, refuses, is_given}
 use Rattle.command.specs.Format.{window_of}

@@ -1,11 +1,10 @@
 -- What an answer of the writer tells, in document 01's numbers and values. Assumes nothing.
-use Rattle.std.specs.Prelude.{[], ◌∷◌}
+use Rattle.std.specs.Prelude.{[], ◌∷◌, ℕ, Result, Ok, Err}
+use Rattle.refusal.specs.declared.Refusal.{Refusal}
 use Rattle.refusal.specs.Number.{number_of}
 use Rattle.refusal.specs.Told.{Told, gives, refuses}
-use Rattle.rules.specs.declared.writer.Written.{Written}
-use Rattle.rules.specs.declared.writer.Written.TheVariants.{Words, Refused}
 
 -- what the writer tells, case by case
-abbrev pub told_written : Written → Told
-told_written (Words n) = gives (n ∷ [])
-told_written (Refused why) = refuses (number_of why)
+abbrev pub told_written : Result ℕ Refusal → Told
+told_written (Ok n) = gives (n ∷ [])
+told_written (Err why) = refuses (number_of why)

@@ -11,50 +11,24 @@ use command::kinds::{format_allowed, superfine_allowed};
 pub fn domain(i0: u32, j0: u32, i1: u32, j1: u32) -> bool
     ensures { result ≡ is_given (judge_command_of (Command.Domain i0 j0 i1 j1)) }
 {
-    if 4095 < i1 {
-        return false;
-    }
-    if 4095 < j1 {
-        return false;
-    }
-    if i0 <= i1 { j0 <= j1 } else { false }
+    i1 <= 4095 && j1 <= 4095 && i0 <= i1 && j0 <= j1
 }
 
 // Base, format and height by their kinds, and the window that they describe: what the command of a conditional output has.
 pub fn window(base: u32, format: u32, height: u32) -> bool
     ensures { result ≡ is_given (judge_command_of (Command.Conditional base format height)) }
 {
-    if base % 2048 != 0 {
-        return false;
-    }
-    if 8191 < height {
-        return false;
-    }
-    if format_allowed(format) {
-        is_window(base, format, height)
-    } else {
-        false
-    }
+    base % 2048 == 0 && height <= 8191 && format_allowed(format) && is_window(base, format, height)
 }
 
 pub fn input(number: u32, base: u32, format: u32, height: u32) -> bool
     ensures { result ≡ is_given (judge_command_of (Command.Input number base format height)) }
 {
-    if 15 < number {
-        return false;
-    }
-    if superfine_allowed(format) {
-        window(base, format, height)
-    } else {
-        false
-    }
+    number <= 15 && superfine_allowed(format) && window(base, format, height)
 }
 
 pub fn output(number: u32, base: u32, format: u32, height: u32) -> bool
     ensures { result ≡ is_given (judge_command_of (Command.Output number base format height)) }
 {
-    if 3 < number {
-        return false;
-    }
-    window(base, format, height)
+    number <= 3 && window(base, format, height)
 }

@@ -7,7 +7,6 @@ ghost use Rattle.rules.specs.Rules.{domain_kept, window_kept, last_rule_of};
 
 use command::commands::Command;
 use command::format;
-use command::kinds::Checked;
 use refusal::Refusal;
 
 // Whether a domain's ends are in order.
@@ -15,7 +14,7 @@ fn domain_kept(command: Command) -> bool
     ensures { result ≡ domain_kept command }
 {
     if let Command::Domain(i0, j0, i1, j1) = command {
-        if i0 <= i1 { j0 <= j1 } else { false }
+        i0 <= i1 && j0 <= j1
     } else {
         true
     }
@@ -25,8 +24,7 @@ fn domain_kept(command: Command) -> bool
 pub fn is_window(base: u32, format: u32, height: u32) -> bool
     ensures { result ≡ is_given (window_of base format height) }
 {
-    let window = format::window_of(base, format, height);
-    window.given
+    format::window_of(base, format, height).is_some()
 }
 
 // Whether the window that a command describes, if it describes one, is accepted.
@@ -48,15 +46,14 @@ fn window_kept(command: Command) -> bool
 }
 
 // The command judged as a whole: fine, 5 or 6. Its words have passed their checks; what they fail there gets 6 here.
-pub fn last_rule(command: Command) -> Checked
+pub fn last_rule(command: Command) -> Result<(), Refusal>
     ensures { told_checked result ≡ last_rule_of command }
 {
     if !domain_kept(command) {
-        return Checked::Refused(Refusal::DomainCrossed);
+        return Err(Refusal::DomainCrossed);
     }
-    if window_kept(command) {
-        Checked::Fine
-    } else {
-        Checked::Refused(Refusal::WindowRule)
+    if !window_kept(command) {
+        return Err(Refusal::WindowRule);
     }
+    Ok(())
 }

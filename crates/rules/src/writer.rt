@@ -6,47 +6,28 @@ ghost use Rattle.rules.specs.Written.{told_written};
 
 use crate::last::last_rule;
 use command::commands::{Command, fields, line};
-use command::kinds::{Checked, check, kind_at};
+use command::kinds::{check, kind_at};
 use command::table::{header, parameters};
 use refusal::Refusal;
 
-#[derive(Drop)]
-pub enum Written {
-    // How many words were written.
-    Words(usize),
-    Refused(Refusal),
-}
-
 // The parameters of a line, judged by their kinds: 3 before 4. A number stands first in its command and nowhere else, so
 // it is asked last. Places past the line's parameters are 0, which passes.
-fn check_places(line: u32, p0: u32, p1: u32, p2: u32, p3: u32) -> Checked
+fn check_places(line: u32, p0: u32, p1: u32, p2: u32, p3: u32) -> Result<(), Refusal>
     requires { line < 21 }
     ensures { told_checked result ≡ places_judged_of line p0 p1 p2 p3 }
 {
-    let second = check(kind_at(line, 1), p1);
-    let Checked::Fine = second else {
-        return second;
-    };
-    let third = check(kind_at(line, 2), p2);
-    let Checked::Fine = third else {
-        return third;
-    };
-    let fourth = check(kind_at(line, 3), p3);
-    let Checked::Fine = fourth else {
-        return fourth;
-    };
+    check(kind_at(line, 1), p1)?;
+    check(kind_at(line, 2), p2)?;
+    check(kind_at(line, 3), p3)?;
     check(kind_at(line, 0), p0)
 }
 
 // A command's fields, then the rules on the whole: fine, 3, 4, 5 or 6.
-pub fn check_command(command: Command) -> Checked
+pub fn check_command(command: Command) -> Result<(), Refusal>
     ensures { told_checked result ≡ judge_command_of command }
 {
     let places = fields(command);
-    let checked = check_places(line(command), places.0, places.1, places.2, places.3);
-    let Checked::Fine = checked else {
-        return checked;
-    };
+    check_places(line(command), places.0, places.1, places.2, places.3)?;
     last_rule(command)
 }
 
@@ -73,17 +54,15 @@ pub fn put(room: &mut [u32], count: u32, first: u32, p0: u32, p1: u32, p2: u32, 
 
 // Writes a command's words to the front of the room and says how many; or the refusal that its fields cause, 3, 4, 5 or 6,
 // or 11 where the room is too short. Room past the words isn't touched, and none of it by a refusal.
-pub fn write(command: Command, room: &mut [u32]) -> Written
+pub fn write(command: Command, room: &mut [u32]) -> Result<usize, Refusal>
     ensures { Wrote command (told_written result) room.old room.new }
 {
-    if let Checked::Refused(why) = check_command(command) {
-        return Written::Refused(why);
-    }
+    check_command(command)?;
     let line = line(command);
     let count = parameters(line);
     let words = count as usize + 1;
     if room.len() < words {
-        return Written::Refused(Refusal::WrongLength);
+        return Err(Refusal::WrongLength);
     }
     let places = fields(command);
     put(
@@ -95,5 +74,5 @@ pub fn write(command: Command, room: &mut [u32]) -> Written
         places.2,
         places.3,
     );
-    Written::Words(words)
+    Ok(words)
 }

@@ -29,17 +29,18 @@ use Rattle.session.specs.Feed.{First, nothing, first, onward, ended, proceed, fe
 use Rattle.session.specs.Feed as piece
 use Rattle.session.specs.Answers.{PieceLeft}
 use Rattle.state.specs.Asked.{Given, Held}
-use Rattle.session.specs.Asked.{Left, Numbered, Reach, ahead, Fold}
+use Rattle.session.specs.Asked.{Left, Told, Reach, ahead, Fold}
 use Rattle.state.specs.Cells.{Sized, party_of, session_of}
-use Rattle.session.specs.declared.stream.First as firsts
-use Rattle.session.specs.declared.stream.First.TheVariants as firstly
+use Rattle.std.specs.Prelude.{Option, None, Some, Ok}
+use Rattle.session.specs.declared.stream.Progress.{Progress}
+use Rattle.session.specs.declared.stream.Progress.TheVariants.{Open, Whole}
 use Rattle.session.specs.declared.stream.Fed.{Fed}
 use Rattle.state.specs.declared.own.WordPosition.{WordPosition}
 use Rattle.state.proofs.Cells.{held_view, held_given}
 use Rattle.session.proofs.Cut.{cut}
 use Rattle.session.proofs.Handed.{word_given}
 use Rattle.session.proofs.Kept.{kept}
-use Rattle.session.proofs.Numbers.{step_open, step_completed, step_refused}
+use Rattle.session.proofs.Numbers.{told_open, told_whole}
 use Rattle.session.proofs.ReadBack.{reads_back}
 use Rattle.session.proofs.Refusals.{fed_valid}
 use Rattle.session.proofs.Taking.{same}
@@ -118,14 +119,14 @@ drop_front : (xs ys : List ℕ) → drop (length xs) (xs ++ ys) ≡ ys
 drop_front [] ys = refl
 drop_front (x ∷ xs) ys = drop_front xs ys
 
-abbrev answered : ℕ → ℕ → firsts.First → Fed
+abbrev answered : ℕ → ℕ → Option Refusal → Fed
 answered i n r = record { taken = record { 0 = i }; commands = n; refusal = r }
 
 module _ (s : Session) (ws l t c : List ℕ) (i n : ℕ) (f : Fold s ws l t c i n) where
   -- the piece's end
-  pub fold_ends : length ws ≤ i → PieceLeft (feed_of s ws) (answered i n firstly.Nothing) l t c
+  pub fold_ends : length ws ≤ i → PieceLeft (feed_of s ws) (answered i n None) l t c
   fold_ends h =
-      subst (λ (x : piece.Fed). PieceLeft x (answered i n firstly.Nothing) l t c)
+      subst (λ (x : piece.Fed). PieceLeft x (answered i n None) l t c)
       (sym (f.rest ∙ ap (λ (r : List ℕ). ahead i f.done (feed_of (session_of l t c) r)) (drop_of_length-le ws h)))
       (unfold feed_of in
       record {
@@ -274,10 +275,10 @@ module _ (s : Session) (ws l t c : List ℕ) (i n : ℕ) (f : Fold s ws l t c i 
         ap (λ (r : List ℕ). ahead i f.done (feed_of (session_of l t c) r)) (drop-cons ws i 0 less) ∙ unfold feed_of in refl
 
     -- a word that is refused
-    stopping : (why : Refusal) → Left step (refused (number_of why)) l1 t1 c1 →
-        PieceLeft (feed_of s ws) (answered i n (firstly.Refused why)) l1 t1 c1
-    stopping why h =
-        subst (λ (x : piece.Fed). PieceLeft x (answered i n (firstly.Refused why)) l1 t1 c1)
+    pub fold_refused : (why : Refusal) → Left step (refused (number_of why)) l1 t1 c1 →
+        PieceLeft (feed_of s ws) (answered i n (Some why)) l1 t1 c1
+    fold_refused why h =
+        subst (λ (x : piece.Fed). PieceLeft x (answered i n (Some why)) l1 t1 c1)
         (sym (here ∙ ap (λ (r : Reply). ahead i f.done (proceed r step.session (feed_of step.session (drop (suc i) ws)))) (sym h.reply)))
         (unfold proceed in
         record {
@@ -286,10 +287,6 @@ module _ (s : Session) (ws l t c : List ℕ) (i n : ℕ) (f : Fold s ws l t c i 
           refusal = refl;
           held = h.held;
         })
-
-    pub fold_refused : (r : ℕ) → (r ≡ 64 → ⊥) → (r ≡ 0 → ⊥) → (why : Refusal) → number_of why ≡ r → Numbered step r l1 t1 c1 →
-        PieceLeft (feed_of s ws) (answered i n (firstly.Refused why)) l1 t1 c1
-    fold_refused r a b why e h = stopping why (step_refused (session_of l t c) w r l1 t1 c1 h b a why e)
 
     -- a word that is taken
     goes : (y : Reply) → Left step y l1 t1 c1 → (cs : List Command) → length cs ≤ 1 →
@@ -316,12 +313,11 @@ module _ (s : Session) (ws l t c : List ℕ) (i n : ℕ) (f : Fold s ws l t c i 
         plus : (a b : ℕ) → a + suc b ≡ a + 1 + b
         plus a b = omega arith
 
-    pub fold_open : (r : ℕ) → r ≡ 0 → Numbered step r l1 t1 c1 → Fold s ws l1 t1 c1 (i + 1) n
-    fold_open r e h =
-        goes still_open (step_open (session_of l t c) w r l1 t1 c1 h e) [] (omega arith) (λ r. unfold proceed in refl) n (add-zero n)
+    pub fold_open : {p : Progress} → p ≡ Open → Told step (Ok p) l1 t1 c1 → Fold s ws l1 t1 c1 (i + 1) n
+    fold_open e h =
+        goes still_open (told_open step e h) [] (omega arith) (λ r. unfold proceed in refl) n (add-zero n)
 
-    pub fold_completed : (r : ℕ) → r ≡ 64 → Numbered step r l1 t1 c1 → Fold s ws l1 t1 c1 (i + 1) (n + 1)
-    fold_completed r e h =
-        let k = step_completed (session_of l t c) w r l1 t1 c1 h e in
-        goes (completed k.command) (record { reply = sym k.is; held = h.held }) (k.command ∷ []) (omega arith)
-        (λ r. unfold proceed in refl) (n + 1) refl
+    pub fold_completed : {p : Progress} → p ≡ Whole → Told step (Ok p) l1 t1 c1 → Fold s ws l1 t1 c1 (i + 1) (n + 1)
+    fold_completed e h =
+        let k = told_whole step e h in
+        goes (completed k.command) k.left (k.command ∷ []) (omega arith) (λ r. unfold proceed in refl) (n + 1) refl

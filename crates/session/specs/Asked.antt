@@ -1,5 +1,5 @@
 -- What the entries and inner routines ask of the cells that they are lent, and what these hold at return. Assumes nothing.
-use Rattle.std.specs.Prelude.{◌≡◌, true, List, [], ◌++◌, ℕ, ◌+◌, ◌<◌, ◌≤◌, eqb, length, drop}
+use Rattle.std.specs.Prelude.{◌≡◌, true, Result, Ok, Err, List, [], ◌++◌, ℕ, ◌+◌, ◌<◌, ◌≤◌, eqb, length, drop}
 use Rattle.laws.specs.Choice.{pick}
 use Rattle.command.specs.Kinds.{allowed, kind_of}
 use Rattle.command.specs.Commands.{EachAllowed, command_of}
@@ -11,7 +11,10 @@ use Rattle.session.specs.Feed as piece
 use Rattle.session.specs.Feed.{feed_of}
 use Rattle.session.specs.Step.{Reply, Stepped, still_open, completed, refused, completing}
 use Rattle.state.specs.Valid.{parameters_of}
-use Rattle.refusal.specs.Number.{IsNumber}
+use Rattle.refusal.specs.Number.{IsNumber, number_of}
+use Rattle.refusal.specs.declared.Refusal.{Refusal}
+use Rattle.session.specs.declared.stream.Progress.{Progress}
+use Rattle.session.specs.declared.stream.Progress.TheVariants.{Open as StillOpen, Whole}
 use Rattle.state.specs.Cells.{party_of, session_of, own_length}
 use Rattle.state.specs.Asked.{Held, Given, OwnAsked}
 
@@ -20,16 +23,16 @@ pub record Left (t : Stepped) (r : Reply) (own tallies shared : List ℕ) : Type
   pub reply : r ≡ t.reply
   pub held : Held t.session own tallies shared
 
--- a reply as one number: 0 where the command is still open, 64 where the word completed it, else the refusal's
-abbrev pub reply_number : Reply → ℕ
-reply_number still_open = 0
-reply_number (completed command) = 64
-reply_number (refused n) = n
+-- a step that completes a command, and cells that hold the session after it
+pub record Finished (t : Stepped) (own tallies shared : List ℕ) : Type 0 where
+  pub command : Command
+  pub left : Left t (completed command) own tallies shared
 
--- a step's reply as a number, and cells that hold the session after it
-pub record Numbered (t : Stepped) (r : ℕ) (own tallies shared : List ℕ) : Type 0 where
-  pub number : r ≡ reply_number t.reply
-  pub held : Held t.session own tallies shared
+-- a step as one answers it who doesn't ask for the command, and cells that hold the session after it
+abbrev pub Told : Stepped → Result Progress Refusal → List ℕ → List ℕ → List ℕ → Type 0
+Told t (Ok StillOpen) own tallies shared = Left t still_open own tallies shared
+Told t (Ok Whole) own tallies shared = Finished t own tallies shared
+Told t (Err why) own tallies shared = Left t (refused (number_of why)) own tallies shared
 
 -- the refusal of a command whose parameters are allowed and which isn't accepted, by its line and what the settings give a start:
 -- "5: i0 > i1 or j0 > j1" is a domain's, 7 to 9 are a start's, and "6: window rule broken" is of a command that describes a window
@@ -57,12 +60,21 @@ pub record CompleteAsked (own tallies shared : List ℕ) : Type 0 where
   pub passed : EachAllowed (party_of own tallies).opened.line (parameters_of (party_of own tallies).opened)
   pub owner : owned (party_of own tallies).birth.mine (whole_of (party_of own tallies).opened) ≡ true
 
--- a word that was read: its step's number; or, with 64, the cells hold an open command with all its parameters, and the step is
--- that command's completion
-pub record Read (t : Stepped) (r : ℕ) (own tallies shared : List ℕ) : Type 0 where
-  pub answered : (r ≡ 64 → ⊥) → Numbered t r own tallies shared
-  pub asked : r ≡ 64 → CompleteAsked own tallies shared
-  pub completes : r ≡ 64 → t ≡ completing (party_of own []).opened (session_of own tallies shared)
+-- how a whole command is judged, and cells that hold the session after it
+abbrev pub Judged : {T : Type 0} → Open → Session → Result T Refusal → List ℕ → List ℕ → List ℕ → Type 0
+Judged o s (Ok done) own tallies shared = Left (completing o s) (completed (whole_of o)) own tallies shared
+Judged o s (Err why) own tallies shared = Left (completing o s) (refused (number_of why)) own tallies shared
+
+-- cells that hold an open command with all its parameters, and a step that is that command's completion
+pub record Unjudged (t : Stepped) (own tallies shared : List ℕ) : Type 0 where
+  pub asked : CompleteAsked own tallies shared
+  pub completes : t ≡ completing (party_of own []).opened (session_of own tallies shared)
+
+-- a word that was read: the step as it is answered, but where the command is whole, it is still to be judged
+abbrev pub Read : Stepped → Result Progress Refusal → List ℕ → List ℕ → List ℕ → Type 0
+Read t (Ok StillOpen) own tallies shared = Left t still_open own tallies shared
+Read t (Ok Whole) own tallies shared = Unjudged t own tallies shared
+Read t (Err why) own tallies shared = Left t (refused (number_of why)) own tallies shared
 
 -- a valid session that takes words, with an open command whose next parameter's kind allows the word, which names nothing but one's own
 pub record ParameterAsked (own tallies shared : List ℕ) (w : ℕ) : Type 0 where

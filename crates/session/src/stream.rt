@@ -1,5 +1,5 @@
 // The words of a stream, one by one and in pieces.
-ghost use Rattle.std.specs.Prelude.{◌≡◌, [], ◌<◌, ◌≤◌, length, drop};
+ghost use Rattle.std.specs.Prelude.{◌≡◌, [], ◌<◌, ◌≤◌, Ok, length, drop};
 ghost use Rattle.laws.specs.Choice.{◌and◌};
 ghost use Rattle.refusal.specs.Number.{number_of};
 ghost use Rattle.command.specs.Kinds.{allowed, kind_of};
@@ -9,12 +9,11 @@ ghost use Rattle.state.specs.Effects.{limit, with_parameter};
 ghost use Rattle.session.specs.Step.{completing, parameter_step, placing, step_of};
 ghost use Rattle.state.specs.Cells.{own_length, party_of, session_of, shared_cells};
 ghost use Rattle.state.specs.Asked.{Given, Held, HeldOwn};
-ghost use Rattle.session.specs.Asked.{CompleteAsked, Fold, Left, Numbered, OpenAsked, ParameterAsked, Reach, Read, RefusalAsked, refusal_at, stored_in};
-ghost use Rattle.session.specs.Answers.{Begins, PieceLeft, reply_of};
+ghost use Rattle.session.specs.Asked.{CompleteAsked, Fold, Judged, Left, OpenAsked, ParameterAsked, Reach, Read, RefusalAsked, Told, refusal_at, stored_in};
+ghost use Rattle.session.specs.Answers.{Begins, PieceLeft, begun_status, last_reply_of, reply_of};
 ghost use Rattle.session.specs.Feed.{feed_of};
 
 use command::commands::Command;
-use command::table::Line;
 use command::{commands, kinds, table};
 use refusal;
 use refusal::Refusal;
@@ -25,28 +24,11 @@ use state::{edition, own, settings};
 // Words that a session takes before it answers 17.
 const WORD_LIMIT: u32 = 1000000000;
 
-// What a word is answered as one number, which stays in a register: the command is still open, the word completed it, or else
-// the refusal's number.
-pub const OPEN: u32 = 0;
-
-pub const COMPLETED: u32 = 64;
-
-// A word that was read and is its command's last: the cells hold the whole command, which is still to be judged.
-const WHOLE: u32 = 64;
-
-// The refusals of a word that isn't judged as a parameter.
-const STOPPED: u32 = 1;
-
-const UNKNOWN_HEADER: u32 = 2;
-
-const FULL: u32 = 17;
-
-// What a word is answered: the command is still open, the command that the word completed, or the refusal.
+// How far a word brought its command: it is still open, or all its words are there.
 #[derive(Clone, Copy)]
-pub enum Answer {
+pub enum Progress {
     Open,
-    Done(Command),
-    Refused(Refusal),
+    Whole,
 }
 
 // The refusal of a command that isn't accepted though each of its parameters is allowed: of a domain 5, of a start the number that
@@ -67,9 +49,9 @@ fn complete(
     own: &mut [u32; state::OWN_CELLS],
     tallies: &mut [u64; state::TALLIES],
     shared: &mut [u32; state::SHARED_CELLS],
-) -> u32
+) -> Result<(), Refusal>
     requires { CompleteAsked own.old tallies.old shared.old }
-    ensures { Numbered (completing (party_of own.old []).opened (session_of own.old tallies.old shared.old)) result own.new tallies.new shared.new }
+    ensures { Judged (party_of own.old []).opened (session_of own.old tallies.old shared.old) result own.new tallies.new shared.new }
 {
     let line = own[own::LINE];
     let p0 = own[own::PARAMETER_0];
@@ -78,11 +60,11 @@ fn complete(
     let p3 = own[own::PARAMETER_3];
     if 0 < accept::take_last(own, tallies, shared, line, p0, p1, p2, p3) {
         own::close(own);
-        return COMPLETED;
+        return Ok(());
     }
     let why = refusal_of(own, line);
     own::stop(own);
-    u32::from(why)
+    Err(why)
 }
 
 // A parameter that its kind allows. The last one is placed and not yet counted: the command is still to be judged.
@@ -91,18 +73,18 @@ fn placed(
     tallies: &[u64; state::TALLIES],
     shared: &[u32; state::SHARED_CELLS],
     word: u32,
-) -> u32
+) -> Progress
     requires { ParameterAsked own.old tallies.now shared.now word }
-    ensures { Read (placing (with_parameter (party_of own.old []).opened word) (session_of own.old tallies.now shared.now)) result own.new tallies.now shared.now }
+    ensures { Read (placing (with_parameter (party_of own.old []).opened word) (session_of own.old tallies.now shared.now)) (Ok result) own.new tallies.now shared.now }
 {
     let line = own[own::LINE];
     let count = own[own::COUNT];
     own::place(own, count, word);
     if count + 1 < table::parameters(line) {
         own::count_word(own);
-        return OPEN;
+        return Progress::Open;
     }
-    WHOLE
+    Progress::Whole
 }
 
 // Whether a word is taken as parameter `count` of a line: its kind allows it, and it names nothing but what is owned.
@@ -110,11 +92,7 @@ fn is_taken(mine: u32, line: u32, count: u32, word: u32) -> bool
     requires { (line < 21) × (count < 4) }
     ensures { result ≡ (allowed (kind_of line count) word and may_name mine (kind_of line count) word) }
 {
-    if kinds::place_allowed(line, count, word) {
-        owners::may_name(mine, line, count, word)
-    } else {
-        false
-    }
+    kinds::place_allowed(line, count, word) && owners::may_name(mine, line, count, word)
 }
 
 // A word where a command is open: judged by the kind of the parameter that it is.
@@ -123,71 +101,72 @@ fn parameter(
     tallies: &[u64; state::TALLIES],
     shared: &[u32; state::SHARED_CELLS],
     word: u32,
-) -> u32
+) -> Result<Progress, Refusal>
     requires { OpenAsked own.old tallies.now shared.now }
     ensures { Read (parameter_step (session_of own.old tallies.now shared.now) word) result own.new tallies.now shared.now }
 {
     let line = own[own::LINE];
     let count = own[own::COUNT];
     if is_taken(own[own::MINE], line, count, word) {
-        return placed(own, tallies, shared, word);
+        return Ok(placed(own, tallies, shared, word));
     }
     let fault = owners::fault_at(line, count, word);
     own::stop(own);
-    fault
+    Err(fault)
 }
 
-// One word up to a command's end. 1 comes before 17, and 17 before the word is looked at.
+// One word up to a command's end, where the cells hold the whole command, which is still to be judged. 1 comes before 17, and 17
+// before the word is looked at.
 fn read(
     own: &mut [u32; state::OWN_CELLS],
     tallies: &[u64; state::TALLIES],
     shared: &[u32; state::SHARED_CELLS],
     word: u32,
-) -> u32
+) -> Result<Progress, Refusal>
     requires { Given own.old tallies.now shared.now }
     ensures { Read (step_of (session_of own.old tallies.now shared.now) word) result own.new tallies.now shared.now }
 {
     if own[own::STOPPED] == 1 {
-        return STOPPED;
+        return Err(Refusal::Stopped);
     }
     if WORD_LIMIT <= own[own::TAKEN] {
         own::stop(own);
-        return FULL;
+        return Err(Refusal::WordLimit);
     }
     if own[own::LINE] != own::NO_LINE {
         return parameter(own, tallies, shared, word);
     }
     match table::line_of(word) {
-        Line::Unknown => {
+        None => {
             own::stop(own);
-            UNKNOWN_HEADER
+            Err(Refusal::UnknownHeader)
         }
-        Line::At(line) => {
+        Some(line) => {
             if owners::may_open(own[own::MINE], line) {
                 own::open_line(own, line);
-                return OPEN;
+                return Ok(Progress::Open);
             }
             own::stop(own);
-            owners::NOT_OWNED
+            Err(Refusal::NotOwned)
         }
     }
 }
 
-// One word as a number.
+// One word: how far it brought its command, which is judged where it is whole.
 pub fn step(
     own: &mut [u32; state::OWN_CELLS],
     tallies: &mut [u64; state::TALLIES],
     shared: &mut [u32; state::SHARED_CELLS],
     word: u32,
-) -> u32
+) -> Result<Progress, Refusal>
     requires { Given own.old tallies.old shared.old }
-    ensures { Numbered (step_of (session_of own.old tallies.old shared.old) word) result own.new tallies.new shared.new }
+    ensures { Told (step_of (session_of own.old tallies.old shared.old) word) result own.new tallies.new shared.new }
 {
-    let number = read(own, tallies, shared, word);
-    if number == WHOLE {
-        return complete(own, tallies, shared);
+    let progress = read(own, tallies, shared, word)?;
+    if let Progress::Whole = progress {
+        complete(own, tallies, shared)?;
     }
-    number
+    Ok(progress)
 }
 
 // The answer to a command's last word: the cells hold the command until it is judged.
@@ -195,37 +174,32 @@ fn finish(
     own: &mut [u32; state::OWN_CELLS],
     tallies: &mut [u64; state::TALLIES],
     shared: &mut [u32; state::SHARED_CELLS],
-) -> Answer
+) -> Result<Command, Refusal>
     requires { CompleteAsked own.old tallies.old shared.old }
-    ensures { Left (completing (party_of own.old []).opened (session_of own.old tallies.old shared.old)) (reply_of result) own.new tallies.new shared.new }
+    ensures { Left (completing (party_of own.old []).opened (session_of own.old tallies.old shared.old)) (last_reply_of result) own.new tallies.new shared.new }
 {
     let line = own[own::LINE];
     let p0 = own[own::PARAMETER_0];
     let p1 = own[own::PARAMETER_1];
     let p2 = own[own::PARAMETER_2];
     let p3 = own[own::PARAMETER_3];
-    let number = complete(own, tallies, shared);
-    if number == COMPLETED {
-        return Answer::Done(commands::build(line, p0, p1, p2, p3));
-    }
-    Answer::Refused(refusal::with_number(number))
+    complete(own, tallies, shared)?;
+    Ok(commands::build(line, p0, p1, p2, p3))
 }
 
-// One word.
+// One word: the command that it completed, or none where the command is still open.
 pub fn word(
     own: &mut [u32; state::OWN_CELLS],
     tallies: &mut [u64; state::TALLIES],
     shared: &mut [u32; state::SHARED_CELLS],
     word: u32,
-) -> Answer
+) -> Result<Option<Command>, Refusal>
     requires { Given own.old tallies.old shared.old }
     ensures { Left (step_of (session_of own.old tallies.old shared.old) word) (reply_of result) own.new tallies.new shared.new }
 {
-    let number = read(own, tallies, shared, word);
-    match number {
-        OPEN => Answer::Open,
-        WHOLE => finish(own, tallies, shared),
-        _ => Answer::Refused(refusal::with_number(number)),
+    match read(own, tallies, shared, word)? {
+        Progress::Open => Ok(None),
+        Progress::Whole => Ok(Some(finish(own, tallies, shared)?)),
     }
 }
 
@@ -270,36 +244,29 @@ fn make(
     begin_settings(shared);
 }
 
-// Begins a session of an edition, 0; 3 where it is neither 1 nor 2, and nothing is touched then.
+// Begins a session of an edition; 3 where it is neither 1 nor 2, and nothing is touched then.
 pub fn begin(
     own: &mut [u32; state::OWN_CELLS],
     tallies: &mut [u64; state::TALLIES],
     shared: &mut [u32; state::SHARED_CELLS],
     edition: u32,
-) -> u32
-    ensures { Begins edition result own.old tallies.old shared.old own.new tallies.new shared.new }
+) -> Result<(), Refusal>
+    ensures { Begins edition (begun_status result) own.old tallies.old shared.old own.new tallies.new shared.new }
 {
     if edition::is_known(edition) {
         make(own, tallies, shared, edition);
-        return 0;
+        return Ok(());
     }
-    u32::from(Refusal::Malformed)
-}
-
-// The first refusal of a piece, or none.
-#[derive(Drop)]
-pub enum First {
-    Nothing,
-    Refused(Refusal),
+    Err(Refusal::Malformed)
 }
 
 // What a piece is answered: the words taken, which is also the place of the refused word if there is one; the commands
-// that they completed; and the first refusal.
+// that they completed; and the first refusal, if any.
 #[derive(Drop)]
 pub struct Fed {
     pub taken: WordPosition,
     pub commands: u64,
-    pub refusal: First,
+    pub refusal: Option<Refusal>,
 }
 
 // How many of the next words whole commands may take: none where the session is stopped or a command is open, and no more than
@@ -342,6 +309,7 @@ fn take_commands(
     ensures { Fold (session_of own.old tallies.old shared.old) (drop from words.now) own.new tallies.new shared.new result.words result.commands }
 {
     let room = reach(own, words.len() - from);
+    // Kept (design pass 3, no plainer; also the loop in `feed`): a turn takes as many words as its command has, so no range counts them.
     let mut taken: usize = 0;
     let mut commands: u64 = 0;
     while accept::MOST_WORDS <= room - taken {
@@ -383,25 +351,26 @@ pub fn feed(
             break;
         }
         let next = i + 1;
-        let number = step(own, tallies, shared, words[i]);
-        if number == COMPLETED {
-            commands = commands + 1;
-            i = next;
-            continue;
+        match step(own, tallies, shared, words[i]) {
+            Ok(Progress::Open) => {
+                i = next;
+            }
+            Ok(Progress::Whole) => {
+                commands = commands + 1;
+                i = next;
+            }
+            Err(why) => {
+                return Fed {
+                    taken: WordPosition(i as u64),
+                    commands,
+                    refusal: Some(why),
+                };
+            }
         }
-        if number != OPEN {
-            let why = refusal::with_number(number);
-            return Fed {
-                taken: WordPosition(i as u64),
-                commands,
-                refusal: First::Refused(why),
-            };
-        }
-        i = next;
     }
     Fed {
         taken: WordPosition(i as u64),
         commands,
-        refusal: First::Nothing,
+        refusal: None,
     }
 }

@@ -12,7 +12,7 @@ use Rattle.command.specs.declared.commands.Places.{Places}
 use Rattle.state.specs.State.{Session}
 use Rattle.session.specs.Step.{completed}
 use Rattle.session.specs.Feed.{Fed, feed_of}
-use Rattle.session.proofs.Single.{Told}
+use Rattle.session.proofs.Single.{Fed_in}
 use Rattle.session_rooms.specs.Rooms.{reply_told, FeedCrosses}
 
 pub done_told :
@@ -24,7 +24,7 @@ done_told c header line g e1 e2 e3 =
     (ap₂ (λ (k : ℕ) (q : Places). gives (1 ∷ k ∷ q.0 ∷ q.1 ∷ q.2 ∷ q.3 ∷ [])) (e1 ∙ ap header_of e2) e3)
 
 -- a piece's three numbers cross as they are
-pub one_crosses : {f : Fed} {i n r : ℕ} {l t c : List ℕ} → Told f i n r l t c → FeedCrosses f r l t c (i ∷ n ∷ [])
+pub one_crosses : {f : Fed} {i n r : ℕ} {l t c : List ℕ} → Fed_in f i n r l t c → FeedCrosses f r l t c (i ∷ n ∷ [])
 one_crosses k = record { status = k.status; room = ap₂ (λ (a b : ℕ). a ∷ b ∷ []) k.words k.whole; held = k.held }
 
 -- a piece of one word is that word

@@ -1,6 +1,7 @@
 -- What the settings show, and the format that a line of the command table sets. Assumes nothing.
 use mathlib.Core.Path.{◌≡◌, refl, sym, ap, ap₂, ◌∙◌}
-use mathlib.Core.Bool.{Bool}
+use mathlib.Core.Bool.{Bool, true, false}
+use mir.Val.{bool_byte as from_bool}
 use mathlib.Core.List.{[], ◌∷◌}
 use Prim.Native.Nat.{ℕ, ◌≤◌}
 use lib.Dec.{eqb}
@@ -16,6 +17,11 @@ use Rattle.queries.specs.declared.Bounds.{Bounds}
 use Rattle.queries.specs.declared.Setting.{Setting}
 use Rattle.refusal.specs.Crossing.{Shows, flag}
 use Rattle.setting_rooms.specs.Rooms.{standing_numbers, domain_numbers, mask_numbers, open_header, format_told, numbered_told, format_at, format_numbers}
+
+-- a flag as a number, as the code converts it
+pub flag_from : (t : Bool) → from_bool t ≡ flag t
+flag_from true = refl
+flag_from false = refl
 
 -- no line past the table has a header
 pub no_header : (line : ℕ) → 21 ≤ line → open_header line ≡ 0

@@ -1,5 +1,5 @@
 -- What a session holds as numbers: a flag is 1 or 0. Assumes nothing.
-use Rattle.std.specs.Prelude.{List, [], ◌∷◌, ℕ, eqb, ltb, get_or}
+use Rattle.std.specs.Prelude.{List, [], ◌∷◌, ℕ, eqb, ltb, get_or, Result, Ok, Err}
 use Rattle.laws.specs.Choice.{pick}
 use Rattle.refusal.specs.Number.{number_of}
 use Rattle.refusal.specs.Told.{Told, gives, refuses}
@@ -9,8 +9,7 @@ use Rattle.command.specs.Known.{if_known}
 use Rattle.state.specs.State.{Party, Shared, Buffer, Tally, unset}
 use Rattle.queries.specs.Queries.{setting_of}
 use Rattle.queries.specs.declared.Setting.{Setting}
-use Rattle.setting_rooms.specs.declared.Found.{Found}
-use Rattle.setting_rooms.specs.declared.Found.TheVariants as found
+use Rattle.refusal.specs.declared.Refusal.{Refusal}
 
 -- the header of the open command's line; 0 where none is open, since 21 is past the table
 abbrev pub open_header : ℕ → ℕ
@@ -59,6 +58,6 @@ format_at p h line number =
 abbrev pub format_of : Party → Shared → ℕ → ℕ → Told
 format_of p h header number = if_known header (λ line. format_at p h line number)
 
-abbrev pub told_found : Found → Told
-told_found (found.Is setting) = gives (format_numbers setting)
-told_found (found.Refused why) = refuses (number_of why)
+abbrev pub told_found : Result Setting Refusal → Told
+told_found (Ok setting) = gives (format_numbers setting)
+told_found (Err why) = refuses (number_of why)

@@ -4,11 +4,10 @@
 
 ghost use Rattle.std.specs.Prelude.{◌≡◌, []};
 ghost use Rattle.state.specs.Cells.{party_of, shared_of};
-ghost use Rattle.refusal.specs.Crossing.{Crosses, Shows, flag};
+ghost use Rattle.refusal.specs.Crossing.{Crosses, Shows};
 ghost use Rattle.setting_rooms.specs.Rooms.{domain_numbers, format_at, format_of, mask_numbers, open_header, standing_numbers, tally_numbers, told_found};
 
 use command::table;
-use command::table::Line;
 use queries::Setting;
 use refusal::Refusal;
 use state::own;
@@ -31,12 +30,6 @@ const INPUTS: u32 = 16;
 
 const OUTPUTS: u32 = 4;
 
-fn flag_of(present: bool) -> u32
-    ensures { result ≡ flag present }
-{
-    if present { 1 } else { 0 }
-}
-
 // The header of the open command's line; 0 where none is open.
 fn open_header(line: u32) -> u32
     ensures { result ≡ open_header line }
@@ -53,7 +46,7 @@ fn open_header(line: u32) -> u32
 pub fn standing(own: &[u32; state::OWN_CELLS], status: &mut [u32; STANDING_NUMBERS]) -> u32
     ensures { Shows (standing_numbers (party_of own.now [])) result status.new }
 {
-    let stopped = flag_of(queries::is_stopped(own));
+    let stopped = u32::from(queries::is_stopped(own));
     let header = open_header(queries::open_line(own));
     *status = [
         own[own::TAKEN],
@@ -79,7 +72,7 @@ pub fn domain(own: &[u32; state::OWN_CELLS], domain: &mut [u32; DOMAIN_NUMBERS])
     ensures { Shows (domain_numbers (party_of own.now [])) result domain.new }
 {
     let bounds = queries::domain(own);
-    let set = flag_of(bounds.present);
+    let set = u32::from(bounds.present);
     *domain = [set, bounds.i0, bounds.j0, bounds.i1, bounds.j1];
     0
 }
@@ -88,8 +81,8 @@ pub fn domain(own: &[u32; state::OWN_CELLS], domain: &mut [u32; DOMAIN_NUMBERS])
 pub fn masks(shared: &[u32; state::SHARED_CELLS], masks: &mut [u32; MASK_NUMBERS]) -> u32
     ensures { Shows (mask_numbers (shared_of shared.now)) result masks.new }
 {
-    let conditional = flag_of(queries::has_conditional_mask(shared));
-    let test = flag_of(queries::has_test(shared));
+    let conditional = u32::from(queries::has_conditional_mask(shared));
+    let test = u32::from(queries::has_test(shared));
     *masks = [
         queries::mask(shared),
         conditional,
@@ -100,43 +93,36 @@ pub fn masks(shared: &[u32; state::SHARED_CELLS], masks: &mut [u32; MASK_NUMBERS
     0
 }
 
-// A format that a header asks for, or the refusal.
-#[derive(Drop)]
-enum Found {
-    Is(Setting),
-    Refused(Refusal),
-}
-
-// The format that a line of the command table sets.
+// The format that a line of the command table sets, or the refusal.
 fn at_line(
     own: &[u32; state::OWN_CELLS],
     shared: &[u32; state::SHARED_CELLS],
     line: u32,
     number: u32,
-) -> Found
+) -> Result<Setting, Refusal>
     ensures { told_found result ≡ format_at (party_of own.now []) (shared_of shared.now) line number }
 {
     match line {
-        table::SET_INST_FMT => Found::Is(queries::instructions(own)),
+        table::SET_INST_FMT => Ok(queries::instructions(own)),
         table::SET_INP_FMT => {
             if number < INPUTS {
-                Found::Is(queries::input(shared, number))
+                Ok(queries::input(shared, number))
             } else {
-                Found::Refused(Refusal::NumberTooHigh)
+                Err(Refusal::NumberTooHigh)
             }
         }
         table::SET_OUT_FMT => {
             if number < OUTPUTS {
-                Found::Is(queries::output(shared, number))
+                Ok(queries::output(shared, number))
             } else {
-                Found::Refused(Refusal::NumberTooHigh)
+                Err(Refusal::NumberTooHigh)
             }
         }
-        table::SET_COND_OUT_FMT => Found::Is(queries::conditional(shared)),
-        table::SET_CONSTF_FMT => Found::Is(queries::floats(shared)),
-        table::SET_CONSTI_FMT => Found::Is(queries::integers(shared)),
-        table::SET_CONSTB_FMT => Found::Is(queries::booleans(shared)),
-        _ => Found::Refused(Refusal::UnknownHeader),
+        table::SET_COND_OUT_FMT => Ok(queries::conditional(shared)),
+        table::SET_CONSTF_FMT => Ok(queries::floats(shared)),
+        table::SET_CONSTI_FMT => Ok(queries::integers(shared)),
+        table::SET_CONSTB_FMT => Ok(queries::booleans(shared)),
+        _ => Err(Refusal::UnknownHeader),
     }
 }
 
@@ -151,11 +137,11 @@ pub fn format(
     ensures { Crosses (format_of (party_of own.now []) (shared_of shared.now) header number) result format.old format.new }
 {
     match table::line_of(header) {
-        Line::Unknown => u32::from(Refusal::UnknownHeader),
-        Line::At(line) => match at_line(own, shared, line, number) {
-            Found::Refused(why) => u32::from(why),
-            Found::Is(setting) => {
-                let set = flag_of(setting.present);
+        None => u32::from(Refusal::UnknownHeader),
+        Some(line) => match at_line(own, shared, line, number) {
+            Err(why) => u32::from(why),
+            Ok(setting) => {
+                let set = u32::from(setting.present);
                 *format = [set, setting.base, setting.format, setting.height];
                 0
             }

@@ -34,7 +34,7 @@ unset_window : window_of 0 0 0 ≡ refuses 6
 unfolding window_of pitch_of tiled_of code_of size_of judge_of well_formed is_size place_of window_rule in_bounds row_step unit_of pick ◌and◌
 unset_window = refl
 
-unset_kept : window_for unset ≡ no_window
+pub unset_kept : window_for unset ≡ no_window
 unfolding window_for step_of_buffer span_of_buffer value_of
 unset_kept = ap (λ (t : Told). window_from (value_of t 0) (value_of t 1)) unset_window
 

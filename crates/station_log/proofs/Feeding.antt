@@ -10,8 +10,7 @@ use lib.Seq.{drop-cons, drop-drop, get_or-take, length-take-le}
 use Rattle.refusal.specs.Number.{number_of}
 use Rattle.refusal.specs.declared.Refusal.{Refusal}
 use Rattle.state.specs.Cells.{session_of}
-use Rattle.session.specs.declared.stream.First as firsts
-use Rattle.session.specs.declared.stream.First.TheVariants as firstly
+use Rattle.std.specs.Prelude.{Option, None, Some}
 use Rattle.session.proofs.Taking.{same}
 use Rattle.replay.specs.State.{Replay}
 use Rattle.replay.specs.Step.{Reply, taken, refused, Stepped}
@@ -53,7 +52,7 @@ ahead_none f = λ i. record { taken = sym (zero-add f.taken) i; refusal = f.refu
 pub fold_begins : (bs l m o t s : List ℕ) → ReplayGiven l m o t s → Fold (replay_in l m o t s) bs l m o t s 0
 fold_begins bs l m o t s g = record { given = g; within = omega arith; rest = ahead_none (replay_of (replay_in l m o t s) bs) }
 
-abbrev answered : ℕ → firsts.First → Fed
+abbrev answered : ℕ → Option Refusal → Fed
 answered i f = record { taken = record { 0 = i }; refusal = f }
 
 module _ (r : Replay) (bs l m o t s : List ℕ) (i : ℕ) (f : Fold r bs l m o t s i) where
@@ -61,15 +60,15 @@ module _ (r : Replay) (bs l m o t s : List ℕ) (i : ℕ) (f : Fold r bs l m o t
   now = replay_in l m o t s
 
   -- the piece's end
-  ends : length bs ≤ i → PieceLeft (replay_of r bs) (answered i firstly.Nothing) l m o t s
+  ends : length bs ≤ i → PieceLeft (replay_of r bs) (answered i None) l m o t s
   ends h =
-      subst (λ (x : piece.Fed). PieceLeft x (answered i firstly.Nothing) l m o t s)
+      subst (λ (x : piece.Fed). PieceLeft x (answered i None) l m o t s)
       (sym (f.rest ∙ ap (λ (x : List ℕ). ahead i (replay_of now x)) (drop_of_length-le bs h)))
       (unfold replay_of in
       record { taken = sym (add-zero i); refusal = refl; held = held_view l m o t s f.given })
 
-  pub fold_ends : length bs ≤ i → (y : firsts.First) → y ≡ firstly.Nothing → PieceLeft (replay_of r bs) (answered i y) l m o t s
-  fold_ends h y e = subst (λ (x : firsts.First). PieceLeft (replay_of r bs) (answered i x) l m o t s) (sym e) (ends h)
+  pub fold_ends : length bs ≤ i → (y : Option Refusal) → y ≡ None → PieceLeft (replay_of r bs) (answered i y) l m o t s
+  fold_ends h y e = subst (λ (x : Option Refusal). PieceLeft (replay_of r bs) (answered i x) l m o t s) (sym e) (ends h)
 
   pub asked : WordsAsked l o t s
   unfolding viewed
@@ -103,16 +102,16 @@ module _ (r : Replay) (bs l m o t s : List ℕ) (i : ℕ) (f : Fold r bs l m o t
         (subst (λ (n : ℕ). Became (byte_step now n) (reply_of a) l1 m1 o1 t1 s1) same d)
 
     pub fold_refused : (a : Answer) (why : Refusal) (x : ℕ) → x ≡ b → x < 256 → a ≡ Refused why →
-        Became (byte_step now x) (reply_of a) l1 m1 o1 t1 s1 → PieceLeft (replay_of r bs) (answered i (firstly.Refused why)) l1 m1 o1 t1 s1
+        Became (byte_step now x) (reply_of a) l1 m1 o1 t1 s1 → PieceLeft (replay_of r bs) (answered i (Some why)) l1 m1 o1 t1 s1
     fold_refused a why x same fits e c = stopping (as_read a (Refused why) x same e c)
       where
         h : b < 256
         h = omega (arith, same, fits)
 
         stopping : Became (byte_step now b) (refused (number_of why)) l1 m1 o1 t1 s1 →
-            PieceLeft (replay_of r bs) (answered i (firstly.Refused why)) l1 m1 o1 t1 s1
+            PieceLeft (replay_of r bs) (answered i (Some why)) l1 m1 o1 t1 s1
         stopping d =
-            subst (λ (x : piece.Fed). PieceLeft x (answered i (firstly.Refused why)) l1 m1 o1 t1 s1) (sym (here _ d.view))
+            subst (λ (x : piece.Fed). PieceLeft x (answered i (Some why)) l1 m1 o1 t1 s1) (sym (here _ d.view))
             (unfold proceed in
             record { taken = sym (add-zero i); refusal = refl; held = held_view l1 m1 o1 t1 s1 (given_after _ h d) })
 

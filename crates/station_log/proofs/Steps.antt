@@ -6,8 +6,7 @@ use Prim.Native.Nat.{ℕ, ◌<◌, ◌≤◌}
 use native.Mathlib.Omega.{arith}
 use lib.Dec.{eqb}
 use lib.ListN.{length, get_or}
-use denote.Enum.Declared.{tag_of}
-use types.Run.{OneOf, miss}
+use Rattle.std.specs.Prelude.{Result, Ok, Err}
 use borrow.Author.Tests.{eq-eqb, ne_eqb, lt-ltb, le-ltb}
 use Rattle.laws.specs.Choice.{◌and◌, pick}
 use Rattle.laws.proofs.Choice.{pick_yes, pick_no}
@@ -20,14 +19,12 @@ use Rattle.session.specs.Step as stream
 use Rattle.session.specs.Feed.{First, nothing, first, feed_of, proceed as feeding}
 use Rattle.session.specs.Feed as pieces
 use Rattle.session.specs.Answers.{PieceLeft as WordsFed}
-use Rattle.session.specs.Asked.{Left, Fold}
-use Rattle.session.specs.Answers.{first_of, reply_of as word_reply}
-use Rattle.session.specs.declared.stream.Answer.{Answer}
-use Rattle.session.specs.declared.stream.Answer.TheVariants.{Open, Done, Refused}
+use Rattle.session.specs.Asked.{Told, Fold}
+use Rattle.session.specs.Answers.{first_of}
+use Rattle.session.specs.declared.stream.Progress.{Progress}
+use Rattle.session.specs.declared.stream.Progress.TheVariants.{Open, Whole}
 use Rattle.session.specs.declared.stream.Fed as declared
 use Rattle.session.proofs.Feeding.{fold_begins, fold_ends, fold_open, fold_completed, fold_refused}
-use Rattle.session.proofs.Numbers.{numbered}
-use Rattle.session.specs.contracts.stream.Answer.{the_type}
 use Rattle.session.proofs.Handed.{piece_given}
 use Rattle.session.proofs.Refusals.{fed_valid}
 use Rattle.replay.specs.State.{WordRefused, Replay, no_record}
@@ -90,7 +87,7 @@ module _ (ws l own tallies shared l1 own1 tallies1 shared1 : List ℕ) (g : Give
       }
 
 -- a refusal's number is neither an open command's nor a completed one's
-number_between : (why : Refusal) → (1 ≤ number_of why) × (number_of why < 64)
+pub number_between : (why : Refusal) → (1 ≤ number_of why) × (number_of why < 64)
 number_between refusal.Stopped = (omega arith, omega arith)
 number_between refusal.UnknownHeader = (omega arith, omega arith)
 number_between refusal.Malformed = (omega arith, omega arith)
@@ -119,8 +116,8 @@ module _
     (w : ℕ)
     (l own tallies shared l1 own1 tallies1 shared1 : List ℕ)
     (g : Given own tallies shared)
-    (a : Answer)
-    (h : Left (step_of (session_of own tallies shared) w) (word_reply a) own1 tallies1 shared1)
+    (a : Result Progress Refusal)
+    (h : Told (step_of (session_of own tallies shared) w) a own1 tallies1 shared1)
     (c : Changed (opening no_record) l l1)
   where
     fold : Fold (session_of own tallies shared) (w ∷ []) own tallies shared 0 0
@@ -136,31 +133,27 @@ module _
         WordsLeft (w ∷ []) l own tallies shared l1 own1 tallies1 shared1
     fed_one n f = fine _ refl (fold_ends (session_of own tallies shared) (w ∷ []) own1 tallies1 shared1 _ n f (omega arith))
 
-    fed_by : (b : Answer) → OneOf (0 ∷ 1 ∷ []) (tag_of the_type b) →
-        Left (step_of (session_of own tallies shared) w) (word_reply b) own1 tallies1 shared1 →
-        WordsLeft (w ∷ []) l own tallies shared l1 own1 tallies1 shared1
-    fed_by Open o k =
-        fed_one _
-        (fold_open (session_of own tallies shared) (w ∷ []) own tallies shared 0 0 fold (omega arith) own1 tallies1 shared1 0 refl (numbered k))
-    fed_by (Done x) o k =
-        fed_one _
-        (fold_completed (session_of own tallies shared) (w ∷ []) own tallies shared 0 0 fold (omega arith) own1 tallies1 shared1 64 refl
-        (numbered k))
-    fed_by (Refused why) o k = absurd (miss (0 ∷ 1 ∷ []) 2 tt o)
+    told_by : {b : Result Progress Refusal} → a ≡ b → Told (step_of (session_of own tallies shared) w) b own1 tallies1 shared1
+    told_by e = subst (λ (b : Result Progress Refusal). Told (step_of (session_of own tallies shared) w) b own1 tallies1 shared1) e h
 
-    pub word_fine : OneOf (0 ∷ 1 ∷ []) (tag_of the_type a) → WordsLeft (w ∷ []) l own tallies shared l1 own1 tallies1 shared1
-    word_fine o = fed_by a o h
+    pub word_fine : (x : Progress) → a ≡ Ok x → WordsLeft (w ∷ []) l own tallies shared l1 own1 tallies1 shared1
+    word_fine Open e =
+        fed_one _
+        (fold_open (session_of own tallies shared) (w ∷ []) own tallies shared 0 0 fold (omega arith) own1 tallies1 shared1 refl (told_by e))
+    word_fine Whole e =
+        fed_one _
+        (fold_completed (session_of own tallies shared) (w ∷ []) own tallies shared 0 0 fold (omega arith) own1 tallies1 shared1 refl
+        (told_by e))
 
     module _ (l2 : List ℕ) (n : ℕ) (d : Changed (noting n) l1 l2) where
       denied_with : (r : declared.Fed) → first n ≡ first_of r.refusal → Piece r → WordsLeft (w ∷ []) l own tallies shared l2 own1 tallies1 shared1
       denied_with r e p = words_noted (w ∷ []) l own tallies shared l1 own1 tallies1 shared1 g r p l2 n c d (e ∙ p.refusal)
 
-      pub word_noted : (why : Refusal) → a ≡ Refused why → n ≡ number_of why → WordsLeft (w ∷ []) l own tallies shared l2 own1 tallies1 shared1
+      pub word_noted : (why : Refusal) → a ≡ Err why → n ≡ number_of why → WordsLeft (w ∷ []) l own tallies shared l2 own1 tallies1 shared1
       word_noted why e k =
           denied_with _ (ap first k)
-          (fold_refused (session_of own tallies shared) (w ∷ []) own tallies shared 0 0 fold (omega arith) own1 tallies1 shared1 (number_of why)
-          (λ z. omega (arith, z, number_between why)) (λ z. omega (arith, z, number_between why)) why refl
-          (numbered (subst (λ (b : Answer). Left (step_of (session_of own tallies shared) w) (word_reply b) own1 tallies1 shared1) e h)))
+          (fold_refused (session_of own tallies shared) (w ∷ []) own tallies shared 0 0 fold (omega arith) own1 tallies1 shared1 why
+          (told_by e))
 
 -- a byte that only adds to a record
 module _ (l l1 : List ℕ) (b : ℕ) (going : get_or l 0 0 ≡ 0) where

@@ -13,7 +13,6 @@ use refusal::Refusal;
 use replay::bytes::Answer;
 use replay::{bytes, own};
 use session::stream;
-use session::stream::First;
 
 // Words of records that are fed to the session in one piece: so many that a piece's beginning and end cost little beside them.
 const BATCH: usize = 1024;
@@ -40,12 +39,14 @@ pub fn begin(
 ) -> u32
     ensures { Begins edition result log.old marks.old own.old tallies.old shared.old log.new marks.new own.new tallies.new shared.new }
 {
-    let number = stream::begin(own, tallies, shared, edition);
-    if number == 0 {
-        *log = [0; replay::LOG_CELLS];
-        *marks = [0; replay::MARKS];
+    match stream::begin(own, tallies, shared, edition) {
+        Ok(()) => {
+            *log = [0; replay::LOG_CELLS];
+            *marks = [0; replay::MARKS];
+            0
+        }
+        Err(why) => u32::from(why),
     }
-    number
 }
 
 // Words of records, fed to the session in one piece. A refused one stops the session, so that later ones add nothing.
@@ -62,7 +63,7 @@ fn take_words(
     let piece = stream::feed(own, tallies, shared, words);
     own::close(log);
     let first = piece.refusal;
-    if let First::Refused(why) = first {
+    if let Some(why) = first {
         own::note(log, u32::from(why))
     }
 }
@@ -78,9 +79,9 @@ fn take_word(
     requires { WordsAsked log.old own.old tallies.old shared.old }
     ensures { WordsLeft (word ∷ []) log.old own.old tallies.old shared.old log.new own.new tallies.new shared.new }
 {
-    let answer = stream::word(own, tallies, shared, word);
+    let answer = stream::step(own, tallies, shared, word);
     own::close(log);
-    if let stream::Answer::Refused(why) = answer {
+    if let Err(why) = answer {
         own::note(log, u32::from(why))
     }
 }
@@ -295,7 +296,7 @@ pub fn take_byte(
 #[derive(Drop)]
 pub struct Fed {
     pub taken: BytePosition,
-    pub refusal: First,
+    pub refusal: Option<Refusal>,
 }
 
 // A piece of bytes, one after another up to the first refused one; bytes after that aren't looked at.
@@ -311,7 +312,7 @@ pub fn feed(
     ensures { PieceLeft (replay_of (replay_in log.old marks.old own.old tallies.old shared.old) bytes.now) result log.new marks.new own.new tallies.new shared.new }
 {
     let mut i: usize = 0;
-    let mut refusal = First::Nothing;
+    let mut refusal: Option<Refusal> = None;
     let mut words: [u32; BATCH] = [0; BATCH];
     while i < bytes.len() {
         let records = take_records(log, own, tallies, shared, bytes, i, &mut words);
@@ -321,7 +322,7 @@ pub fn feed(
         }
         let answer = read_byte(log, marks, own, tallies, shared, wide(bytes[i]));
         if let Answer::Refused(why) = answer {
-            refusal = First::Refused(why);
+            refusal = Some(why);
             break;
         }
         i = i + 1;

@@ -1,5 +1,10 @@
 -- `accept::take_output` meets its contract. Assumes nothing.
+use mathlib.Core.Path.{sym, ap, ◌∙◌}
 use native.Mathlib.Omega.{arith}
+use Rattle.std.specs.Prelude.{Option, is_some}
+use Rattle.command.specs.declared.format.Window.{Window}
+use Rattle.command.proofs.Windows.{seen_given}
+use Rattle.rules.proofs.Fitting.{output_window}
 use Rattle.accept.proofs.Outputs.{output_asked}
 use Rattle.accept.proofs.WholeCommands.{counted_length, output_most, output_place, output_tried, output_owner, owner_at, unowned, denied, fine}
 use Rattle.accept.proofs.take_output.Reads as reads
@@ -25,6 +30,11 @@ pub put-requires : goal.put-requires
 put-requires c =
     (c.requires.1.shared_length_lem, output_place _ _ _ _ (fine _ c.output.ensures c.if-output.true))
 
+pub unwrap-window-requires : goal.unwrap-window-requires
+unwrap-window-requires c =
+    ap (λ (o : Option Window). is_some o) c.window_of.ensures ∙ seen_given _ ∙
+    output_window _ _ _ _ (fine _ c.output.ensures c.if-output.true)
+
 pub set_window-requires : goal.set_window-requires
 set_window-requires c =
     (counted_length _ _ _ c.count_words.ensures, output_most _ _ _ _ (fine _ c.output.ensures c.if-output.true))
@@ -33,7 +43,7 @@ pub renew-requires : goal.renew-requires
 renew-requires c =
     output_asked _ _ _ _ _ c.count_words.ensures c.requires.1 _ _ _ _
     (output_most _ _ _ _ (fine _ c.output.ensures c.if-output.true)) (owner_at c.args.own.now _ c.is_on.ensures c.if-is_on.true) _
-    c.window_of-window.ensures _ c.set_window.ensures c.put.ensures
+    (sym c.window_of.ensures ∙ c.unwrap-window.ensures) _ c.set_window.ensures c.put.ensures
 
 pub returns-then-is_on : goal.returns-then-is_on
 returns-then-is_on c =

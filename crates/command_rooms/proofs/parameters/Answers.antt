@@ -11,15 +11,15 @@ use Rattle.command_rooms.proofs.parameters.Goals as goal
 
 pub count-requires : goal.count-requires
 count-requires c =
-    (accepted_listed _ _ (sym c.line_of.ensures ∙ ap told_line c.in-At.is)).line
+    (accepted_listed _ _ (sym c.line_of.ensures ∙ ap told_line c.in-Some.is)).line
 
-pub returns-in-Unknown : goal.returns-in-Unknown
-returns-in-Unknown c =
+pub returns-in-None : goal.returns-in-None
+returns-in-None c =
     crosses_refuses _ _ _ _ c.from.ensures
-    (off_line _ _ _ (sym c.line_of.ensures ∙ ap told_line c.in-Unknown.is))
+    (off_line _ _ _ (sym c.line_of.ensures ∙ ap told_line c.in-None.is))
 
-pub returns-in-At : goal.returns-in-At
-returns-in-At c =
+pub returns-in-Some : goal.returns-in-Some
+returns-in-Some c =
     crosses_gives _ _ _
-    (on_line_lem _ _ _ _ (sym c.line_of.ensures ∙ ap told_line c.in-At.is) ∙
+    (on_line_lem _ _ _ _ (sym c.line_of.ensures ∙ ap told_line c.in-Some.is) ∙
     ap (λ (n : ℕ). gives (n ∷ [])) (sym c.count.ensures))

@@ -9,18 +9,18 @@ use Rattle.command_rooms.proofs.write.Goals as goal
 
 pub write_line-requires : goal.write_line-requires
 write_line-requires c =
-    let known = accepted_listed _ _ (sym c.line_of.ensures ∙ ap told_line c.in-At.is) in
+    let known = accepted_listed _ _ (sym c.line_of.ensures ∙ ap told_line c.in-Some.is) in
     (known.line, sym known.header)
 
-pub returns-in-Unknown : goal.returns-in-Unknown
-returns-in-Unknown c =
+pub returns-in-None : goal.returns-in-None
+returns-in-None c =
     record {
       answer =
           crosses_refuses _ _ _ _ c.from.ensures
-          (off_line _ _ _ (sym c.line_of.ensures ∙ ap told_line c.in-Unknown.is));
-      room = sym (off_line _ _ _ (sym c.line_of.ensures ∙ ap told_line c.in-Unknown.is));
+          (off_line _ _ _ (sym c.line_of.ensures ∙ ap told_line c.in-None.is));
+      room = sym (off_line _ _ _ (sym c.line_of.ensures ∙ ap told_line c.in-None.is));
     }
 
-pub returns-in-At : goal.returns-in-At
-returns-in-At c =
-    write_known _ _ _ (sym c.line_of.ensures ∙ ap told_line c.in-At.is) c.write_line.ensures
+pub returns-in-Some : goal.returns-in-Some
+returns-in-Some c =
+    write_known _ _ _ (sym c.line_of.ensures ∙ ap told_line c.in-Some.is) c.write_line.ensures

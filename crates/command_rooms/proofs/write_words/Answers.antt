@@ -11,19 +11,19 @@ overflow_cast-written c =
     record {
       fits =
           omega
-          (arith, words_few _ _ _ (sym c.write.ensures.answer ∙ ap told_written c.in-Words.is));
+          (arith, words_few _ _ _ (sym c.write.ensures.answer ∙ ap told_written c.in-Ok.is));
     }
 
-pub returns-in-Refused : goal.returns-in-Refused
-returns-in-Refused c =
+pub returns-in-Err : goal.returns-in-Err
+returns-in-Err c =
     record {
-      answer = crosses_refuses _ _ _ _ c.from.ensures (sym c.write.ensures.answer ∙ ap told_written c.in-Refused.is);
+      answer = crosses_refuses _ _ _ _ c.from.ensures (sym c.write.ensures.answer ∙ ap told_written c.in-Err.is);
       room = c.write.ensures.room;
     }
 
-pub returns-in-Words : goal.returns-in-Words
-returns-in-Words c =
+pub returns-in-Ok : goal.returns-in-Ok
+returns-in-Ok c =
     record {
-      answer = crosses_gives _ _ _ (sym c.write.ensures.answer ∙ ap told_written c.in-Words.is);
+      answer = crosses_gives _ _ _ (sym c.write.ensures.answer ∙ ap told_written c.in-Ok.is);
       room = c.write.ensures.room;
     }

@@ -6,20 +6,20 @@ use mathlib.Core.List.{[], ◌∷◌}
 use mathlib.Core.Path.{sym, ap, ◌∙◌}
 use Rattle.log_rooms.proofs.feed.Goals as goal
 
-pub returns-in-Nothing : goal.returns-in-Nothing
-returns-in-Nothing c =
+pub returns-in-None : goal.returns-in-None
+returns-in-None c =
     record {
-      status = ap first_status (sym (ap first_of c.in-Nothing.is) ∙ c.feed-piece.ensures.refusal);
+      status = ap first_status (sym (ap first_of c.in-None.is) ∙ c.feed-piece.ensures.refusal);
       room = ap (λ (a : ℕ). a ∷ []) c.feed-piece.ensures.taken;
       held = c.feed-piece.ensures.held;
     }
 
-pub returns-in-Refused : goal.returns-in-Refused
-returns-in-Refused c =
+pub returns-in-Some : goal.returns-in-Some
+returns-in-Some c =
     record {
       status =
           c.from.ensures ∙ ap first_status
-          (sym (ap first_of c.in-Refused.is) ∙ c.feed-piece.ensures.refusal);
+          (sym (ap first_of c.in-Some.is) ∙ c.feed-piece.ensures.refusal);
       room = ap (λ (a : ℕ). a ∷ []) c.feed-piece.ensures.taken;
       held = c.feed-piece.ensures.held;
     }

@@ -1,9 +1,5 @@
 -- `owners::blended` meets its contract. Assumes nothing.
 use Rattle.owners.proofs.Places.{blended_told}
-use Rattle.owners.proofs.blended.Reads as reads
-use Rattle.owners.proofs.blended.Lts as lts
-use Rattle.owners.proofs.chosen.Reads as chosen_reads
-use Rattle.owners.proofs.is_on.Reads as is_on_reads
 use Rattle.owners.proofs.blended.Goals as goal
 
 pub returns : goal.returns

@@ -2,8 +2,6 @@
 use Rattle.laws.proofs.Choice.{pick_yes, pick_no}
 use native.Mathlib.Omega.{arith}
 use mathlib.Core.Path.{sym}
-use Rattle.owners.proofs.chosen.Reads as reads
-use Rattle.owners.proofs.chosen.Lts as lts
 use Rattle.owners.proofs.chosen.Goals as goal
 
 pub returns-then-owned : goal.returns-then-owned

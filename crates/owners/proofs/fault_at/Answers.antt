@@ -1,9 +1,6 @@
 -- `owners::fault_at` meets its contract. Assumes nothing.
 use mathlib.Core.Path.{◌∙◌}
 use Rattle.owners.proofs.Places.{input_fault, output_fault, other_fault}
-use Rattle.owners.proofs.fault_at.Reads as reads
-use Rattle.owners.proofs.fault_at.Lts as lts
-use Rattle.owners.proofs.number_fault.Reads as number_fault_reads
 use Rattle.owners.proofs.fault_at.Goals as goal
 
 pub returns-in-16 : goal.returns-in-16

@@ -2,9 +2,6 @@
 use native.Mathlib.Omega.{arith}
 use mathlib.Core.Path.{◌∙◌}
 use Rattle.owners.proofs.Places.{input_bound, output_bound, input_named, output_named, others_named}
-use Rattle.owners.proofs.may_name.Reads as reads
-use Rattle.owners.proofs.may_name.Lts as lts
-use Rattle.owners.proofs.is_on.Reads as is_on_reads
 use Rattle.owners.proofs.may_name.Goals as goal
 
 pub is_on-requires : goal.is_on-requires

@@ -2,8 +2,6 @@
 use Rattle.laws.proofs.Choice.{pick_yes, pick_no}
 use borrow.Author.Tests.{le-leb, lt-leb}
 use mathlib.Core.Path.{sym}
-use Rattle.owners.proofs.number_fault.Reads as reads
-use Rattle.owners.proofs.number_fault.Lts as lts
 use Rattle.owners.proofs.number_fault.Goals as goal
 
 pub returns-then-word-most : goal.returns-then-word-most

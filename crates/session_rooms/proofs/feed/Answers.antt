@@ -13,21 +13,21 @@ returns-then-words-eq1 c =
     one_piece _ _ c.if-words-eq1.true c.feed_one.ensures
 
 -- no word of a longer piece is refused
-pub returns-in-Nothing : goal.returns-in-Nothing
-returns-in-Nothing c =
+pub returns-in-None : goal.returns-in-None
+returns-in-None c =
     record {
-      status = ap first_status (sym (ap first_of c.in-Nothing.is) ∙ c.feed-piece.ensures.refusal);
+      status = ap first_status (sym (ap first_of c.in-None.is) ∙ c.feed-piece.ensures.refusal);
       room = ap₂ (λ (a b : ℕ). a ∷ b ∷ []) c.feed-piece.ensures.taken c.feed-piece.ensures.commands;
       held = c.feed-piece.ensures.held;
     }
 
 -- one is
-pub returns-in-Refused : goal.returns-in-Refused
-returns-in-Refused c =
+pub returns-in-Some : goal.returns-in-Some
+returns-in-Some c =
     record {
       status =
           c.from.ensures ∙ ap first_status
-          (sym (ap first_of c.in-Refused.is) ∙ c.feed-piece.ensures.refusal);
+          (sym (ap first_of c.in-Some.is) ∙ c.feed-piece.ensures.refusal);
       room =
           ap₂ (λ (a b : ℕ). a ∷ b ∷ []) c.feed-piece.ensures.taken
           c.feed-piece.ensures.commands;

@@ -1,11 +1,14 @@
 -- `command::kinds::superfine_allowed` meets its contract: the two cases of the definition. Assumes nothing.
-use mathlib.Core.Path.{sym, ◌∙◌}
-use Rattle.command.proofs.Words.{superfine_asked, superfine_free}
+use native.Mathlib.Omega.{arith}
+use Rattle.std.proofs.lemmas.Grind.{common_steps}
+use Rattle.laws.specs.Choice.{pick}
+use Rattle.command.specs.Kinds.{superfine_allowed}
 use Rattle.command.proofs.kinds.superfine_allowed.Goals as goal
 
-pub returns-then-superfine : goal.returns-then-superfine
-returns-then-superfine c =
-    superfine_asked _ _ _ (sym c.superfine.ensures ∙ c.if-superfine.true) c.code.ensures c.channels.ensures
+pub returns-then-not-superfine : goal.returns-then-not-superfine
+unfolding superfine_allowed pick
+returns-then-not-superfine c = grind (arith, common_steps)
 
-pub returns-else-superfine : goal.returns-else-superfine
-returns-else-superfine c = superfine_free _ (sym c.superfine.ensures ∙ c.if-superfine.false)
+pub returns-else-not-superfine : goal.returns-else-not-superfine
+unfolding superfine_allowed pick
+returns-else-not-superfine c = grind (arith, common_steps)

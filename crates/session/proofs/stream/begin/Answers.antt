@@ -1,7 +1,6 @@
 -- `session::stream::begin` meets its contract. Assumes nothing.
+use mathlib.Core.Path.{refl}
 use Rattle.session.proofs.Taking.{begins, begins_not}
-use Rattle.session.proofs.stream.make.Reads as make_reads
-use Rattle.state.proofs.edition.is_known.Reads as is_known_reads
 use Rattle.session.proofs.stream.begin.Goals as goal
 
 pub returns-then-is_known : goal.returns-then-is_known
@@ -12,4 +11,4 @@ returns-then-is_known c =
 pub returns : goal.returns
 returns c =
     -- it is neither, and nothing was touched
-    begins_not _ c.is_known.ensures c.if-is_known.false c.from.ensures
+    begins_not _ c.is_known.ensures c.if-is_known.false refl

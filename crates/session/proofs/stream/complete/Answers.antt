@@ -1,7 +1,6 @@
 -- `session::stream::complete` meets its contract. Assumes nothing.
-use mathlib.Core.Path.{refl, ◌∙◌}
+use mathlib.Core.Path.{refl}
 use Rattle.session.proofs.LastWords.{last_asked, last_length, last_done, refusal_asked, last_refused}
-use Rattle.session.proofs.Numbers.{numbered}
 use Rattle.session.proofs.stream.complete.Goals as goal
 
 pub take_last-requires : goal.take_last-requires
@@ -19,9 +18,8 @@ close-requires c =
 pub returns-then-take_last-gt0 : goal.returns-then-take_last-gt0
 returns-then-take_last-gt0 c =
     let args = c.args in
-    numbered
-    (last_done args.own.now args.tallies.now args.shared.now c.requires _ _ _ _
-    c.take_last.ensures c.if-take_last-gt0.true _ refl _ c.close.ensures)
+    last_done args.own.now args.tallies.now args.shared.now c.requires _ _ _ _
+    c.take_last.ensures c.if-take_last-gt0.true _ refl _ c.close.ensures
 
 pub refusal_of-why-requires : goal.refusal_of-why-requires
 refusal_of-why-requires c =
@@ -39,6 +37,5 @@ stop-requires c =
 pub returns : goal.returns
 returns c =
     let args = c.args in
-    numbered
-    (last_refused args.own.now args.tallies.now args.shared.now c.requires _ _ _ _
-    c.take_last.ensures c.if-take_last-gt0.false _ (c.from.ensures ∙ c.refusal_of-why.ensures) _ c.stop.ensures)
+    last_refused args.own.now args.tallies.now args.shared.now c.requires _ _ _ _
+    c.take_last.ensures c.if-take_last-gt0.false _ c.refusal_of-why.ensures _ c.stop.ensures

@@ -1,22 +1,21 @@
 -- `session::stream::finish` meets its contract: the command is the one that the cells held. Assumes nothing.
-use Rattle.state.specs.Cells.{party_of}
-use Rattle.session.proofs.Numbers.{finish_done, finish_number, finish_refused}
+use mathlib.Core.Path.{subst, sym}
+use mathlib.Core.List.{[]}
+use Rattle.command.specs.declared.commands.Command.{Command}
+use Rattle.state.specs.Cells.{party_of, session_of}
+use Rattle.session.specs.Step.{completed, completing}
+use Rattle.session.specs.Asked.{Left}
 use Rattle.session.proofs.stream.finish.Goals as goal
 
 pub build-requires : goal.build-requires
 unfolding party_of
-build-requires c =
-    c.requires.line
-
-pub returns-then-number-eq-COMPLETED : goal.returns-then-number-eq-COMPLETED
-unfolding party_of
-returns-then-number-eq-COMPLETED c =
-    finish_done _ _ _ _ _ _ c.complete-number.ensures c.if-number-eq-COMPLETED.true _ c.build.ensures
-
-pub with_number-requires : goal.with_number-requires
-with_number-requires c =
-    finish_number _ _ _ _ _ _ c.complete-number.ensures c.if-number-eq-COMPLETED.false
+build-requires c = c.requires.line
 
 pub returns : goal.returns
+unfolding party_of
 returns c =
-    finish_refused _ _ _ _ _ _ c.complete-number.ensures c.if-number-eq-COMPLETED.false c.with_number.result c.with_number.ensures
+    let args = c.args in
+    let now = c.complete.new in
+    subst
+    (λ (x : Command). Left (completing (party_of args.own.now []).opened (session_of args.own.now args.tallies.now args.shared.now)) (completed x) now.own now.tallies now.shared)
+    (sym c.build.ensures) c.in_ok-complete.ensures

@@ -10,4 +10,5 @@ pub returns-then-place_allowed : goal.returns-then-place_allowed
 returns-then-place_allowed c = c.may_name.ensures ∙ sym (and_yes _ (sym c.place_allowed.ensures ∙ c.if-place_allowed.true))
 
 pub returns-else-place_allowed : goal.returns-else-place_allowed
-returns-else-place_allowed c = sym (and_no_left _ (sym c.place_allowed.ensures ∙ c.if-place_allowed.false))
+returns-else-place_allowed c =
+    c.if-place_allowed.false ∙ sym (and_no_left _ (sym c.place_allowed.ensures ∙ c.if-place_allowed.false))

@@ -1,4 +1,5 @@
 -- `session::stream::parameter` meets its contract. Assumes nothing.
+use Rattle.std.specs.Prelude.{Ok}
 use Rattle.session.proofs.Taking.{kind_asked, parameter_asked, not_taken, kind_passed}
 use Rattle.session.proofs.stream.parameter.Goals as goal
 
@@ -17,7 +18,7 @@ pub returns-then-is_taken : goal.returns-then-is_taken
 returns-then-is_taken c =
     let args = c.args in
     kind_passed args.own.now args.tallies.now args.shared.now args.word c.requires _
-    c.is_taken.ensures c.if-is_taken.true _ _ c.placed.ensures
+    c.is_taken.ensures c.if-is_taken.true (Ok c.placed.result) _ c.placed.ensures
 
 pub fault_at-fault-requires : goal.fault_at-fault-requires
 fault_at-fault-requires c =

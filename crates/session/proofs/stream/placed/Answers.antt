@@ -1,6 +1,5 @@
 -- `session::stream::placed` meets its contract. Assumes nothing.
 use native.Mathlib.Omega.{arith}
-use Rattle.session.proofs.Numbers.{numbered, read_answered, read_whole}
 use Rattle.session.proofs.Stepping.{place_asked, count_fits, placed_asked, placed_open, complete_asked, placed_whole}
 use Rattle.session.proofs.stream.placed.Goals as goal
 
@@ -22,16 +21,17 @@ count_word-requires c =
 pub returns-then-count-parameters : goal.returns-then-count-parameters
 returns-then-count-parameters c =
     let args = c.args in
-    read_answered (λ e. omega (arith, e))
-    (numbered
-    (placed_open args.own.now args.tallies.now args.shared.now args.word c.requires _ c.place.ensures
-    (rw (← c.parameters.ensures) c.if-count-parameters.true) _ c.count_word.ensures))
+    placed_open args.own.now args.tallies.now args.shared.now args.word c.requires _ c.place.ensures
+    (rw (← c.parameters.ensures) c.if-count-parameters.true) _ c.count_word.ensures
 
 pub returns : goal.returns
 returns c =
     let args = c.args in
-    read_whole
-    (complete_asked args.own.now args.tallies.now args.shared.now args.word c.requires _ c.place.ensures
-    (rw (← c.parameters.ensures) c.if-count-parameters.false))
-    (placed_whole args.own.now args.tallies.now args.shared.now args.word c.requires _ c.place.ensures
-    (rw (← c.parameters.ensures) c.if-count-parameters.false))
+    record {
+      asked =
+          complete_asked args.own.now args.tallies.now args.shared.now args.word c.requires _ c.place.ensures
+          (rw (← c.parameters.ensures) c.if-count-parameters.false);
+      completes =
+          placed_whole args.own.now args.tallies.now args.shared.now args.word c.requires _ c.place.ensures
+          (rw (← c.parameters.ensures) c.if-count-parameters.false);
+    }

@@ -5,12 +5,12 @@ use mathlib.Core.Path.{sym, ap, ◌∙◌}
 use Rattle.station_log.proofs.Steps.{words_fine, words_noted}
 use Rattle.station_log.proofs.stream.take_words.Goals as goal
 
-pub returns-in-Refused : goal.returns-in-Refused
-returns-in-Refused c = words_noted _ _ _ _ _ _ _ _ _
+pub returns-in-Some : goal.returns-in-Some
+returns-in-Some c = words_noted _ _ _ _ _ _ _ _ _
     c.requires.session_given _
     c.feed-piece.ensures _ _
     c.close.ensures c.note.ensures
-    (ap first c.from.ensures ∙ sym (ap first_of c.in-Refused.is)
+    (ap first c.from.ensures ∙ sym (ap first_of c.in-Some.is)
     ∙ c.feed-piece.ensures.refusal)
 
 pub returns-in_default : goal.returns-in_default
