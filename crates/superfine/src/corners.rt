@@ -67,10 +67,7 @@ pub fn addresses(layout: Layout, x: u32, y: u32) -> Result<Corners, Refusal>
     if !layout::well_formed(base, layout.pitch, size) {
         return Err(Refusal::Malformed);
     }
-    let stride = layout::window_stride(base, layout.pitch, layout.height, size, layout.tiled);
-    if stride < 1 {
-        return Err(Refusal::WindowRule);
-    }
+    let stride = layout::window_stride(layout)?;
     if STEP_MOST <= x {
         return Err(Refusal::PairOutside);
     }
