@@ -84,27 +84,27 @@ pub fn is_size(size: u32) -> bool
     (SIZE_BITS >> size) % 2 == 1
 }
 
-// The width of a size's tile, from the table; 0 for what is no size.
-fn tile_width(size: u32) -> u32
-    ensures { result ≡ width_of size }
-{
-    let line = tables::size_line(size);
-    if line < tables::SIZE_LINES {
-        tables::tile_width_at(line)
-    } else {
-        0
-    }
+// A tile's width and height in elements.
+#[derive(Clone, Copy)]
+struct Tile {
+    width: u32,
+    height: u32,
 }
 
-// The height of a size's tile, from the table; 0 for what is no size.
-fn tile_height(size: u32) -> u32
-    ensures { result ≡ height_of size }
+// The tile of a size, from the tables; 0 by 0 for what is no size.
+fn tile_of(size: u32) -> Tile
+    ensures width { result.width ≡ width_of size }
+    ensures height { result.height ≡ height_of size }
 {
-    let line = tables::size_line(size);
-    if line < tables::SIZE_LINES {
-        tables::tile_height_at(line)
-    } else {
-        0
+    match tables::size_line(size) {
+        Some(line) => Tile {
+            width: tables::tile_width_at(line),
+            height: tables::tile_height_at(line),
+        },
+        None => Tile {
+            width: 0,
+            height: 0,
+        },
     }
 }
 
@@ -246,7 +246,7 @@ fn unit(size: u32, tiled: bool) -> u32
     ensures { result ≡ unit_of tiled size }
 {
     if tiled {
-        tile_width(size)
+        tile_of(size).width
     } else {
         LINEAR_UNIT / size
     }
@@ -265,7 +265,7 @@ fn table_step(pitch: u32, size: u32, tiled: bool) -> u32
 fn rows_unit(size: u32, tiled: bool) -> u32
     ensures { result ≡ pick tiled (height_of size) 1 }
 {
-    if tiled { tile_height(size) } else { 1 }
+    if tiled { tile_of(size).height } else { 1 }
 }
 
 // The rows that a window's bytes make up, by the table.

@@ -3,7 +3,7 @@
 // or a shift, in `layout` and `command`, proved equal to the same lists; what runs less often reads the tables here.
 #![tactic(auto)]
 
-ghost use Rattle.std.specs.Prelude.{◌≡◌, ◌<◌, get_or};
+ghost use Rattle.std.specs.Prelude.{◌≡◌, ◌<◌, get_or, IfSome, unwrap_or};
 ghost use Rattle.laws.specs.Choice.{place_of};
 ghost use Rattle.tables.specs.Tables.{sizes, widths, heights, headers, counts};
 
@@ -55,18 +55,12 @@ pub const COUNTS: [u32; COMMAND_LINES] = [
     4, 1, 1, 2, 4, 4, 3, 2, 2, 2, 1, 1, 1, 1, 1, 1, 1, 1, 1, 1, 1,
 ];
 
-// The line of a size, counted from 0; 5 for a number that is no size.
-pub fn size_line(size: u32) -> usize
-    ensures { result ≡ place_of size sizes }
+// The line of a size, counted from 0; none for a number that is no size.
+pub fn size_line(size: u32) -> Option<usize>
+    ensures place { unwrap_or result 5 ≡ place_of size sizes }
+    ensures line { IfSome result (λ line. line < 5) }
 {
-    let mut line = 0;
-    while line < SIZE_LINES {
-        if SIZES[line] == size {
-            return line;
-        }
-        line += 1;
-    }
-    SIZE_LINES
+    SIZES.iter().position(|s| *s == size)
 }
 
 // The width and the height of the tile in a line.
