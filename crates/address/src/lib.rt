@@ -47,10 +47,7 @@ pub struct Located {
 fn formed(base: u32, pitch: u32) -> bool
     ensures { result ≡ well_formed base pitch 1 }
 {
-    if base % BASE_UNIT != 0 {
-        return false;
-    }
-    pitch % PITCH_END / PITCH_UNIT * PITCH_UNIT == pitch
+    base % BASE_UNIT == 0 && pitch % PITCH_END / PITCH_UNIT * PITCH_UNIT == pitch
 }
 
 // A translation in a well-formed layout. It and all that it calls are expanded where they are called, with size and kind as

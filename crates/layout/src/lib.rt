@@ -78,10 +78,7 @@ const ALL_ONE: u64 = 0;
 pub fn is_size(size: u32) -> bool
     ensures { result ≡ is_size size }
 {
-    if SIZE_MOST < size {
-        return false;
-    }
-    (SIZE_BITS >> size) % 2 == 1
+    size <= SIZE_MOST && (SIZE_BITS >> size) % 2 == 1
 }
 
 // A tile's width and height in elements.
@@ -112,13 +109,7 @@ fn tile_of(size: u32) -> Tile
 pub fn well_formed(base: u32, pitch: u32, size: u32) -> bool
     ensures { result ≡ well_formed base pitch size }
 {
-    if base % BASE_UNIT != 0 {
-        return false;
-    }
-    if pitch % PITCH_UNIT != 0 {
-        return false;
-    }
-    if PITCH_MOST < pitch {
+    if base % BASE_UNIT != 0 || pitch % PITCH_UNIT != 0 || PITCH_MOST < pitch {
         return false;
     }
     is_size(size)
