@@ -1,12 +1,11 @@
 -- The answers of translation and of the way back, as far as the tests on the way decide them: one law a return of the code.
 -- Assumes nothing.
-use Rattle.std.proofs.Common.{◌≡◌, ℕ, ◌+◌, ◌-◌, ◌*◌, ◌/◌, ◌%◌, ◌^◌, ◌<◌, ◌≤◌, Bool, true, false, eqb, ltb, leb, List, [], ◌∷◌, get_or, sym, refl, ap, ◌∙◌, subst, ap₂, mul-le-mul, lt_of_mul-lt-mul_right, le_of_mul-le-mul_right, mul-div_cancel, arith, ltb-false, ltb-true, le-ltb, lt-ltb, eq-eqb, ne_eqb, eqb-true, le-leb, leb-false, leb-true}
+use Rattle.std.proofs.Common.{◌≡◌, ℕ, ◌+◌, ◌*◌, ◌/◌, ◌%◌, ◌^◌, ◌<◌, ◌≤◌, Bool, true, false, eqb, ltb, leb, [], ◌∷◌, sym, refl, ap, ◌∙◌, ap₂, mul-le-mul, lt_of_mul-lt-mul_right, le_of_mul-le-mul_right, mul-div_cancel, arith, ltb-false, ltb-true, le-ltb, lt-ltb, eq-eqb, ne_eqb, eqb-true, le-leb, leb-true}
 use borrow.Author.Tests.{eqb-false}
-use Rattle.laws.specs.Choice.{◌and◌, pick, place_of}
+use Rattle.laws.specs.Choice.{◌and◌, place_of}
 use Rattle.laws.proofs.Choice.{pick_yes, pick_no, and_intro, and_left, and_right, and_no_left, and_no_right, Tested, tested, holds, fails}
 use Rattle.refusal.specs.Told.{Told, gives, refuses}
-use Rattle.refusal.specs.Crossing.{Crosses, status_of, room_of}
-use Rattle.layout.specs.Sizes.{sizes, is_size, width_of}
+use Rattle.layout.specs.Sizes.{sizes, is_size}
 use Rattle.layout.proofs.Sizes.{no_size}
 use Rattle.laws.proofs.Table.{NoneOf}
 use Rattle.layout.specs.Layout.{well_formed, span_of, window_rule, stride_of}
@@ -16,7 +15,7 @@ use Rattle.layout.proofs.Rows.{Ruled, ruled, unruled}
 use Rattle.address.specs.Asked.{PairAsked, StepAsked, TiledAsked}
 use Rattle.address.specs.Offset.{offset_of, x_of, y_of, byte_place}
 use Rattle.address.specs.Owner.{StrideTaken, owner_of}
-use Rattle.address.specs.Address.{step_of, if_accepted, inside, address_of, run_of, translate_of, back_of, locate_of, layout_of}
+use Rattle.address.specs.Address.{step_of, if_accepted, inside, address_of, run_of, translate_of, back_of, locate_of}
 use Rattle.address.specs.Inverse.{Accepted, Inside}
 use Rattle.address.specs.Run.{run_number}
 use Rattle.address.proofs.Offsets.{blocks}

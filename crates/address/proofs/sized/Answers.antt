@@ -28,12 +28,12 @@ returns-then-x-gt-STEP_MOST c =
     let stride = is_stride _ _ (sym c.window_stride.ensures ∙ c.in_ok-stride.was) in
     let taken_here = taken l c.requires _ stride.0 stride.1 in
     elim c.then-x-gt-STEP_MOST.branch [
-      then-x-gt-STEP_MOST-via-then-x-gt-STEP_MOST w ↦
+      | then-x-gt-STEP_MOST-via-then-x-gt-STEP_MOST w ↦
           sym (outside_column l _ taken_here _ _ (past_all l c.requires _ stride.0 stride.1 _ w.if-x-gt-STEP_MOST.true))
-    | then-x-gt-STEP_MOST-via-else-x-gt-STEP_MOST+then-stride-x w ↦
-        sym (outside_column l _ taken_here _ _ (past_row l c.requires _ stride.0 stride.1 _ w.if-stride-x.true))
-    | then-x-gt-STEP_MOST-via-else-x-gt-STEP_MOST+else-stride-x+then-height-y w ↦
-        sym (outside_row l _ taken_here _ _ w.if-height-y.true)
+      | then-x-gt-STEP_MOST-via-else-x-gt-STEP_MOST+then-stride-x w ↦
+          sym (outside_column l _ taken_here _ _ (past_row l c.requires _ stride.0 stride.1 _ w.if-stride-x.true))
+      | then-x-gt-STEP_MOST-via-else-x-gt-STEP_MOST+else-stride-x+then-height-y w ↦
+          sym (outside_row l _ taken_here _ _ w.if-height-y.true)
     ]
 
 pub offset-offset-requires : goal.offset-offset-requires

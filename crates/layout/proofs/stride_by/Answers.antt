@@ -21,12 +21,12 @@ returns-then-stride-lt1 c =
     let form = c.requires.form in
     let cut = cut_stride _ _ _ _ (form_size _ _ _ form) (form_pitch _ _ _ form) c.requires.stride_unit in
     elim c.then-stride-lt1.branch [
-      then-stride-lt1-via-then-stride-lt1 w ↦ ap strided (no_stride _ _ _ _ _ form _ cut w.if-stride-lt1.true)
-    | then-stride-lt1-via-else-stride-lt1+then-size-stride w ↦ ap strided (long_stride _ _ _ _ _ form _ cut w.if-size-stride.true)
-    | then-stride-lt1-via-else-stride-lt1+else-size-stride+then-height-lt1 w ↦
-        ap strided (no_height _ _ _ _ _ form _ cut w.if-height-lt1.true)
-    | then-stride-lt1-via-else-stride-lt1+else-size-stride+else-height-lt1+then-height-gt-SIDE_MOST w ↦
-        ap strided (great_height _ _ _ _ _ form _ cut w.if-height-gt-SIDE_MOST.true)
+      | then-stride-lt1-via-then-stride-lt1 w ↦ ap strided (no_stride _ _ _ _ _ form _ cut w.if-stride-lt1.true)
+      | then-stride-lt1-via-else-stride-lt1+then-size-stride w ↦ ap strided (long_stride _ _ _ _ _ form _ cut w.if-size-stride.true)
+      | then-stride-lt1-via-else-stride-lt1+else-size-stride+then-height-lt1 w ↦
+          ap strided (no_height _ _ _ _ _ form _ cut w.if-height-lt1.true)
+      | then-stride-lt1-via-else-stride-lt1+else-size-stride+else-height-lt1+then-height-gt-SIDE_MOST w ↦
+          ap strided (great_height _ _ _ _ _ form _ cut w.if-height-gt-SIDE_MOST.true)
     ]
 
 pub overflow_sub-rows : goal.overflow_sub-rows

@@ -1,7 +1,7 @@
 -- `layout::tile_of` meets its contract: the line of the size, or none. Assumes nothing.
-use Rattle.std.proofs.Common.{◌≡◌, ℕ, List, get_or, sym, ap, ◌∙◌}
+use Rattle.std.proofs.Common.{ℕ, get_or, sym, ap, ◌∙◌}
 use Rattle.std.specs.Prelude.{unwrap_or}
-use Rattle.layout.specs.Sizes.{sizes, widths, heights, width_of, height_of}
+use Rattle.layout.specs.Sizes.{widths, heights, width_of, height_of}
 use Rattle.layout.proofs.tile_of.Goals as goal
 
 pub returns-in-Some : goal.returns-in-Some

@@ -11,10 +11,10 @@ pub returns-then-base-ne0 : goal.returns-then-base-ne0
 unfolding well_formed
 returns-then-base-ne0 c =
     elim c.then-base-ne0.branch [
-      then-base-ne0-via-then-base-ne0 w ↦ sym (and_no_left _ (ne_eqb _ _ w.if-base-ne0.true))
-    | then-base-ne0-via-else-base-ne0+then-pitch-ne0 w ↦ sym (and_no_right _ (and_no_left _ (ne_eqb _ _ w.if-pitch-ne0.true)))
-    | then-base-ne0-via-else-base-ne0+else-pitch-ne0+then-pitch-gt-PITCH_MOST w ↦
-        sym (and_no_right _ (and_no_right _ (and_no_left _ (lt-leb _ _ w.if-pitch-gt-PITCH_MOST.true))))
+      | then-base-ne0-via-then-base-ne0 w ↦ sym (and_no_left _ (ne_eqb _ _ w.if-base-ne0.true))
+      | then-base-ne0-via-else-base-ne0+then-pitch-ne0 w ↦ sym (and_no_right _ (and_no_left _ (ne_eqb _ _ w.if-pitch-ne0.true)))
+      | then-base-ne0-via-else-base-ne0+else-pitch-ne0+then-pitch-gt-PITCH_MOST w ↦
+          sym (and_no_right _ (and_no_right _ (and_no_left _ (lt-leb _ _ w.if-pitch-gt-PITCH_MOST.true))))
     ]
 
 pub returns : goal.returns

@@ -1,6 +1,6 @@
 -- `tables::size_line` meets its contract: the place that the search finds is the first. Assumes nothing.
-use Rattle.std.proofs.Common.{◌≡◌, ℕ, suc, Bool, true, false, List, [], ◌∷◌, length, eqb, refl, sym, ap, ◌∙◌, arith, rules}
-use Rattle.std.specs.Prelude.{unwrap_or, position, Option}
+use Rattle.std.proofs.Common.{◌≡◌, ℕ, eqb, arith, rules}
+use Rattle.std.specs.Prelude.{unwrap_or, position}
 use Rattle.std.proofs.lemmas.Grind.{common_steps}
 use Rattle.laws.specs.Choice.{pick, place_of}
 use Rattle.tables.specs.Tables.{sizes}
