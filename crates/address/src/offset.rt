@@ -36,6 +36,8 @@ fn in_tiles(p: u32, q: u32, size: u32, stride: u32, x: u32, y: u32) -> u32
     TILE_BYTES * number + (BLOCK_BYTES * code + element * size)
 }
 
+// The offset of a pair in tiles, by the size's blocks.
+// Kept (design pass 7, speed): each arm, here and in `tiled_back`, hands a size's numbers over as constants.
 #[inline(always)]
 fn tiled_offset(size: u32, stride: u32, x: u32, y: u32) -> u32
     requires { PairAsked size (stride / size) x y }

@@ -124,6 +124,7 @@ fn power_at(powers: u64, size: u32) -> u32
 }
 
 // The powers of what row steps are multiples of.
+// Kept (design pass 2, no plainer): this and the like for strides and rows are a choice each, and a clause of its own on two numbers.
 fn step_logs(tiled: bool) -> u64
     ensures { Powers result (unit_of tiled) }
 {
@@ -244,6 +245,7 @@ fn unit(size: u32, tiled: bool) -> u32
 }
 
 // The row step by the table, for what runs less often.
+// Kept (design pass 2, no plainer): this and `table_rows` say by division, over the printed table, what `row_step` and `rows_taken` say by shifts.
 fn table_step(pitch: u32, size: u32, tiled: bool) -> u32
     requires { is_size size ≡ true }
     ensures { result ≡ row_step tiled size pitch }

@@ -64,6 +64,7 @@ pub fn size_line(size: u32) -> Option<usize>
 }
 
 // The width and the height of the tile in a line.
+// Kept (design pass 2, no plainer): this and the next three are an index each, and a clause that ties each table to its list.
 pub fn tile_width_at(line: usize) -> u32
     requires { line < 5 }
     ensures { result ≡ get_or widths line 0 }
