@@ -7,7 +7,6 @@ ghost use Rattle.memory.specs.Elements.{overwritten};
 use crate::Reading;
 
 // The given bytes, which are `n`, into a part of memory that is as long. Where `n` is a constant, no loop is left.
-// Kept (design pass 3, speed): copy_from_slice here takes up to 10 % more instructions in copies of 64 KB by whole tiles.
 pub fn store_all(part: &mut [u8], given: &[u8], n: usize)
     requires { (length part.old ≡ length given.now) × (n ≡ length given.now) }
     ensures { part.new ≡ given.now }
