@@ -8,10 +8,8 @@ ghost use Rattle.address.specs.Address.{layout_of};
 ghost use Rattle.conditional.specs.Asked.{DomainAsked, SurveyAsked};
 ghost use Rattle.conditional.specs.Conditional.{pair_of, test_of, SurveyedIn, SurveyedBy, told_tested, told_surveyed};
 
-use address::Translated;
-use layout::{ByteAddress, Judged, Layout};
+use layout::{ByteAddress, Layout};
 use memory::place;
-use memory::place::Place;
 use refusal::Refusal;
 use survey::{held, rows};
 
@@ -19,26 +17,6 @@ use survey::{held, rows};
 const UINT16_1: u32 = 0;
 
 const SIZE: u32 = 2;
-
-// What a test of one pair answers.
-#[derive(Drop)]
-pub enum Tested {
-    Result(bool),
-    Refused(Refusal),
-}
-
-// What a survey answers: how many pairs pass.
-#[derive(Drop)]
-pub enum Surveyed {
-    Passed(u32),
-    Refused(Refusal),
-}
-
-fn wide(number: u16) -> u32
-    ensures { result ≡ number }
-{
-    number as u32
-}
 
 // The test at a pair of a layout; 3, 6, 10 or 11.
 fn pair_of(
@@ -49,17 +27,13 @@ fn pair_of(
     y: u32,
     memory: &[u8],
     first: ByteAddress,
-) -> Tested
+) -> Result<bool, Refusal>
     requires { layout.size ≡ 2 }
     ensures { told_tested result ≡ pair_of layout test v first.0 memory.now x y }
 {
-    match place::find(layout, x, y, first, memory.len()) {
-        Place::Refused(why) => Tested::Refused(why),
-        Place::At(a) => {
-            let b = wide(conditions::word_at(memory, a));
-            Tested::Result(conditions::passes_test(test, v, b))
-        }
-    }
+    let at = place::find(layout, x, y, first, memory.len())?;
+    let b = u32::from(conditions::word_at(memory, at));
+    Ok(conditions::passes_test(test, v, b))
 }
 
 // A survey of a domain that is inside a layout whose row step and span are known, into a room as long as its pairs are many; 11 where
@@ -80,7 +54,7 @@ fn survey_judged(
     memory: &[u8],
     first: u32,
     room: &mut [u8],
-) -> Surveyed
+) -> Result<u32, Refusal>
     requires { SurveyAsked (layout_of base pitch height 2 tiled) step span i0 j0 i1 j1 (length room.old) }
     ensures { SurveyedIn (layout_of base pitch height 2 tiled) test v first memory.now i0 j0 i1 j1 (told_surveyed result) room.old room.new }
 {
@@ -99,10 +73,10 @@ fn survey_judged(
         first,
         memory.len(),
     ) {
-        return Surveyed::Refused(Refusal::WrongLength);
+        return Err(Refusal::WrongLength);
     }
     let passing = conditions::span_of(test, v);
-    Surveyed::Passed(rows::rows(
+    Ok(rows::rows(
         passing.low,
         passing.top,
         passing.outside,
@@ -135,7 +109,7 @@ fn survey_inside(
     memory: &[u8],
     first: u32,
     room: &mut [u8],
-) -> Surveyed
+) -> Result<u32, Refusal>
     requires { DomainAsked (layout_of base pitch height 2 tiled) i0 j0 i1 j1 }
     ensures { SurveyedIn (layout_of base pitch height 2 tiled) test v first memory.now i0 j0 i1 j1 (told_surveyed result) room.old room.new }
 {
@@ -143,7 +117,7 @@ fn survey_inside(
     let rows = (j1 - j0) as u64 + 1;
     let count = room.len();
     if count as u64 != rows * columns {
-        return Surveyed::Refused(Refusal::WrongLength);
+        return Err(Refusal::WrongLength);
     }
     let layout = Layout {
         base: ByteAddress(base),
@@ -152,12 +126,24 @@ fn survey_inside(
         size: SIZE,
         tiled,
     };
-    match layout::judge(layout) {
-        Judged::Refused(why) => Surveyed::Refused(why),
-        Judged::Accepted { step, span } => survey_judged(
-            base, pitch, height, tiled, step, span, test, v, i0, j0, i1, j1, memory, first, room,
-        ),
-    }
+    let accepted = layout::judge(layout)?;
+    survey_judged(
+        base,
+        pitch,
+        height,
+        tiled,
+        accepted.step,
+        accepted.span,
+        test,
+        v,
+        i0,
+        j0,
+        i1,
+        j1,
+        memory,
+        first,
+        room,
+    )
 }
 
 // A survey of a layout's domain; 5, then 3, 6 or 10, then 11. A domain in order is inside where its last pair is.
@@ -175,14 +161,14 @@ fn survey_in(
     memory: &[u8],
     first: u32,
     room: &mut [u8],
-) -> Surveyed
+) -> Result<u32, Refusal>
     ensures { SurveyedIn (layout_of base pitch height 2 tiled) test v first memory.now i0 j0 i1 j1 (told_surveyed result) room.old room.new }
 {
     if i1 < i0 {
-        return Surveyed::Refused(Refusal::DomainCrossed);
+        return Err(Refusal::DomainCrossed);
     }
     if j1 < j0 {
-        return Surveyed::Refused(Refusal::DomainCrossed);
+        return Err(Refusal::DomainCrossed);
     }
     let layout = Layout {
         base: ByteAddress(base),
@@ -191,12 +177,10 @@ fn survey_in(
         size: SIZE,
         tiled,
     };
-    match address::translate(layout, i1, j1) {
-        Translated::Refused(why) => Surveyed::Refused(why),
-        Translated::At { address: _, run: _ } => survey_inside(
-            base, pitch, height, tiled, test, v, i0, j0, i1, j1, memory, first, room,
-        ),
-    }
+    let _ = address::translate(layout, i1, j1)?;
+    survey_inside(
+        base, pitch, height, tiled, test, v, i0, j0, i1, j1, memory, first, room,
+    )
 }
 
 // The test of one pair with what a session's settings are now. 7 where no conditional buffer or no test is set; 3 for another format than
@@ -208,18 +192,18 @@ pub fn test(
     y: u32,
     memory: &[u8],
     first: ByteAddress,
-) -> Tested
+) -> Result<bool, Refusal>
     ensures { told_tested result ≡ test_of (shared_of shared.now) v first.0 memory.now x y }
 {
     let buffer = queries::conditional(shared);
     if !buffer.present {
-        return Tested::Refused(Refusal::StartUnset);
+        return Err(Refusal::StartUnset);
     }
     if !queries::has_test(shared) {
-        return Tested::Refused(Refusal::StartUnset);
+        return Err(Refusal::StartUnset);
     }
     if command::format::code(buffer.format) != UINT16_1 {
-        return Tested::Refused(Refusal::Malformed);
+        return Err(Refusal::Malformed);
     }
     let layout = Layout {
         base: ByteAddress(buffer.base),
@@ -244,21 +228,21 @@ pub fn survey(
     memory: &[u8],
     first: u32,
     room: &mut [u8],
-) -> Surveyed
+) -> Result<u32, Refusal>
     ensures { SurveyedBy (shared_of shared.now) v first memory.now i0 j0 i1 j1 (told_surveyed result) room.old room.new }
 {
     let buffer = queries::conditional(shared);
     if !buffer.present {
-        return Surveyed::Refused(Refusal::StartUnset);
+        return Err(Refusal::StartUnset);
     }
     if !queries::has_test(shared) {
-        return Surveyed::Refused(Refusal::StartUnset);
+        return Err(Refusal::StartUnset);
     }
     let base = buffer.base;
     let format = buffer.format;
     let height = buffer.height;
     if command::format::code(format) != UINT16_1 {
-        return Surveyed::Refused(Refusal::Malformed);
+        return Err(Refusal::Malformed);
     }
     let pitch = command::format::pitch(format);
     let tiled = command::format::tiled(format);

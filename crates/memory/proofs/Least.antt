@@ -23,3 +23,7 @@ pub least_some : (a b m : ℕ) → m ≡ min a b → 0 < a → 0 < b → 0 < m
 least_some a b m e ha hb =
     let some : 1 ≤ min a b = le-min (omega (arith, ha)) (omega (arith, hb)) in
     omega (arith, e, some)
+
+-- both
+pub lesser : {a b m : ℕ} → m ≡ min a b → (m ≤ a) × (m ≤ b) × (0 < a → 0 < b → 0 < m)
+lesser {a} {b} {m} e = let l = least a b m e in (l.0, l.1, least_some a b m e)

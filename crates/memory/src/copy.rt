@@ -6,6 +6,16 @@ ghost use Rattle.memory.specs.Elements.{overwritten};
 
 use crate::Reading;
 
+// The given bytes, which are `n`, into a part of memory that is as long. Where `n` is a constant, no loop is left.
+pub fn store_all(part: &mut [u8], given: &[u8], n: usize)
+    requires { (length part.old ≡ length given.now) × (n ≡ length given.now) }
+    ensures { part.new ≡ given.now }
+{
+    for i in 0..n {
+        part[i] = given[i];
+    }
+}
+
 // Bytes of a reading with a part of memory put in place `at`.
 pub fn put(bytes: [u8; 16], at: usize, part: &[u8]) -> [u8; 16]
     requires { PutAsked bytes at part.now }

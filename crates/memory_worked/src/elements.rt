@@ -1,7 +1,8 @@
 // Elements in lent memory: windows written pair by pair and read back, memory of every length and place that decides, data
 // of every wrong length, and superfine reads.
 use layout::{Accepted, ByteAddress, Layout};
-use memory::{Answer, Reading, Written};
+use memory::Reading;
+use refusal::Refusal;
 use std::io;
 use worked::tally::Tally;
 use worked::windows::{linear, tiled, window_of};
@@ -47,20 +48,21 @@ fn expected(layout: Layout, x: u32, y: u32, first: u32, length: usize) -> u32 {
     }
 }
 
-fn number(w: Written) -> u32 {
+fn number(w: Result<(), Refusal>) -> u32 {
     match w {
-        Written::Done => 0,
-        Written::Refused(why) => u32::from(why),
+        Ok(()) => 0,
+        Err(why) => u32::from(why),
     }
 }
 
-// Whether a reading has just these bytes, or refuses with the number and has none.
-fn reads(r: Reading, wanted: u32, bytes: [u8; 16], size: usize) -> bool {
-    let got = r.bytes;
-    let answer = r.answer;
-    match answer {
-        Answer::Bytes(n) => wanted == 0 && (n == size && same(got, bytes, n)),
-        Answer::Refused(why) => u32::from(why) == wanted && same(got, [0; 16], 16),
+// Whether a read answers just these bytes, or refuses with the number.
+fn reads(r: Result<Reading, Refusal>, wanted: u32, bytes: [u8; 16], size: usize) -> bool {
+    match r {
+        Ok(reading) => {
+            let got = reading.bytes;
+            wanted == 0 && (reading.count == size && same(got, bytes, size))
+        }
+        Err(why) => u32::from(why) == wanted,
     }
 }
 
@@ -319,8 +321,11 @@ fn sooner(a: u32, b: u32) -> u32 {
 }
 
 // Whether a superfine read has the read of a pair from a place on.
-fn channel(r: Reading, from: usize, size: usize, one: Reading) -> bool {
+fn channel(r: Reading, from: usize, size: usize, one: Result<Reading, Refusal>) -> bool {
     let all = r.bytes;
+    let Ok(one) = one else {
+        return false;
+    };
     let part = one.bytes;
     let mut agree = true;
     for k in 0..4 {
@@ -387,11 +392,10 @@ fn superfine(f: Fine, memory: &[u8]) -> bool {
         linear(size, f.base, f.pitch, f.height)
     };
     let wanted = four_expected(layout, f, memory.len());
-    let answer = r.answer;
-    match answer {
-        Answer::Bytes(n) => wanted == 0
-            && (n == size as usize * 4 && channels(layout, f, memory, r)),
-        Answer::Refused(_) => reads(r, wanted, [0; 16], 0),
+    match r {
+        Ok(reading) => wanted == 0
+            && (reading.count == size as usize * 4 && channels(layout, f, memory, reading)),
+        Err(why) => u32::from(why) == wanted,
     }
 }
 
