@@ -32,6 +32,7 @@ fn may_begin(inputs: u32, outputs: u32, edition: u32) -> bool
     edition::is_known(edition) && (inputs < INPUTS && outputs < OUTPUTS)
 }
 
+// Kept (design pass 2, C interface; also `begin`, `take_runs` and `feed`): a caller in C lends each party's two arrays by themselves.
 // A new session of two parties and an edition.
 fn make(
     own0: &mut [u32; state::OWN_CELLS],
@@ -251,6 +252,7 @@ fn take_runs(
 {
     let mut told0 = Told::new();
     let mut told1 = Told::new();
+    // Kept (design pass 3, no plainer): a turn takes a whole run, so no range counts the words.
     let mut at: usize = 0;
     while at < words.len() {
         let party = party_of(parties, at);
