@@ -5,25 +5,22 @@
 use command::commands::{Command, NoEffect, Stored};
 use rules::writer;
 use session::stream;
-use session::stream::Answer;
 use state::edition;
 use std::io;
 use worked::streams::whole_stream;
 use worked::tally::Tally;
 
-// The last word's answer.
-fn last_answer(words: &[u32]) -> Answer {
+// The command that the last word completes, if it completes one.
+fn last_command(words: &[u32]) -> Option<Command> {
     let mut own: [u32; state::OWN_CELLS] = [0; state::OWN_CELLS];
     let mut tallies: [u64; state::TALLIES] = [0; state::TALLIES];
     let mut shared: [u32; state::SHARED_CELLS] = [0; state::SHARED_CELLS];
-    stream::begin(&mut own, &mut tallies, &mut shared, edition::BY_OUTPUT);
-    let mut answer = Answer::Open;
-    let mut i: usize = 0;
-    while i < words.len() {
-        answer = stream::word(&mut own, &mut tallies, &mut shared, words[i]);
-        i = i + 1;
+    let _ = stream::begin(&mut own, &mut tallies, &mut shared, edition::BY_OUTPUT);
+    let mut last: Option<Command> = None;
+    for i in 0..words.len() {
+        last = stream::word(&mut own, &mut tallies, &mut shared, words[i]).unwrap_or(None);
     }
-    answer
+    last
 }
 
 fn same_five(a: &[u32; 5], b: &[u32; 5]) -> bool {
@@ -37,12 +34,12 @@ fn writes(command: Command, words: &[u32; 5]) -> bool {
     writer::write(command, &mut room).is_ok() && same_five(&room, words)
 }
 
-// The answer to the last of the room's first words; still open where the room has fewer.
-fn answer_to(room: &[u32], count: usize) -> Answer {
+// The command that the last of the room's first words completes; none where the room has fewer.
+fn command_in(room: &[u32], count: usize) -> Option<Command> {
     if count > room.len() {
-        return Answer::Open;
+        return None;
     }
-    last_answer(&room[..count])
+    last_command(&room[..count])
 }
 
 // Whether a command, written and read by a new session, is answered by a command that writes the same.
@@ -51,8 +48,7 @@ fn back(command: Command) -> bool {
     let Ok(count) = writer::write(command, &mut room) else {
         return false;
     };
-    let answer = answer_to(&room, count);
-    let Answer::Done(found) = answer else {
+    let Some(found) = command_in(&room, count) else {
         return false;
     };
     writes(found, &room)
@@ -108,8 +104,7 @@ fn start_back() -> Tally {
     let words = whole_stream();
     let start: [u32; 5] = [words[13], words[14], 0, 0, 0];
     let t = Tally::new().with(writes(Command::Start, &start));
-    let answer = last_answer(&words);
-    let Answer::Done(found) = answer else {
+    let Some(found) = last_command(&words) else {
         return t.with(false);
     };
     t.with(writes(found, &start))

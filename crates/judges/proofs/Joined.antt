@@ -1,6 +1,6 @@
 -- Tests that are joined, one by one or in a loop. Assumes nothing.
 use mathlib.Core.Path.{◌≡◌, refl, ap, ap₂, ◌∙◌}
-use mathlib.Core.Bool.{Bool, true, false}
+use mathlib.Core.Bool.{Bool, true, false, ◌&&◌}
 use Prim.Native.Nat.{ℕ, zero, suc, ◌+◌}
 use native.Mathlib.Omega.{arith}
 use Rattle.laws.specs.Choice.{◌and◌}
@@ -9,6 +9,16 @@ use Rattle.laws.specs.Below.{every}
 -- a call that joins two tests, by what each of them is
 pub joined : {r a b a' b' : Bool} → r ≡ (a and b) → a ≡ a' → b ≡ b' → r ≡ (a' and b')
 joined e f g = e ∙ ap₂ ◌and◌ f g
+
+-- two tests joined by `&` are both
+pub both_is : (a b : Bool) → (a && b) ≡ (a and b)
+unfolding ◌and◌
+both_is true b = refl
+both_is false b = refl
+
+-- the same, by what each of them is
+pub together : {a b a' b' : Bool} → a ≡ a' → b ≡ b' → (a && b) ≡ (a' and b')
+together {a} {b} f g = joined (both_is a b) f g
 
 and_true : (a : Bool) → a ≡ (a and true)
 unfolding ◌and◌

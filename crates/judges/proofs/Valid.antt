@@ -2,9 +2,9 @@
 use mathlib.Core.Path.{◌≡◌, refl, sym, ap, ◌∙◌, subst}
 use mathlib.Core.Bool.{Bool, true, false}
 use mathlib.Core.List.{List, []}
-use Prim.Native.Nat.{ℕ, zero, suc, ◌+◌, ◌<◌, ◌≤◌, ◌*◌}
+use Prim.Native.Nat.{ℕ, zero, suc, ◌+◌, ◌<◌, ◌≤◌}
 use native.Mathlib.Omega.{arith}
-use lib.Dec.{eqb, leb, ltb}
+use lib.Dec.{eqb, ltb}
 use lib.ListN.{length, get_or, get_or-eq_default}
 use borrow.Author.Tests.{ltb-true, leb-true, eqb-true, eqb-false, lt-ltb, le-ltb, le-leb, eq-eqb, ne_eqb, ltb-false}
 use Rattle.laws.specs.Choice.{◌and◌, pick}
@@ -17,10 +17,10 @@ use Rattle.command.specs.Kinds.{allowed, kind_of}
 use Rattle.command.specs.declared.kinds.Kind.{Kind}
 use Rattle.command.specs.declared.kinds.Kind.TheVariants.{Format, InputFormat}
 use Rattle.owners.specs.Owners.{may_open, may_name}
-use Rattle.state.specs.State.{Buffer, Open, Domain, Tally, Readiness, Party, Shared, Session, none, unset}
+use Rattle.state.specs.State.{Buffer, Open, Domain, Readiness, Party, Shared, Session, none, unset}
 use Rattle.state.specs.Readiness.{readiness_for}
 use Rattle.state.specs.Lawful.{lawful, lawful_buffer, SharedLawful}
-use Rattle.state.specs.Valid.{OpenValid, OpenOwned, DomainValid, TallyValid, Valid, parameters_of}
+use Rattle.state.specs.Valid.{OpenValid, OpenOwned, DomainValid, Valid, parameters_of}
 use Rattle.state.specs.Cells.{party_of, shared_of, session_of, readiness_cells, Sized}
 use Rattle.state.specs.Asked.{Given}
 use Rattle.judges.proofs.Joined.{joined}

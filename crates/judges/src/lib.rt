@@ -11,8 +11,6 @@ ghost use Rattle.state.specs.Asked.{Given};
 ghost use Rattle.state.specs.Cells.{Sized};
 ghost use Rattle.judges.specs.Judged.{Judges};
 
-use crate::tests::both;
-
 // Whether the arrays hold a session: the party's own numbers, the settings, and what is kept of readiness, worked out anew.
 pub fn is_session(
     own: &[u32; state::OWN_CELLS],
@@ -23,7 +21,7 @@ pub fn is_session(
     ensures { Judges result (Given own.now tallies.now shared.now) }
 {
     if party::is_kept(own, tallies) {
-        both(settings::are_kept(shared), readiness::is_kept(own, shared))
+        settings::are_kept(shared) & readiness::is_kept(own, shared)
     } else {
         false
     }

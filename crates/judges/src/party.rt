@@ -7,7 +7,7 @@ ghost use Rattle.state.specs.Cells.{party_of};
 ghost use Rattle.judges.specs.Judged.{birth_by, closed_by, command_by, domain_by, open_by, open_from, owned_by, party_by, passed_at, running_by, tally_by};
 
 use crate::settings;
-use crate::tests::{both, is_lawful};
+use crate::tests::is_lawful;
 use command::{kinds, table};
 use state::{edition, own};
 
@@ -43,7 +43,7 @@ fn is_open(line: u32, count: u32, p0: u32, p1: u32, p2: u32, p3: u32) -> bool
     let first = passed(line, count, 0, p0);
     let second = passed(line, count, 1, p1);
     let third = passed(line, count, 2, p2);
-    both(fewer, both(first, both(second, both(third, p3 == 0))))
+    fewer & (first & (second & (third & (p3 == 0))))
 }
 
 // Whether the party may send the header of a line, and its number where that was taken.
@@ -52,10 +52,7 @@ fn is_owned(mine: u32, line: u32, count: u32, p0: u32) -> bool
     ensures { result ≡ owned_by mine line count p0 }
 {
     if 0 < count {
-        both(
-            owners::may_open(mine, line),
-            owners::may_name(mine, line, 0, p0),
-        )
+        owners::may_open(mine, line) & owners::may_name(mine, line, 0, p0)
     } else {
         owners::may_open(mine, line)
     }
@@ -65,10 +62,7 @@ fn is_owned(mine: u32, line: u32, count: u32, p0: u32) -> bool
 fn is_closed(line: u32, count: u32, p0: u32, p1: u32, p2: u32, p3: u32) -> bool
     ensures { result ≡ closed_by (open_from line count p0 p1 p2 p3) }
 {
-    both(
-        count == 0,
-        both(p0 == 0, both(p1 == 0, both(p2 == 0, p3 == 0))),
-    )
+    (count == 0) & ((p0 == 0) & ((p1 == 0) & ((p2 == 0) & (p3 == 0))))
 }
 
 // Whether the open command of a line is one that the party can have sent, its words among those taken.
@@ -88,13 +82,8 @@ fn is_running(own: &[u32; state::OWN_CELLS]) -> bool
         own[own::PARAMETER_3],
     );
     if open {
-        both(
-            own[own::STOPPED] == 0,
-            both(
-                count < own[own::TAKEN],
-                is_owned(own[own::MINE], line, count, first),
-            ),
-        )
+        (own[own::STOPPED] == 0)
+            & ((count < own[own::TAKEN]) & is_owned(own[own::MINE], line, count, first))
     } else {
         false
     }
@@ -124,23 +113,23 @@ fn is_command(own: &[u32; state::OWN_CELLS]) -> bool
 fn is_domain(flag: u32, i0: u32, j0: u32, i1: u32, j1: u32) -> bool
     ensures { result ≡ domain_by (record { is_set = flag; i0 = i0; j0 = j0; i1 = i1; j1 = j1 }) }
 {
-    let ends = both(i0 <= i1, both(i1 < EXTENT, both(j0 <= j1, j1 < EXTENT)));
-    let zeros = both(i0 == 0, both(j0 == 0, both(i1 == 0, j1 == 0)));
-    both(ends, is_lawful(flag, zeros, true))
+    let ends = (i0 <= i1) & ((i1 < EXTENT) & ((j0 <= j1) & (j1 < EXTENT)));
+    let zeros = (i0 == 0) & ((j0 == 0) & ((i1 == 0) & (j1 == 0)));
+    ends & is_lawful(flag, zeros, true)
 }
 
 // Whether the words taken can have claimed so much.
 fn is_tally(taken: u32, runs: u64, claims: u64) -> bool
     ensures { result ≡ tally_by (record { runs = runs; claims = claims }) taken }
 {
-    both(runs <= taken as u64, claims <= taken as u64 * MOST_CLAIM)
+    (runs <= taken as u64) & (claims <= taken as u64 * MOST_CLAIM)
 }
 
 // Whether a party's birth is one: numbers that there are, and an edition.
 fn is_birth(mine: u32, edition: u32) -> bool
     ensures { result ≡ birth_by (born mine edition) }
 {
-    both(mine <= owners::EVERYTHING, edition::is_known(edition))
+    (mine <= owners::EVERYTHING) & edition::is_known(edition)
 }
 
 // Whether a party's own numbers but those of readiness are such as the entries leave.
@@ -148,7 +137,7 @@ pub fn is_kept(own: &[u32; state::OWN_CELLS], tallies: &[u64; state::TALLIES]) -
     ensures { result ≡ party_by (party_of own.now tallies.now) }
 {
     let taken = own[own::TAKEN];
-    let flags = both(own[own::STOPPED] <= 1, taken <= MOST_WORDS);
+    let flags = (own[own::STOPPED] <= 1) & (taken <= MOST_WORDS);
     let command = is_command(own);
     let domain = is_domain(
         own[own::DOMAIN],
@@ -165,11 +154,5 @@ pub fn is_kept(own: &[u32; state::OWN_CELLS], tallies: &[u64; state::TALLIES]) -
     );
     let birth = is_birth(own[own::MINE], own[own::EDITION]);
     let tally = is_tally(taken, tallies[0], tallies[1]);
-    both(
-        flags,
-        both(
-            command,
-            both(domain, both(instructions, both(birth, tally))),
-        ),
-    )
+    flags & (command & (domain & (instructions & (birth & tally))))
 }

@@ -7,7 +7,6 @@ ghost use Rattle.state.specs.Effects.{renewed, window_from};
 ghost use Rattle.state.specs.Readiness.{readiness_for, window_for};
 ghost use Rattle.judges.specs.Judged.{WorkAsked, same_readiness, window_kept};
 
-use crate::tests::both;
 use command::format;
 use command::format::Window;
 use start::ready;
@@ -22,7 +21,9 @@ fn window_at(owned: bool, shared: &[u32; state::SHARED_CELLS], at: usize) -> Win
     ensures { window_from result.step result.span ≡ window_for (pick owned (buffer_at shared.now at) unset) }
 {
     if owned {
-        format::window_of(shared[at + 1], shared[at + 2], shared[at + 3]).unwrap_or(format::NO_WINDOW)
+        format::window_of(shared[at + 1], shared[at + 2], shared[at + 3]).unwrap_or(
+            format::NO_WINDOW,
+        )
     } else {
         format::NO_WINDOW
     }
@@ -55,10 +56,8 @@ fn are_same(own: &[u32; state::OWN_CELLS], fresh: &[u32; state::OWN_CELLS]) -> b
     ensures { result ≡ same_readiness (party_of own.now []).readiness (party_of fresh.now []).readiness }
 {
     let mut good = true;
-    let mut k: usize = 0;
-    while k < NUMBERS {
-        good = both(good, own[own::READINESS + k] == fresh[own::READINESS + k]);
-        k = k + 1;
+    for k in 0..NUMBERS {
+        good = good & (own[own::READINESS + k] == fresh[own::READINESS + k]);
     }
     good
 }

@@ -6,7 +6,7 @@ ghost use Rattle.state.specs.Effects.{buffer};
 ghost use Rattle.state.specs.Lawful.{lawful_buffer, lawful_row, lawful_word, window};
 ghost use Rattle.judges.specs.Judged.{common_by, masks_by, settings_by};
 
-use crate::tests::{both, is_lawful};
+use crate::tests::is_lawful;
 use command::kinds;
 use command::kinds::Kind;
 use rules::last;
@@ -28,14 +28,14 @@ fn is_window(kind: Kind, base: u32, format: u32, height: u32) -> bool
     let second = kinds::is_allowed(kind, format);
     let third = kinds::is_allowed(Kind::Height, height);
     let accepted = last::is_window(base, format, height);
-    both(first, both(second, both(third, accepted)))
+    first & (second & (third & accepted))
 }
 
 // Whether a buffer isn't set and is all zeros, or is set and its window is accepted.
 fn is_buffer(kind: Kind, flag: u32, base: u32, format: u32, height: u32) -> bool
     ensures { result ≡ lawful_buffer kind (record { is_set = flag; base = base; format = format; height = height }) }
 {
-    let zeros = both(base == 0, both(format == 0, height == 0));
+    let zeros = (base == 0) & ((format == 0) & (height == 0));
     is_lawful(flag, zeros, is_window(kind, base, format, height))
 }
 
@@ -43,10 +43,7 @@ fn is_buffer(kind: Kind, flag: u32, base: u32, format: u32, height: u32) -> bool
 pub fn is_row(flag: u32, base: u32, format: u32, height: u32) -> bool
     ensures { result ≡ lawful_row (record { is_set = flag; base = base; format = format; height = height }) }
 {
-    both(
-        is_buffer(Kind::Format, flag, base, format, height),
-        height <= 1,
-    )
+    is_buffer(Kind::Format, flag, base, format, height) & (height <= 1)
 }
 
 fn is_row_at(shared: &[u32; state::SHARED_CELLS], at: usize) -> bool
@@ -75,10 +72,8 @@ fn are_buffers(kind: Kind, shared: &[u32; state::SHARED_CELLS], from: usize, num
     ensures { result ≡ every number (λ n. lawful_buffer kind (buffer_at shared.now (from + 4 * n))) }
 {
     let mut good = true;
-    let mut k: usize = 0;
-    while k < number {
-        good = both(good, is_buffer_at(kind, shared, from + 4 * k));
-        k = k + 1;
+    for k in 0..number {
+        good = good & is_buffer_at(kind, shared, from + 4 * k);
     }
     good
 }
@@ -104,7 +99,7 @@ fn are_masks(shared: &[u32; state::SHARED_CELLS]) -> bool
         shared[settings::TEST_SET],
         shared[settings::TEST],
     );
-    both(shared[settings::MASK] < MASKS, both(conditional, test))
+    (shared[settings::MASK] < MASKS) & (conditional & test)
 }
 
 // Whether the constants' formats and the conditional output are such.
@@ -115,7 +110,7 @@ fn are_common(shared: &[u32; state::SHARED_CELLS]) -> bool
     let integers = is_row_at(shared, settings::INTEGERS);
     let booleans = is_row_at(shared, settings::BOOLEANS);
     let conditional = is_buffer_at(Kind::Format, shared, settings::CONDITIONAL);
-    both(floats, both(integers, both(booleans, conditional)))
+    floats & (integers & (booleans & conditional))
 }
 
 // Whether the settings are such as a stream can have set.
@@ -126,5 +121,5 @@ pub fn are_kept(shared: &[u32; state::SHARED_CELLS]) -> bool
     let common = are_common(shared);
     let outputs = are_buffers(Kind::Format, shared, settings::OUTPUTS, OUTPUTS);
     let inputs = are_buffers(Kind::InputFormat, shared, settings::INPUTS, INPUTS);
-    both(masks, both(common, both(outputs, inputs)))
+    masks & (common & (outputs & inputs))
 }

@@ -7,7 +7,7 @@ ghost use Rattle.state.specs.Lawful.{lawful};
 pub fn both(a: bool, b: bool) -> bool
     ensures { result ≡ (a and b) }
 {
-    if a { b } else { false }
+    a & b
 }
 
 // A flag and what it tells of: 0 and all of it is 0, or 1 and it passed its rules.
@@ -17,6 +17,6 @@ pub fn is_lawful(flag: u32, zeros: bool, passed: bool) -> bool
     if flag == 0 {
         zeros
     } else {
-        both(flag == 1, passed)
+        (flag == 1) & passed
     }
 }

@@ -1,7 +1,7 @@
 -- Two parties that come back: nothing is owned by both just where no bit is set in both words; and the judge's answer. Assumes nothing.
 use mathlib.Core.Path.{◌≡◌, refl, sym, ap, ap₂, ◌∙◌}
 use mathlib.Core.Bool.{Bool, true, false, not}
-use mathlib.Core.List.{List, []}
+use mathlib.Core.List.{List}
 use Prim.Native.Nat.{ℕ, zero, suc, ◌<◌, ◌≤◌, ◌^◌, zero-le, suc-le-suc}
 use native.Mathlib.Omega.{arith}
 use lib.Bits.{bit_and}
@@ -15,7 +15,7 @@ use Rattle.laws.proofs.Below.{none_at}
 use Rattle.laws.proofs.Choice.{and_left, and_right, and_intro, and_yes, and_no_left, and_no_right, Tested, tested, holds, fails}
 use Rattle.laws.proofs.Masks.{and_places, pack_on, none_zero, on_above}
 use Rattle.owners.specs.Owners.{everything}
-use Rattle.state.specs.Cells.{party_of, Sized}
+use Rattle.state.specs.Cells.{party_of}
 use Rattle.state.specs.Asked.{Given}
 use Rattle.lessees.specs.Sight.{Apart}
 use Rattle.lessees.specs.Rooms.{PairGiven}

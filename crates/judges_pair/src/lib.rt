@@ -9,7 +9,6 @@ ghost use Rattle.lessees.specs.Rooms.{PairGiven};
 ghost use Rattle.judges.specs.Judged.{Judges};
 
 use judges;
-use judges::tests::both;
 use state::own;
 
 // Whether nothing is owned by both.
@@ -32,8 +31,5 @@ pub fn is_pair(
 {
     let first = judges::is_session(own0, tallies0, shared);
     let second = judges::is_session(own1, tallies1, shared);
-    both(
-        first,
-        both(second, are_apart(own0[own::MINE], own1[own::MINE])),
-    )
+    first & (second & are_apart(own0[own::MINE], own1[own::MINE]))
 }

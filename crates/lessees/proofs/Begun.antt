@@ -87,13 +87,13 @@ module _ (inputs outputs edition : ℕ) {l0 t0 l1 t1 s l0' t0' l1' t1' s' : List
 
 module _ (inputs outputs edition : ℕ) where
   -- what `may_begin` answers
-  pub not_edition : {k : Bool} → k ≡ is_edition edition → k ≡ false → false ≡ may_begin inputs outputs edition
+  pub not_edition : {k : Bool} → k ≡ is_edition edition → k ≡ false → k ≡ may_begin inputs outputs edition
   unfolding may_begin
-  not_edition e n = sym (and_no_left _ (sym e ∙ n))
+  not_edition e n = n ∙ sym (and_no_left _ (sym e ∙ n))
 
-  pub not_inputs : 65536 ≤ inputs → false ≡ may_begin inputs outputs edition
+  pub not_inputs : 65536 ≤ inputs → ltb inputs 65536 ≡ may_begin inputs outputs edition
   unfolding may_begin
-  not_inputs h = sym (and_no_right _ (and_no_left _ (le-ltb _ _ h)))
+  not_inputs h = le-ltb _ _ h ∙ sym (and_no_right _ (and_no_left _ (le-ltb _ _ h)))
 
   pub by_outputs : {k : Bool} → k ≡ is_edition edition → k ≡ true → inputs < 65536 → ltb outputs 16 ≡ may_begin inputs outputs edition
   unfolding may_begin

@@ -289,13 +289,6 @@ module _ (q : Pair) (words parties l0 t0 l1 t1 s told0 told1 : List ℕ) (at : �
   pub asked1 : length words < 2 ^ 64 → {p : Bool} (end : ℕ) → RunEnds parties (length words) at p end → RunAsked l1 t1 s (run_of words at end) told1
   asked1 big end r = room done.told1 f.second_told (piece_few q (take at sent)).1 big end r given1
 
-  pub told_lengths : (length told0 ≡ 3) × (length told1 ≡ 3)
-  told_lengths = (ap length f.first_told, ap length f.second_told)
-
-  -- the six numbers, read one by one
-  pub six : get_or told0 0 0 ∷ get_or told0 1 0 ∷ get_or told0 2 0 ∷ get_or told1 0 0 ∷ get_or told1 1 0 ∷ get_or told1 2 0 ∷ [] ≡ told0 ++ told1
-  six = rw (f.first_told, f.second_told) refl
-
   both_told : BothTold done
   both_told = piece_told_lem q (take at sent)
 
@@ -350,6 +343,11 @@ module _ (q : Pair) (words parties l0 t0 l1 t1 s told0 told1 : List ℕ) (at : �
       (record { told = e ∙ ap₂ ◌++◌ f.first_told f.second_told; held = f.held })
 
 -- what `feed` answers
+-- the six numbers of what the parties were told
+pub six : {a b m c d n x y : ℕ} → m ≡ x → n ≡ y →
+    ◌≡◌ {A = List ℕ} (a ∷ b ∷ m ∷ c ∷ d ∷ n ∷ []) ((a ∷ b ∷ x ∷ []) ++ (c ∷ d ∷ y ∷ []))
+six {a} {b} {c = c} {d = d} e f = λ i. a ∷ b ∷ e i ∷ c ∷ d ∷ f i ∷ []
+
 module _ {words parties l0 t0 l1 t1 s fed : List ℕ} where
   pub feeds : length parties ≡ groups_of (length words) → {l0' t0' l1' t1' s' fed' : List ℕ} →
       PairLeft (piece_of (pair_of l0 t0 l1 t1 s) (sent_of words parties)) l0' t0' l1' t1' s' fed' →

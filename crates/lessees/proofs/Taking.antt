@@ -67,6 +67,10 @@ differ_no true false e = e
 differ_no false true e = sym e
 differ_no false false e = refl
 
+not_other : (p : Bool) → not (beq p p) ≡ false
+not_other true = refl
+not_other false = refl
+
 differ_yes : (t p : Bool) → not (beq t p) ≡ true → t ≡ p → ⊥
 differ_yes t p e k = apart (sym (ap (λ (x : Bool). not (beq x p)) k ∙ same p) ∙ e)
   where
@@ -97,19 +101,15 @@ module _ (parties : List ℕ) (len from : ℕ) (party : Bool) where
         go k a b (holds z) = ap (party_at parties) (eqb-true k at z) ∙ sym e ∙ differ_no t party y
         go k a b (fails z) = r.same_party k a (let n : k ≡ at → ⊥ = eqb-false k at z in omega arith)
 
-    ends : (from < len → party_at parties from ≡ party → from < at) → RunEnds parties len from party at
-    ends g = record { from_end = r.from_at; end_most = r.at_most; same_party = r.same_party; goes_on = g }
+    pub run_ended : from < at → RunEnds parties len from party at
+    run_ended g = record { from_end = r.from_at; end_most = r.at_most; same_party = r.same_party; goes_on = λ l y. g }
 
-    pub run_ends : {t : Bool} → at < len → t ≡ party_at parties at → not (beq t party) ≡ true → RunEnds parties len from party at
-    run_ends {t} h e n =
-        ends (λ l y. go (tested (eqb from at)) y)
-      where
-        go : Tested (eqb from at) → party_at parties from ≡ party → from < at
-        go (holds z) y = absurd (differ_yes t party n (e ∙ ap (party_at parties) (sym (eqb-true from at z)) ∙ y))
-        go (fails z) y = let ne : from ≡ at → ⊥ = eqb-false from at z in omega (arith, r.from_at)
+    pub run_out : from < at → len ≤ at → RunEnds parties len from party len
+    run_out g h =
+        subst (λ (x : ℕ). RunEnds parties len from party x) (let e : at ≡ len = omega (arith, r.at_most) in e) (run_ended g)
 
-    pub run_out : len ≤ at → RunEnds parties len from party at
-    run_out h = ends (λ l y. omega (arith, h))
+  pub run_first : from < len → party ≡ party_at parties from → RunTo parties len from party (from + 1)
+  run_first h e = run_on from (run_begins (omega (arith, h))) h e (not_other party)
 
 -- each word of a whole group is the party's
 whole_on : (party : Bool) (j : ℕ) → j < 32 → on j (whole_group party) ≡ party
@@ -149,6 +149,10 @@ module _ (parties : List ℕ) (groups from : ℕ) (party : Bool) (at : ℕ) (r :
       go k a b (fails z) =
           ap (λ (g : ℕ). on (k % 32) (get_or parties g 0)) (place k (ltb-false k (32 * at) z) b) ∙ ap (on (k % 32)) e ∙
           whole_on party (k % 32) (within k)
+
+  pub groups_out : groups ≤ at → RunTo parties (32 * groups) (32 * from) party (32 * groups)
+  groups_out h =
+      subst (λ (x : ℕ). RunTo parties (32 * groups) (32 * from) party (32 * x)) (let e : at ≡ groups = omega (arith, r.at_most) in e) r
 
 -- a place that begins a group
 pub passed_groups : (parties : List ℕ) (len from : ℕ) (party : Bool) (end : ℕ) → from % 32 ≡ 0 →

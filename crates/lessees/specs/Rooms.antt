@@ -1,12 +1,17 @@
 -- Two parties in the cells that a caller lends: each party's own cells and tallies, and the shared ones; and what a beginning and a
 -- piece leave there. Assumes nothing.
-use Rattle.std.specs.Prelude.{◌≡◌, Bool, true, false, List, [], ◌∷◌, ◌++◌, ℕ, suc, ◌+◌, ◌-◌, ◌/◌, ◌%◌, ◌<◌, ◌≤◌, ◌^◌, eqb, length, get_or, take, drop}
+use Rattle.std.specs.Prelude.{◌≡◌, Bool, true, false, Option, None, Some, Result, Ok, Err, List, [], ◌∷◌, ◌++◌, ℕ, suc, ◌+◌, ◌-◌, ◌/◌, ◌%◌, ◌<◌, ◌≤◌, ◌^◌, eqb, length, get_or, take, drop}
 use Rattle.laws.specs.Choice.{pick}
 use Rattle.laws.specs.Masks.{on}
 use Rattle.refusal.specs.Crossing.{status_of}
 use Rattle.state.specs.Cells.{Sized, party_of, shared_of, party_cells, tally_cells, shared_cells}
 use Rattle.state.specs.Asked.{Given, Held}
+use Rattle.refusal.specs.declared.Refusal.{Refusal}
+use Rattle.session.specs.Answers.{first_of}
 use Rattle.session.specs.Feed.{first_status, Fed}
+use Rattle.session.specs.declared.stream.Progress.{Progress}
+use Rattle.session.specs.declared.stream.Progress.TheVariants.{Open, Whole}
+use Rattle.lessees.specs.declared.Told.{Told}
 use Rattle.lessees.specs.Pair.{Pair, Sent, Part, PairFed, PairValid, piece_of}
 use Rattle.lessees.specs.Begin.{new_pair, may_begin, begin_told}
 
@@ -77,6 +82,28 @@ earlier_number before now = pick (eqb before 0) now before
 abbrev pub told_more : List ℕ → ℕ → ℕ → ℕ → List ℕ
 told_more told taken commands refusal =
     (get_or told 0 0 + taken) ∷ (get_or told 1 0 + commands) ∷ earlier_number (get_or told 2 0) refusal ∷ []
+
+-- what a party was told so far, in three numbers
+abbrev pub cells_of : Told → List ℕ
+cells_of t = t.taken ∷ t.commands ∷ first_status (first_of t.refusal) ∷ []
+
+-- nothing yet
+abbrev pub untold : Told
+untold = record { taken = 0; commands = 0; refusal = None }
+
+-- a refusal more: the first one stays
+abbrev pub first_kept : Option Refusal → Refusal → Option Refusal
+first_kept None why = Some why
+first_kept (Some first) why = Some first
+
+abbrev pub refused_first : Told → Refusal → Told
+refused_first t why = record { taken = t.taken; commands = t.commands; refusal = first_kept t.refusal why }
+
+-- what the answer to a word adds
+abbrev pub word_told : Told → Result Progress Refusal → Told
+word_told t (Ok Open) = record { taken = t.taken + 1; commands = t.commands; refusal = t.refusal }
+word_told t (Ok Whole) = record { taken = t.taken + 1; commands = t.commands + 1; refusal = t.refusal }
+word_told t (Err why) = refused_first t why
 
 -- three numbers, with room for so many words and commands more
 pub record RoomFor (told : List ℕ) (taken commands : ℕ) : Type 0 where

@@ -3,16 +3,15 @@
 // told it, in a room that the caller lends.
 #![tactic(auto)]
 
-ghost use Rattle.std.specs.Prelude.{◌≡◌, Bool, [], ◌∷◌, ℕ, ◌*◌, ◌/◌, ◌<◌, ◌≤◌};
+ghost use Rattle.std.specs.Prelude.{◌≡◌, Bool, Result, ℕ, ◌+◌, ◌*◌, ◌/◌, ◌<◌, ◌≤◌, ◌^◌};
 ghost use lib.ListN.{length};
 ghost use Rattle.state.specs.Cells.{session_of};
-ghost use Rattle.session.specs.Answers.{first_of};
+ghost use Rattle.session.specs.Answers.{begun_status, first_of};
 ghost use Rattle.session.specs.Feed.{feed_of, first_status};
 ghost use Rattle.lessees.specs.Begin.{may_begin, new_pair};
 ghost use Rattle.lessees.specs.Pair.{piece_of};
-ghost use Rattle.lessees.specs.Rooms.{PairBegins, PairFeeds, PairGiven, PairHeld, PairLeft, RoomFor, RunAsked, RunEnds, RunLeft, RunTo, earlier_number, groups_of, pair_of, party_at, run_of, sent_of, told_more, whole_group};
+ghost use Rattle.lessees.specs.Rooms.{PairBegins, PairFeeds, PairGiven, PairHeld, PairLeft, RoomFor, RunAsked, RunEnds, RunLeft, RunTo, cells_of, groups_of, pair_of, party_at, refused_first, run_of, sent_of, told_more, untold, whole_group, word_told};
 
-use refusal;
 use refusal::Refusal;
 use session::stream;
 use session::stream::{Fed, Progress};
@@ -30,15 +29,10 @@ const OUTPUTS: u32 = 16;
 fn may_begin(inputs: u32, outputs: u32, edition: u32) -> bool
     ensures { result ≡ may_begin inputs outputs edition }
 {
-    if edition::is_known(edition) {
-        if inputs < INPUTS {
-            return outputs < OUTPUTS;
-        }
-        return false;
-    }
-    false
+    edition::is_known(edition) && (inputs < INPUTS && outputs < OUTPUTS)
 }
 
+// Kept (design pass 2, C interface; also `begin`, `take_runs` and `feed`): a caller in C lends each party's two arrays by themselves.
 // A new session of two parties and an edition.
 fn make(
     own0: &mut [u32; state::OWN_CELLS],
@@ -70,16 +64,16 @@ pub fn begin(
     inputs: u32,
     outputs: u32,
     edition: u32,
-) -> u32
-    ensures { PairBegins inputs outputs edition result own0.old tallies0.old own1.old tallies1.old shared.old own0.new tallies0.new own1.new tallies1.new shared.new }
+) -> Result<(), Refusal>
+    ensures { PairBegins inputs outputs edition (begun_status result) own0.old tallies0.old own1.old tallies1.old shared.old own0.new tallies0.new own1.new tallies1.new shared.new }
 {
     if may_begin(inputs, outputs, edition) {
         make(
             own0, tallies0, own1, tallies1, shared, inputs, outputs, edition,
         );
-        return 0;
+        return Ok(());
     }
-    u32::from(Refusal::Malformed)
+    Err(Refusal::Malformed)
 }
 
 // The party of a word: bit k of number i is word 32 i + k's.
@@ -111,20 +105,24 @@ fn groups_end(parties: &[u32], groups: usize, from: usize, party: bool) -> usize
     groups
 }
 
-// How far one party's words surely go from a place on: whole groups where the place begins one, else nowhere.
+// How far one party's words surely go from a word of the party on: whole groups where the word begins one, else past it.
 fn passed(parties: &[u32], length: usize, from: usize, party: bool) -> usize
-    requires { (from ≤ length) × (length ≤ 32 * lib.ListN.length parties.now) }
-    ensures { RunTo parties.now length from party result }
+    requires { (from < length) × ((length ≤ 32 * lib.ListN.length parties.now) × (party ≡ party_at parties.now from)) }
+    ensures { RunTo parties.now length from party result × (from < result) }
 {
+    let next = from + 1;
     if from % 32 == 0 {
-        return 32 * groups_end(parties, length / 32, from / 32, party);
+        let end = 32 * groups_end(parties, length / 32, from / 32, party);
+        if next < end {
+            return end;
+        }
     }
-    from
+    next
 }
 
-// Where the run of one party's words ends that goes on at a place.
+// Where the run of one party's words ends that a word of the party begins.
 fn run_end(parties: &[u32], length: usize, from: usize, party: bool) -> usize
-    requires { (from ≤ length) × (length ≤ 32 * lib.ListN.length parties.now) }
+    requires { (from < length) × ((length ≤ 32 * lib.ListN.length parties.now) × (party ≡ party_at parties.now from)) }
     ensures { RunEnds parties.now length from party result }
 {
     for at in passed(parties, length, from, party)..length {
@@ -137,15 +135,16 @@ fn run_end(parties: &[u32], length: usize, from: usize, party: bool) -> usize
 
 // What a party is told of a piece: the words taken, the commands that they completed, and the first refusal, if any.
 #[derive(Drop)]
-struct Told {
-    taken: u64,
-    commands: u64,
-    refusal: Option<Refusal>,
+pub struct Told {
+    pub taken: u64,
+    pub commands: u64,
+    pub refusal: Option<Refusal>,
 }
 
 impl Told {
     // Nothing yet.
     fn new() -> Told
+        ensures { result ≡ untold }
     {
         Told {
             taken: 0,
@@ -154,32 +153,47 @@ impl Told {
         }
     }
 
-    // What a run tells its party, added to what it was told before: a first refusal stays.
+    // A refusal of one of the party's words: the first one stays.
+    fn refuse(&mut self, why: Refusal)
+        ensures { self.new ≡ refused_first self.old why }
+    {
+        if self.refusal.is_none() {
+            self.refusal = Some(why);
+        }
+    }
+
+    // What a run tells its party, added to what it was told before.
     fn add(&mut self, run: Fed)
+        requires { RoomFor (cells_of self.old) run.taken.0 run.commands }
+        ensures { cells_of self.new ≡ told_more (cells_of self.old) run.taken.0 run.commands (first_status (first_of run.refusal)) }
     {
         self.taken = self.taken + run.taken.0;
         self.commands = self.commands + run.commands;
-        self.refusal = self.refusal.or(run.refusal);
+        if let Some(why) = run.refusal {
+            self.refuse(why);
+        }
     }
 
     // The same of a run of one word.
     fn add_word(&mut self, answer: Result<Progress, Refusal>)
+        requires { (self.old.taken + 1 < 2 ^ 64) × (self.old.commands + 1 < 2 ^ 64) }
+        ensures { self.new ≡ word_told self.old answer }
     {
         match answer {
-            Ok(progress) => {
+            Ok(Progress::Open) => {
                 self.taken = self.taken + 1;
-                if let Progress::Whole = progress {
-                    self.commands = self.commands + 1;
-                }
             }
-            Err(why) => {
-                self.refusal = self.refusal.or(Some(why));
+            Ok(Progress::Whole) => {
+                self.taken = self.taken + 1;
+                self.commands = self.commands + 1;
             }
+            Err(why) => self.refuse(why),
         }
     }
 
     // The first refusal as a number, 0 for none.
     fn number(&self) -> u64
+        ensures { result ≡ first_status (first_of self.now.refusal) }
     {
         match self.refusal {
             None => 0,
@@ -188,8 +202,22 @@ impl Told {
     }
 }
 
-// The run of a piece's words from a place up to its end. Words after a refused one change nothing: the party is stopped.
+// A run of one party's words. Those after a refused one change nothing: the party is stopped.
 fn take_run(
+    own: &mut [u32; state::OWN_CELLS],
+    tallies: &mut [u64; state::TALLIES],
+    shared: &mut [u32; state::SHARED_CELLS],
+    words: &[u32],
+    told: &mut Told,
+)
+    requires { RunAsked own.old tallies.old shared.old words.now (cells_of told.old) }
+    ensures { RunLeft (feed_of (session_of own.old tallies.old shared.old) words.now) own.new tallies.new shared.new (cells_of told.old) (cells_of told.new) }
+{
+    told.add(stream::feed(own, tallies, shared, words));
+}
+
+// The run of a piece's words from a place up to its end.
+fn take_part(
     own: &mut [u32; state::OWN_CELLS],
     tallies: &mut [u64; state::TALLIES],
     shared: &mut [u32; state::SHARED_CELLS],
@@ -198,12 +226,14 @@ fn take_run(
     end: usize,
     told: &mut Told,
 )
+    requires { (from ≤ end) × (end ≤ length words.now) × RunAsked own.old tallies.old shared.old (run_of words.now from end) (cells_of told.old) }
+    ensures { RunLeft (feed_of (session_of own.old tallies.old shared.old) (run_of words.now from end)) own.new tallies.new shared.new (cells_of told.old) (cells_of told.new) }
 {
     if end - from == 1 {
         told.add_word(stream::step(own, tallies, shared, words[from]));
         return;
     }
-    told.add(stream::feed(own, tallies, shared, &words[from..end]));
+    take_run(own, tallies, shared, &words[from..end], told);
 }
 
 // A piece of both parties' words with their parties' numbers, one for each 32 words: runs of one party's words, one after the other.
@@ -222,14 +252,15 @@ fn take_runs(
 {
     let mut told0 = Told::new();
     let mut told1 = Told::new();
+    // Kept (design pass 3, no plainer): a turn takes a whole run, so no range counts the words.
     let mut at: usize = 0;
     while at < words.len() {
         let party = party_of(parties, at);
         let end = run_end(parties, words.len(), at, party);
         if party {
-            take_run(own1, tallies1, shared, words, at, end, &mut told1);
+            take_part(own1, tallies1, shared, words, at, end, &mut told1);
         } else {
-            take_run(own0, tallies0, shared, words, at, end, &mut told0);
+            take_part(own0, tallies0, shared, words, at, end, &mut told0);
         }
         at = end;
     }
@@ -254,14 +285,14 @@ pub fn feed(
     words: &[u32],
     parties: &[u32],
     fed: &mut [u64; PARTS],
-) -> u32
+) -> Result<(), Refusal>
     requires { PairGiven own0.old tallies0.old own1.old tallies1.old shared.old }
-    ensures { PairFeeds words.now parties.now result own0.old tallies0.old own1.old tallies1.old shared.old fed.old own0.new tallies0.new own1.new tallies1.new shared.new fed.new }
+    ensures { PairFeeds words.now parties.now (begun_status result) own0.old tallies0.old own1.old tallies1.old shared.old fed.old own0.new tallies0.new own1.new tallies1.new shared.new fed.new }
 {
     let groups = words.len() / 32 + (words.len() % 32 + 31) / 32;
     if parties.len() == groups {
         take_runs(own0, tallies0, own1, tallies1, shared, words, parties, fed);
-        return 0;
+        return Ok(());
     }
-    u32::from(Refusal::WrongLength)
+    Err(Refusal::WrongLength)
 }

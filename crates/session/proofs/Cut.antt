@@ -1,15 +1,15 @@
 -- The cut rule: a piece that is cut in two anywhere, also inside a command, answers and leaves what its two parts do, one after
 -- the other. Assumes nothing.
-use mathlib.Core.Path.{◌≡◌, refl, sym, ap, ◌∙◌, subst}
+use mathlib.Core.Path.{◌≡◌, refl, sym, ap, ◌∙◌}
 use mathlib.Core.Bool.{true}
 use mathlib.Core.List.{List, [], ◌∷◌, ◌++◌, append_assoc}
-use Prim.Native.Nat.{ℕ, zero, suc, ◌+◌}
+use Prim.Native.Nat.{ℕ}
 use native.Mathlib.Nat.{zero-add, suc-add}
 use lib.Dec.{eqb}
 use Rattle.laws.proofs.Choice.{pick_yes}
 use Rattle.command.specs.declared.commands.Command.{Command}
 use Rattle.state.specs.State.{Session}
-use Rattle.session.specs.Step.{Reply, still_open, completed, refused, Stepped, step_of}
+use Rattle.session.specs.Step.{still_open, completed, refused, Stepped, step_of}
 use Rattle.session.specs.Feed.{First, nothing, first, Fed, onward, ended, proceed, feed_of, earlier, joined, fed_pieces, uncut}
 use Rattle.session.proofs.Ways.{Way, was_stopped, stops, opens, fills, ends, way}
 

@@ -2,7 +2,7 @@
 -- but their edition, their claims and what a pair is credited answer alike, and go on to differ in nothing but these. Assumes nothing.
 use mathlib.Core.Path.{◌≡◌, refl, sym, ap, ◌∙◌, subst}
 use mathlib.Core.Bool.{Bool, true, false}
-use mathlib.Core.List.{List, [], ◌∷◌, ◌++◌}
+use mathlib.Core.List.{List, [], ◌∷◌}
 use Prim.Native.Nat.{ℕ, suc}
 use lib.Dec.{eqb, leb, ltb}
 use lib.ListN.{length}
@@ -18,9 +18,9 @@ use Rattle.command.specs.declared.commands.Command.TheVariants as command
 use Rattle.owners.specs.Owners.{may_open, may_name}
 use Rattle.state.specs.State.{Open, Session, at_line, new_session}
 use Rattle.state.specs.Readiness.{worked_out, gauge_of}
-use Rattle.state.specs.Effects.{limit, opening, took, own_after, shared_after, after, with_parameter}
+use Rattle.state.specs.Effects.{limit, opening, took, own_after, after, with_parameter}
 use Rattle.session.specs.Step.{Reply, still_open, completed, refused, Stepped, refusing, start_rule_of, judged, completing, placing, parameter_step, header_step, step_of}
-use Rattle.session.specs.Feed.{Fed, nothing, proceed, feed_of, ended, onward}
+use Rattle.session.specs.Feed.{Fed, proceed, feed_of}
 use Rattle.session.specs.Editions.{unclaimed, SameButClaims}
 
 -- what a step leaves, with the edition, the claims and the credit set aside

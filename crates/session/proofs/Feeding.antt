@@ -2,7 +2,7 @@
 use mathlib.Core.Path.{◌≡◌, refl, sym, ap, ap₂, ◌∙◌, subst}
 use mathlib.Core.Bool.{true}
 use mathlib.Core.List.{List, [], ◌∷◌, ◌++◌, append_assoc, append-nil}
-use Prim.Native.Nat.{ℕ, zero, suc, ◌+◌, ◌-◌, ◌<◌, ◌≤◌}
+use Prim.Native.Nat.{ℕ, suc, ◌+◌, ◌-◌, ◌<◌, ◌≤◌}
 use native.Mathlib.Nat.{zero-add, add-zero}
 use native.Mathlib.Numerals.{add-one}
 use native.Mathlib.Omega.{arith}
@@ -20,7 +20,7 @@ use Rattle.command.proofs.Headers.{count_most}
 use Rattle.command.proofs.WriteBack.{lined}
 use Rattle.owners.specs.Owners.{owned}
 use Rattle.state.specs.State.{Open as Opened, Session, none}
-use Rattle.state.specs.Effects.{own_after, after, limit}
+use Rattle.state.specs.Effects.{own_after, after}
 use Rattle.session.specs.Step.{Reply, still_open, completed, refused, Stepped, start_rule_of, step_of}
 use Rattle.state.specs.Valid.{Valid}
 use Rattle.session.specs.Again.{fed, at_word}
@@ -30,12 +30,11 @@ use Rattle.session.specs.Feed as piece
 use Rattle.session.specs.Answers.{PieceLeft}
 use Rattle.state.specs.Asked.{Given, Held}
 use Rattle.session.specs.Asked.{Left, Told, Reach, ahead, Fold}
-use Rattle.state.specs.Cells.{Sized, party_of, session_of}
+use Rattle.state.specs.Cells.{party_of, session_of}
 use Rattle.std.specs.Prelude.{Option, None, Some, Ok}
 use Rattle.session.specs.declared.stream.Progress.{Progress}
 use Rattle.session.specs.declared.stream.Progress.TheVariants.{Open, Whole}
 use Rattle.session.specs.declared.stream.Fed.{Fed}
-use Rattle.state.specs.declared.own.WordPosition.{WordPosition}
 use Rattle.state.proofs.Cells.{held_view, held_given}
 use Rattle.session.proofs.Cut.{cut}
 use Rattle.session.proofs.Handed.{word_given}

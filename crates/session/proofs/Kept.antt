@@ -1,21 +1,21 @@
 -- Validity holds of a new session and is kept by every word. Assumes nothing.
 use mathlib.Core.Path.{◌≡◌, refl, sym, ap, ◌∙◌, subst}
-use mathlib.Core.Bool.{Bool, true, false}
+use mathlib.Core.Bool.{true, false}
 use mathlib.Core.List.{List, [], ◌∷◌}
-use Prim.Native.Nat.{ℕ, zero, suc, ◌+◌, ◌-◌, ◌*◌, ◌<◌, ◌≤◌}
+use Prim.Native.Nat.{ℕ, ◌+◌, ◌<◌, ◌≤◌}
 use native.Mathlib.Nat.{mul-le-mul, not-suc-le-zero}
 use native.Mathlib.Omega.{arith}
-use lib.Dec.{eqb, ltb, leb}
-use lib.ListN.{length, get_or, take, set, length-set, get_or-eq_default}
+use lib.Dec.{eqb, ltb}
+use lib.ListN.{length, get_or, take, length-set, get_or-eq_default}
 use lib.Seq.{get_or-take}
-use borrow.Author.Tests.{eqb-true, eqb-false, ltb-true, ltb-false, leb-true, leb-false, ne_eqb, eq-eqb}
-use Rattle.laws.specs.Choice.{◌and◌, pick, place_of}
-use Rattle.laws.proofs.Choice.{pick_yes, pick_no, by_pick, and_left, and_right, Tested, tested, holds, fails}
+use borrow.Author.Tests.{eqb-true, eqb-false, ltb-true, ltb-false, leb-true, leb-false, ne_eqb}
+use Rattle.laws.specs.Choice.{pick}
+use Rattle.laws.proofs.Choice.{pick_no, by_pick, and_left, and_right, Tested, tested, holds, fails}
 use Rattle.laws.proofs.Table.{each, ◌&◌}
-use Rattle.refusal.specs.Told.{Told, gives, refuses}
-use Rattle.command.specs.Table.{headers, header_of, count_of}
+use Rattle.refusal.specs.Told.{gives}
+use Rattle.command.specs.Table.{header_of, count_of}
 use Rattle.command.specs.Kinds.{allowed, kind_of}
-use Rattle.command.specs.Commands.{command_of, line_of, fields_of, words_of, EachAllowed}
+use Rattle.command.specs.Commands.{line_of, fields_of, words_of, EachAllowed}
 use Rattle.rules.specs.Rules.{domain_kept, last_rule_of}
 use Rattle.command.specs.declared.commands.Stored.TheVariants as stored
 use Rattle.command.specs.declared.commands.Command.{Command}
@@ -26,12 +26,12 @@ use Rattle.command.proofs.WriteBack.{made}
 use Rattle.owners.specs.Owners.{everything, may_name, owned}
 use Rattle.owners.proofs.Commands.{named_owned}
 use Rattle.state.specs.Seen.{seen_outputs}
-use Rattle.state.specs.State.{Buffer, Open, Domain, Tally, Birth, Party, Shared, Session, none, new_shared, new_party_of, new_session}
+use Rattle.state.specs.State.{Buffer, Open, Domain, Birth, Party, Shared, Session, none, new_shared, new_party_of, new_session}
 use Rattle.start.proofs.Editions.{credit_bounded}
 use Rattle.start.proofs.New.{new_kept}
 use Rattle.state.specs.Start.{is_edition, pairs_of, claim_of, most_claim, most_credit, most_pairs}
-use Rattle.state.specs.Effects.{limit, opening, took, stop, with_parameter, buffer, own_after, shared_after, after}
-use Rattle.session.specs.Step.{Reply, still_open, completed, refused, Stepped, refusing, start_rule_of, step_of}
+use Rattle.state.specs.Effects.{limit, opening, took, with_parameter, buffer, own_after, shared_after, after}
+use Rattle.session.specs.Step.{Stepped, step_of}
 use Rattle.state.specs.Valid.{parameters_of, OpenValid, OpenOwned, DomainValid, TallyValid, Valid}
 use Rattle.state.proofs.Lawful.{unset_domain, unset_row, all_same, new_lawful}
 use Rattle.session.proofs.Lawful.{ordered, fitting, Lawful, lawful_after}

@@ -5,14 +5,13 @@ use mathlib.Core.Bool.{Bool, true, false}
 use mathlib.Core.List.{List, [], ◌∷◌, ◌++◌}
 use Prim.Native.Nat.{ℕ, ◌+◌, ◌<◌, ◌≤◌}
 use native.Mathlib.Omega.{arith}
-use lib.Dec.{eqb, leb}
-use lib.ListN.{length, get_or, take, drop, take-append-drop}
+use lib.Dec.{leb}
+use lib.ListN.{length, get_or, drop, take-append-drop}
 use borrow.Author.Tests.{eq-eqb, ne_eqb}
 use Rattle.laws.specs.Choice.{◌and◌, pick}
-use Rattle.laws.proofs.Choice.{pick_yes, pick_no, Tested, tested, holds, fails}
+use Rattle.laws.proofs.Choice.{pick_yes, pick_no}
 use Rattle.refusal.specs.Number.{IsNumber}
 use Rattle.refusal.specs.Told.{Told, gives, refuses, is_given, then_told}
-use Rattle.refusal.specs.declared.Refusal.TheVariants.{StartUnset, DomainOutside, SpansShared}
 use Rattle.command.specs.Format.{window_of}
 use Rattle.command.specs.Table.{header_of, count_of}
 use Rattle.command.specs.Commands.{stored_line, line_of, fields_of, words_of, command_of, EachAllowed}
@@ -21,25 +20,23 @@ use Rattle.command.specs.declared.commands.Command.{Command}
 use Rattle.command.specs.declared.commands.Command.TheVariants as command
 use Rattle.command.proofs.WriteBack.{made}
 use Rattle.rules.specs.Rules.{domain_kept, window_kept, last_rule_of}
-use Rattle.rules.specs.Writer.{judge_command_of}
 use Rattle.rules.proofs.Judging.{then_given}
 use Rattle.rules.proofs.Readable.{readable, writable}
 use Rattle.rules.proofs.Rule.{Ruled, fine, five, six, ruled}
 use Rattle.owners.specs.Owners.{owned}
 use Rattle.state.specs.Seen.{seen_outputs}
-use Rattle.state.specs.State.{Buffer, Domain, Readiness, Open, Session, none}
-use Rattle.state.specs.Start.{ready_of, readiness_of}
+use Rattle.state.specs.State.{Readiness, Open, Session, none}
+use Rattle.state.specs.Start.{readiness_of}
 use Rattle.state.specs.Readiness.{worked_out}
-use Rattle.state.specs.Effects.{limit, opening, stop, after}
+use Rattle.state.specs.Effects.{opening, stop, after}
 use Rattle.state.specs.Asked.{Held, OwnAsked}
-use Rattle.state.specs.Cells.{party_of, party_cells, tally_cells, shared_of, session_of, own_length}
-use Rattle.state.specs.Valid.{parameters_of}
+use Rattle.state.specs.Cells.{party_of, party_cells, tally_cells, session_of, own_length}
 use Rattle.start.proofs.Readiness.{number_given, number_refused, readiness_number}
 use Rattle.accept.specs.Whole.{RoomFor, Denied, by_words, by_fields, by_owner, by_settings, Tried, untaken, accepted, LineTried, last_word}
-use Rattle.session.specs.Step.{Reply, completed, refused, start_rule_of, completing}
+use Rattle.session.specs.Step.{completed, refused, start_rule_of, completing}
 use Rattle.session.specs.Again.{at_word}
 use Rattle.session.specs.Asked.{Left, CompleteAsked, RefusalAsked, refusal_at, stored_in}
-use Rattle.session.proofs.Kept.{whole_words, whole_allowed}
+use Rattle.session.proofs.Kept.{whole_allowed}
 use Rattle.session.proofs.ReadBack.{after_at_word}
 use Rattle.session.proofs.Stepping.{whole_refused, whole_accepted}
 use Rattle.session.proofs.Ways.{whole}

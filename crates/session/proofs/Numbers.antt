@@ -1,7 +1,7 @@
 -- What a word's answer tells of its step. Assumes nothing.
 use mathlib.Core.Path.{◌≡◌, sym, subst}
 use mathlib.Core.List.{List}
-use Prim.Native.Nat.{ℕ, ◌<◌, ◌≤◌}
+use Prim.Native.Nat.{ℕ, ◌≤◌}
 use native.Mathlib.Omega.{arith}
 use Rattle.state.specs.State.{Session}
 use Rattle.std.specs.Prelude.{Ok}

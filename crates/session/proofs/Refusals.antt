@@ -22,7 +22,7 @@ use Rattle.state.specs.Start.{ready_of}
 use Rattle.state.specs.Effects.{limit}
 use Rattle.session.specs.Step.{Reply, still_open, completed, refused, Stepped, refusing, start_rule_of, judged, completing, placing}
 use Rattle.session.specs.Step.{parameter_step, header_step, step_of}
-use Rattle.session.specs.Feed.{nothing, first, Fed, ended, proceed, feed_of}
+use Rattle.session.specs.Feed.{first, Fed, ended, proceed, feed_of}
 use Rattle.state.specs.Valid.{Valid}
 use Rattle.session.specs.Refusals.{StopNumber, low, full, foreign, RefusedTo, unchanged, stopping}
 use Rattle.session.specs.Again.{Idle, holding}

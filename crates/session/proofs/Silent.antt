@@ -3,8 +3,8 @@
 use mathlib.Core.Path.{◌≡◌, refl, sym, ap, ap₂, ◌∙◌, subst}
 use mathlib.Core.Bool.{Bool, true, false, not}
 use mathlib.Core.List.{List, [], ◌∷◌}
-use Prim.Native.Nat.{ℕ, zero, suc, ◌+◌, ◌*◌, ◌<◌, ◌≤◌}
-use native.Mathlib.Nat.{add-zero, mul-zero, not-suc-le-zero}
+use Prim.Native.Nat.{ℕ, ◌+◌, ◌*◌, ◌<◌, ◌≤◌}
+use native.Mathlib.Nat.{add-zero, mul-zero}
 use native.Mathlib.Omega.{arith}
 use lib.Dec.{eqb}
 use lib.ListN.{length, get_or, set}
@@ -14,7 +14,7 @@ use Rattle.laws.specs.Choice.{◌and◌, pick}
 use Rattle.laws.specs.Below.{some, every, sum}
 use Rattle.laws.specs.Masks.{◌or◌, on}
 use Rattle.laws.proofs.Below.{every_at, every_of, every_same, some_at, sum_same, count_same}
-use Rattle.laws.proofs.Choice.{Tested, holds, fails, tested, pick_yes, pick_no, and_intro, and_yes, and_right, and_no_left, pick_same}
+use Rattle.laws.proofs.Choice.{Tested, holds, fails, tested, pick_yes, pick_no, and_intro, and_yes, and_right, and_no_left}
 use Rattle.laws.proofs.Table.{each, ◌&◌}
 use Rattle.refusal.specs.Told.{gives}
 use Rattle.command.specs.Table.{count_of}

@@ -1,13 +1,11 @@
 -- A whole command and a parameter, cell by cell as the code takes them, are the definition's steps. Assumes nothing.
 use mathlib.Core.Path.{◌≡◌, refl, sym, ap, ◌∙◌, subst}
-use mathlib.Core.Bool.{Bool, true, false}
-use mathlib.Core.List.{List, [], ◌∷◌}
-use Prim.Native.Nat.{ℕ, zero, suc, ◌+◌, ◌<◌, ◌≤◌, ◌^◌}
+use mathlib.Core.Bool.{true}
+use mathlib.Core.List.{List, []}
+use Prim.Native.Nat.{ℕ, ◌+◌, ◌<◌, ◌≤◌, ◌^◌}
 use native.Mathlib.Omega.{arith}
-use lib.Dec.{eqb, leb, ltb}
 use lib.ListN.{length, get_or}
 use borrow.Author.Tests.{lt-ltb, le-ltb}
-use Rattle.laws.specs.Choice.{pick}
 use Rattle.laws.proofs.Choice.{pick_yes, pick_no}
 use Rattle.refusal.specs.Told.{Told, gives, refuses, then_told}
 use Rattle.command.specs.Table.{count_of}
@@ -18,15 +16,15 @@ use Rattle.command.specs.declared.commands.Command.TheVariants as command
 use Rattle.command.proofs.Headers.{count_most}
 use Rattle.owners.specs.Owners.{owned}
 use Rattle.state.specs.Seen.{seen_outputs}
-use Rattle.state.specs.State.{Open, Party, Shared, Session, none}
+use Rattle.state.specs.State.{Open, Party, Shared, Session}
 use Rattle.state.specs.Start.{ready_of}
 use Rattle.state.specs.Effects.{limit, opening, took, stop, with_parameter, after}
-use Rattle.session.specs.Step.{Reply, still_open, completed, refused, Stepped, refusing, start_rule_of, judged, completing, placing, step_of}
-use Rattle.state.specs.Valid.{parameters_of, OpenValid, Valid}
-use Rattle.state.specs.Asked.{Held, OwnAsked, Given}
+use Rattle.session.specs.Step.{still_open, completed, refused, Stepped, refusing, start_rule_of, judged, completing, placing}
+use Rattle.state.specs.Valid.{parameters_of, OpenValid}
+use Rattle.state.specs.Asked.{Held}
 use Rattle.session.specs.Asked.{Left, CompleteAsked, ParameterAsked, whole_of}
-use Rattle.state.specs.Cells.{Sized, party_of, party_cells, tally_cells, shared_of, shared_cells, session_of, own_length}
-use Rattle.state.proofs.Cells.{own_canon, tally_canon, shared_canon}
+use Rattle.state.specs.Cells.{Sized, party_of, party_cells, tally_cells, shared_of, session_of, own_length}
+use Rattle.state.proofs.Cells.{tally_canon, shared_canon}
 use Rattle.session.proofs.Kept.{allowed_more, named_first, open_owned}
 use Rattle.session.proofs.Ways.{whole}
 

@@ -2,12 +2,11 @@
 -- reads it; and no answer depends on it, so that all are as they were. Assumes nothing.
 use mathlib.Core.Path.{◌≡◌, refl, sym, ap, ◌∙◌, subst}
 use mathlib.Core.Bool.{Bool, true, false}
-use mathlib.Core.List.{List, [], ◌∷◌, ◌++◌}
+use mathlib.Core.List.{List, [], ◌∷◌}
 use Prim.Native.Nat.{ℕ, suc}
 use lib.Dec.{eqb, leb, ltb}
 use lib.ListN.{length}
 use Rattle.laws.specs.Choice.{pick, place_of}
-use Rattle.laws.proofs.Choice.{pick_yes, pick_no}
 use Rattle.refusal.specs.Told.{Told, gives, refuses, then_told}
 use Rattle.command.specs.Table.{headers, count_of}
 use Rattle.command.specs.Kinds.{allowed, fault_of, kind_of}
@@ -20,11 +19,11 @@ use Rattle.start.proofs.Readiness.{readiness_answer}
 use Rattle.owners.specs.Owners.{may_open, may_name}
 use Rattle.state.specs.Seen.{seen_outputs}
 use Rattle.state.specs.State.{Open, Readiness, Session, at_line}
-use Rattle.state.specs.Start.{ready_of, readiness_of}
+use Rattle.state.specs.Start.{readiness_of}
 use Rattle.state.specs.Readiness.{worked_out, readiness_for}
-use Rattle.state.specs.Effects.{limit, opening, took, own_after, shared_after, after, with_parameter}
+use Rattle.state.specs.Effects.{limit, opening, took, own_after, after, with_parameter}
 use Rattle.session.specs.Step.{Reply, still_open, completed, refused, Stepped, refusing, start_rule_of, judged, completing, placing, parameter_step, header_step, step_of}
-use Rattle.session.specs.Feed.{First, Fed, nothing, proceed, feed_of, ended, onward}
+use Rattle.session.specs.Feed.{Fed, proceed, feed_of}
 use Rattle.session.specs.Reached.{Reached}
 use Rattle.session.specs.Stored.{told_by, forgotten, SameAnswers}
 use Rattle.session.proofs.Reached.{reached_valid}

@@ -2,19 +2,15 @@
 use mathlib.Core.Path.{◌≡◌, refl, sym, ap, ◌∙◌, subst}
 use mathlib.Core.Bool.{Bool, true, false}
 use mathlib.Core.List.{List, [], ◌∷◌}
-use Prim.Native.Nat.{ℕ, ◌+◌, ◌<◌, ◌≤◌}
+use Prim.Native.Nat.{ℕ, ◌<◌, ◌≤◌}
 use native.Mathlib.Omega.{arith}
-use lib.Dec.{eqb, leb, ltb}
+use lib.Dec.{eqb, ltb}
 use lib.ListN.{length, get_or, replicate, set}
-use borrow.Author.Tests.{eq-eqb, ne_eqb, le-leb, lt-leb, lt-ltb}
+use borrow.Author.Tests.{eq-eqb, ne_eqb, le-leb, lt-leb}
 use Rattle.laws.specs.Choice.{◌and◌, pick, place_of}
 use Rattle.laws.specs.Masks.{digit}
-use Rattle.laws.proofs.Choice.{by_pick, pick_yes, pick_no, and_left, and_right, Tested, tested, holds, fails}
-use Rattle.refusal.specs.Number.{IsNumber}
-use Rattle.refusal.specs.declared.Refusal.TheVariants.{Malformed, NumberTooHigh, NotOwned}
-use Rattle.command.specs.declared.kinds.Kind.{Kind}
-use Rattle.rules.proofs.Judging.{Fault, three, four, fault}
-use Rattle.refusal.specs.Told.{Told, gives, refuses}
+use Rattle.laws.proofs.Choice.{pick_yes, pick_no, and_left, and_right, Tested, tested, holds, fails}
+use Rattle.refusal.specs.Told.{gives, refuses}
 use Rattle.refusal.specs.Crossing.{status_of}
 use Rattle.refusal.specs.declared.Refusal.{Refusal}
 use Rattle.session.specs.declared.stream.Progress.{Progress}
@@ -23,30 +19,19 @@ use Rattle.command.specs.Table.{headers, line_with}
 use Rattle.command.specs.Kinds.{allowed, fault_of, kind_of}
 use Rattle.command.proofs.Headers.{count_most}
 use Rattle.owners.specs.Owners.{fault_at, may_name, may_open}
-use Rattle.state.specs.State.{Open, Party, Session, at_line, none, new_shared, new_party_of, new_party, new_session}
+use Rattle.state.specs.State.{Session, at_line, none, new_shared, new_party_of, new_party, new_session}
 use Rattle.state.specs.Start.{is_edition, edition_told}
 use Rattle.state.specs.Effects.{limit, opening, took, stop, with_parameter}
 use Rattle.session.specs.Step.{still_open, refused, Stepped, refusing, placing, parameter_step, header_step, step_of}
-use Rattle.state.specs.Valid.{Valid}
 use Rattle.state.specs.Asked.{Held, HeldOwn, Given}
 use Rattle.session.specs.Asked.{Left, Read, OpenAsked, ParameterAsked}
 use Rattle.session.specs.Answers.{Begins}
-use Rattle.state.specs.Cells.{Sized, party_of, party_cells, tally_cells, shared_of, shared_cells, session_of, own_length}
+use Rattle.state.specs.Cells.{party_of, party_cells, tally_cells, shared_cells, session_of, own_length}
 use Rattle.state.proofs.Cells.{own_canon, tally_canon, shared_canon}
 use Rattle.session.proofs.Stepping.{refusing_left}
 
 told_apart : {v : List ℕ} {n : ℕ} → gives v ≡ refuses n → ⊥
 told_apart h = let z : ◌≡◌ {A = ℕ} 0 1 = cc in omega arith
-
--- a parameter's refusal has a number
-by_fault : {n : ℕ} → Fault n → IsNumber n
-by_fault (three e) = record { refusal = Malformed; number = sym e }
-by_fault (four e) = record { refusal = NumberTooHigh; number = sym e }
-
-is_fault : (k : Kind) (w : ℕ) → IsNumber (fault_at k w)
-unfolding fault_at
-is_fault k w =
-    by_pick IsNumber (allowed k w) 20 (fault_of k) (λ a. record { refusal = NotOwned; number = refl }) (λ a. by_fault (fault k))
 
 -- a word where a command is open
 module _ (l t s : List ℕ) (w : ℕ) (a : OpenAsked l t s) where
@@ -84,13 +69,6 @@ module _ (l t s : List ℕ) (w : ℕ) (a : OpenAsked l t s) where
         n ≡ fault_at (kind_of (get_or l 2 0) (get_or l 3 0)) w) →
         (l1 : List ℕ) → l1 ≡ party_cells (stop (party_of l [])) → Left (parameter_step so w) (refused n) l1 t s
     not_taken bad n f l1 q = kind_refused n (sym e ∙ bad) (f (get_or l 17 0) (sym e ∙ bad)) l1 q
-
-    -- its refusal's number is one: 3, 4 or 20
-    pub fault_number : r ≡ false → (n : ℕ) →
-        ((mine : ℕ) → (allowed (kind_of (get_or l 2 0) (get_or l 3 0)) w and may_name mine (kind_of (get_or l 2 0) (get_or l 3 0)) w) ≡ false →
-        n ≡ fault_at (kind_of (get_or l 2 0) (get_or l 3 0)) w) →
-        IsNumber n
-    fault_number bad n f = subst IsNumber (sym (f (get_or l 17 0) (sym e ∙ bad))) (is_fault (kind_of (get_or l 2 0) (get_or l 3 0)) w)
 
     module _ (passes : r ≡ true) where
       pub parameter_asked : ParameterAsked l t s w

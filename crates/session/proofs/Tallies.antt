@@ -8,7 +8,7 @@ use native.Mathlib.Omega.{arith}
 use Rattle.command.specs.declared.commands.Stored.TheVariants as stored
 use Rattle.command.specs.declared.commands.Command.{Command}
 use Rattle.command.specs.declared.commands.Command.TheVariants as command
-use Rattle.state.specs.State.{Domain, Session, new_session}
+use Rattle.state.specs.State.{Session, new_session}
 use Rattle.state.specs.Effects.{own_after, shared_after, after}
 use Rattle.session.specs.Step.{still_open, completed, refused, Stepped, step_of}
 use Rattle.session.specs.Feed.{Fed, proceed, feed_of}

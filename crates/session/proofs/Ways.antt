@@ -1,23 +1,23 @@
 -- The ways that a word can go: one case for each outcome of a step, with what the tests on the way showed. Every law on a step
 -- goes by these cases. Assumes nothing.
 use mathlib.Core.Path.{◌≡◌, refl, sym, ap, ◌∙◌, subst}
-use mathlib.Core.Bool.{Bool, true, false}
-use mathlib.Core.List.{List, [], ◌∷◌}
-use Prim.Native.Nat.{ℕ, ◌+◌}
+use mathlib.Core.Bool.{true, false}
+use mathlib.Core.List.{List}
+use Prim.Native.Nat.{ℕ}
 use lib.Dec.{eqb, leb, ltb}
 use lib.ListN.{length}
-use Rattle.laws.specs.Choice.{pick, place_of}
+use Rattle.laws.specs.Choice.{place_of}
 use Rattle.laws.proofs.Choice.{by_pick}
 use Rattle.refusal.specs.Told.{Told, gives, refuses, then_told}
 use Rattle.command.specs.Table.{headers, count_of}
-use Rattle.command.specs.Kinds.{allowed, fault_of, kind_of}
+use Rattle.command.specs.Kinds.{allowed, kind_of}
 use Rattle.command.specs.Commands.{command_of}
 use Rattle.rules.specs.Rules.{last_rule_of}
 use Rattle.command.specs.declared.commands.Command.{Command}
 use Rattle.owners.specs.Owners.{may_open, may_name}
-use Rattle.state.specs.State.{Open, Party, Shared, Session, none}
-use Rattle.state.specs.Effects.{limit, opening, took, stop, with_parameter, after}
-use Rattle.session.specs.Step.{Reply, still_open, completed, refused, Stepped, refusing, start_rule_of, judged, completing, placing}
+use Rattle.state.specs.State.{Open, Session}
+use Rattle.state.specs.Effects.{limit, opening, took, with_parameter, after}
+use Rattle.session.specs.Step.{still_open, completed, refused, Stepped, refusing, start_rule_of, judged, completing, placing}
 use Rattle.session.specs.Step.{parameter_step, header_step, step_of}
 
 -- the command that an open command with all its parameters is

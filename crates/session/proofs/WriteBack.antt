@@ -18,9 +18,9 @@ use Rattle.command.specs.declared.commands.Command.{Command}
 use Rattle.command.proofs.Headers.{listed}
 use Rattle.state.specs.State.{Open, Session, none, new_session}
 use Rattle.state.specs.Start.{is_edition}
-use Rattle.state.specs.Effects.{took, with_parameter, after}
+use Rattle.state.specs.Effects.{with_parameter, after}
 use Rattle.session.specs.Step.{Reply, still_open, completed, refused, Stepped, step_of}
-use Rattle.session.specs.Feed.{nothing, first, Fed, onward, proceed, feed_of, written, accepts, emitted}
+use Rattle.session.specs.Feed.{nothing, Fed, onward, proceed, feed_of, written, accepts, emitted}
 use Rattle.state.specs.Valid.{parameters_of, Valid, held_of}
 use Rattle.session.proofs.Ways.{whole, begun, Placed, Way, was_stopped, stops, opens, fills, ends, way}
 use Rattle.session.proofs.Kept.{new_valid, line_lt, count_lt, all_allowed, whole_words, effects_of, kept}

@@ -1,10 +1,10 @@
 -- Document 01: "A piece of words answers as its words one after another do, up to the first refused one: it also says how many
 -- words were taken and how many commands they completed, and those stand." Assumes nothing.
-use Rattle.std.specs.Prelude.{Bool, true, false, List, [], ◌∷◌, ◌++◌, ℕ, zero, suc, ◌+◌}
+use Rattle.std.specs.Prelude.{Bool, true, false, List, [], ◌∷◌, ◌++◌, ℕ, suc, ◌+◌}
 use Rattle.command.specs.Commands.{words_of}
 use Rattle.command.specs.declared.commands.Command.{Command}
 use Rattle.state.specs.State.{Session}
-use Rattle.session.specs.Step.{Reply, still_open, completed, refused, Stepped, step_of}
+use Rattle.session.specs.Step.{Reply, still_open, completed, refused, step_of}
 
 -- the first refusal of a piece, or none
 pub data First : Type 0 where

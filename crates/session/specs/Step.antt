@@ -9,7 +9,7 @@ use Rattle.command.specs.Commands.{command_of}
 use Rattle.rules.specs.Rules.{last_rule_of}
 use Rattle.command.specs.declared.commands.Command.{Command}
 use Rattle.owners.specs.Owners.{may_open, may_name}
-use Rattle.state.specs.State.{Open, Domain, Session, at_line, none}
+use Rattle.state.specs.State.{Open, Session, at_line}
 use Rattle.state.specs.Effects.{limit, opening, took, stop, with_parameter, after}
 -- what a command asks of the settings, which a routine below this crate is stated by too
 unfoldable pub use Rattle.start.specs.Rules.{start_rule_of}

@@ -63,8 +63,8 @@ pub fn word(
 }
 
 // A piece of one word.
-// Kept (design pass 2, speed): by a function that answers both this and a pair's run of one word as a `stream::Fed`, a word takes 111
-// instructions here and 152 there, so 106 and 126.
+// Kept (design pass 2, speed): one function that answers a word as a `stream::Fed`, for this and for a pair's run of one word, takes 111
+// instructions a word here, this one 107.
 fn feed_one(
     own: &mut [u32; state::OWN_CELLS],
     tallies: &mut [u64; state::TALLIES],

@@ -1,7 +1,7 @@
 // Starts with two outputs set: one with each format code at each number under each nibble of the mask, and beside it one of
 // UINT8_4 whose own nibble is 15 or 0. Then starts with every output silent, with none set, and under masks that change.
+use refusal::Refusal;
 use session::stream;
-use session::stream::First;
 use state::edition;
 use std::io;
 use worked::tally::Tally;
@@ -23,10 +23,11 @@ struct Came {
     claims: u64,
 }
 
-fn first_number(answer: First) -> u32 {
-    match answer {
-        First::Nothing => 0,
-        First::Refused(why) => u32::from(why),
+// A refusal's number, 0 for none.
+fn number(refusal: Option<Refusal>) -> u32 {
+    match refusal {
+        None => 0,
+        Some(why) => u32::from(why),
     }
 }
 
@@ -35,11 +36,10 @@ fn come(words: &[u32]) -> Came {
     let mut own: [u32; state::OWN_CELLS] = [0; state::OWN_CELLS];
     let mut tallies: [u64; state::TALLIES] = [0; state::TALLIES];
     let mut shared: [u32; state::SHARED_CELLS] = [0; state::SHARED_CELLS];
-    stream::begin(&mut own, &mut tallies, &mut shared, edition::BY_OUTPUT);
+    let _ = stream::begin(&mut own, &mut tallies, &mut shared, edition::BY_OUTPUT);
     let fed = stream::feed(&mut own, &mut tallies, &mut shared, words);
-    let refused = fed.refusal;
     Came {
-        first: first_number(refused),
+        first: number(fed.refusal),
         runs: tallies[0],
         claims: tallies[1],
     }

@@ -1,16 +1,16 @@
 -- The cells of a session and its record are the same thing: cells of the right length are the cells of their view, and what a
 -- caller's cells hold is known whole from the record. Assumes nothing.
 use mathlib.Core.Path.{◌≡◌, refl, sym, ap, ap₂, ◌∙◌, subst}
-use mathlib.Core.List.{List, [], ◌∷◌, ◌++◌}
-use Prim.Native.Nat.{ℕ, zero, suc, ◌+◌, ◌<◌, ◌≤◌}
-use native.Mathlib.Nat.{add-zero, add-suc, suc-add}
+use mathlib.Core.List.{List, [], ◌∷◌}
+use Prim.Native.Nat.{ℕ, zero, suc, ◌+◌, ◌≤◌}
+use native.Mathlib.Nat.{add-suc, suc-add}
 use native.Mathlib.Omega.{arith}
-use lib.ListN.{length, get_or, take, drop, set}
+use lib.ListN.{length, get_or, take, drop}
 use lib.Seq.{drop-cons}
 use Rattle.state.specs.State.{Buffer, Party, Shared, Session, unset}
 use Rattle.state.specs.Valid.{Valid}
 use Rattle.state.specs.Asked.{Held, Given}
-use Rattle.state.specs.Cells.{buffer_at, party_of, shared_of, session_of, party_cells, tally_cells, shared_cells, Sized, own_length, shared_length}
+use Rattle.state.specs.Cells.{party_of, shared_of, session_of, party_cells, tally_cells, shared_cells, own_length, shared_length}
 
 -- n entries of a list from place k on
 module _ {A : Type 0} (d : A) where

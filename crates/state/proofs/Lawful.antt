@@ -1,11 +1,10 @@
 -- Laws of lawful settings: what isn't set is lawful, what is set is where it passed its rules, and a list of lawful buffers stays one when
 -- a lawful buffer is set in it and when a party sees its own of it. Assumes nothing.
 use mathlib.Core.Path.{◌≡◌, refl, subst, sym}
-use mathlib.Core.Bool.{Bool, true, false}
+use mathlib.Core.Bool.{Bool, true}
 use mathlib.Core.List.{List, [], ◌∷◌}
 use Prim.Native.Nat.{ℕ, zero, suc, ◌^◌, ◌<◌}
 use native.Mathlib.Omega.{arith}
-use lib.Dec.{eqb}
 use lib.ListN.{get_or, set, replicate}
 use Rattle.laws.specs.Choice.{◌and◌, pick}
 use Rattle.laws.specs.Masks.{on}
@@ -15,7 +14,7 @@ use Rattle.command.specs.Format.{window_of}
 use Rattle.command.specs.Kinds.{allowed}
 use Rattle.command.specs.declared.kinds.Kind.{Kind}
 use Rattle.command.specs.declared.kinds.Kind.TheVariants.{Base, Format, InputFormat, Height, ConditionalMaskBit, TestBits}
-use Rattle.state.specs.State.{Buffer, Shared, unset, new_shared}
+use Rattle.state.specs.State.{Buffer, unset, new_shared}
 use Rattle.state.specs.Effects.{buffer, domain_from, with_shared}
 use Rattle.state.specs.Seen.{seen_from}
 use Rattle.state.specs.Lawful.{lawful, window, lawful_buffer, lawful_row, lawful_domain, lawful_word, SharedLawful}

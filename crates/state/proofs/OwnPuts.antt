@@ -2,18 +2,16 @@
 -- Assumes nothing.
 use mathlib.Core.Path.{◌≡◌, refl, sym, ap, ◌∙◌}
 use mathlib.Core.List.{List, [], ◌∷◌}
-use Prim.Native.Nat.{ℕ, ◌+◌, ◌<◌, ◌≤◌, ◌^◌}
-use native.Mathlib.Omega.{arith}
+use Prim.Native.Nat.{ℕ, ◌+◌}
 use lib.ListN.{length, get_or, set}
 use Rattle.command.specs.declared.commands.NoEffect.{NoEffect}
 use Rattle.command.specs.declared.commands.Stored.{Stored}
 use Rattle.command.specs.declared.commands.Stored.TheVariants as stored
-use Rattle.command.specs.declared.commands.Command.{Command}
 use Rattle.command.specs.declared.commands.Command.TheVariants as command
-use Rattle.state.specs.State.{Buffer, Party, Shared, new_shared}
+use Rattle.state.specs.State.{Party, Shared, new_shared}
 use Rattle.state.specs.Effects.{domain_from, buffer, with_domain, with_instructions, claim_for, own_after}
 use Rattle.state.specs.Asked.{HeldOwn}
-use Rattle.state.specs.Cells.{party_of, party_cells, tally_cells, shared_of, own_length}
+use Rattle.state.specs.Cells.{party_of, party_cells, tally_cells, own_length}
 use Rattle.state.proofs.Cells.{own_canon, tally_canon}
 
 module _ (l : List ℕ) (h : length l ≡ own_length) where

@@ -1,12 +1,12 @@
 -- What the code stores in a session's cells, said of the record: each law is the cells written as the code writes them.
 -- Assumes nothing.
-use mathlib.Core.Path.{◌≡◌, refl, sym, ap, ◌∙◌, subst}
-use mathlib.Core.List.{List, [], ◌∷◌}
+use mathlib.Core.Path.{◌≡◌, refl, sym, ap, ◌∙◌}
+use mathlib.Core.List.{List, []}
 use Prim.Native.Nat.{ℕ, ◌+◌, ◌*◌, ◌<◌}
 use lib.ListN.{length, get_or, set}
 use Rattle.laws.specs.Choice.{pick}
 use Rattle.laws.proofs.Table.{each, ◌&◌}
-use Rattle.state.specs.State.{Buffer, Open, Domain, Party, at_line, none}
+use Rattle.state.specs.State.{Open, Party, at_line, none}
 use Rattle.state.specs.Effects.{domain_from, opening, took, stop, with_parameter, with_domain, with_instructions, buffer}
 use Rattle.state.specs.Cells.{party_of, party_cells, own_length}
 use Rattle.state.specs.Effects.{took_words, gauge_from, window_from, with_gauge, with_number, with_readiness, with_window}

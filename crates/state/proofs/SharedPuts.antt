@@ -1,6 +1,6 @@
 -- What a command stores in the shared cells, said of the record: one law for each kind of command. Assumes nothing.
 use mathlib.Core.Path.{◌≡◌, refl, sym, ap, ◌∙◌}
-use mathlib.Core.List.{List, [], ◌∷◌}
+use mathlib.Core.List.{List}
 use Prim.Native.Nat.{ℕ, ◌+◌, ◌*◌, ◌<◌}
 use lib.ListN.{length, get_or, set}
 use Rattle.laws.proofs.Table.{each, ◌&◌}
@@ -9,7 +9,6 @@ use Rattle.command.specs.declared.commands.Stored.TheVariants as stored
 use Rattle.command.specs.declared.commands.Command.{Command}
 use Rattle.command.specs.declared.commands.Command.TheVariants as command
 use Rattle.owners.specs.Owners.{mask_by}
-use Rattle.state.specs.State.{Buffer, Shared}
 use Rattle.state.specs.Effects.{buffer, shared_after}
 use Rattle.state.specs.Cells.{set_buffer, shared_of, shared_cells, shared_length}
 use Rattle.state.proofs.Cells.{shared_canon}

@@ -1,7 +1,7 @@
 -- Where a session lies in the cells that a caller lends: 33 numbers of a party's own, its two tallies, and 101 shared numbers.
 -- Assumes nothing.
 use Rattle.std.specs.Prelude.{◌≡◌, List, [], ◌∷◌, ◌++◌, ℕ, ◌+◌, length, get_or, set}
-use Rattle.state.specs.State.{Buffer, Open, Domain, Tally, Birth, Window, Gauge, Readiness, Party, Shared, Session}
+use Rattle.state.specs.State.{Buffer, Window, Readiness, Party, Shared, Session}
 
 -- how many they are
 abbrev pub own_length : ℕ

@@ -1,6 +1,6 @@
 -- Document 01: what a start asks of the settings alone (7, 8, 9), and what it claims; document 02's request 2: which outputs it
 -- looks at; request 10: what a pair is credited by each edition. No word and no session is in it. Assumes nothing.
-use Rattle.std.specs.Prelude.{Bool, true, false, not, List, [], ℕ, ◌+◌, ◌-◌, ◌*◌, eqb, leb, ltb, get_or}
+use Rattle.std.specs.Prelude.{Bool, true, not, List, [], ℕ, ◌+◌, ◌-◌, ◌*◌, eqb, leb, ltb, get_or}
 use Rattle.laws.specs.Choice.{◌and◌, pick}
 use Rattle.laws.specs.Below.{some, every, sum, count}
 use Rattle.laws.specs.Masks.{on}

@@ -2,6 +2,7 @@
 ghost use Rattle.std.specs.Prelude.{◌≡◌};
 ghost use Rattle.state.specs.Start.{is_edition};
 
+// Kept (design pass 1, C interface; also BY_CHANNEL): a caller hands the edition in as a number, and a cell that C lends keeps it.
 // Credits a pair once for each output that isn't silent.
 pub const BY_OUTPUT: u32 = 1;
 
@@ -12,9 +13,5 @@ pub const BY_CHANNEL: u32 = 2;
 pub fn is_known(edition: u32) -> bool
     ensures { result ≡ is_edition edition }
 {
-    if edition == BY_OUTPUT {
-        true
-    } else {
-        edition == BY_CHANNEL
-    }
+    edition == BY_OUTPUT || edition == BY_CHANNEL
 }

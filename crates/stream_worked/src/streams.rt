@@ -1,14 +1,16 @@
 // Streams: document 01's whole stream in one piece, word by word and at every cut; each refusal by a stream that earns it;
 // every bit of every parameter flipped alone; and the limit of words.
+use command::commands::Command;
+use refusal::Refusal;
 use session::stream;
-use session::stream::{Answer, First};
-use state::edition;
+use state::{edition, own};
 use std::io;
 use worked::streams::whole_stream;
 use worked::tally::Tally;
 
 // What a stream came to: the words taken, the commands, the first refusal's number and that of one word more (0: none),
 // and the tallies after all of them.
+// Kept (design pass 1, no plainer): the numbers that a test expects are the document's own, and are compared as such.
 #[derive(Drop)]
 struct Came {
     taken: u32,
@@ -19,33 +21,17 @@ struct Came {
     claims: u64,
 }
 
-// 0 for a word that was taken.
-fn number_of(answer: Answer) -> u32 {
-    match answer {
-        Answer::Open => 0,
-        Answer::Done(_) => 0,
-        Answer::Refused(why) => u32::from(why),
+// A refusal's number, 0 for none.
+fn number(refusal: Option<Refusal>) -> u32 {
+    match refusal {
+        None => 0,
+        Some(why) => u32::from(why),
     }
 }
 
-fn completed(answer: Answer) -> u64 {
-    match answer {
-        Answer::Open => 0,
-        Answer::Done(_) => 1,
-        Answer::Refused(_) => 0,
-    }
-}
-
-fn first_number(answer: First) -> u32 {
-    match answer {
-        First::Nothing => 0,
-        First::Refused(why) => u32::from(why),
-    }
-}
-
-// The number that came first, 0 standing for none.
-fn earlier(first: u32, then: u32) -> u32 {
-    if first == 0 { then } else { first }
+// What one word is answered: 0 for a word that was taken.
+fn number_of(answer: Result<Option<Command>, Refusal>) -> u32 {
+    number(answer.err())
 }
 
 // A stream word by word from a new session, and a wait_for_idle after it.
@@ -53,22 +39,26 @@ fn by_word(words: &[u32]) -> Came {
     let mut own: [u32; state::OWN_CELLS] = [0; state::OWN_CELLS];
     let mut tallies: [u64; state::TALLIES] = [0; state::TALLIES];
     let mut shared: [u32; state::SHARED_CELLS] = [0; state::SHARED_CELLS];
-    stream::begin(&mut own, &mut tallies, &mut shared, edition::BY_OUTPUT);
-    let mut first: u32 = 0;
+    let _ = stream::begin(&mut own, &mut tallies, &mut shared, edition::BY_OUTPUT);
+    let mut first: Option<Refusal> = None;
     let mut commands: u64 = 0;
-    let mut i: usize = 0;
-    while i < words.len() {
-        let answer = stream::word(&mut own, &mut tallies, &mut shared, words[i]);
-        first = earlier(first, number_of(answer));
-        commands = std::num::wrapping_add_u64(commands, completed(answer));
-        i = i + 1;
+    for i in 0..words.len() {
+        match stream::word(&mut own, &mut tallies, &mut shared, words[i]) {
+            Ok(None) => {}
+            Ok(Some(_)) => {
+                commands = std::num::wrapping_add_u64(commands, 1);
+            }
+            Err(why) => {
+                first = first.or(Some(why));
+            }
+        }
     }
-    let taken = own[1];
+    let taken = own[own::TAKEN];
     let next = number_of(stream::word(&mut own, &mut tallies, &mut shared, 0xC0000900));
     Came {
         taken,
         commands,
-        first,
+        first: number(first),
         next,
         runs: tallies[0],
         claims: tallies[1],
@@ -83,17 +73,15 @@ fn in_two(words: &[u32], cut: usize) -> Came {
     let mut own: [u32; state::OWN_CELLS] = [0; state::OWN_CELLS];
     let mut tallies: [u64; state::TALLIES] = [0; state::TALLIES];
     let mut shared: [u32; state::SHARED_CELLS] = [0; state::SHARED_CELLS];
-    stream::begin(&mut own, &mut tallies, &mut shared, edition::BY_OUTPUT);
+    let _ = stream::begin(&mut own, &mut tallies, &mut shared, edition::BY_OUTPUT);
     let a = stream::feed(&mut own, &mut tallies, &mut shared, &words[..cut]);
     let b = stream::feed(&mut own, &mut tallies, &mut shared, &words[cut..]);
-    let taken = own[1];
+    let taken = own[own::TAKEN];
     let next = number_of(stream::word(&mut own, &mut tallies, &mut shared, 0xC0000900));
-    let refused = a.refusal;
-    let then = b.refusal;
     Came {
         taken,
         commands: std::num::wrapping_add_u64(a.commands, b.commands),
-        first: earlier(first_number(refused), first_number(then)),
+        first: number(a.refusal.or(b.refusal)),
         next,
         runs: tallies[0],
         claims: tallies[1],
@@ -349,7 +337,7 @@ fn limit() -> Tally {
     let mut own: [u32; state::OWN_CELLS] = [0; state::OWN_CELLS];
     let mut tallies: [u64; state::TALLIES] = [0; state::TALLIES];
     let mut shared: [u32; state::SHARED_CELLS] = [0; state::SHARED_CELLS];
-    stream::begin(&mut own, &mut tallies, &mut shared, edition::BY_OUTPUT);
+    let _ = stream::begin(&mut own, &mut tallies, &mut shared, edition::BY_OUTPUT);
     let mut taken: u64 = 0;
     let mut commands: u64 = 0;
     for k in 0u32..125000000 {
@@ -364,7 +352,7 @@ fn limit() -> Tally {
     let after = number_of(stream::word(&mut own, &mut tallies, &mut shared, 0xC0000900));
     t.with(full == 17)
         .with(after == 1)
-        .with(own[1] == 1000000000)
+        .with(own[own::TAKEN] == 1000000000)
 }
 
 pub fn run(rt: &impl Print) -> io::Result<()> {

@@ -1,11 +1,6 @@
 -- `judges::is_session` meets its contract: a yes is what the entries require. Assumes nothing.
+use Rattle.judges.proofs.Joined.{both_is}
 use Rattle.judges.proofs.Valid.{judged_yes, judged_no, work_asked}
-use Rattle.judges.proofs.is_session.Reads as reads
-use Rattle.judges.proofs.is_session.Lts as lts
-use Rattle.judges.proofs.party.is_kept.Reads as party_is_kept_reads
-use Rattle.judges.proofs.readiness.is_kept.Reads as readiness_is_kept_reads
-use Rattle.judges.proofs.settings.are_kept.Reads as are_kept_reads
-use Rattle.judges.proofs.tests.both.Reads as both_reads
 use Rattle.judges.proofs.is_session.Goals as goal
 
 pub is_kept-requires-then-is_kept : goal.is_kept-requires-then-is_kept
@@ -15,7 +10,7 @@ is_kept-requires-then-is_kept c =
 pub returns-then-is_kept : goal.returns-then-is_kept
 returns-then-is_kept c =
     judged_yes _ _ _ c.requires c.is_kept.ensures c.if-is_kept.true
-    c.are_kept.ensures c.is_kept-then-is_kept.ensures c.both.ensures
+    c.are_kept.ensures c.is_kept-then-is_kept.ensures (both_is _ _)
 
 pub returns-else-is_kept : goal.returns-else-is_kept
 returns-else-is_kept c = judged_no _ _ _ c.requires c.is_kept.ensures c.if-is_kept.false

@@ -1,4 +1,5 @@
 -- `lessees::feed` meets its contract: the parties' numbers are judged before anything is touched. Assumes nothing.
+use mathlib.Core.Path.{refl}
 use native.Mathlib.Omega.{arith}
 use Rattle.lessees.proofs.Folding.{feeds, feeds_not}
 use Rattle.lessees.proofs.feed.Goals as goal
@@ -10,4 +11,4 @@ pub returns-then-parties-groups : goal.returns-then-parties-groups
 returns-then-parties-groups c = feeds (omega (arith, c.if-parties-groups.true)) c.take_runs.ensures
 
 pub returns : goal.returns
-returns c = feeds_not (λ e. c.if-parties-groups.false (omega arith)) c.from.ensures
+returns c = feeds_not (λ e. c.if-parties-groups.false (omega arith)) refl

@@ -1,7 +1,7 @@
 -- `lessees::groups_end` meets its contract: each turn passes a group whose words are all the party's. Assumes nothing.
 use mathlib.Core.Path.{◌∙◌}
 use native.Mathlib.Omega.{arith}
-use Rattle.lessees.proofs.Taking.{run_begins, group_on}
+use Rattle.lessees.proofs.Taking.{run_begins, group_on, groups_out}
 use Rattle.lessees.proofs.groups_end.Goals as goal
 
 pub loop-at-init : goal.loop-at-init
@@ -17,16 +17,10 @@ bounds-parties-at c = omega (arith, c.loop-at-test.true, c.requires.1)
 pub returns-then-parties-at : goal.returns-then-parties-at
 returns-then-parties-at c = c.loop-at.invariant
 
-pub overflow_add-at : goal.overflow_add-at
-overflow_add-at c = omega (arith, c.loop-at-test.true)
-
-pub loop-at-smaller : goal.loop-at-smaller
-loop-at-smaller c = omega (arith, c.loop-at-test.true)
-
 pub loop-at-preserved : goal.loop-at-preserved
 loop-at-preserved c =
     group_on _ _ _ _ _ c.loop-at.invariant c.loop-at-test.true (c.if-parties-at.false ∙ c.whole_group-whole.ensures)
 
 -- all of them were
 pub returns : goal.returns
-returns c = c.loop-at.invariant
+returns c = groups_out _ _ _ _ _ c.loop-at.invariant c.loop-at-test.false

@@ -5,8 +5,8 @@ use Rattle.lessees.proofs.may_begin.Goals as goal
 pub returns-then-inputs-lt-INPUTS : goal.returns-then-inputs-lt-INPUTS
 returns-then-inputs-lt-INPUTS c = by_outputs _ _ _ c.is_known.ensures c.if-is_known.true c.if-inputs-lt-INPUTS.true
 
-pub returns-then-is_known : goal.returns-then-is_known
-returns-then-is_known c = not_inputs _ _ _ c.if-inputs-lt-INPUTS.false
+pub returns-else-inputs-lt-INPUTS : goal.returns-else-inputs-lt-INPUTS
+returns-else-inputs-lt-INPUTS c = not_inputs _ _ _ c.if-inputs-lt-INPUTS.false
 
-pub returns : goal.returns
-returns c = not_edition _ _ _ c.is_known.ensures c.if-is_known.false
+pub returns-else-is_known : goal.returns-else-is_known
+returns-else-is_known c = not_edition _ _ _ c.is_known.ensures c.if-is_known.false

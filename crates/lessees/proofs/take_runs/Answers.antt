@@ -1,22 +1,17 @@
 -- `lessees::take_runs` meets its contract: each turn takes a run of one party's words. Assumes nothing.
 use mathlib.Core.Path.{sym}
 use native.Mathlib.Omega.{arith}
-use Rattle.lessees.proofs.Folding.{fold_begins, asked0, asked1, fold_run0, fold_run1, fold_ends, told_lengths, six, as_party}
-use Rattle.lessees.proofs.take_runs.Reads as reads
-use Rattle.lessees.proofs.take_runs.Lts as lts
-use Rattle.lessees.proofs.party_of.Reads as party_of_reads
-use Rattle.lessees.proofs.run_end.Reads as run_end_reads
-use Rattle.lessees.proofs.take_part.Reads as take_part_reads
+use Rattle.lessees.proofs.Folding.{fold_begins, asked0, asked1, fold_run0, fold_run1, fold_ends, six, as_party}
 use Rattle.lessees.proofs.take_runs.Goals as goal
 
 pub loop-at-init : goal.loop-at-init
-loop-at-init c = fold_begins _ _ _ _ _ _ _ c.requires.0
+loop-at-init c = rw (c.new-told0.ensures, c.new-told1.ensures) (fold_begins _ _ _ _ _ _ _ c.requires.0)
 
 pub party_of-party-requires : goal.party_of-party-requires
 party_of-party-requires c = omega (arith, c.requires.1, c.loop-at-test.true)
 
 pub run_end-end-requires : goal.run_end-end-requires
-run_end-end-requires c = (omega (arith, c.loop-at-test.true), omega (arith, c.requires.1))
+run_end-end-requires c = (c.loop-at-test.true, (omega (arith, c.requires.1), c.party_of-party.ensures))
 
 -- party 1's run
 pub take_part-requires : goal.take_part-requires
@@ -56,23 +51,6 @@ loop-at-preserved c =
     fold_run0 _ _ _ _ _ _ _ _ _ _ _ c.requires.0.valid c.loop-at.invariant _
     (as_party c.if-party.false c.run_end-end.ensures) c.take_part-else-party.ensures
 
-pub bounds-told0-0 : goal.bounds-told0-0
-bounds-told0-0 c = omega (arith, (told_lengths _ _ _ _ _ _ _ _ _ _ _ c.requires.0.valid c.loop-at.invariant).0)
-
-pub bounds-told0-1 : goal.bounds-told0-1
-bounds-told0-1 c = omega (arith, (told_lengths _ _ _ _ _ _ _ _ _ _ _ c.requires.0.valid c.loop-at.invariant).0)
-
-pub bounds-told0-2 : goal.bounds-told0-2
-bounds-told0-2 c = omega (arith, (told_lengths _ _ _ _ _ _ _ _ _ _ _ c.requires.0.valid c.loop-at.invariant).0)
-
-pub bounds-told1-0 : goal.bounds-told1-0
-bounds-told1-0 c = omega (arith, (told_lengths _ _ _ _ _ _ _ _ _ _ _ c.requires.0.valid c.loop-at.invariant).1)
-
-pub bounds-told1-1 : goal.bounds-told1-1
-bounds-told1-1 c = omega (arith, (told_lengths _ _ _ _ _ _ _ _ _ _ _ c.requires.0.valid c.loop-at.invariant).1)
-
-pub bounds-told1-2 : goal.bounds-told1-2
-bounds-told1-2 c = omega (arith, (told_lengths _ _ _ _ _ _ _ _ _ _ _ c.requires.0.valid c.loop-at.invariant).1)
-
 pub returns : goal.returns
-returns c = fold_ends _ _ _ _ _ _ _ _ _ _ _ c.requires.0.valid c.loop-at.invariant c.loop-at-test.false (six _ _ _ _ _ _ _ _ _ _ _ c.requires.0.valid c.loop-at.invariant)
+returns c =
+    fold_ends _ _ _ _ _ _ _ _ _ _ _ c.requires.0.valid c.loop-at.invariant c.loop-at-test.false (six c.number.ensures c.number-2.ensures)

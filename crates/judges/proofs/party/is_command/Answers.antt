@@ -3,10 +3,6 @@ use native.Mathlib.Omega.{arith}
 use Rattle.state.specs.Cells.{party_of}
 use Rattle.judges.specs.Judged.{closed_by}
 use Rattle.judges.proofs.Valid.{none_open, no_line, some_open}
-use Rattle.judges.proofs.party.is_command.Reads as reads
-use Rattle.judges.proofs.party.is_command.Lts as lts
-use Rattle.judges.proofs.party.is_closed.Reads as is_closed_reads
-use Rattle.judges.proofs.party.is_running.Reads as is_running_reads
 use Rattle.judges.proofs.party.is_command.Goals as goal
 
 pub returns-then-own-eq-NO_LINE : goal.returns-then-own-eq-NO_LINE

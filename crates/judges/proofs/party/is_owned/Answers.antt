@@ -4,12 +4,7 @@ use native.Mathlib.Omega.{arith}
 use borrow.Author.Tests.{lt-ltb, le-ltb}
 use Rattle.laws.proofs.Choice.{pick_yes, pick_no}
 use Rattle.judges.specs.Judged.{owned_by}
-use Rattle.judges.proofs.Joined.{joined}
-use Rattle.judges.proofs.party.is_owned.Reads as reads
-use Rattle.judges.proofs.party.is_owned.Lts as lts
-use Rattle.judges.proofs.tests.both.Reads as both_reads
-use Rattle.owners.proofs.may_name.Reads as may_name_reads
-use Rattle.owners.proofs.may_open.Reads as may_open_reads
+use Rattle.judges.proofs.Joined.{together}
 use Rattle.judges.proofs.party.is_owned.Goals as goal
 
 pub may_name-requires : goal.may_name-requires
@@ -18,7 +13,7 @@ may_name-requires c = ((c.requires.0, omega arith), c.requires.1 c.if-count-gt0.
 pub returns-then-count-gt0 : goal.returns-then-count-gt0
 unfolding owned_by
 returns-then-count-gt0 c =
-    joined c.both.ensures c.may_open.ensures c.may_name.ensures
+    together c.may_open.ensures c.may_name.ensures
     ∙ sym (pick_yes _ _ (lt-ltb _ _ c.if-count-gt0.true))
 
 pub returns-else-count-gt0 : goal.returns-else-count-gt0

@@ -3,13 +3,8 @@ use mathlib.Core.Path.{refl, sym, ◌∙◌}
 use Rattle.laws.proofs.Choice.{and_yes, and_no_left}
 use Rattle.state.specs.Cells.{party_of}
 use Rattle.judges.specs.Judged.{running_by}
-use Rattle.judges.proofs.Joined.{joined}
+use Rattle.judges.proofs.Joined.{together}
 use Rattle.judges.proofs.Valid.{first_allowed}
-use Rattle.judges.proofs.party.is_running.Reads as reads
-use Rattle.judges.proofs.party.is_running.Lts as lts
-use Rattle.judges.proofs.party.is_open.Reads as is_open_reads
-use Rattle.judges.proofs.party.is_owned.Reads as is_owned_reads
-use Rattle.judges.proofs.tests.both.Reads as both_reads
 use Rattle.judges.proofs.party.is_running.Goals as goal
 
 pub is_open-open-requires : goal.is_open-open-requires
@@ -25,8 +20,8 @@ is_owned-requires c =
 pub returns-then-open : goal.returns-then-open
 unfolding running_by party_of
 returns-then-open c =
-    joined c.both-then-open.ensures refl
-    (joined c.both.ensures refl c.is_owned.ensures)
+    together refl
+    (together refl c.is_owned.ensures)
     ∙ sym (and_yes _ (sym c.is_open-open.ensures ∙ c.if-open.true))
 
 pub returns-else-open : goal.returns-else-open

@@ -5,10 +5,6 @@ use Rattle.laws.proofs.Choice.{pick_yes, pick_no}
 use Rattle.command.specs.Kinds.{allowed}
 use Rattle.command.specs.declared.kinds.Kind.{Kind}
 use Rattle.judges.specs.Judged.{passed_at}
-use Rattle.judges.proofs.party.passed.Reads as reads
-use Rattle.judges.proofs.party.passed.Lts as lts
-use Rattle.command.proofs.kinds.kind_at.Reads as kind_at_reads
-use Rattle.command.proofs.kinds.is_allowed.Reads as is_allowed_reads
 use Rattle.judges.proofs.party.passed.Goals as goal
 
 pub returns-then-k-count : goal.returns-then-k-count

@@ -4,9 +4,6 @@ use Prim.Native.Nat.{◌+◌, ◌-◌, ◌≤◌}
 use lib.Dec.{eqb}
 use lib.ListN.{get_or}
 use Rattle.laws.specs.Below.{every}
-use Rattle.judges.proofs.readiness.are_same.Reads as reads
-use Rattle.judges.proofs.readiness.are_same.Lts as lts
-use Rattle.judges.proofs.tests.both.Reads as both_reads
 use Rattle.judges.proofs.readiness.are_same.Given as goal
 
 abbrev pub invariant-loop-k : goal.invariant-loop-k

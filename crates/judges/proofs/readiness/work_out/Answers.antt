@@ -2,10 +2,6 @@
 use native.Mathlib.Omega.{arith}
 use Rattle.start.proofs.Readiness.{kept_length}
 use Rattle.judges.proofs.Windows.{renew_asked, worked_out_lem}
-use Rattle.judges.proofs.readiness.work_out.Reads as reads
-use Rattle.judges.proofs.readiness.work_out.Lts as lts
-use Rattle.judges.proofs.readiness.keep_window.Reads as keep_window_reads
-use Rattle.start.proofs.ready.renew.Reads as renew_reads
 use Rattle.judges.proofs.readiness.work_out.Goals as goal
 
 pub keep_window-requires : goal.keep_window-requires

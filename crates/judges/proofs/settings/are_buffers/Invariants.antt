@@ -4,10 +4,6 @@ use Prim.Native.Nat.{◌+◌, ◌-◌, ◌*◌, ◌≤◌}
 use Rattle.laws.specs.Below.{every}
 use Rattle.state.specs.Cells.{buffer_at}
 use Rattle.state.specs.Lawful.{lawful_buffer}
-use Rattle.judges.proofs.settings.are_buffers.Reads as reads
-use Rattle.judges.proofs.settings.are_buffers.Lts as lts
-use Rattle.judges.proofs.settings.is_buffer_at.Reads as is_buffer_at_reads
-use Rattle.judges.proofs.tests.both.Reads as both_reads
 use Rattle.judges.proofs.settings.are_buffers.Given as goal
 
 abbrev pub invariant-loop-k : goal.invariant-loop-k

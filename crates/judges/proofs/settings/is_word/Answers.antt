@@ -2,10 +2,6 @@
 use mathlib.Core.Path.{ap, ◌∙◌}
 use lib.Dec.{eqb}
 use Rattle.state.specs.Lawful.{lawful, lawful_word}
-use Rattle.judges.proofs.settings.is_word.Reads as reads
-use Rattle.judges.proofs.settings.is_word.Lts as lts
-use Rattle.command.proofs.kinds.is_allowed.Reads as is_allowed_reads
-use Rattle.judges.proofs.tests.is_lawful.Reads as is_lawful_reads
 use Rattle.judges.proofs.settings.is_word.Goals as goal
 
 pub returns : goal.returns

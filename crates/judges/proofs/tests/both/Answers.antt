@@ -1,12 +1,6 @@
--- `judges::tests::both` meets its contract: the second test where the first holds. Assumes nothing.
-use mathlib.Core.Path.{sym}
-use Rattle.laws.proofs.Choice.{and_yes, and_no_left}
-use Rattle.judges.proofs.tests.both.Reads as reads
-use Rattle.judges.proofs.tests.both.Lts as lts
+-- `judges::tests::both` meets its contract. Assumes nothing.
+use Rattle.judges.proofs.Joined.{both_is}
 use Rattle.judges.proofs.tests.both.Goals as goal
 
-pub returns-then-a : goal.returns-then-a
-returns-then-a c = sym (and_yes _ c.if-a.true)
-
-pub returns-else-a : goal.returns-else-a
-returns-else-a c = sym (and_no_left _ c.if-a.false)
+pub returns : goal.returns
+returns c = both_is _ _

@@ -1,7 +1,5 @@
 -- `session::stream::begin_party` meets its contract. Assumes nothing.
 use Rattle.session.proofs.Taking.{party_begun}
-use Rattle.session.proofs.stream.begin_party.Reads as reads
-use Rattle.session.proofs.stream.begin_party.Lts as lts
 use Rattle.session.proofs.stream.begin_party.Goals as goal
 
 pub returns : goal.returns

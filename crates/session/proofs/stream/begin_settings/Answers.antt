@@ -1,7 +1,5 @@
 -- `session::stream::begin_settings` meets its contract. Assumes nothing.
 use Rattle.session.proofs.Taking.{settings_begun}
-use Rattle.session.proofs.stream.begin_settings.Reads as reads
-use Rattle.session.proofs.stream.begin_settings.Lts as lts
 use Rattle.session.proofs.stream.begin_settings.Goals as goal
 
 pub returns : goal.returns

@@ -1,5 +1,4 @@
 -- `session::stream::placed` meets its contract. Assumes nothing.
-use native.Mathlib.Omega.{arith}
 use Rattle.session.proofs.Stepping.{place_asked, count_fits, placed_asked, placed_open, complete_asked, placed_whole}
 use Rattle.session.proofs.stream.placed.Goals as goal
 

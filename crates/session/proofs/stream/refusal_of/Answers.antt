@@ -1,7 +1,6 @@
 -- `session::stream::refusal_of` meets its contract: each arm by its line. Assumes nothing.
 use mathlib.Core.Path.{◌∙◌}
 use Rattle.session.proofs.LastWords.{refusal_domain, refusal_stored, refusal_window, start_number}
-use Rattle.refusal.proofs.with_number.Reads as with_number_reads
 use Rattle.session.proofs.stream.refusal_of.Goals as goal
 
 pub with_number-requires : goal.with_number-requires

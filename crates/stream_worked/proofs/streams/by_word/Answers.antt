@@ -3,14 +3,7 @@ use Rattle.session.proofs.Handed.{first_given, word_given}
 use Rattle.stream_worked.proofs.streams.by_word.Goals as goal
 
 pub loop-i-init : goal.loop-i-init
-loop-i-init c = first_given c.begin-taken.ensures
-
-pub word-answer-requires : goal.word-answer-requires
-word-answer-requires c = c.loop-i.invariant
+loop-i-init c = first_given c.begin.ensures
 
 pub loop-i-preserved : goal.loop-i-preserved
-loop-i-preserved c =
-    word_given _ _ c.loop-i.invariant c.word-answer.ensures
-
-pub word-requires : goal.word-requires
-word-requires c = c.loop-i.invariant
+loop-i-preserved c = word_given _ _ c.loop-i.invariant c.word.ensures

@@ -8,12 +8,12 @@ slice_bounds-feed-end c =
     sym (length-take-le c.args.cut c.args.words.now c.if-cut-words.false)
 
 pub feed-a-requires : goal.feed-a-requires
-feed-a-requires c = first_given c.begin-taken.ensures
+feed-a-requires c = first_given c.begin.ensures
 
 pub feed-b-requires : goal.feed-b-requires
 feed-b-requires c =
-    piece_given _ (first_given c.begin-taken.ensures) c.feed-a.ensures.held
+    piece_given _ (first_given c.begin.ensures) c.feed-a.ensures.held
 
 pub word-requires : goal.word-requires
 word-requires c =
-    piece_given _ (piece_given _ (first_given c.begin-taken.ensures) c.feed-a.ensures.held) c.feed-b.ensures.held
+    piece_given _ (piece_given _ (first_given c.begin.ensures) c.feed-a.ensures.held) c.feed-b.ensures.held

@@ -1,8 +1,8 @@
--- `command_worked::last_answer` is safe and ends; what it hands on came from the entries. Assumes nothing.
+-- `command_worked::last_command` is safe and ends; what it hands on came from the entries. Assumes nothing.
 use lib.ListN.{length}
 use Prim.Native.Nat.{◌-◌}
 use Rattle.state.specs.Asked.{Given}
-use Rattle.command_worked.proofs.last_answer.Given as goal
+use Rattle.command_worked.proofs.last_command.Given as goal
 
 abbrev pub invariant-loop-i : goal.invariant-loop-i
 invariant-loop-i l = Given l.own l.tallies l.shared
