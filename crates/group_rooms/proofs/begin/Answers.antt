@@ -8,7 +8,7 @@ pub returns-in-Refused : goal.returns-in-Refused
 returns-in-Refused c =
     record {
       status =
-          c.from.ensures ∙ ap status_of
+          c.number.ensures ∙ ap status_of
           (ap told_begun (sym c.in-Refused.is) ∙ c.begin.ensures.told);
       left = c.begin.ensures.left;
     }

@@ -8,7 +8,7 @@ pub returns-in-Refused : goal.returns-in-Refused
 returns-in-Refused c =
     record {
       answer =
-          crosses_refuses _ _ _ _ c.from.ensures
+          crosses_refuses _ _ _ _ c.number.ensures
           (sym c.load.ensures.told ∙ ap told_loaded c.in-Refused.is);
       left_firsts = c.load.ensures.left_firsts;
       left_seconds = c.load.ensures.left_seconds;

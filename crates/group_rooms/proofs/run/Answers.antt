@@ -8,7 +8,7 @@ pub returns-in-Refused : goal.returns-in-Refused
 returns-in-Refused c =
     record {
       answer =
-          crosses_refuses _ _ _ _ c.from.ensures
+          crosses_refuses _ _ _ _ c.number.ensures
           (sym c.run.ensures.told ∙ ap told_ran c.in-Refused.is);
       left = c.run.ensures.left;
     }

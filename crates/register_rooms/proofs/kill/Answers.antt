@@ -9,7 +9,7 @@ pub returns-in-Refused : goal.returns-in-Refused
 returns-in-Refused c =
     record {
       answer =
-          crosses_refuses _ _ _ _ c.from.ensures
+          crosses_refuses _ _ _ _ c.number.ensures
           (sym c.kill.ensures.told ∙ ap told_killed c.in-Refused.is);
       left = c.kill.ensures.left;
     }
