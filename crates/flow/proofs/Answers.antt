@@ -2,7 +2,7 @@
 use mathlib.Core.Path.{◌≡◌, refl, sym, ap, ap₂, ◌∙◌, subst}
 use mathlib.Core.Bool.{Bool, true}
 use mathlib.Core.List.{List, [], ◌∷◌}
-use Prim.Native.Nat.{ℕ, ◌+◌, ◌-◌, ◌/◌, ◌%◌, ◌<◌, ◌≤◌}
+use Prim.Native.Nat.{ℕ, ◌+◌, ◌-◌, ◌/◌, ◌%◌, ◌<◌}
 use native.Mathlib.Omega.{arith}
 use lib.Dec.{eqb}
 use borrow.Author.Tests.{eqb-true}
@@ -15,7 +15,7 @@ use Rattle.refusal.specs.Told.{gives, refuses}
 use Rattle.refusal.specs.declared.Refusal.{Refusal}
 use Rattle.loops.specs.Loops.{Opened, shown_aL, kind_at, loops_told, Held}
 use Rattle.loops.proofs.Stack.{told_of}
-use Rattle.group.specs.Group.{Outcome, Steps, Fails, step_told}
+use Rattle.group.specs.Group.{Outcome, Steps, Fails}
 use Rattle.group.specs.Cells.{position_in}
 use Rattle.group.proofs.State.{SoundAfter}
 use Rattle.std.specs.Prelude.{Result, Ok, Err}

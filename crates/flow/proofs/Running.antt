@@ -8,13 +8,13 @@ use native.Mathlib.Nat.{zero-add, add-zero}
 use native.Mathlib.Omega.{arith}
 use lib.ListN.{length, get_or, drop, length-drop}
 use lib.Seq.{drop-cons}
-use borrow.Author.Tests.{le-leb, lt-leb, lt-ltb, le-ltb}
+use borrow.Author.Tests.{le-leb, lt-leb}
 use Rattle.laws.specs.Choice.{pick}
 use Rattle.laws.specs.Below.{count, least}
-use Rattle.laws.specs.Masks.{digit, on}
+use Rattle.laws.specs.Masks.{on}
 use Rattle.laws.proofs.Choice.{Tested, holds, fails, tested, pick_yes, pick_no, by_pick}
 use Rattle.laws.proofs.Below.{count_same, least_same}
-use Rattle.laws.proofs.Masks.{digit_lt, on_pack}
+use Rattle.laws.proofs.Masks.{on_pack}
 use Rattle.refusal.specs.Number.{number_of}
 use Rattle.refusal.specs.Told.{gives}
 use Rattle.refusal.specs.declared.Refusal.{Refusal}

@@ -65,9 +65,7 @@ fn step_at<const RUN: bool>(
             return steps::jump_slot::<RUN>(first, second, slots, cells, alu, predicate, booleans);
         }
         let word = loops::word_at(second / slot::INTEGER % slot::INTEGERS, integers);
-        return steps::loop_slot(
-            first, second, slots, cells, word, alu, predicate, booleans,
-        );
+        return steps::loop_slot(first, second, slots, cells, word, alu, predicate, booleans);
     }
     Err(Refusal::FlowField)
 }

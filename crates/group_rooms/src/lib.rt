@@ -85,7 +85,11 @@ pub fn run(
     match flow::run(firsts, seconds, slots, cells, masks, booleans, integers) {
         Err(why) => u32::from(why),
         Ok(ran) => {
-            *report = [ran.steps as u64, u64::from(ran.first), u64::from(ran.active)];
+            *report = [
+                ran.steps as u64,
+                u64::from(ran.first),
+                u64::from(ran.active),
+            ];
             0
         }
     }

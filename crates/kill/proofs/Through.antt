@@ -4,8 +4,8 @@ use mathlib.Core.Path.{◌≡◌, refl, sym, ap, ap₂, ◌∙◌, subst}
 use mathlib.Core.Logic.{◌⊎◌, inl, inr}
 use mathlib.Core.Bool.{Bool, true, false, true≢false}
 use mathlib.Core.List.{List, [], ◌∷◌}
-use Prim.Native.Nat.{ℕ, zero, suc, ◌+◌, ◌*◌, ◌%◌, ◌^◌, ◌<◌, ◌≤◌, zero-le, suc-le-suc}
-use native.Mathlib.Nat.{zero-div, le_of_suc-le-suc}
+use Prim.Native.Nat.{ℕ, zero, suc, ◌+◌, ◌*◌, ◌<◌, ◌≤◌, zero-le, suc-le-suc}
+use native.Mathlib.Nat.{le_of_suc-le-suc}
 use native.Mathlib.Omega.{arith}
 use lib.Dec.{eqb, leb, ltb}
 use lib.ListN.{length, get_or}
@@ -14,11 +14,11 @@ use borrow.Author.Tests.{ltb-true, ltb-false, leb-true, leb-false, eqb-false, lt
 use Rattle.laws.specs.Choice.{◌and◌, pick}
 use Rattle.laws.specs.Below.{sum, count}
 use Rattle.laws.specs.Masks.{◌or◌, digit, on, pack}
-use Rattle.laws.proofs.Choice.{Tested, holds, fails, tested, pick_yes, pick_no, by_pick}
+use Rattle.laws.proofs.Choice.{Tested, holds, fails, tested, pick_yes, by_pick}
 use Rattle.laws.proofs.Below.{count_same, count_none}
 use Rattle.laws.proofs.Masks.{pack_lt, on_pack, on_above}
-use Rattle.loops.specs.Loops.{Opened, Turn, Turns, NoRoom, NoWord, word_at, turn_of}
-use Rattle.group.specs.Proc.{Proc, Active, Idle, Absent, is_live, is_active, turned, within, branched}
+use Rattle.loops.specs.Loops.{Turn, Turns, NoRoom, NoWord, word_at, turn_of}
+use Rattle.group.specs.Proc.{Proc, Active, Idle, Absent, is_live, is_active, within}
 use Rattle.group.specs.Modes.{Mode, limit_of}
 use Rattle.group.specs.Group as group
 use Rattle.group.specs.Group.{Group, Program, Steps, Run, Makes, Breaks, Way, Goes, Stuck, turned_if, over_limit, way_of, arrived, settled, fresh}

@@ -79,7 +79,12 @@ fn take_out(mask: u32, registers: &[f32], cells: &mut [u32; group::CELLS]) -> u3
 // Kills the active processors of a group that have a channel under the write mask less than zero; `slots` of the program run, and the
 // registers are four channels for each processor of the group as it began. 16 where the program has ended, 13 for a write mask
 // over 15, 11 where the registers aren't the starting group's, in that order.
-pub fn kill(slots: u32, cells: &mut [u32; group::CELLS], mask: u32, registers: &[f32]) -> Result<u32, Refusal>
+pub fn kill(
+    slots: u32,
+    cells: &mut [u32; group::CELLS],
+    mask: u32,
+    registers: &[f32],
+) -> Result<u32, Refusal>
     requires { GroupGiven cells.old }
     ensures { KillDone cells.old cells.new result (kill_of slots registers.now mask (group_of cells.old)) }
 {

@@ -23,7 +23,7 @@ use Rattle.group.specs.Modes.{Mode, Full, Partial, limit_of}
 use Rattle.group.specs.Group.{Group, Outcome, Steps, Fails, Way, Goes, Stuck, op_of, b_else, jump_any, a_op, jump_func, pop_count, branch_op, boolean_number, jump_address}
 use Rattle.group.specs.Group.{permits, allowed_loop, fits_first, plain_second, turned_if, wish_of, over_limit, way_of, arrived, settled}
 use Rattle.group.specs.Group.{jump_step, on_turn, with_loops, loop_step, slot_step, store_slots, ended, group_step}
-use Rattle.group.specs.Cells.{cell_count, live_in, plane_in, position_in, mode_in, loop_in, live_mask, active_mask, plane, with_active, group_of, cells_with, last_in, cells_of, GroupGiven, step_leaves}
+use Rattle.group.specs.Cells.{cell_count, live_in, plane_in, position_in, mode_in, live_mask, active_mask, plane, with_active, group_of, cells_with, last_in, cells_of, GroupGiven, step_leaves}
 use Rattle.group.specs.Masks.{MasksOf, OwnMasksIn, with_masks, shown_as, some_at_limit_in, some_at_own_limit}
 use Rattle.stepper.specs.Answers.{refusal_of, step_answer, MoveDone, GoDone, own_limit, settled_in, limit_by, some_at_limit_by, decided_step, set_loops, step_in}
 use Rattle.stepper.proofs.Words.{low_field, and_last, allowed_parts, loop_fits_lem}

@@ -29,7 +29,14 @@ fn forbidden<const LOOP: bool>(op: u32, cells: &[u32; group::CELLS]) -> bool
 }
 
 // The branch operation on the cells. Without one the planes are neither read nor stored.
-fn branch<const LOOP: bool, const RUN: bool>(op: u32, count: u32, jump: bool, active: u32, wish: u32, cells: &mut [u32; group::CELLS])
+fn branch<const LOOP: bool, const RUN: bool>(
+    op: u32,
+    count: u32,
+    jump: bool,
+    active: u32,
+    wish: u32,
+    cells: &mut [u32; group::CELLS],
+)
     requires { (CellsNamed cells.old) × (count < 32) × (OwnMasksIn cells.old active) }
     ensures { cells.new ≡ with_masks cells.old (shown_as (λ i. branched op count jump (on i wish) (with_active cells.old active i))) }
 {
@@ -143,9 +150,7 @@ pub fn jump_slot<const RUN: bool>(
     ensures { MoveDone cells.old cells.new result (jump_step (own_limit cells.old) slots first second alu predicate booleans (group_of cells.old)) }
 {
     if slot::plain_second(second) {
-        return step_slot::<false, RUN>(
-            first, second, slots, cells, alu, predicate, booleans, None,
-        );
+        return step_slot::<false, RUN>(first, second, slots, cells, alu, predicate, booleans, None);
     }
     Err(Refusal::FlowField)
 }

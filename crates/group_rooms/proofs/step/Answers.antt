@@ -33,4 +33,3 @@ returns-in-Ok c =
           (λ j. gives ((digit_from c.in-Ok.made.jumped ∙ sym c.from-in-Ok.ensures) j ∷ c.in-Ok.made.next.0 ∷ [])));
       left = c.step.ensures.left;
     }
-

@@ -1,6 +1,5 @@
 -- `steps::settle` meets its contract: each return is the outcome as far as the tests on the way decide it. Assumes nothing.
 use native.Mathlib.Omega.{arith}
-use mathlib.Core.Path.{refl}
 use Rattle.group.specs.Group.{a_op, jump_address, way_of}
 use Rattle.group.specs.Cells.{position_in, group_of}
 use Rattle.std.proofs.lemmas.Result.{err_from_is_err_and}
