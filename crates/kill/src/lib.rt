@@ -28,6 +28,7 @@ fn channels(live: u32, killed: u32) -> usize
 }
 
 // Those of both masks.
+// Kept (design pass 4, no plainer): this and the next two say of which processors an operator on masks tells.
 fn both(a: u32, b: u32) -> u32
     ensures { result ≡ pack most_processors (λ i. on i a and on i b) }
 {

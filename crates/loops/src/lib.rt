@@ -197,6 +197,7 @@ fn close_loop(loops: OpenLoops) -> Result<Turned, Refusal>
     Err(Refusal::AtLimit)
 }
 
+// Kept (design pass 7, no plainer): the op is a code of the slot's word, asked here and nowhere else.
 // What the op of a slot makes of the open loops, an opening with its integer word.
 pub fn turn(op: u32, word: u32, loops: OpenLoops) -> Result<Turned, Refusal>
     requires { HeldBy loops }
@@ -236,6 +237,7 @@ pub fn shown(loops: OpenLoops) -> u32
 }
 
 // A loop's kind by its cell: 0 where there is none.
+// Kept (design pass 1, C interface): the open loops are told in numbers, 0 none, 1 LOOP, 3 REP.
 pub fn kind(cell: u32) -> u32
     ensures { result ≡ kind_at cell }
 {

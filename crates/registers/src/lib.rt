@@ -105,6 +105,7 @@ fn chosen(a: u32, b: u32, third: u32) -> u32
 }
 
 // The maximum of two registers of bit patterns, channel by channel.
+// Kept (design pass 2, no plainer): this and the next differ in their operands' number, and each is its four channels.
 pub fn maximum(a: &[u32; CHANNELS], b: &[u32; CHANNELS]) -> [u32; CHANNELS]
     ensures { result ≡ each_of2 maximum_of a.now b.now }
 {

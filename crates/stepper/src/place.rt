@@ -72,6 +72,7 @@ fn jump_to(address: SlotNumber, slots: u32, cells: &mut [u32; group::CELLS]) -> 
     Ok(())
 }
 
+// Kept (design pass 7, no plainer): A_OP is a code of the slot's word, asked here and nowhere else.
 // Goes on. On a jump A_OP 1 pops and 2 pushes; a stay goes on to the next slot, which is never past the end.
 pub fn go(
     op: u32,
