@@ -2,28 +2,25 @@
 use mathlib.Core.Path.{◌≡◌, refl, sym, ap, ap₂, ◌∙◌, subst}
 use mathlib.Core.Bool.{Bool, true}
 use mathlib.Core.List.{List, [], ◌∷◌}
-use Prim.Native.Nat.{ℕ, ◌+◌, ◌-◌, ◌/◌, ◌%◌, ◌<◌, ◌≤◌}
+use Prim.Native.Nat.{ℕ, ◌+◌, ◌-◌, ◌/◌, ◌%◌, ◌<◌}
 use native.Mathlib.Omega.{arith}
 use lib.Dec.{eqb}
-use borrow.Author.Tests.{eqb-true, lt-ltb, le-ltb}
+use borrow.Author.Tests.{eqb-true}
 use Rattle.laws.specs.Choice.{◌and◌, pick}
 use Rattle.laws.specs.Below.{every}
 use Rattle.laws.specs.Masks.{digit}
-use Rattle.laws.proofs.Choice.{pick_yes, pick_no}
 use Rattle.laws.proofs.Below.{every_at}
-use Rattle.laws.proofs.Masks.{digit_lt}
 use Rattle.refusal.specs.Number.{number_of}
 use Rattle.refusal.specs.Told.{gives, refuses}
 use Rattle.refusal.specs.declared.Refusal.{Refusal}
 use Rattle.loops.specs.Loops.{Opened, shown_aL, kind_at, loops_told, Held}
 use Rattle.loops.proofs.Stack.{told_of}
-use Rattle.group.specs.Group.{Outcome, Steps, Fails, step_told}
+use Rattle.group.specs.Group.{Outcome, Steps, Fails}
 use Rattle.group.specs.Cells.{position_in}
 use Rattle.group.proofs.State.{SoundAfter}
-use Rattle.stepper.specs.declared.Stepped.{Stepped}
-use Rattle.stepper.specs.declared.Stepped.TheVariants as stepped
-use Rattle.stepper.specs.Answers.{NumberDone, told_stepped, StepDone}
-use Rattle.flow.specs.Answers.{refusal_of, number_told}
+use Rattle.std.specs.Prelude.{Result, Ok, Err}
+use Rattle.stepper.specs.Answers.{refusal_of, MoveDone, StepDone}
+use Rattle.stepper.proofs.Going.{never}
 
 -- 13 to 16 are the numbers of the refusals that they stand for
 pub refusal_number : (n : ℕ) → 12 < n → n < 17 → number_of (refusal_of n) ≡ n
@@ -35,43 +32,32 @@ refusal_number n low high =
     again : n - 13 + 13 ≡ n
     again = omega arith
 
-module _ {l leaves : List ℕ} where
-  -- by the number, with the position that the cells then show
-  pub step_told_lem :
-      (limit : ℕ) {n : ℕ} {r : Stepped} (o : Outcome) → SoundAfter limit o → NumberDone l leaves n o →
-      told_stepped r ≡ number_told n (position_in leaves) → StepDone l leaves r o
-  unfolding number_told
-  step_told_lem limit {n} (Steps jump g) s d e =
-      let z : n ≡ digit jump = d.number in
-      let q : digit jump < 2 = digit_lt jump in
+-- what an answer holds
+abbrev jump_in : Bool → Result Bool Refusal → Bool
+jump_in d (Ok jump) = jump
+jump_in d (Err why) = d
+
+abbrev number_in : Result Bool Refusal → ℕ
+number_in (Ok jump) = 0
+number_in (Err why) = number_of why
+
+module _ {l leaves : List ℕ} {r : Result Bool Refusal} where
+  -- a step that is made, with the position that the cells then show
+  pub told_made :
+      (o : Outcome) → MoveDone l leaves r o → {jumped : Bool} → r ≡ Ok jumped →
+      StepDone l leaves (Ok (record { jumped = jumped; next = record { 0 = position_in leaves } })) o
+  told_made (Steps jump g) d {jumped} e =
       record {
-        told = e ∙ pick_no _ _ (le-ltb 1 n (omega arith)) ∙ ap₂ (λ (m at : ℕ). gives (m ∷ at ∷ [])) z (ap position_in d.left);
+        told = ap₂ (λ (j : Bool) (at : ℕ). gives (digit j ∷ at ∷ [])) (ap (jump_in true) (sym e ∙ d.answer)) (ap position_in d.left);
         left = d.left;
       }
-  step_told_lem limit {n} (Fails k) s d e =
-      let z : n ≡ k = d.number in
-      let q : 12 < k = s.0 in
-      record {
-        told = e ∙ pick_yes _ _ (lt-ltb 1 n (omega arith)) ∙ ap refuses (ap (λ (j : ℕ). number_of (refusal_of j)) z ∙ refusal_number k s.0 s.1);
-        left = d.left;
-      }
+  told_made (Fails n) d e = absurd (never e d.answer)
 
--- the number of a step as its answer tells it
-module _ (n position : ℕ) where
-  pub told_refused : {why : Refusal} → 1 < n → why ≡ refusal_of n → told_stepped (stepped.Refused why) ≡ number_told n position
-  unfolding number_told
-  told_refused h e = ap (λ (r : Refusal). refuses (number_of r)) e ∙ sym (pick_yes _ _ (lt-ltb 1 n h))
-
-  pub told_jumped : n ≤ 1 → n ≡ 1 → told_stepped (stepped.Jumped (record { 0 = position })) ≡ number_told n position
-  unfolding number_told
-  told_jumped h e = ap (λ (m : ℕ). gives (m ∷ position ∷ [])) (sym e) ∙ sym (pick_no _ _ (le-ltb 1 n h))
-
-  pub told_stayed : n ≤ 1 → (n ≡ 1 → ⊥) → told_stepped (stepped.Stayed (record { 0 = position })) ≡ number_told n position
-  unfolding number_told
-  told_stayed h e = ap (λ (m : ℕ). gives (m ∷ position ∷ [])) none ∙ sym (pick_no _ _ (le-ltb 1 n h))
-    where
-      none : 0 ≡ n
-      none = omega arith
+  -- and one that is refused
+  pub told_refused : (limit : ℕ) (o : Outcome) → SoundAfter limit o → MoveDone l leaves r o → {why : Refusal} → r ≡ Err why → StepDone l leaves (Err why) o
+  told_refused limit (Steps jump g) s d e = absurd (never d.answer e)
+  told_refused limit (Fails n) s d e =
+      record { told = ap refuses (ap number_in (sym e ∙ d.answer) ∙ refusal_number n s.0 s.1); left = d.left }
 
 -- the open loops, from their cells
 pub loops_told_lem :

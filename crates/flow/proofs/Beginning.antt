@@ -13,8 +13,7 @@ use Rattle.laws.proofs.Choice.{pick_yes, pick_no, and_intro, and_no_left, and_no
 use Rattle.laws.proofs.Below.{every_at}
 use Rattle.laws.proofs.Masks.{pack_same}
 use Rattle.refusal.specs.declared.Refusal.TheVariants.{FlowField}
-use Rattle.flow.specs.declared.Begun.{Begun}
-use Rattle.flow.specs.declared.Begun.TheVariants as begun
+use Rattle.std.specs.Prelude.{Ok, Err}
 use Rattle.group.specs.Proc.{Proc, Active, Absent, is_live, is_active, counter_bit}
 use Rattle.group.specs.Modes.{Mode, limit_of, mode_number, mode_of, is_mode}
 use Rattle.group.specs.Group.{fresh, is_group_size, may_begin, begin_told}
@@ -65,26 +64,26 @@ module _ (size : ℕ) where
       (none_set 0 j) (none_set 1 j) (none_set 2 j) (none_set 3 j) (none_set 4 j) 0 0 0 0 0 (last_cells mode 0 [])
 
   module _ (mode : ℕ) (l : List ℕ) where
-    refused_begin : may_begin size mode ≡ false → BeginDone l l (begun.Refused FlowField) size mode
+    refused_begin : may_begin size mode ≡ false → BeginDone l l (Err FlowField) size mode
     unfolding begin_told begin_leaves
     refused_begin e = record { told = sym (pick_no _ _ e); left = sym (pick_no _ _ e) }
 
-    pub begin_small : size < 1 → BeginDone l l (begun.Refused FlowField) size mode
+    pub begin_small : size < 1 → BeginDone l l (Err FlowField) size mode
     unfolding may_begin is_group_size
     begin_small h = refused_begin (and_no_left _ (and_no_left _ (lt-leb 1 size h)))
 
-    pub begin_large : 32 < size → BeginDone l l (begun.Refused FlowField) size mode
+    pub begin_large : 32 < size → BeginDone l l (Err FlowField) size mode
     unfolding may_begin is_group_size
     begin_large h = refused_begin (and_no_left _ (and_no_right _ (lt-leb size 32 h)))
 
-    pub begin_no_mode : 1 < mode → BeginDone l l (begun.Refused FlowField) size mode
+    pub begin_no_mode : 1 < mode → BeginDone l l (Err FlowField) size mode
     unfolding may_begin is_mode
     begin_no_mode h = refused_begin (and_no_right _ (lt-leb mode 1 h))
 
     pub begin_ready :
         1 ≤ size → size ≤ 32 → mode ≤ 1 →
         BeginDone l (cells_with (4294967295 / 2 ^ (32 - size)) (4294967295 / 2 ^ (32 - size)) 0 0 0 0 0 0 0 0 0 0 (mode ∷ 0 ∷ 0 ∷ 0 ∷ 0 ∷ 0 ∷ 0 ∷ 0 ∷ []))
-        begun.Ready size mode
+        (Ok tt) size mode
     unfolding begin_told begin_leaves may_begin is_group_size is_mode
     begin_ready h k e =
         let may : may_begin size mode ≡ true = and_intro (and_intro (le-leb 1 size h) (le-leb size 32 k)) (le-leb mode 1 e) in

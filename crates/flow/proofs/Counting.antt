@@ -1,12 +1,11 @@
 -- The processor's own counts of a mask: its ones are the number of active processors, its trailing zeros the first active one, 32
 -- where it is empty. Assumes nothing.
 use mathlib.Core.Path.{◌≡◌, refl, sym, ap, ◌∙◌}
-use mathlib.Core.Bool.{Bool, true, false}
-use Prim.Native.Nat.{ℕ, zero, suc, ◌/◌, ◌%◌, ◌<◌}
+use Prim.Native.Nat.{ℕ, zero, suc, ◌/◌, ◌%◌}
 use native.Mathlib.Omega.{arith}
 use lib.Count.{ones, count_trailing_zeros, under}
 use Rattle.laws.specs.Below.{least}
-use Rattle.laws.specs.Masks.{on, pack}
+use Rattle.laws.specs.Masks.{on}
 use Rattle.laws.proofs.Below.{least_same}
 use Rattle.laws.proofs.Masks.{on_pack, ones_count, least_odd, least_even}
 use Rattle.group.specs.Proc.{is_active, most_processors}

@@ -8,9 +8,10 @@ use borrow.Author.Tests.{le-leb}
 use Rattle.laws.specs.Masks.{on, pack}
 use Rattle.laws.proofs.Choice.{pick_yes, and_intro, by_pick}
 use Rattle.laws.proofs.Masks.{on_pack}
-use Rattle.flow.specs.declared.Begun.{Begun}
+use Rattle.std.specs.Prelude.{Result}
+use Rattle.refusal.specs.declared.Refusal.{Refusal}
 use Rattle.stepper.specs.declared.Stepped.{Stepped}
-use Rattle.flow.specs.declared.Ran.{Ran}
+use Rattle.flow.specs.declared.Report.{Report}
 use Rattle.group.specs.Proc.{Proc, Active, Idle, Absent, is_live, is_active, counter_bit, most_processors}
 use Rattle.group.specs.Modes.{mode_of, is_mode}
 use Rattle.group.specs.Group.{Program, Run, Makes, Breaks, is_group_size, may_begin, group_step, group_run, ended}
@@ -22,14 +23,14 @@ use Rattle.flow.proofs.Beginning.{begin_given}
 use Rattle.flow.proofs.Running.{SoundRun, steps_sound}
 
 pub begin_gives :
-    {l leaves : List ℕ} {r : Begun} (size mode : ℕ) → BeginDone l leaves r size mode → 1 ≤ size → size ≤ most_processors → mode ≤ 1 → GroupGiven leaves
+    {l leaves : List ℕ} {r : Result (Unit {0}) Refusal} (size mode : ℕ) → BeginDone l leaves r size mode → 1 ≤ size → size ≤ most_processors → mode ≤ 1 → GroupGiven leaves
 unfolding begin_leaves may_begin is_group_size is_mode
 begin_gives size mode d h k e =
     subst GroupGiven (sym (d.left ∙ pick_yes _ _ (and_intro (and_intro (le-leb 1 size h) (le-leb size 32 k)) (le-leb mode 1 e))))
     (begin_given size (mode_of mode) h k)
 
 pub step_gives :
-    {l leaves : List ℕ} {r : Stepped} (program : Program) (alu predicate booleans : ℕ) → GroupGiven l →
+    {l leaves : List ℕ} {r : Result Stepped Refusal} (program : Program) (alu predicate booleans : ℕ) → GroupGiven l →
     StepDone l leaves r (group_step (mode_in l) program alu predicate booleans (group_of l)) → GroupGiven leaves
 step_gives {l} program alu predicate booleans m d =
     subst GroupGiven (sym d.left)
@@ -41,7 +42,7 @@ run_given_left l (Makes n g) m s = given_of (mode_in l) g s
 run_given_left l (Breaks why) m s = m
 
 pub run_gives :
-    {l leaves : List ℕ} {r : Ran} (program : Program) (booleans : ℕ) (masks : List ℕ) → GroupGiven l →
+    {l leaves : List ℕ} {r : Result Report Refusal} (program : Program) (booleans : ℕ) (masks : List ℕ) → GroupGiven l →
     RunDone l leaves r (group_run (mode_in l) program booleans masks (group_of l)) → GroupGiven leaves
 unfolding group_run
 run_gives {l} program booleans masks m d =

@@ -11,8 +11,7 @@ use lib.Seq.{paste, paste-suc, take-length, length-paste}
 use borrow.Author.Tests.{eq-eqb, ne_eqb, le-leb, lt-leb}
 use Rattle.laws.proofs.Choice.{pick_yes, pick_no, and_intro, and_no_left, and_no_right}
 use Rattle.refusal.specs.declared.Refusal.TheVariants.{PastEnd}
-use Rattle.flow.specs.declared.Loaded.{Loaded}
-use Rattle.flow.specs.declared.Loaded.TheVariants as loaded
+use Rattle.std.specs.Prelude.{Ok, Err}
 use Rattle.flow.specs.Store.{first_words, second_words, is_program, store_of, plain_first, plain_second, load_told, firsts_left, seconds_left}
 use Rattle.flow.specs.Answers.{LoadDone}
 
@@ -111,20 +110,20 @@ module _ (words : List ℕ) (k : ℕ) (h : k < length words / 2) (low : length w
 
 -- the answers
 module _ (words firsts seconds : List ℕ) where
-  refused_words : is_program words ≡ false → LoadDone words firsts firsts seconds seconds (loaded.Refused PastEnd)
+  refused_words : is_program words ≡ false → LoadDone words firsts firsts seconds seconds (Err PastEnd)
   unfolding load_told firsts_left seconds_left
   refused_words e =
       record { told = sym (pick_no _ _ e); left_firsts = sym (pick_no _ _ e); left_seconds = sym (pick_no _ _ e) }
 
-  pub load_odd : (length words % 2 ≡ 0 → ⊥) → LoadDone words firsts firsts seconds seconds (loaded.Refused PastEnd)
+  pub load_odd : (length words % 2 ≡ 0 → ⊥) → LoadDone words firsts firsts seconds seconds (Err PastEnd)
   unfolding is_program
   load_odd n = refused_words (and_no_left _ (ne_eqb _ 0 n))
 
-  pub load_none : length words / 2 < 1 → LoadDone words firsts firsts seconds seconds (loaded.Refused PastEnd)
+  pub load_none : length words / 2 < 1 → LoadDone words firsts firsts seconds seconds (Err PastEnd)
   unfolding is_program
   load_none h = refused_words (and_no_right _ (and_no_left _ (lt-leb 1 (length words / 2) h)))
 
-  pub load_many : 512 < length words / 2 → LoadDone words firsts firsts seconds seconds (loaded.Refused PastEnd)
+  pub load_many : 512 < length words / 2 → LoadDone words firsts firsts seconds seconds (Err PastEnd)
   unfolding is_program
   load_many h = refused_words (and_no_right _ (and_no_right _ (lt-leb (length words / 2) 512 h)))
 
@@ -132,7 +131,7 @@ module _ (words firsts seconds : List ℕ) where
       {firsts' seconds' : List ℕ} (k : ℕ) → length words % 2 ≡ 0 → 1 ≤ length words / 2 → length words / 2 ≤ 512 →
       k ≡ length words / 2 → firsts' ≡ partly plain_first (first_words words) k →
       seconds' ≡ partly plain_second (second_words words) k →
-      LoadDone words firsts firsts' seconds seconds' (loaded.Slots (length words / 2))
+      LoadDone words firsts firsts' seconds seconds' (Ok (length words / 2))
   unfolding load_told firsts_left seconds_left is_program
   load_done k e1 e2 e3 ek ef es =
       let e : is_program words ≡ true = and_intro (eq-eqb _ 0 e1) (and_intro (le-leb 1 (length words / 2) e2) (le-leb (length words / 2) 512 e3)) in

@@ -2,20 +2,20 @@
 -- and aL after k turns is its start and k steps. Assumes nothing.
 use mathlib.Core.Path.{◌≡◌, refl, sym, ap, ◌∙◌, subst}
 use mathlib.Core.Bool.{Bool, true, false}
-use mathlib.Core.List.{List, [], ◌∷◌}
+use mathlib.Core.List.{List, ◌∷◌}
 use Prim.Native.Nat.{ℕ, zero, suc, ◌+◌, ◌-◌, ◌*◌, ◌<◌, ◌≤◌}
 use native.Mathlib.Nat.{suc-mul}
 use native.Mathlib.Omega.{arith}
 use lib.Dec.{eqb, leb, ltb}
 use lib.ListN.{length, get_or}
-use borrow.Author.Tests.{leb-true, leb-false, ltb-true, ltb-false, lt-ltb, le-ltb, le-leb, eqb-true, eqb-false}
+use borrow.Author.Tests.{leb-true, leb-false, ltb-true, ltb-false, lt-ltb, le-ltb, eqb-true, eqb-false}
 use Rattle.laws.specs.Choice.{pick}
 use Rattle.laws.proofs.Choice.{Tested, holds, fails, tested, pick_yes, pick_no, by_pick}
-use Rattle.loops.specs.Loops.{field, Opened, Looping, Repeating, Turn, Turns, NoRoom, NoWord, most_loops, entry_of, entering, opening, word_at, stays, moved_to, closing, turn_of, shown_aL}
+use Rattle.loops.specs.Loops.{field, Opened, Looping, Repeating, Turn, Turns, NoRoom, NoWord, most_loops, entry_of, entering, opening, stays, moved_to, closing, turn_of, shown_aL}
 use Rattle.group.specs.Proc.{Proc}
 use Rattle.group.specs.Modes.{Mode, limit_of}
-use Rattle.group.specs.Group.{Group, Outcome, Steps, Fails, Program, Way, Goes, Stuck, op_of, b_else, a_op, branch_op, jump_func, boolean_number, integer_number, jump_address}
-use Rattle.group.specs.Group.{permits, allowed_loop, turned_if, over_limit, way_of, arrived, settled, on_turn, with_loops, loop_step, slot_step, ended, group_step}
+use Rattle.group.specs.Group.{Group, Steps, Fails, Program, Way, Goes, Stuck, op_of, a_op, branch_op, jump_address}
+use Rattle.group.specs.Group.{permits, allowed_loop, over_limit, way_of, arrived, settled, on_turn, with_loops, loop_step, slot_step, ended, group_step}
 use Rattle.flow.specs.Looping.{op_at, integer_at, count_at, open_op, close_op, LedBy, on_jump, closings, Turning, Begun, Again, Inside, Opens, Closes, Comes, RanThrough}
 
 -- a refused step is led by any turn

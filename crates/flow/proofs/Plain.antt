@@ -1,19 +1,18 @@
 -- Request 4, "With op 0 every old answer stays": a run of slots whose ops are all 0 is document 01's run, whatever integer words are lent, and
 -- whatever loops are open, which it leaves as they are. Assumes nothing.
-use mathlib.Core.Path.{◌≡◌, refl, sym, ap, ◌∙◌}
+use mathlib.Core.Path.{◌≡◌, refl, ap, ◌∙◌}
 use mathlib.Core.Bool.{Bool, true, false}
 use mathlib.Core.List.{List, [], ◌∷◌}
-use Prim.Native.Nat.{ℕ, ◌<◌}
+use Prim.Native.Nat.{ℕ}
 use lib.Dec.{leb}
 use lib.ListN.{get_or}
 use borrow.Author.Tests.{leb-false}
 use Rattle.laws.specs.Choice.{pick}
-use Rattle.laws.proofs.Choice.{Tested, holds, fails, tested, pick_yes, pick_no}
 use Rattle.loops.specs.Loops.{Opened}
 use Rattle.group.specs.Proc.{Proc, counter_limit}
 use Rattle.group.specs.Modes.{Full}
 use Rattle.group.specs.Group.{Group, Outcome, Steps, Fails, Program, Way, Goes, Stuck, Run, Makes, Breaks, once_more, go_on}
-use Rattle.group.specs.Group.{a_op, branch_op, jump_address, over_limit, allowed, way_of, arrived, settled, jump_step, with_loops, slot_step, store_slots, ended, group_step, group_steps, group_run}
+use Rattle.group.specs.Group.{a_op, branch_op, jump_address, over_limit, allowed, way_of, arrived, settled, jump_step, with_loops, store_slots, ended, group_step, group_steps, group_run}
 use Rattle.group.proofs.State.{old_answers}
 use Rattle.flow.specs.Plain.{AllPlain, plain_step, plain_steps, plain_run, loops_after_step, loops_after}
 

@@ -1,35 +1,32 @@
 -- A run is its steps one after the other: the loop's turns as the code makes them, the report, and the law that a run's list
 -- may be cut in two at a step. Assumes nothing.
 use mathlib.Core.Path.{◌≡◌, refl, sym, ap, ap₂, ◌∙◌, subst}
-use mathlib.Core.Bool.{true}
+use mathlib.Core.Bool.{Bool, true}
 use mathlib.Core.List.{List, [], ◌∷◌, ◌++◌}
 use Prim.Native.Nat.{ℕ, suc, ◌+◌, ◌*◌, ◌/◌, ◌%◌, ◌<◌, ◌≤◌}
 use native.Mathlib.Nat.{zero-add, add-zero}
 use native.Mathlib.Omega.{arith}
 use lib.ListN.{length, get_or, drop, length-drop}
 use lib.Seq.{drop-cons}
-use borrow.Author.Tests.{le-leb, lt-leb, lt-ltb, le-ltb}
+use borrow.Author.Tests.{le-leb, lt-leb}
 use Rattle.laws.specs.Choice.{pick}
 use Rattle.laws.specs.Below.{count, least}
-use Rattle.laws.specs.Masks.{digit, on}
+use Rattle.laws.specs.Masks.{on}
 use Rattle.laws.proofs.Choice.{Tested, holds, fails, tested, pick_yes, pick_no, by_pick}
 use Rattle.laws.proofs.Below.{count_same, least_same}
-use Rattle.laws.proofs.Masks.{digit_lt, on_pack}
+use Rattle.laws.proofs.Masks.{on_pack}
 use Rattle.refusal.specs.Number.{number_of}
 use Rattle.refusal.specs.Told.{gives}
 use Rattle.refusal.specs.declared.Refusal.{Refusal}
 use Rattle.refusal.specs.declared.Refusal.TheVariants.{Ended}
-use Rattle.flow.specs.declared.Ran.{Ran}
-use Rattle.flow.specs.declared.Ran.TheVariants as ran
-use Rattle.flow.specs.declared.StepsMade.{StepsMade}
-use Rattle.flow.specs.declared.StepsMade.TheVariants as steps_made
+use Rattle.std.specs.Prelude.{Result, Ok, Err}
 use Rattle.group.specs.Proc.{is_active}
 use Rattle.group.specs.Modes.{Mode, limit_of}
 use Rattle.group.specs.Group.{Group, Outcome, Steps, Fails, Program, Run, Makes, Breaks, ended, group_step, once_more, go_on, group_steps}
 use Rattle.group.specs.Group.{group_run, run_told, first_active, number_active}
 use Rattle.group.specs.Cells.{active_in, position_in, mode_in, group_of, cells_of, Sound, GroupGiven, run_leaves}
-use Rattle.stepper.specs.Answers.{NumberDone, own_limit, program_of, step_in, run_in}
-use Rattle.flow.specs.Answers.{refusal_of, made_by, RunDone, steps_in, steps_told, StepsDone}
+use Rattle.stepper.specs.Answers.{MoveDone, own_limit, program_of, step_in, run_in}
+use Rattle.flow.specs.Answers.{RunDone, steps_in, steps_told, StepsDone}
 use Rattle.flow.proofs.Answers.{refusal_number}
 use Rattle.group.proofs.State.{SoundAfter, given_of, group_back, mode_kept, given_masks, step_sound}
 
@@ -37,51 +34,36 @@ use Rattle.group.proofs.State.{SoundAfter, given_of, group_back, mode_kept, give
 abbrev single : Outcome → Run
 single o = go_on o (λ g. Makes 0 g)
 
--- by the number that the step answered
-module _ {leaves : List ℕ} (l firsts seconds : List ℕ) (slots alu predicate booleans : ℕ) (integers : List ℕ) (m : GroupGiven l)
-    {n : ℕ} (d : NumberDone l leaves n (step_in firsts seconds slots l alu predicate booleans integers)) where
+-- a step's answer as a run's of one step
+abbrev pub made_step : Result Bool Refusal → Result ℕ Refusal
+made_step (Ok jump) = Ok 1
+made_step (Err why) = Err why
+
+module _ (l firsts seconds : List ℕ) (slots alu predicate booleans : ℕ) (integers : List ℕ) (m : GroupGiven l) where
   abbrev here : Outcome
   here = step_in firsts seconds slots l alu predicate booleans integers
 
   pub sound_here : SoundAfter (own_limit l) here
   sound_here = step_sound (mode_in l) (program_of firsts seconds slots integers) alu predicate booleans (group_of l) m.sound
 
-  pub one_made : {r : StepsMade} → r ≡ made_by n → StepsDone l leaves r (single here)
-  unfolding made_by
-  one_made {r} e = subst (λ (x : StepsMade). StepsDone l leaves x (single here)) (sym e) (by here sound_here d)
+  pub one_made : {leaves : List ℕ} {r : Result Bool Refusal} → MoveDone l leaves r here → StepsDone l leaves (made_step r) (single here)
+  one_made {leaves} {r} d = by here sound_here d
     where
-      by : (o : Outcome) → SoundAfter (own_limit l) o → NumberDone l leaves n o → StepsDone l leaves (made_by n) (single o)
+      by : (o : Outcome) → SoundAfter (own_limit l) o → MoveDone l leaves r o → StepsDone l leaves (made_step r) (single o)
       by (Steps jump g) s k =
-          let z : n ≡ digit jump = k.number in
-          let q : digit jump < 2 = digit_lt jump in
-          subst (λ (x : StepsMade). StepsDone l leaves x (Makes 1 g)) (sym (pick_no _ _ (le-ltb 1 n (omega arith))))
+          subst (λ (x : Result Bool Refusal). StepsDone l leaves (made_step x) (Makes 1 g)) (sym k.answer)
           (record {
             told = ap (Makes 1) (ap group_of k.left ∙ group_back (mode_in l) g s);
             given = subst GroupGiven (sym k.left) (given_of (mode_in l) g s);
             mode = ap mode_in k.left ∙ mode_kept (mode_in l) g;
           })
-      by (Fails why) s k =
-          let z : n ≡ why = k.number in
-          let q : 12 < why = s.0 in
-          subst (λ (x : StepsMade). StepsDone l leaves x (Breaks why)) (sym (pick_yes _ _ (lt-ltb 1 n (omega arith))))
+      by (Fails n) s k =
+          subst (λ (x : Result Bool Refusal). StepsDone l leaves (made_step x) (Breaks n)) (sym k.answer)
           (record {
-            told = ap Breaks (ap (λ (j : ℕ). number_of (refusal_of j)) z ∙ refusal_number why s.0 s.1);
+            told = ap Breaks (refusal_number n s.0 s.1);
             given = subst GroupGiven (sym k.left) m;
             mode = ap mode_in k.left;
           })
-
--- a step refused before its slot is looked at
-pub one_refused :
-    {l : List ℕ} {why : Refusal} {o : Outcome} → GroupGiven l → NumberDone l l (number_of why) o → 1 < number_of why →
-    StepsDone l l (steps_made.Refused why) (single o)
-one_refused {l} {why} {o} m d h = by o d
-  where
-    by : (o : Outcome) → NumberDone l l (number_of why) o → StepsDone l l (steps_made.Refused why) (single o)
-    by (Steps jump g) k =
-        let z : number_of why ≡ digit jump = k.number in
-        let q : digit jump < 2 = digit_lt jump in
-        absurd (omega arith)
-    by (Fails j) k = record { told = ap Breaks k.number; given = m; mode = refl }
 
 -- a run after so many steps
 abbrev pub plus : ℕ → Run → Run
@@ -148,7 +130,7 @@ module _ (firsts seconds : List ℕ) (slots booleans : ℕ) (masks integers l₀
     stands : group_steps (mode_in l₀) program booleans (drop (made * 2) masks) (group_of l) ≡ Makes 0 (group_of l) → Makes made (group_of l) ≡ whole
     stands e = sym (inv ∙ ap (plus made) e ∙ ap (λ (n : ℕ). Makes n (group_of l)) (add-zero made))
 
-    pub turns_ended : slots ≤ position_in l → GroupGiven l → StepsDone l₀ l (steps_made.Number made) whole
+    pub turns_ended : slots ≤ position_in l → GroupGiven l → StepsDone l₀ l (Ok made) whole
     unfolding ended
     turns_ended h m =
         record {
@@ -157,11 +139,11 @@ module _ (firsts seconds : List ℕ) (slots booleans : ℕ) (masks integers l₀
           mode = same;
         }
 
-    pub turns_out : length masks / 2 ≤ made → GroupGiven l → StepsDone l₀ l (steps_made.Number made) whole
-    turns_out h m =
+    pub turns_out : {n : ℕ} → n ≡ made → length masks / 2 ≤ made → GroupGiven l → StepsDone l₀ l (Ok n) whole
+    turns_out e h m =
         record {
           told =
-              stands
+              ap (λ (n : ℕ). Makes n (group_of l)) e ∙ stands
               (steps_short (mode_in l₀) program booleans (drop (made * 2) masks) (group_of l)
               (omega (arith, length-drop (made * 2) masks)));
           given = m;
@@ -193,7 +175,7 @@ module _ (firsts seconds : List ℕ) (slots booleans : ℕ) (masks integers l₀
       turn =
           ap (λ (x : List ℕ). group_steps (mode_in l₀) program booleans x (group_of l)) two_left ∙ pick_no _ _ (lt-leb slots (position_in l) goes)
 
-      module _ {l' : List ℕ} {r : StepsMade}
+      module _ {l' : List ℕ} {r : Result ℕ Refusal}
           (d :
           StepsDone l l' r
           (single (group_step (mode_in l) program (get_or masks (made * 2) 0) (get_or masks (made * 2 + 1) 0) booleans (group_of l)))) where
@@ -205,23 +187,23 @@ module _ (firsts seconds : List ℕ) (slots booleans : ℕ) (masks integers l₀
         pub turns_mode : mode_in l' ≡ mode_in l₀
         turns_mode = d.mode ∙ same
 
-        pub turns_refused : {why : Refusal} → r ≡ steps_made.Refused why → StepsDone l₀ l' (steps_made.Refused why) whole
+        pub turns_refused : {why : Refusal} → r ≡ Err why → StepsDone l₀ l' (Err why) whole
         turns_refused {why} e =
             record {
               told =
                   sym
                   (inv ∙ ap (plus made)
-                  (turn ∙ breaks_off first (number_of why) _ (sym (ap (λ (x : StepsMade). steps_told x l') e) ∙ made_first)));
+                  (turn ∙ breaks_off first (number_of why) _ (sym (ap (λ (x : Result ℕ Refusal). steps_told x l') e) ∙ made_first)));
               given = d.given;
               mode = turns_mode;
             }
 
         pub turns_again :
-            {n : ℕ} → r ≡ steps_made.Number n →
+            {n : ℕ} → r ≡ Ok n →
             whole ≡ plus (made + 1) (group_steps (mode_in l₀) program booleans (drop ((made + 1) * 2) masks) (group_of l'))
         turns_again {n} e =
             inv ∙
-            ap (plus made) (turn ∙ goes_on first n (group_of l') _ (sym (ap (λ (x : StepsMade). steps_told x l') e) ∙ made_first)) ∙
+            ap (plus made) (turn ∙ goes_on first n (group_of l') _ (sym (ap (λ (x : Result ℕ Refusal). steps_told x l') e) ∙ made_first)) ∙
             plus_once made (group_steps (mode_in l₀) program booleans (drop ((made + 1) * 2) masks) (group_of l'))
 
 -- the report: the masks' count and least bit are those of the processors
@@ -242,32 +224,32 @@ module _ (l firsts seconds : List ℕ) (slots booleans : ℕ) (masks integers : 
   abbrev whole_run : Run
   whole_run = run_in firsts seconds slots l masks booleans integers
 
-  pub run_ended : slots ≤ position_in l → RunDone l l (ran.Refused Ended) whole_run
+  pub run_ended : slots ≤ position_in l → RunDone l l (Err Ended) whole_run
   unfolding group_run ended
   run_ended h =
       let e : whole_run ≡ Breaks 16 = pick_yes _ _ (le-leb slots (position_in l) h) in
       record { told = sym (ap run_told e); left = sym (ap (run_leaves l) e) }
 
-  module _ (goes : position_in l < slots) {l' : List ℕ} {r : StepsMade}
+  module _ (goes : position_in l < slots) {l' : List ℕ} {r : Result ℕ Refusal}
       (d : StepsDone l l' r (steps_in firsts seconds slots l masks booleans integers)) where
     is_run : steps_told r l' ≡ whole_run
     unfolding group_run ended
     is_run = d.told ∙ sym (pick_no _ _ (lt-leb slots (position_in l) goes))
 
     pub run_made :
-        {n first active : ℕ} → r ≡ steps_made.Number n → first ≡ least 32 (λ i. on i (active_in l')) →
-        active ≡ count 32 (λ i. on i (active_in l')) → RunDone l l' (ran.Report n first active) whole_run
+        {n first active : ℕ} → r ≡ Ok n → first ≡ least 32 (λ i. on i (active_in l')) →
+        active ≡ count 32 (λ i. on i (active_in l')) → RunDone l l' (Ok (record { steps = n; first = first; active = active })) whole_run
     run_made {n} {first} {active} e ef ea =
-        let o : Makes n (group_of l') ≡ whole_run = sym (ap (λ (x : StepsMade). steps_told x l') e) ∙ is_run in
+        let o : Makes n (group_of l') ≡ whole_run = sym (ap (λ (x : Result ℕ Refusal). steps_told x l') e) ∙ is_run in
         record {
           told =
               ap₂ (λ (f a : ℕ). gives (n ∷ f ∷ a ∷ [])) (ef ∙ first_is l' d.given) (ea ∙ number_is l' d.given) ∙ ap run_told o;
           left = d.given.whole ∙ ap (λ (m : Mode). cells_of m (group_of l')) d.mode ∙ ap (run_leaves l) o;
         }
 
-    pub run_refused : {why : Refusal} → r ≡ steps_made.Refused why → RunDone l l (ran.Refused why) whole_run
+    pub run_refused : {why : Refusal} → r ≡ Err why → RunDone l l (Err why) whole_run
     run_refused {why} e =
-        let o : Breaks (number_of why) ≡ whole_run = sym (ap (λ (x : StepsMade). steps_told x l') e) ∙ is_run in
+        let o : Breaks (number_of why) ≡ whole_run = sym (ap (λ (x : Result ℕ Refusal). steps_told x l') e) ∙ is_run in
         record { told = ap run_told o; left = ap (run_leaves l) o }
 
 -- a run goes on where another one left off

@@ -1,6 +1,6 @@
 -- Document 01's worked steps C9 to C12, by the definition of a step. crates/demands/specs/Cases.antt has what the document says of
 -- them, with C1 to C8. Assumes nothing.
-use Rattle.std.specs.Prelude.{List, [], ◌∷◌, ℕ, replicate}
+use Rattle.std.specs.Prelude.{[], ◌∷◌, ℕ, replicate}
 use Rattle.laws.specs.Masks.{digit, pack}
 use Rattle.refusal.specs.Told.{Told, gives, refuses}
 use Rattle.group.specs.Proc.{is_active, most_processors}

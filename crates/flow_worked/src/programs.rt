@@ -1,7 +1,6 @@
 // Groups of every size that decides, programs of every length that decides, and runs.
 ghost use Rattle.std.specs.Prelude.{◌≤◌};
 
-use flow::{Begun, Loaded, Ran};
 use std::io;
 use worked::tally::Tally;
 
@@ -9,8 +8,8 @@ use worked::tally::Tally;
 fn mask_of(size: u32, mode: u32) -> u32 {
     let mut cells = [0u32; group::CELLS];
     match flow::begin(size, mode, &mut cells) {
-        Begun::Ready => cells[group::ACTIVE],
-        Begun::Refused(_) => 0,
+        Ok(()) => cells[group::ACTIVE],
+        Err(_) => 0,
     }
 }
 
@@ -37,10 +36,7 @@ fn modes(rt: &impl Print) -> io::Result<()> {
 fn slots_of(words: &[u32]) -> u32 {
     let mut firsts = [0u32; group::SLOTS];
     let mut seconds = [0u32; group::SLOTS];
-    match flow::load(words, &mut firsts, &mut seconds) {
-        Loaded::Slots(n) => n,
-        Loaded::Refused(_) => 1000,
-    }
+    flow::load(words, &mut firsts, &mut seconds).unwrap_or(1000)
 }
 
 fn lengths(rt: &impl Print) -> io::Result<()> {
@@ -67,10 +63,7 @@ fn runs(
 ) -> bool {
     let mut firsts = [0u32; group::SLOTS];
     let mut seconds = [0u32; group::SLOTS];
-    let slots = match flow::load(words, &mut firsts, &mut seconds) {
-        Loaded::Slots(n) => n,
-        Loaded::Refused(_) => 0,
-    };
+    let slots = flow::load(words, &mut firsts, &mut seconds).unwrap_or(0);
     let mut cells = [0u32; group::CELLS];
     crate::stepping::fresh(4, &mut cells);
     let ran = flow::run(&firsts, &seconds, slots, &mut cells, masks, 0, &[3]);
@@ -78,12 +71,10 @@ fn runs(
         return false;
     }
     match ran {
-        Ran::Report {
-            steps: n,
-            first: f,
-            active: a,
-        } => n == steps && (f == first && a == active),
-        Ran::Refused(why) => u32::from(why) as usize == steps,
+        Ok(report) => {
+            report.steps == steps && (report.first == first && report.active == active)
+        }
+        Err(why) => u32::from(why) as usize == steps,
     }
 }
 
@@ -148,18 +139,14 @@ fn again() -> u32 {
     let mut firsts = [0u32; group::SLOTS];
     let mut seconds = [0u32; group::SLOTS];
     let words = [flow::PLAIN_FIRST, flow::PLAIN_SECOND];
-    flow::load(&words, &mut firsts, &mut seconds);
+    let _ = flow::load(&words, &mut firsts, &mut seconds);
     let mut cells = [0u32; group::CELLS];
     crate::stepping::fresh(4, &mut cells);
     let masks = [0, 0];
-    flow::run(&firsts, &seconds, 1, &mut cells, &masks, 0, &[3]);
+    let _ = flow::run(&firsts, &seconds, 1, &mut cells, &masks, 0, &[3]);
     match flow::run(&firsts, &seconds, 1, &mut cells, &masks[..0], 0, &[3]) {
-        Ran::Report {
-            steps: _,
-            first: _,
-            active: _,
-        } => 0,
-        Ran::Refused(why) => u32::from(why),
+        Ok(_) => 0,
+        Err(why) => u32::from(why),
     }
 }
 

@@ -2,6 +2,7 @@
 ghost use Rattle.std.specs.Prelude.{◌≤◌};
 ghost use Rattle.group.specs.Cells.{GroupGiven};
 
+use refusal::Refusal;
 use std::io;
 use stepper::Stepped;
 use worked::tally::Tally;
@@ -11,11 +12,11 @@ pub const JUMPED: u32 = 101;
 
 const STAYED: u32 = 100;
 
-pub fn told(answer: Stepped) -> u32 {
+pub fn told(answer: Result<Stepped, Refusal>) -> u32 {
     match answer {
-        Stepped::Jumped(_) => JUMPED,
-        Stepped::Stayed(_) => STAYED,
-        Stepped::Refused(why) => u32::from(why),
+        Ok(made) if made.jumped => JUMPED,
+        Ok(_) => STAYED,
+        Err(why) => u32::from(why),
     }
 }
 
@@ -24,7 +25,7 @@ fn fresh_in(size: u32, mode: u32, cells: &mut [u32; group::CELLS])
     requires { (1 ≤ size) × (size ≤ 32) × (mode ≤ 1) }
     ensures { GroupGiven cells.new }
 {
-    flow::begin(size, mode, cells);
+    let _ = flow::begin(size, mode, cells);
 }
 
 // The same in full mode.
@@ -144,16 +145,14 @@ fn nested(mode: u32) -> u32
     let mut cells = [0u32; group::CELLS];
     fresh_in(4, mode, &mut cells);
     one(0x02000F00, 0, &mut cells, 3, 0, 0);
-    let mut deeper: u32 = 0;
-    while deeper < 100 {
+    for deeper in 0u32..100 {
         // The program's four slots are run through over and over, so the position is set back by a jump to slot 0.
         let answer = one(0x0A00FF00, 0, &mut cells, 0, 0, 0);
         if answer == 14 {
             return deeper;
         }
-        deeper += 1;
     }
-    deeper
+    100
 }
 
 // What partial mode forbids: an opening without its integer word and a close with nothing open, which full mode gives 13 and 14 for; a push

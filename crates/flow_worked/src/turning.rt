@@ -1,7 +1,6 @@
 // Loops: how often a body runs, what closes what, and the aL shown.
 ghost use Rattle.group.specs.Cells.{GroupGiven};
 
-use flow::{Loaded, Ran};
 use std::io;
 use worked::tally::Tally;
 
@@ -30,20 +29,13 @@ fn steps_of(open: u32, close: u32, integer: u32) -> usize {
     ];
     let mut firsts = [0u32; group::SLOTS];
     let mut seconds = [0u32; group::SLOTS];
-    let slots = match flow::load(&words, &mut firsts, &mut seconds) {
-        Loaded::Slots(n) => n,
-        Loaded::Refused(_) => 0,
-    };
+    let slots = flow::load(&words, &mut firsts, &mut seconds).unwrap_or(0);
     let mut cells = [0u32; group::CELLS];
     crate::stepping::fresh(4, &mut cells);
     let masks = [0u32; 64];
     match flow::run(&firsts, &seconds, slots, &mut cells, &masks, 0, &[integer]) {
-        Ran::Report {
-            steps: n,
-            first: _,
-            active: _,
-        } => n,
-        Ran::Refused(why) => 1000 + u32::from(why) as usize,
+        Ok(report) => report.steps,
+        Err(why) => 1000 + u32::from(why) as usize,
     }
 }
 

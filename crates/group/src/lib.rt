@@ -55,6 +55,7 @@ pub const LOOP_2: usize = 16;
 pub const LOOP_3: usize = 17;
 
 // The modes of request 7.
+// Kept (design pass 1, C interface): a mode is the number that begin takes and that a group's cells keep; the operations below are codes of a slot's word.
 pub const FULL: u32 = 0;
 
 pub const PARTIAL: u32 = 1;

@@ -102,6 +102,7 @@ pub fn over_limit(op: u32, cells: &[u32; crate::CELLS]) -> bool
 }
 
 // Whether some processor's counter is at the limit of partial mode, 5 or above.
+// Kept (design pass 2, no plainer): this and the next are other tests of bits, in another order, than of full mode's limit, not another constant.
 pub fn at_partial(p0: u32, p1: u32, p2: u32, p3: u32, p4: u32) -> bool
     ensures { result ≡ some_at_partial p0 p1 p2 p3 p4 }
 {

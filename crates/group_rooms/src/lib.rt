@@ -8,9 +8,6 @@ ghost use Rattle.stepper.specs.Answers.{step_in, run_in};
 ghost use Rattle.group.specs.Cells.{group_of, GroupGiven};
 ghost use Rattle.group_rooms.specs.Rooms.{BeginCrosses, LoadCrosses, RunCrosses, StepCrosses};
 
-use flow::{Begun, Loaded, Ran};
-use stepper::Stepped;
-
 // Lengths of rooms: a step's way, 1 for a jump or 0 for a stay, and the next position; a run's steps, first active processor and
 // how many are active.
 pub const STEP_NUMBERS: usize = 2;
@@ -27,8 +24,8 @@ pub fn load(
     ensures { LoadCrosses words.now result firsts.old firsts.new seconds.old seconds.new slots.old slots.new }
 {
     match flow::load(words, firsts, seconds) {
-        Loaded::Refused(why) => u32::from(why),
-        Loaded::Slots(n) => {
+        Err(why) => u32::from(why),
+        Ok(n) => {
             *slots = [n];
             0
         }
@@ -40,8 +37,8 @@ pub fn begin(size: u32, mode: u32, cells: &mut [u32; group::CELLS]) -> u32
     ensures { BeginCrosses size mode result cells.old cells.new }
 {
     match flow::begin(size, mode, cells) {
-        Begun::Refused(why) => u32::from(why),
-        Begun::Ready => 0,
+        Err(why) => u32::from(why),
+        Ok(()) => 0,
     }
 }
 
@@ -63,13 +60,9 @@ pub fn step(
     match flow::step(
         firsts, seconds, slots, cells, alu, predicate, booleans, integers,
     ) {
-        Stepped::Refused(why) => u32::from(why),
-        Stepped::Jumped(at) => {
-            *taken = [1, at.0];
-            0
-        }
-        Stepped::Stayed(at) => {
-            *taken = [0, at.0];
+        Err(why) => u32::from(why),
+        Ok(made) => {
+            *taken = [u32::from(made.jumped), made.next.0];
             0
         }
     }
@@ -90,13 +83,13 @@ pub fn run(
     ensures { RunCrosses (run_in firsts.now seconds.now slots cells.old masks.now booleans integers.now) result cells.old cells.new report.old report.new }
 {
     match flow::run(firsts, seconds, slots, cells, masks, booleans, integers) {
-        Ran::Refused(why) => u32::from(why),
-        Ran::Report {
-            steps,
-            first,
-            active,
-        } => {
-            *report = [steps as u64, first as u64, active as u64];
+        Err(why) => u32::from(why),
+        Ok(ran) => {
+            *report = [
+                ran.steps as u64,
+                u64::from(ran.first),
+                u64::from(ran.active),
+            ];
             0
         }
     }

@@ -1,13 +1,13 @@
 -- Cells that pass all tests are a group's, and a group's cells pass them. Assumes nothing.
-use mathlib.Core.Path.{◌≡◌, refl, sym, ap, ap₂, ◌∙◌, subst}
+use mathlib.Core.Path.{◌≡◌, refl, sym, ap, ◌∙◌}
 use mathlib.Core.Bool.{Bool, true, false, not, true≢false}
 use mathlib.Core.List.{List, [], ◌∷◌}
-use Prim.Native.Nat.{ℕ, zero, suc, ◌+◌, ◌<◌, ◌≤◌, zero-le}
+use Prim.Native.Nat.{ℕ, zero, suc, ◌<◌, ◌≤◌}
 use native.Mathlib.Omega.{arith}
 use lib.Dec.{eqb, leb, ltb}
 use lib.ListN.{length, get_or}
 use borrow.Author.Tests.{leb-true, ltb-true, ltb-false, eqb-true, eqb-false, le-leb, eq-eqb}
-use Rattle.laws.specs.Choice.{◌and◌, pick}
+use Rattle.laws.specs.Choice.{◌and◌}
 use Rattle.laws.specs.Below.{some}
 use Rattle.laws.specs.Masks.{◌or◌, on, pack}
 use Rattle.laws.proofs.Choice.{Tested, holds, fails, tested, pick_yes, pick_no, and_intro, and_left, and_right, and_no_left}
@@ -15,10 +15,10 @@ use Rattle.laws.proofs.Below.{some_same, none_at}
 use Rattle.laws.proofs.Masks.{pack_on, pack_same, on_pack, on_above}
 use Rattle.loops.specs.Loops.{HeldIn}
 use Rattle.group.specs.Proc.{Proc, Absent, is_live, is_active, counter_bit, within}
-use Rattle.group.specs.Modes.{Mode, Full, Partial, limit_of, mode_number, mode_of}
-use Rattle.group.specs.Cells.{live_in, active_in, plane_in, position_in, return_in, mode_in, loop_in, killed_in, counter_of, proc_of, proc_at, returns_in, group_of, cells_of}
-use Rattle.group.specs.Cells.{live_mask, active_mask, plane, at_start, StartingGroup, Sound, GroupGiven}
-use Rattle.group.proofs.State.{mode_partial, mode_full, given_masks, given_loops}
+use Rattle.group.specs.Modes.{Mode, Full, Partial, limit_of, mode_number}
+use Rattle.group.specs.Cells.{live_in, active_in, plane_in, position_in, return_in, mode_in, loop_in, killed_in, counter_of, proc_of, proc_at, group_of, cells_of}
+use Rattle.group.specs.Cells.{at_start, StartingGroup, GroupGiven}
+use Rattle.group.proofs.State.{mode_partial, mode_full, given_loops}
 use Rattle.judges_group.specs.Judged.{strays, in_aRow, too_high, counters_fit, returns_fit, loops_fit, is_group, zero_cells, Words, JudgesGroup}
 use Rattle.judges_group.proofs.Bits.{OwnBits, own_bits, live_bit, own_not_stray, full_counter, partial_counter, shown_within, low_not_high}
 use Rattle.judges_group.proofs.Stacks.{FourReturns, returns_judged, returns_fit_lem, loops_judged, loops_fit_lem}

@@ -1,7 +1,7 @@
 -- The tests on words of masks, place by place; and tests joined. Assumes nothing.
 use mathlib.Core.Path.{◌≡◌, refl, sym, ap, ap₂, ◌∙◌}
-use mathlib.Core.Bool.{Bool, not}
-use Prim.Native.Nat.{ℕ, suc, ◌-◌, ◌/◌, ◌%◌, ◌^◌, ◌<◌}
+use mathlib.Core.Bool.{Bool, true, false, not, ◌&&◌}
+use Prim.Native.Nat.{ℕ, ◌-◌, ◌/◌, ◌%◌, ◌^◌, ◌<◌}
 use native.Mathlib.Omega.{arith}
 use lib.Dec.{eqb}
 use lib.Bits.{bit_and, bit_or}
@@ -58,6 +58,18 @@ row_word all h e =
   where
     half : (n : ℕ) → n < 2 ^ 32 → n / 2 < 2 ^ 32
     half n h = omega arith
+
+-- the code's `&` on tests
+pub both_tests : (a b : Bool) → (a && b) ≡ (a and b)
+unfolding ◌and◌
+both_tests true b = refl
+both_tests false b = refl
+
+-- a test alone
+pub one_test : (a : Bool) → a ≡ (a and true)
+unfolding ◌and◌
+one_test true = refl
+one_test false = refl
 
 -- tests joined
 pub joined : {r a b a' b' : Bool} → r ≡ (a and b) → a ≡ a' → b ≡ b' → r ≡ (a' and b')

@@ -25,13 +25,6 @@ const SPARE_1: usize = 19;
 // The highest position, and the highest return.
 const LAST_SLOT: u32 = 512;
 
-// Two tests, by a call each: a chain of them is one equation, where a chain of `&&` is a join for each of its ways.
-fn both(a: bool, b: bool) -> bool
-    ensures { result ≡ (a and b) }
-{
-    if a { b } else { false }
-}
-
 // Whether the masks go together: who is active is in the group, nobody of the killed is, and who has a bit of a counter is idle.
 fn masks_fit(
     live: u32,
@@ -61,7 +54,7 @@ fn starting(live: u32, killed: u32) -> u32
 fn in_a_row(all: u32) -> bool
     ensures { result ≡ in_aRow all }
 {
-    both(all % 2 == 1, all / 2 & !all == 0)
+    (all % 2 == 1) & (all / 2 & !all == 0)
 }
 
 // Whether no counter is above partial mode's limit of 5: above it are those with bit 3 or 4, or with bits 1 and 2.
@@ -88,16 +81,16 @@ fn stacked(cell: u32, good: bool, none: bool, rest: bool) -> bool
     if cell == 0 {
         return none;
     }
-    both(good, rest)
+    good & rest
 }
 
 // Four cells of a stack, and for each whether it is good where it isn't 0.
 fn stack(c0: u32, c1: u32, c2: u32, c3: u32, g0: bool, g1: bool, g2: bool, g3: bool) -> bool
     ensures { result ≡ stack_of c0 c1 c2 c3 g0 g1 g2 g3 }
 {
-    let no_third = both(c3 == 0, true);
-    let no_second = both(c2 == 0, no_third);
-    let no_first = both(c1 == 0, no_second);
+    let no_third = c3 == 0;
+    let no_second = (c2 == 0) & no_third;
+    let no_first = (c1 == 0) & no_second;
     let third = stacked(c3, g3, true, true);
     let second = stacked(c2, g2, no_third, third);
     let first = stacked(c1, g1, no_second, second);
@@ -175,10 +168,7 @@ pub fn is_group(cells: &[u32; group::CELLS]) -> bool
         cells[group::LOOP_2],
         cells[group::LOOP_3],
     );
-    let spare = both(cells[SPARE_0] == 0, cells[SPARE_1] == 0);
-    let place = both(cells[group::POSITION] <= LAST_SLOT, spare);
-    both(
-        masks,
-        both(row, both(counters, both(returns, both(loops, place)))),
-    )
+    let spare = (cells[SPARE_0] == 0) & (cells[SPARE_1] == 0);
+    let place = (cells[group::POSITION] <= LAST_SLOT) & spare;
+    masks & (row & (counters & (returns & (loops & place))))
 }

@@ -5,12 +5,11 @@ use Prim.Native.Nat.{ℕ, ◌*◌, ◌<◌, ◌≤◌}
 use lib.ListN.{length}
 use lib.Ieee.{Float}
 use borrow.Author.Tests.{le-leb, lt-leb, le-ltb, lt-ltb, eq-eqb, ne_eqb}
-use Rattle.laws.specs.Choice.{pick}
 use Rattle.laws.proofs.Choice.{pick_yes, pick_no}
 use Rattle.refusal.specs.declared.Refusal.TheVariants.{Ended, FlowField, WrongLength}
 use Rattle.group.specs.Group.{Group}
 use Rattle.group.specs.Cells.{position_in, group_of}
-use Rattle.kill.specs.declared.Killed.TheVariants as killed
+use Rattle.std.specs.Prelude.{Ok, Err}
 use Rattle.kill.specs.Kill.{Outcome, Kills, Fails, killed_now, after_kill, start_size, kill_of, kill_told, kill_leaves}
 use Rattle.kill.specs.Answers.{KillDone, TakenOut}
 
@@ -22,7 +21,7 @@ module _ (l : List ℕ) (registers : List Float) (mask slots : ℕ) where
   outcome = kill_of slots registers mask g
 
   -- 16
-  pub kill_ended : slots ≤ position_in l → KillDone l l (killed.Refused Ended) outcome
+  pub kill_ended : slots ≤ position_in l → KillDone l l (Err Ended) outcome
   unfolding kill_of
   kill_ended h =
       let e : outcome ≡ Fails 16 = pick_yes _ _ (le-leb slots (position_in l) h) in
@@ -30,7 +29,7 @@ module _ (l : List ℕ) (registers : List Float) (mask slots : ℕ) where
 
   module _ (running : position_in l < slots) where
     -- 13
-    pub kill_field : 15 < mask → KillDone l l (killed.Refused FlowField) outcome
+    pub kill_field : 15 < mask → KillDone l l (Err FlowField) outcome
     unfolding kill_of
     kill_field h =
         let e : outcome ≡ Fails 13 = pick_no _ _ (lt-leb slots (position_in l) running) ∙ pick_yes _ _ (lt-ltb 15 mask h) in
@@ -38,7 +37,7 @@ module _ (l : List ℕ) (registers : List Float) (mask slots : ℕ) where
 
     module _ (few : mask ≤ 15) where
       -- 11
-      pub kill_length : (length registers ≡ start_size g * 4 → ⊥) → KillDone l l (killed.Refused WrongLength) outcome
+      pub kill_length : (length registers ≡ start_size g * 4 → ⊥) → KillDone l l (Err WrongLength) outcome
       unfolding kill_of
       kill_length h =
           let e : outcome ≡ Fails 11 =
@@ -49,7 +48,7 @@ module _ (l : List ℕ) (registers : List Float) (mask slots : ℕ) where
       -- the kill is made
       pub kill_made :
           {gone : ℕ} {leaves : List ℕ} → length registers ≡ start_size g * 4 → TakenOut l leaves registers mask gone →
-          KillDone l leaves (killed.Now gone) outcome
+          KillDone l leaves (Ok gone) outcome
       unfolding kill_of
       kill_made {gone} {leaves} h d =
           let e : outcome ≡ Kills (killed_now registers mask g) (after_kill registers mask g) =

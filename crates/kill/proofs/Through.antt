@@ -4,8 +4,8 @@ use mathlib.Core.Path.{◌≡◌, refl, sym, ap, ap₂, ◌∙◌, subst}
 use mathlib.Core.Logic.{◌⊎◌, inl, inr}
 use mathlib.Core.Bool.{Bool, true, false, true≢false}
 use mathlib.Core.List.{List, [], ◌∷◌}
-use Prim.Native.Nat.{ℕ, zero, suc, ◌+◌, ◌*◌, ◌%◌, ◌^◌, ◌<◌, ◌≤◌, zero-le, suc-le-suc}
-use native.Mathlib.Nat.{zero-div, le_of_suc-le-suc}
+use Prim.Native.Nat.{ℕ, zero, suc, ◌+◌, ◌*◌, ◌<◌, ◌≤◌, zero-le, suc-le-suc}
+use native.Mathlib.Nat.{le_of_suc-le-suc}
 use native.Mathlib.Omega.{arith}
 use lib.Dec.{eqb, leb, ltb}
 use lib.ListN.{length, get_or}
@@ -14,11 +14,11 @@ use borrow.Author.Tests.{ltb-true, ltb-false, leb-true, leb-false, eqb-false, lt
 use Rattle.laws.specs.Choice.{◌and◌, pick}
 use Rattle.laws.specs.Below.{sum, count}
 use Rattle.laws.specs.Masks.{◌or◌, digit, on, pack}
-use Rattle.laws.proofs.Choice.{Tested, holds, fails, tested, pick_yes, pick_no, by_pick}
+use Rattle.laws.proofs.Choice.{Tested, holds, fails, tested, pick_yes, by_pick}
 use Rattle.laws.proofs.Below.{count_same, count_none}
 use Rattle.laws.proofs.Masks.{pack_lt, on_pack, on_above}
-use Rattle.loops.specs.Loops.{Opened, Turn, Turns, NoRoom, NoWord, word_at, turn_of}
-use Rattle.group.specs.Proc.{Proc, Active, Idle, Absent, is_live, is_active, turned, within, branched}
+use Rattle.loops.specs.Loops.{Turn, Turns, NoRoom, NoWord, word_at, turn_of}
+use Rattle.group.specs.Proc.{Proc, Active, Idle, Absent, is_live, is_active, within}
 use Rattle.group.specs.Modes.{Mode, limit_of}
 use Rattle.group.specs.Group as group
 use Rattle.group.specs.Group.{Group, Program, Steps, Run, Makes, Breaks, Way, Goes, Stuck, turned_if, over_limit, way_of, arrived, settled, fresh}
@@ -26,7 +26,8 @@ use Rattle.group.specs.Group.{a_op, pop_count, branch_op, boolean_number, intege
 use Rattle.group.specs.Group.{wish_of, on_turn, with_loops, jump_step, loop_step, slot_step, ended, group_step, go_on, once_more, group_steps, group_run}
 use Rattle.group.specs.Cells.{mode_in, group_of, at_start, Sound, GroupGiven}
 use Rattle.group.proofs.State.{turned_live, branched_live, still_start, start_of_fresh, given_of, mode_kept}
-use Rattle.kill.specs.declared.Killed.{Killed}
+use Rattle.std.specs.Prelude.{Result}
+use Rattle.refusal.specs.declared.Refusal.{Refusal}
 use Rattle.kill.specs.Kill.{Outcome, Kills, Fails, is_killed, killed_now, after_kill, start_size, kill_of, kill_leaves}
 use Rattle.kill.specs.Answers.{KillDone}
 use Rattle.kill.specs.Through.{Made, Refused, has_ended, bad_mask, bad_length, Leads, stays, steps, runs, kills, with_killed, with_killed_after}
@@ -349,7 +350,7 @@ kill_leaves_given l slots registers mask m =
     kill_left l (kill_of slots registers mask (group_of l)) m (kill_sound (limit_of (mode_in l)) slots registers mask (group_of l) m.sound)
 
 pub kill_gives :
-    {l leaves : List ℕ} {r : Killed} (slots : ℕ) (registers : List Float) (mask : ℕ) → GroupGiven l →
+    {l leaves : List ℕ} {r : Result ℕ Refusal} (slots : ℕ) (registers : List Float) (mask : ℕ) → GroupGiven l →
     KillDone l leaves r (kill_of slots registers mask (group_of l)) → GroupGiven leaves
 kill_gives {l} slots registers mask m d = subst GroupGiven (sym d.left) (kill_leaves_given l slots registers mask m)
 

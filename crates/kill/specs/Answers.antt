@@ -1,18 +1,17 @@
 -- What the answer of a kill tells, and what its routines leave in the cells. Assumes nothing.
-use Rattle.std.specs.Prelude.{◌≡◌, List, [], ◌∷◌, ℕ, ◌*◌, length, Float}
+use Rattle.std.specs.Prelude.{◌≡◌, List, [], ◌∷◌, ℕ, ◌*◌, length, Float, Result, Ok, Err}
+use Rattle.refusal.specs.declared.Refusal.{Refusal}
 use Rattle.refusal.specs.Number.{number_of}
 use Rattle.refusal.specs.Told.{Told, gives, refuses}
 use Rattle.registers.specs.Registers.{channel_count}
 use Rattle.group.specs.Cells.{mode_in, group_of, cells_of, GroupGiven}
-use Rattle.kill.specs.declared.Killed.{Killed}
-use Rattle.kill.specs.declared.Killed.TheVariants as killed
 use Rattle.kill.specs.Kill.{Outcome, killed_now, after_kill, start_size, kill_told, kill_leaves}
 
-abbrev pub told_killed : Killed → Told
-told_killed (killed.Now mask) = gives (mask ∷ [])
-told_killed (killed.Refused why) = refuses (number_of why)
+abbrev pub told_killed : Result ℕ Refusal → Told
+told_killed (Ok mask) = gives (mask ∷ [])
+told_killed (Err why) = refuses (number_of why)
 
-pub record KillDone (entry leaves : List ℕ) (r : Killed) (o : Outcome) : Type 0 where
+pub record KillDone (entry leaves : List ℕ) (r : Result ℕ Refusal) (o : Outcome) : Type 0 where
   pub told : told_killed r ≡ kill_told o
   pub left : leaves ≡ kill_leaves entry o
 

@@ -16,13 +16,6 @@ ghost use Rattle.kill.specs.Answers.{KillDone, TakesOut, TakenOut};
 
 use refusal::Refusal;
 
-// The processors that this call killed, bit i for processor i, or the refusal.
-#[derive(Drop)]
-pub enum Killed {
-    Now(u32),
-    Refused(Refusal),
-}
-
 // The highest write mask: a bit for each of four channels.
 const ALL_CHANNELS: u32 = 15;
 
@@ -35,6 +28,7 @@ fn channels(live: u32, killed: u32) -> usize
 }
 
 // Those of both masks.
+// Kept (design pass 4, no plainer): this and the next two say of which processors an operator on masks tells.
 fn both(a: u32, b: u32) -> u32
     ensures { result ≡ pack most_processors (λ i. on i a and on i b) }
 {
@@ -86,18 +80,23 @@ fn take_out(mask: u32, registers: &[f32], cells: &mut [u32; group::CELLS]) -> u3
 // Kills the active processors of a group that have a channel under the write mask less than zero; `slots` of the program run, and the
 // registers are four channels for each processor of the group as it began. 16 where the program has ended, 13 for a write mask
 // over 15, 11 where the registers aren't the starting group's, in that order.
-pub fn kill(slots: u32, cells: &mut [u32; group::CELLS], mask: u32, registers: &[f32]) -> Killed
+pub fn kill(
+    slots: u32,
+    cells: &mut [u32; group::CELLS],
+    mask: u32,
+    registers: &[f32],
+) -> Result<u32, Refusal>
     requires { GroupGiven cells.old }
     ensures { KillDone cells.old cells.new result (kill_of slots registers.now mask (group_of cells.old)) }
 {
     if slots <= cells[group::POSITION] {
-        return Killed::Refused(Refusal::Ended);
+        return Err(Refusal::Ended);
     }
     if ALL_CHANNELS < mask {
-        return Killed::Refused(Refusal::FlowField);
+        return Err(Refusal::FlowField);
     }
     if registers.len() != channels(cells[group::LIVE], cells[group::KILLED]) {
-        return Killed::Refused(Refusal::WrongLength);
+        return Err(Refusal::WrongLength);
     }
-    Killed::Now(take_out(mask, registers, cells))
+    Ok(take_out(mask, registers, cells))
 }

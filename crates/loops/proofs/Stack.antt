@@ -9,8 +9,11 @@ use lib.Dec.{eqb, leb, ltb}
 use lib.ListN.{length, get_or}
 use borrow.Author.Tests.{leb-true, leb-false, ltb-true, ltb-false, eqb-false, lt-ltb, le-ltb, le-leb, lt-leb, eq-eqb, ne_eqb}
 use Rattle.laws.specs.Choice.{pick}
-use Rattle.laws.specs.Masks.{digit}
 use Rattle.laws.proofs.Choice.{Tested, holds, fails, tested, pick_yes, pick_no, and_left, and_right, and_intro, by_pick}
+use Rattle.std.specs.Prelude.{Result, Ok, Err}
+use Rattle.refusal.specs.declared.Refusal.{Refusal}
+use Rattle.refusal.specs.declared.Refusal.TheVariants.{AtLimit}
+use Rattle.loops.specs.declared.OpenLoops.{OpenLoops}
 use Rattle.loops.specs.declared.Turned.{Turned}
 use Rattle.loops.specs.Loops.{Opened, Looping, Repeating, Turn, Turns, NoRoom, NoWord, field, entry_of, entering, opening, no_word, word_at, loop_told, places_told, loops_told, kind_at, stays, moved_to, closing, turn_of, shown_aL, loop_cell, loops_in, loops_of, cell_at, is_opened, are_opened, Held, turned}
 
@@ -76,8 +79,11 @@ parts : {n al step : ℕ} → Bounds n al step → Parts (n + 256 * al + 65536 *
 parts {n} {al} {step} b =
     record { count = omega arith; start = omega arith; stride = omega arith; high = omega arith; kind = omega arith }
 
-abbrev full : ℕ → ℕ → ℕ → ℕ → Turned
-full l0 l1 l2 l3 = record { answer = 14; l0 = l0; l1 = l1; l2 = l2; l3 = l3 }
+abbrev full : Result Turned Refusal
+full = Err AtLimit
+
+abbrev answered : Bool → OpenLoops → Result Turned Refusal
+answered jump loops = Ok (record { jump = jump; loops = loops })
 
 -- a cell of 2 ^ 24 or more is a LOOP's
 record Inner (ls : List Opened) (l0 l1 l2 l3 : ℕ) : Type 0 where
@@ -92,7 +98,7 @@ record Inner (ls : List Opened) (l0 l1 l2 l3 : ℕ) : Type 0 where
 
 module _ {l0 l1 l2 l3 : ℕ} where
   -- closing a REP
-  pub rep_none : (ls : List Opened) → Held ls l0 l1 l2 l3 → l0 ≡ 0 → full l0 l1 l2 l3 ≡ turned l0 l1 l2 l3 (closing false ls)
+  pub rep_none : (ls : List Opened) → Held ls l0 l1 l2 l3 → l0 ≡ 0 → full ≡ turned (closing false ls)
   rep_none [] h z = refl
   rep_none (Looping n al step ∷ ls) h z = refl
   rep_none (Repeating n ∷ ls) h z =
@@ -100,7 +106,7 @@ module _ {l0 l1 l2 l3 : ℕ} where
       let e : l0 ≡ n = h.cell0 in
       absurd (omega arith)
 
-  pub rep_other : (ls : List Opened) → Held ls l0 l1 l2 l3 → 16777216 ≤ l0 → full l0 l1 l2 l3 ≡ turned l0 l1 l2 l3 (closing false ls)
+  pub rep_other : (ls : List Opened) → Held ls l0 l1 l2 l3 → 16777216 ≤ l0 → full ≡ turned (closing false ls)
   rep_other [] h z = refl
   rep_other (Looping n al step ∷ ls) h z = refl
   rep_other (Repeating n ∷ ls) h z =
@@ -110,35 +116,33 @@ module _ {l0 l1 l2 l3 : ℕ} where
 
   popped :
       (o : Opened) (ls : List Opened) → Held (o ∷ ls) l0 l1 l2 l3 →
-      record { answer = 0; l0 = l1; l1 = l2; l2 = l3; l3 = 0 } ≡ turned l0 l1 l2 l3 (Turns false ls)
-  unfolding digit
+      answered false (record { l0 = l1; l1 = l2; l2 = l3; l3 = 0 }) ≡ turned (Turns false ls)
   popped o ls h =
-      λ j. record { answer = 0; l0 = h.cell1 j; l1 = h.cell2 j; l2 = h.cell3 j; l3 = sym (cell_above ls 3 (le_of_suc-le-suc h.depth)) j }
+      λ j. answered false (record { l0 = h.cell1 j; l1 = h.cell2 j; l2 = h.cell3 j; l3 = sym (cell_above ls 3 (le_of_suc-le-suc h.depth)) j })
 
   pub rep_last :
       (ls : List Opened) → Held ls l0 l1 l2 l3 → l0 ≡ 1 →
-      record { answer = 0; l0 = l1; l1 = l2; l2 = l3; l3 = 0 } ≡ turned l0 l1 l2 l3 (closing false ls)
+      answered false (record { l0 = l1; l1 = l2; l2 = l3; l3 = 0 }) ≡ turned (closing false ls)
   rep_last [] h z = let e : l0 ≡ 0 = h.cell0 in absurd (omega arith)
   rep_last (Looping n al step ∷ ls) h z =
       let e : l0 ≡ n + 256 * al + 65536 * step + 16777216 = h.cell0 in absurd (omega arith)
   rep_last (Repeating n ∷ ls) h z =
       let e : l0 ≡ n = h.cell0 in
-      popped (Repeating n) ls h ∙ sym (ap (turned l0 l1 l2 l3) (pick_no _ _ (le-ltb 1 n (omega arith))))
+      popped (Repeating n) ls h ∙ sym (ap turned (pick_no _ _ (le-ltb 1 n (omega arith))))
 
   pub rep_again :
       (ls : List Opened) → Held ls l0 l1 l2 l3 → (l0 ≡ 0 → ⊥) → l0 < 16777216 → (l0 ≡ 1 → ⊥) →
-      record { answer = 1; l0 = l0 - 1; l1 = l1; l2 = l2; l3 = l3 } ≡ turned l0 l1 l2 l3 (closing false ls)
-  unfolding digit
+      answered true (record { l0 = l0 - 1; l1 = l1; l2 = l2; l3 = l3 }) ≡ turned (closing false ls)
   rep_again [] h y z w = absurd (y h.cell0)
   rep_again (Looping n al step ∷ ls) h y z w =
       let e : l0 ≡ n + 256 * al + 65536 * step + 16777216 = h.cell0 in absurd (omega arith)
   rep_again (Repeating n ∷ ls) h y z w =
       let e : l0 ≡ n = h.cell0 in
-      (λ j. record { answer = 1; l0 = e j - 1; l1 = h.cell1 j; l2 = h.cell2 j; l3 = h.cell3 j }) ∙
-      sym (ap (turned l0 l1 l2 l3) (pick_yes _ _ (lt-ltb 1 n (omega arith))))
+      (λ j. answered true (record { l0 = e j - 1; l1 = h.cell1 j; l2 = h.cell2 j; l3 = h.cell3 j })) ∙
+      sym (ap turned (pick_yes _ _ (lt-ltb 1 n (omega arith))))
 
   -- closing a LOOP
-  pub loop_none : (ls : List Opened) → Held ls l0 l1 l2 l3 → l0 < 16777216 → full l0 l1 l2 l3 ≡ turned l0 l1 l2 l3 (closing true ls)
+  pub loop_none : (ls : List Opened) → Held ls l0 l1 l2 l3 → l0 < 16777216 → full ≡ turned (closing true ls)
   loop_none [] h z = refl
   loop_none (Repeating n ∷ ls) h z = refl
   loop_none (Looping n al step ∷ ls) h z =
@@ -172,11 +176,11 @@ module _ {l0 l1 l2 l3 : ℕ} where
 
     pub loop_last :
         l0 % 256 ≡ 1 →
-        record { answer = 0; l0 = l1; l1 = l2; l2 = l3; l3 = 0 } ≡ turned l0 l1 l2 l3 (closing true ls)
+        answered false (record { l0 = l1; l1 = l2; l2 = l3; l3 = 0 }) ≡ turned (closing true ls)
     loop_last e =
         let n : i.count ≡ 1 = sym i.fields.count ∙ e in
         popped _ i.rest i.held ∙
-        sym (ap (turned l0 l1 l2 l3) (ap (closing true) i.is ∙ pick_no _ _ (le-ltb 1 i.count (omega arith))))
+        sym (ap turned (ap (closing true) i.is ∙ pick_no _ _ (le-ltb 1 i.count (omega arith))))
 
     module _ (m : l0 % 256 ≡ 1 → ⊥) where
       more : ltb 1 i.count ≡ true
@@ -186,30 +190,28 @@ module _ {l0 l1 l2 l3 : ℕ} where
       in_bounds = (omega arith, omega arith)
 
       pub loop_out :
-          stays (l0 / 256 % 256) (l0 / 65536 % 256) ≡ false → full l0 l1 l2 l3 ≡ turned l0 l1 l2 l3 (closing true ls)
+          stays (l0 / 256 % 256) (l0 / 65536 % 256) ≡ false → full ≡ turned (closing true ls)
       loop_out e =
           sym
-          (ap (turned l0 l1 l2 l3)
+          (ap turned
           (ap (closing true) i.is ∙ pick_yes _ _ more ∙
           pick_no _ _ (sym (λ j. stays (i.fields.start j) (i.fields.stride j)) ∙ e)))
 
       pub loop_again :
           {next : ℕ} → stays (l0 / 256 % 256) (l0 / 65536 % 256) ≡ true →
           next ≡ moved_to (l0 / 256 % 256) (l0 / 65536 % 256) →
-          record { answer = 1; l0 = l0 % 256 - 1 + 256 * next + 65536 * (l0 / 65536 % 256) + 16777216; l1 = l1; l2 = l2; l3 = l3 } ≡
-          turned l0 l1 l2 l3 (closing true ls)
-      unfolding digit
+          answered true (record { l0 = l0 % 256 - 1 + 256 * next + 65536 * (l0 / 65536 % 256) + 16777216; l1 = l1; l2 = l2; l3 = l3 }) ≡
+          turned (closing true ls)
       loop_again {next} e f =
           (λ j.
-          record {
-            answer = 1;
+          answered true (record {
             l0 = i.fields.count j - 1 + 256 * there j + 65536 * i.fields.stride j + 16777216;
             l1 = i.held.cell1 j;
             l2 = i.held.cell2 j;
             l3 = i.held.cell3 j;
-          }) ∙
+          })) ∙
           sym
-          (ap (turned l0 l1 l2 l3)
+          (ap turned
           (ap (closing true) i.is ∙ pick_yes _ _ more ∙
           pick_yes _ _ (sym (λ j. stays (i.fields.start j) (i.fields.stride j)) ∙ e)))
         where
@@ -223,19 +225,19 @@ module _ {l0 l1 l2 l3 : ℕ} where
 
     pub open_past :
         w % 256 ≡ 0 →
-        record { answer = 1; l0 = l0; l1 = l1; l2 = l2; l3 = l3 } ≡ turned l0 l1 l2 l3 (entering looping w ls)
-    unfolding entering digit
+        answered true (record { l0 = l0; l1 = l1; l2 = l2; l3 = l3 }) ≡ turned (entering looping w ls)
+    unfolding entering
     open_past e =
-        (λ j. record { answer = 1; l0 = h.cell0 j; l1 = h.cell1 j; l2 = h.cell2 j; l3 = h.cell3 j }) ∙
-        sym (ap (turned l0 l1 l2 l3) (pick_yes _ _ (none e)))
+        (λ j. answered true (record { l0 = h.cell0 j; l1 = h.cell1 j; l2 = h.cell2 j; l3 = h.cell3 j })) ∙
+        sym (ap turned (pick_yes _ _ (none e)))
 
     module _ (f : w % 256 ≡ 0 → ⊥) where
       some_turns : eqb (field 7 0 w) 0 ≡ false
       some_turns = ne_eqb (field 7 0 w) 0 (λ q. f (omega arith))
 
-      pub open_full : (l3 ≡ 0 → ⊥) → full l0 l1 l2 l3 ≡ turned l0 l1 l2 l3 (entering looping w ls)
+      pub open_full : (l3 ≡ 0 → ⊥) → full ≡ turned (entering looping w ls)
       unfolding entering
-      open_full g = sym (ap (turned l0 l1 l2 l3) (pick_no _ _ some_turns ∙ pick_no _ _ (le-ltb (length ls) 4 (four (tested (leb (length ls) 3))))))
+      open_full g = sym (ap turned (pick_no _ _ some_turns ∙ pick_no _ _ (le-ltb (length ls) 4 (four (tested (leb (length ls) 3))))))
         where
           four : Tested (leb (length ls) 3) → 4 ≤ length ls
           four (holds t) = absurd (g (h.cell3 ∙ cell_above ls 3 (leb-true (length ls) 3 t)))
@@ -243,11 +245,11 @@ module _ {l0 l1 l2 l3 : ℕ} where
 
       pub open_more :
           {e : ℕ} → l3 ≡ 0 → e ≡ loop_cell (entry_of looping w) →
-          record { answer = 0; l0 = e; l1 = l0; l2 = l1; l3 = l2 } ≡ turned l0 l1 l2 l3 (entering looping w ls)
-      unfolding entering digit
+          answered false (record { l0 = e; l1 = l0; l2 = l1; l3 = l2 }) ≡ turned (entering looping w ls)
+      unfolding entering
       open_more {e} g k =
-          (λ j. record { answer = 0; l0 = k j; l1 = h.cell0 j; l2 = h.cell1 j; l3 = h.cell2 j }) ∙
-          sym (ap (turned l0 l1 l2 l3) (pick_no _ _ some_turns ∙ pick_yes _ _ (lt-ltb (length ls) 4 (room (tested (ltb 3 (length ls)))))))
+          (λ j. answered false (record { l0 = k j; l1 = h.cell0 j; l2 = h.cell1 j; l3 = h.cell2 j })) ∙
+          sym (ap turned (pick_no _ _ some_turns ∙ pick_yes _ _ (lt-ltb (length ls) 4 (room (tested (ltb 3 (length ls)))))))
         where
           room : Tested (ltb 3 (length ls)) → length ls < 4
           room (holds t) =

@@ -5,9 +5,11 @@
 --     a REP's cell      0                                                              7:0 turns left
 --
 -- An open loop has a turn left, so a cell of 0 holds none. Assumes nothing.
-use Rattle.std.specs.Prelude.{◌≡◌, Bool, true, false, List, [], ◌∷◌, ◌++◌, ℕ, zero, suc, ◌+◌, ◌-◌, ◌*◌, ◌/◌, ◌%◌, ◌^◌, ◌≤◌, eqb, leb, ltb, length, get_or}
+use Rattle.std.specs.Prelude.{◌≡◌, Bool, true, false, List, [], ◌∷◌, ◌++◌, ℕ, zero, suc, ◌+◌, ◌-◌, ◌*◌, ◌/◌, ◌%◌, ◌^◌, ◌≤◌, eqb, leb, ltb, length, get_or, Result, Ok, Err}
 use Rattle.laws.specs.Choice.{◌and◌, pick}
-use Rattle.laws.specs.Masks.{digit}
+use Rattle.refusal.specs.declared.Refusal.{Refusal}
+use Rattle.refusal.specs.declared.Refusal.TheVariants.{AtLimit, FlowField}
+use Rattle.loops.specs.declared.OpenLoops.{OpenLoops}
 use Rattle.loops.specs.declared.Turned.{Turned}
 
 -- bits `high` to `low` of a word, as document 01 and the requests write them: 23:16
@@ -164,9 +166,16 @@ pub record Held (ls : List Opened) (l0 l1 l2 l3 : ℕ) : Type 0 where
 abbrev pub HeldIn : ℕ → ℕ → ℕ → ℕ → Type 0
 HeldIn l0 l1 l2 l3 = Held (loops_of l0 l1 l2 l3) l0 l1 l2 l3
 
--- a turn in numbers: 1 a jump, 0 a stay, 13, 14; and the four cells then, as they were where it is refused
-abbrev pub turned : ℕ → ℕ → ℕ → ℕ → Turn → Turned
-turned l0 l1 l2 l3 (Turns jump ls) =
-    record { answer = digit jump; l0 = cell_at ls 0; l1 = cell_at ls 1; l2 = cell_at ls 2; l3 = cell_at ls 3 }
-turned l0 l1 l2 l3 NoRoom = record { answer = 14; l0 = l0; l1 = l1; l2 = l2; l3 = l3 }
-turned l0 l1 l2 l3 NoWord = record { answer = 13; l0 = l0; l1 = l1; l2 = l2; l3 = l3 }
+-- the loops that open loops' cells hold, and cells that are just those of the loops that they hold
+abbrev pub loops_by : OpenLoops → List Opened
+loops_by cells = loops_of cells.l0 cells.l1 cells.l2 cells.l3
+
+abbrev pub HeldBy : OpenLoops → Type 0
+HeldBy cells = HeldIn cells.l0 cells.l1 cells.l2 cells.l3
+
+-- a turn as it is answered: the decision and the cells then; 14; 13
+abbrev pub turned : Turn → Result Turned Refusal
+turned (Turns jump ls) =
+    Ok (record { jump = jump; loops = record { l0 = cell_at ls 0; l1 = cell_at ls 1; l2 = cell_at ls 2; l3 = cell_at ls 3 } })
+turned NoRoom = Err AtLimit
+turned NoWord = Err FlowField

@@ -1,19 +1,27 @@
 // The open loops of a group (request 4): four cells, the innermost loop first, 0 for none. A LOOP lies in its cell as its integer
 // word with the turns left for the count and its aL for the start, and bit 24 set; a REP is its turns left. An opening or a close
-// answers a decision, 1 for a jump and 0 for a stay, or a refusal (13 or 14), which leaves the loops as they were.
+// answers its decision, to jump or to stay, with the loops then, or a refusal (13 or 14).
 #![tactic(auto)]
 
 ghost use Rattle.std.specs.Prelude.{◌≡◌, true, false, ◌<◌};
-ghost use Rattle.loops.specs.Loops.{loops_of, loop_cell, entry_of, word_at, entering, opening, closing, turn_of, shown_aL, stays, moved_to, kind_at, HeldIn, turned};
+ghost use Rattle.loops.specs.Loops.{loops_by, loop_cell, entry_of, word_at, entering, opening, closing, turn_of, shown_aL, stays, moved_to, kind_at, HeldBy, turned};
 
-// The decision or the refusal, and the four cells then.
-#[derive(Drop)]
-pub struct Turned {
-    pub answer: u32,
+use refusal::Refusal;
+
+// The cells of the open loops, the innermost first, 0 where there is none.
+#[derive(Clone, Copy)]
+pub struct OpenLoops {
     pub l0: u32,
     pub l1: u32,
     pub l2: u32,
     pub l3: u32,
+}
+
+// The decision, to jump or to stay, and the open loops then.
+#[derive(Clone, Copy)]
+pub struct Turned {
+    pub jump: bool,
+    pub loops: OpenLoops,
 }
 
 // A field of an integer word, and of a LOOP's cell, is divided by its lowest bit: the count, aL, its step. Each is a byte.
@@ -28,11 +36,6 @@ const LOOPING: u32 = 0x1000000;
 
 // From here on a step is negative: itself less 256.
 const NEGATIVE: u32 = 128;
-
-// The refusals' numbers: an integer word that isn't allowed, and the loops at their limit.
-const BAD_WORD: u32 = 13;
-
-const AT_LIMIT: u32 = 14;
 
 // No integer word: its bits 31:24 aren't 0.
 const NO_WORD: u32 = 0xFFFFFFFF;
@@ -67,52 +70,37 @@ fn entry(looping: bool, word: u32) -> u32
 }
 
 // Opens a loop with an allowed integer word: a count of 0 jumps, a fifth loop gets 14.
-fn enter(looping: bool, word: u32, l0: u32, l1: u32, l2: u32, l3: u32) -> Turned
-    requires { (word < 16777216) × HeldIn l0 l1 l2 l3 }
-    ensures { result ≡ turned l0 l1 l2 l3 (entering looping word (loops_of l0 l1 l2 l3)) }
+fn enter(looping: bool, word: u32, loops: OpenLoops) -> Result<Turned, Refusal>
+    requires { (word < 16777216) × HeldBy loops }
+    ensures { result ≡ turned (entering looping word (loops_by loops)) }
 {
+    let OpenLoops { l0, l1, l2, l3 } = loops;
     if word % BYTES == 0 {
-        return Turned {
-            answer: 1,
-            l0,
-            l1,
-            l2,
-            l3,
-        };
+        return Ok(Turned { jump: true, loops });
     }
     if l3 != 0 {
-        return Turned {
-            answer: AT_LIMIT,
-            l0,
-            l1,
-            l2,
-            l3,
-        };
+        return Err(Refusal::AtLimit);
     }
-    Turned {
-        answer: 0,
-        l0: entry(looping, word),
-        l1: l0,
-        l2: l1,
-        l3: l2,
-    }
+    Ok(Turned {
+        jump: false,
+        loops: OpenLoops {
+            l0: entry(looping, word),
+            l1: l0,
+            l2: l1,
+            l3: l2,
+        },
+    })
 }
 
 // Opens a LOOP or a REP with an integer word: 13 where the word isn't allowed, whatever its count, and before 14.
-fn open(looping: bool, word: u32, l0: u32, l1: u32, l2: u32, l3: u32) -> Turned
-    requires { HeldIn l0 l1 l2 l3 }
-    ensures { result ≡ turned l0 l1 l2 l3 (opening looping word (loops_of l0 l1 l2 l3)) }
+fn open(looping: bool, word: u32, loops: OpenLoops) -> Result<Turned, Refusal>
+    requires { HeldBy loops }
+    ensures { result ≡ turned (opening looping word (loops_by loops)) }
 {
     if word < LOOPING {
-        return enter(looping, word, l0, l1, l2, l3);
+        return enter(looping, word, loops);
     }
-    Turned {
-        answer: BAD_WORD,
-        l0,
-        l1,
-        l2,
-        l3,
-    }
+    Err(Refusal::FlowField)
 }
 
 // Whether aL stays within 0 to 255 when the step is added.
@@ -138,113 +126,101 @@ fn moved(al: u32, step: u32) -> u32
 }
 
 // Closes a REP: 14 where none is open or the innermost loop is a LOOP.
-fn close_rep(l0: u32, l1: u32, l2: u32, l3: u32) -> Turned
-    requires { HeldIn l0 l1 l2 l3 }
-    ensures { result ≡ turned l0 l1 l2 l3 (closing false (loops_of l0 l1 l2 l3)) }
+fn close_rep(loops: OpenLoops) -> Result<Turned, Refusal>
+    requires { HeldBy loops }
+    ensures { result ≡ turned (closing false (loops_by loops)) }
 {
+    let OpenLoops { l0, l1, l2, l3 } = loops;
     if l0 == 0 {
-        return Turned {
-            answer: AT_LIMIT,
-            l0,
-            l1,
-            l2,
-            l3,
-        };
+        return Err(Refusal::AtLimit);
     }
     if LOOPING <= l0 {
-        return Turned {
-            answer: AT_LIMIT,
-            l0,
+        return Err(Refusal::AtLimit);
+    }
+    if l0 == 1 {
+        return Ok(Turned {
+            jump: false,
+            loops: OpenLoops {
+                l0: l1,
+                l1: l2,
+                l2: l3,
+                l3: 0,
+            },
+        });
+    }
+    Ok(Turned {
+        jump: true,
+        loops: OpenLoops {
+            l0: l0 - 1,
             l1,
             l2,
             l3,
-        };
-    }
-    if l0 == 1 {
-        return Turned {
-            answer: 0,
-            l0: l1,
-            l1: l2,
-            l2: l3,
-            l3: 0,
-        };
-    }
-    Turned {
-        answer: 1,
-        l0: l0 - 1,
-        l1,
-        l2,
-        l3,
-    }
+        },
+    })
 }
 
 // Closes a LOOP: 14 where none is open or the innermost loop is a REP, and where a jump would lead aL out of 0 to 255.
-fn close_loop(l0: u32, l1: u32, l2: u32, l3: u32) -> Turned
-    requires { HeldIn l0 l1 l2 l3 }
-    ensures { result ≡ turned l0 l1 l2 l3 (closing true (loops_of l0 l1 l2 l3)) }
+fn close_loop(loops: OpenLoops) -> Result<Turned, Refusal>
+    requires { HeldBy loops }
+    ensures { result ≡ turned (closing true (loops_by loops)) }
 {
+    let OpenLoops { l0, l1, l2, l3 } = loops;
     if l0 < LOOPING {
-        return Turned {
-            answer: AT_LIMIT,
-            l0,
-            l1,
-            l2,
-            l3,
-        };
+        return Err(Refusal::AtLimit);
     }
     let count = l0 % BYTES;
     if count == 1 {
-        return Turned {
-            answer: 0,
-            l0: l1,
-            l1: l2,
-            l2: l3,
-            l3: 0,
-        };
+        return Ok(Turned {
+            jump: false,
+            loops: OpenLoops {
+                l0: l1,
+                l1: l2,
+                l2: l3,
+                l3: 0,
+            },
+        });
     }
     let al = l0 / AL % BYTES;
     let step = l0 / STEP % BYTES;
     if within(al, step) {
         let next = moved(al, step);
-        return Turned {
-            answer: 1,
-            l0: count - 1 + AL * next + STEP * step + LOOPING,
-            l1,
-            l2,
-            l3,
-        };
+        return Ok(Turned {
+            jump: true,
+            loops: OpenLoops {
+                l0: count - 1 + AL * next + STEP * step + LOOPING,
+                l1,
+                l2,
+                l3,
+            },
+        });
     }
-    Turned {
-        answer: AT_LIMIT,
-        l0,
-        l1,
-        l2,
-        l3,
-    }
+    Err(Refusal::AtLimit)
 }
 
+// Kept (design pass 7, no plainer): the op is a code of the slot's word, asked here and nowhere else.
 // What the op of a slot makes of the open loops, an opening with its integer word.
-pub fn turn(op: u32, word: u32, l0: u32, l1: u32, l2: u32, l3: u32) -> Turned
-    requires { HeldIn l0 l1 l2 l3 }
-    ensures { result ≡ turned l0 l1 l2 l3 (turn_of op word (loops_of l0 l1 l2 l3)) }
+pub fn turn(op: u32, word: u32, loops: OpenLoops) -> Result<Turned, Refusal>
+    requires { HeldBy loops }
+    ensures { result ≡ turned (turn_of op word (loops_by loops)) }
 {
     if op == LOOP_OP {
-        return open(true, word, l0, l1, l2, l3);
+        return open(true, word, loops);
     }
     if op == REP_OP {
-        return open(false, word, l0, l1, l2, l3);
+        return open(false, word, loops);
     }
     if op == ENDLOOP_OP {
-        return close_loop(l0, l1, l2, l3);
+        return close_loop(loops);
     }
-    close_rep(l0, l1, l2, l3)
+    close_rep(loops)
 }
 
 // The aL shown: the innermost open LOOP's, 0 if none is open. A REP hides no LOOP.
-pub fn shown(l0: u32, l1: u32, l2: u32, l3: u32) -> u32
-    requires { HeldIn l0 l1 l2 l3 }
-    ensures { result ≡ shown_aL (loops_of l0 l1 l2 l3) }
+pub fn shown(loops: OpenLoops) -> u32
+    requires { HeldBy loops }
+    ensures { result ≡ shown_aL (loops_by loops) }
 {
+    let OpenLoops { l0, l1, l2, l3 } = loops;
     if LOOPING <= l0 {
         return l0 / AL % BYTES;
     }
@@ -261,6 +237,7 @@ pub fn shown(l0: u32, l1: u32, l2: u32, l3: u32) -> u32
 }
 
 // A loop's kind by its cell: 0 where there is none.
+// Kept (design pass 1, C interface): the open loops are told in numbers, 0 none, 1 LOOP, 3 REP.
 pub fn kind(cell: u32) -> u32
     ensures { result ≡ kind_at cell }
 {

@@ -8,8 +8,6 @@ ghost use Rattle.group.specs.Cells.{group_of, GroupGiven};
 ghost use Rattle.kill.specs.Kill.{kill_of};
 ghost use Rattle.register_rooms.specs.Rooms.{KillCrosses};
 
-use kill::Killed;
-
 // Kills the active processors that have a channel under the write mask less than zero, and says who they are; 11, 13 or 16.
 pub fn kill(
     slots: u32,
@@ -22,8 +20,8 @@ pub fn kill(
     ensures { KillCrosses (kill_of slots registers.now mask (group_of cells.old)) result cells.old cells.new killed.old killed.new }
 {
     match kill::kill(slots, cells, mask, registers) {
-        Killed::Refused(why) => u32::from(why),
-        Killed::Now(processors) => {
+        Err(why) => u32::from(why),
+        Ok(processors) => {
             *killed = [processors];
             0
         }

@@ -8,6 +8,7 @@ use native.Mathlib.Omega.{arith}
 use lib.Dec.{eqb}
 use lib.Ieee.{Float}
 use lib.Pow.{pow_mono}
+use Rattle.std.specs.Int.{from_bool}
 use Rattle.laws.specs.Choice.{◌and◌}
 use Rattle.laws.specs.Below.{some}
 use Rattle.laws.specs.Masks.{◌or◌, digit, on, pack}
@@ -42,6 +43,12 @@ four_channels r {h0} {h1} {h2} {h3} e0 e1 e2 e3 =
     either_test h0 (h1 || (h2 || h3)) ∙
     ap₂ ◌or◌ (e0 ∙ ap (λ (t : Bool). t and less_than_zero r.c0) (sym (on_zero r.mask)))
     (either_test h1 (h2 || h3) ∙ ap₂ ◌or◌ e1 (either_test h2 h3 ∙ ap₂ ◌or◌ e2 (e3 ∙ or_none _)))
+
+-- a test as a bit
+pub bit_digit : {bit : ℕ} (hit : Bool) → bit ≡ from_bool hit → bit ≡ digit hit
+unfolding digit
+bit_digit true e = e
+bit_digit false e = e
 
 -- the mask of processors i to n - 1, moved down by i
 unfoldable pub killed_from : ℕ → ℕ → List Float → ℕ → ℕ

@@ -6,7 +6,6 @@
 
 ghost use Rattle.std.specs.Prelude.{◌≡◌, ◌+◌, ◌*◌, ◌≤◌, ◌/◌, eqb, length};
 ghost use Rattle.laws.specs.Choice.{◌and◌};
-ghost use Rattle.laws.specs.Masks.{digit};
 ghost use Rattle.registers.specs.Registers.{float, less_than_zero, at_least_zero, killed_by, maximum_of, choice_of, each_of2, each_of3, channel_count, most_channels, masked_at, kill_mask};
 ghost use Rattle.registers.specs.Pattern.{is_number};
 
@@ -55,23 +54,14 @@ fn masked_at(registers: &[f32], i: usize, mask: u32) -> Masked
     }
 }
 
-// A test as a bit.
-fn bit_of(test: bool) -> u32
-    ensures { result ≡ digit test }
-{
-    if test { 1 } else { 0 }
-}
-
 // The registers of a list that kill, bit i for processor i: from the last one down, so that each bit moves up to its place.
 pub fn kill_mask(registers: &[f32], mask: u32) -> u32
     requires { length registers.now ≤ most_channels }
     ensures { result ≡ kill_mask (length registers.now / channel_count) registers.now mask }
 {
-    let mut i = registers.len() / CHANNELS;
     let mut found = 0u32;
-    while 0 < i {
-        i -= 1;
-        found = found * 2 + bit_of(kills(masked_at(registers, i, mask)));
+    for i in (0..registers.len() / CHANNELS).rev() {
+        found = found * 2 + u32::from(kills(masked_at(registers, i, mask)));
     }
     found
 }
@@ -115,6 +105,7 @@ fn chosen(a: u32, b: u32, third: u32) -> u32
 }
 
 // The maximum of two registers of bit patterns, channel by channel.
+// Kept (design pass 2, no plainer): this and the next differ in their operands' number, and each is its four channels.
 pub fn maximum(a: &[u32; CHANNELS], b: &[u32; CHANNELS]) -> [u32; CHANNELS]
     ensures { result ≡ each_of2 maximum_of a.now b.now }
 {

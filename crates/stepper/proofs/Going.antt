@@ -1,21 +1,31 @@
 -- The cells as the code writes them, one by one: what was not written stands as it did. And how a group goes on by its way,
 -- return by return. Assumes nothing.
 use mathlib.Core.Path.{◌≡◌, refl, sym, ap, ◌∙◌, subst}
-use mathlib.Core.Bool.{Bool, true}
+use mathlib.Core.Bool.{true}
 use mathlib.Core.List.{List}
 use Prim.Native.Nat.{ℕ, ◌<◌, ◌≤◌}
 use native.Mathlib.Omega.{arith}
 use lib.Dec.{leb}
 use lib.ListN.{length, set, length-drop}
 use borrow.Author.Tests.{le-leb, lt-leb}
-use Rattle.laws.specs.Masks.{digit}
+use Rattle.std.specs.Prelude.{Result, Ok, Err}
+use Rattle.refusal.specs.declared.Refusal.{Refusal}
+use Rattle.refusal.specs.declared.Refusal.TheVariants.{AtLimit, PastEnd}
 use Rattle.laws.proofs.Choice.{Tested, holds, fails, tested, pick_yes, pick_no}
 use Rattle.group.specs.declared.planes.Branched.{Branched}
 use Rattle.group.specs.Group.{Way, Goes, Stuck}
 use Rattle.group.specs.Cells.{plane_in, position_in, return_in, group_of, placed_at, with_place, GroupGiven, CellsNamed}
 use Rattle.group.specs.Masks.{OwnMasksIn, with_masks}
-use Rattle.stepper.specs.Answers.{Stack, GoDone, gone_number, gone_cells}
+use Rattle.stepper.specs.Answers.{Stack, GoDone, gone_answer, gone_cells}
 use Rattle.stepper.proofs.Words.{Went}
+
+-- no answer is both made and refused
+abbrev flag : {T : Type 0} → Result T Refusal → ℕ
+flag (Ok x) = 0
+flag (Err why) = 1
+
+pub never : {T : Type 0} {r : Result T Refusal} {x : T} {why : Refusal} → r ≡ Ok x → r ≡ Err why → ⊥
+never e f = let z : ◌≡◌ {A = ℕ} 0 1 = sym (ap flag e) ∙ ap flag f in absurd (omega arith)
 
 -- the cells of the returns, as the code takes them
 pub given_stack :
@@ -64,64 +74,53 @@ module _ (l : List ℕ) (s : CellsNamed l) where
   position_cell at = ap (λ (x : List ℕ). set x 7 at) s.cells
 
 -- going on, as far as the tests on the way decide it
-module _ (l : List ℕ) (slots : ℕ) (jump : Bool) {w : Way} {n : ℕ} where
-  pub gone_stuck : w ≡ Stuck → n ≡ 14 → GoDone l l n slots jump w
+module _ (l : List ℕ) (slots : ℕ) {w : Way} {r : Result (Unit {0}) Refusal} where
+  pub gone_stuck : w ≡ Stuck → r ≡ Err AtLimit → GoDone l l r slots w
   gone_stuck e en =
-      record { number = en ∙ sym (ap (gone_number slots jump) e); left = sym (ap (gone_cells slots l) e) }
+      record { answer = en ∙ sym (ap (gone_answer slots) e); left = sym (ap (gone_cells slots l) e) }
 
   module _ {at r0 r1 r2 r3 : ℕ} (t : Went w at r0 r1 r2 r3) where
-    pub gone_past : slots < at → n ≡ 15 → GoDone l l n slots jump w
+    pub gone_past : slots < at → r ≡ Err PastEnd → GoDone l l r slots w
     gone_past h en =
         record {
-          number = en ∙ sym (ap (gone_number slots jump) t.goes ∙ pick_no _ _ (lt-leb at slots h));
+          answer = en ∙ sym (ap (gone_answer slots) t.goes ∙ pick_no _ _ (lt-leb at slots h));
           left = sym (ap (gone_cells slots l) t.goes ∙ pick_no _ _ (lt-leb at slots h));
         }
 
     pub gone_there :
         {leaves : List ℕ} →
-        leaves ≡ placed_at l at r0 r1 r2 r3 → at ≤ slots → n ≡ digit jump → GoDone l leaves n slots jump w
+        leaves ≡ placed_at l at r0 r1 r2 r3 → at ≤ slots → r ≡ Ok tt → GoDone l leaves r slots w
     gone_there written h en =
         record {
-          number = en ∙ sym (ap (gone_number slots jump) t.goes ∙ pick_yes _ _ (le-leb at slots h));
+          answer = en ∙ sym (ap (gone_answer slots) t.goes ∙ pick_yes _ _ (le-leb at slots h));
           left =
               written ∙
               (λ j. placed_at l at (t.return0 j) (t.return1 j) (t.return2 j) (t.return3 j)) ∙
               sym (ap (gone_cells slots l) t.goes ∙ pick_yes _ _ (le-leb at slots h));
         }
 
--- another name for the decision and the way
+-- another name for the way
 pub gone_by :
-    (l : List ℕ) (slots : ℕ) {l' : List ℕ} {n : ℕ} {jump now : Bool} {w v : Way} → jump ≡ now → w ≡ v →
-    GoDone l l' n slots now w → GoDone l l' n slots jump v
-gone_by l slots {l'} {n} {jump} {now} {w} {v} e f d =
-    subst (λ (b : Bool). GoDone l l' n slots b v) (sym e) (subst (GoDone l l' n slots now) f d)
+    (l : List ℕ) (slots : ℕ) {l' : List ℕ} {r : Result (Unit {0}) Refusal} {w v : Way} → w ≡ v → GoDone l l' r slots w → GoDone l l' r slots v
+gone_by l slots {l'} {r} f d = subst (GoDone l l' r slots) f d
 
 -- where no refusal was answered, the group went on, and the cells show the new place
-pub record Gone (l l' : List ℕ) (n slots : ℕ) (jump : Bool) (w : Way) : Type 0 where
+pub record Gone (l l' : List ℕ) (slots : ℕ) (w : Way) : Type 0 where
   pub at : ℕ
   pub rest : List ℕ
   pub goes : w ≡ Goes at rest
   pub near : leb at slots ≡ true
-  pub number : n ≡ digit jump
   pub left : l' ≡ with_place l at rest
 
-pub went_on : {l l' : List ℕ} {n slots : ℕ} {jump : Bool} (w : Way) → GoDone l l' n slots jump w → n ≤ 1 → Gone l l' n slots jump w
-went_on {l} {l'} {n} {slots} {jump} (Goes at rs) d h = by (tested (leb at slots))
+pub went_on : {l l' : List ℕ} {r : Result (Unit {0}) Refusal} {slots : ℕ} (w : Way) → GoDone l l' r slots w → r ≡ Ok tt → Gone l l' slots w
+went_on {l} {l'} {r} {slots} (Goes at rs) d h = by (tested (leb at slots))
   where
-    by : Tested (leb at slots) → Gone l l' n slots jump (Goes at rs)
-    by (holds t) =
-        record {
-          at = at;
-          rest = rs;
-          goes = refl;
-          near = t;
-          number = d.number ∙ pick_yes _ _ t;
-          left = d.left ∙ pick_yes _ _ t;
-        }
-    by (fails t) = let z : n ≡ 15 = d.number ∙ pick_no _ _ t in absurd (omega arith)
-went_on {n = n} Stuck d h = let z : n ≡ 14 = d.number in absurd (omega arith)
+    by : Tested (leb at slots) → Gone l l' slots (Goes at rs)
+    by (holds t) = record { at = at; rest = rs; goes = refl; near = t; left = d.left ∙ pick_yes _ _ t }
+    by (fails t) = absurd (never h (d.answer ∙ pick_no _ _ t))
+went_on Stuck d h = absurd (never h d.answer)
 
-module _ {l l' : List ℕ} {n slots : ℕ} {jump : Bool} (w : Way) (d : GoDone l l' n slots jump w) (h : n ≤ 1) where
+module _ {l l' : List ℕ} {r : Result (Unit {0}) Refusal} {slots : ℕ} (w : Way) (d : GoDone l l' r slots w) (h : r ≡ Ok tt) where
   pub gone_named : length l ≡ 20 → CellsNamed l'
   gone_named e = subst CellsNamed (sym (went_on w d h).left) (record { size = omega (arith, length-drop 12 l); cells = refl })
 

@@ -9,28 +9,58 @@ use lib.ListN.{length, get_or}
 use borrow.Author.Tests.{eqb-true, ltb-true, ltb-false, le-leb, lt-leb, ne_eqb}
 use Rattle.laws.specs.Choice.{◌and◌, pick}
 use Rattle.laws.specs.Below.{some}
-use Rattle.laws.specs.Masks.{◌or◌, differ, digit, on, pack}
+use Rattle.laws.specs.Masks.{◌or◌, differ, on, pack}
 use Rattle.laws.proofs.Choice.{Tested, holds, fails, tested, pick_yes, pick_no, and_left, and_no_right, by_pick}
 use Rattle.laws.proofs.Below.{some_same, every_same}
-use Rattle.laws.proofs.Masks.{digit_lt, pack_same, on_pack, on_above}
+use Rattle.laws.proofs.Masks.{pack_same, on_pack, on_above}
 use Rattle.group.specs.Proc.{Proc, Active, Idle, Absent, is_live, is_active, counter_bit, within, turned, lowered, raised, at_limit, branched, decided, increment, counter_limit}
+use Rattle.std.specs.Prelude.{Option, Some, None, unwrap_or, Result, Ok, Err}
+use Rattle.refusal.specs.declared.Refusal.{Refusal}
+use Rattle.refusal.specs.declared.Refusal.TheVariants.{AtLimit, PastEnd, FlowField, Ended}
 use Rattle.loops.specs.declared.Turned.{Turned}
-use Rattle.loops.specs.Loops.{field, Opened, Turn, Turns, NoRoom, NoWord, word_at, turn_of, turned as turn_cells}
+use Rattle.loops.specs.Loops.{field, cell_at, Opened, Turn, Turns, NoRoom, NoWord, word_at, turn_of, turned as turn_answer}
 use Rattle.group.specs.Modes.{Mode, Full, Partial, limit_of}
 use Rattle.group.specs.Group.{Group, Outcome, Steps, Fails, Way, Goes, Stuck, op_of, b_else, jump_any, a_op, jump_func, pop_count, branch_op, boolean_number, jump_address}
 use Rattle.group.specs.Group.{permits, allowed_loop, fits_first, plain_second, turned_if, wish_of, over_limit, way_of, arrived, settled}
 use Rattle.group.specs.Group.{jump_step, on_turn, with_loops, loop_step, slot_step, store_slots, ended, group_step}
-use Rattle.group.specs.Cells.{cell_count, live_in, plane_in, position_in, mode_in, loop_in, live_mask, active_mask, plane, with_active, group_of, cells_with, last_in, cells_of, GroupGiven, step_leaves}
+use Rattle.group.specs.Cells.{cell_count, live_in, plane_in, position_in, mode_in, live_mask, active_mask, plane, with_active, group_of, cells_with, last_in, cells_of, GroupGiven, step_leaves}
 use Rattle.group.specs.Masks.{MasksOf, OwnMasksIn, with_masks, shown_as, some_at_limit_in, some_at_own_limit}
-use Rattle.stepper.specs.Answers.{step_number, NumberDone, GoDone, own_limit, settled_in, decision_by, decided_step, set_loops, step_in}
+use Rattle.stepper.specs.Answers.{refusal_of, step_answer, MoveDone, GoDone, own_limit, settled_in, limit_by, some_at_limit_by, decided_step, set_loops, step_in}
 use Rattle.stepper.proofs.Words.{low_field, and_last, allowed_parts, loop_fits_lem}
-use Rattle.stepper.proofs.Going.{Gone, went_on}
+use Rattle.stepper.proofs.Going.{never, Gone, went_on}
 use Rattle.group.proofs.Places.{limit_shown, partial_shown}
-use Rattle.group.proofs.State.{SoundAfter, jump_permitted, given_masks, shows, turned_absent, turned_within, branched_absent}
+use Rattle.group.proofs.State.{jump_permitted, given_masks, shows, turned_absent, turned_within, branched_absent}
 
--- a refusal: its number, and the cells are as they were
-pub refused : {l : List ℕ} {o : Outcome} {n : ℕ} (why : ℕ) → n ≡ why → o ≡ Fails why → NumberDone l l n o
-refused {l} why en e = record { number = en ∙ sym (ap step_number e); left = sym (ap (step_leaves l) e) }
+-- the refusals of a step, by their numbers
+at_13 : FlowField ≡ refusal_of 13
+unfolding refusal_of pick
+at_13 = refl
+
+at_14 : AtLimit ≡ refusal_of 14
+unfolding refusal_of pick
+at_14 = refl
+
+at_15 : PastEnd ≡ refusal_of 15
+unfolding refusal_of pick
+at_15 = refl
+
+at_16 : Ended ≡ refusal_of 16
+unfolding refusal_of pick
+at_16 = refl
+
+-- a refusal, and the cells are as they were
+pub refused : {l : List ℕ} {o : Outcome} {r : Result Bool Refusal} {why : Refusal} {n : ℕ} → why ≡ refusal_of n → r ≡ Err why → o ≡ Fails n → MoveDone l l r o
+refused {l} {o} {r} {why} {n} named en e =
+    record { answer = en ∙ ap (λ (w : Refusal). Err w) named ∙ sym (ap step_answer e); left = sym (ap (step_leaves l) e) }
+
+-- a refusal keeps its name in another answer
+abbrev carried : Bool → Result (Unit {0}) Refusal → Result Bool Refusal
+carried jump (Ok x) = Ok jump
+carried jump (Err why) = Err why
+
+abbrev turn_carried : Result Turned Refusal → Result Bool Refusal
+turn_carried (Ok t) = Ok t.jump
+turn_carried (Err why) = Err why
 
 -- an operation leaves everybody in the group
 live_branched : (op k : ℕ) (jump wish : Bool) (p : Proc) → is_live p ≡ is_live (branched op k jump wish p)
@@ -65,6 +95,13 @@ module _ (l : List ℕ) {active op : ℕ} (k : OwnMasksIn l active) (first : ℕ
       by Full = limit_shown k
       by Partial = partial_shown k
 
+  -- and that of a step of ops 1 to 4 or of op 0
+  pub over_by :
+      (loop : Bool) → over ≡ (eqb op increment and some_at_limit_by loop l) →
+      over ≡ over_limit (limit_by loop l) (branch_op jump first) (with_active l active)
+  over_by true e = over_full e
+  over_by false e = over_own e
+
 -- the second half of a step, on given cells with the active processors after B_ELSE
 module _ (limit : ℕ) (l : List ℕ) (first second slots active wish : ℕ) (jump : Bool) (m : GroupGiven l) (k : OwnMasksIn l active)
     {op : ℕ} (eop : op ≡ branch_op jump first)
@@ -74,9 +111,9 @@ module _ (limit : ℕ) (l : List ℕ) (first second slots active wish : ℕ) (ju
     abbrev outcome : Outcome
     outcome = settled_in limit slots first second jump wish active l
 
-    pub settle_over : {n : ℕ} → n ≡ 14 → over ≡ true → NumberDone l l n outcome
+    pub settle_over : over ≡ true → MoveDone l l (Err AtLimit) outcome
     unfolding settled
-    settle_over en t = refused 14 en (pick_yes _ _ (sym over_is ∙ t))
+    settle_over t = refused at_14 refl (pick_yes _ _ (sym over_is ∙ t))
 
     module _ (free : over ≡ false) where
       abbrev way_here : Way
@@ -92,24 +129,21 @@ module _ (limit : ℕ) (l : List ℕ) (first second slots active wish : ℕ) (ju
 
       -- the way is refused
       settle_by :
-          (w : Way) → outcome ≡ arrived slots jump procs_here (group_of l) w → (n : ℕ) (l' : List ℕ) →
-          GoDone l l' n slots jump w → 1 < n → NumberDone l l' n outcome
-      settle_by Stuck e n l' d h =
-          subst (λ (x : List ℕ). NumberDone l x n outcome) (sym d.left) (refused 14 d.number e)
-      settle_by (Goes at rs) e n l' d h = by (tested (leb at slots))
+          (w : Way) → outcome ≡ arrived slots jump procs_here (group_of l) w → {r : Result (Unit {0}) Refusal} {why : Refusal} {l' : List ℕ} →
+          GoDone l l' r slots w → r ≡ Err why → MoveDone l l' (Err why) outcome
+      settle_by Stuck e {r} {why} d h =
+          subst (λ (x : List ℕ). MoveDone l x (Err why) outcome) (sym d.left) (refused at_14 (ap (carried jump) (sym h ∙ d.answer)) e)
+      settle_by (Goes at rs) e {r} {why} {l'} d h = by (tested (leb at slots))
         where
-          by : Tested (leb at slots) → NumberDone l l' n outcome
-          by (holds t) =
-              let z : n ≡ digit jump = d.number ∙ pick_yes _ _ t in
-              let q : digit jump < 2 = digit_lt jump in
-              absurd (omega arith)
+          by : Tested (leb at slots) → MoveDone l l' (Err why) outcome
+          by (holds t) = absurd (never (d.answer ∙ pick_yes _ _ t) h)
           by (fails t) =
-              subst (λ (x : List ℕ). NumberDone l x n outcome) (sym (d.left ∙ pick_no _ _ t))
-              (refused 15 (d.number ∙ pick_no _ _ t) (e ∙ pick_no _ _ t))
+              subst (λ (x : List ℕ). MoveDone l x (Err why) outcome) (sym (d.left ∙ pick_no _ _ t))
+              (refused at_15 (ap (carried jump) (sym h ∙ d.answer ∙ pick_no _ _ t)) (e ∙ pick_no _ _ t))
 
       pub settle_refused :
-          (n : ℕ) (l' : List ℕ) → GoDone l l' n slots jump way_here → 1 < n → NumberDone l l' n outcome
-      settle_refused n l' d h = settle_by way_here on_way n l' d h
+          {r : Result (Unit {0}) Refusal} {why : Refusal} {l' : List ℕ} → GoDone l l' r slots way_here → r ≡ Err why → MoveDone l l' (Err why) outcome
+      settle_refused d h = settle_by way_here on_way d h
 
       -- the group goes on, and the branch operation does its work at the new place
       live_here : live_in l ≡ live_mask procs_here
@@ -119,13 +153,13 @@ module _ (limit : ℕ) (l : List ℕ) (first second slots active wish : ℕ) (ju
           (λ i h. live_branched (branch_op jump first) (pop_count first) jump (on i wish) (with_active l active i))
 
       pub settle_made :
-          (n : ℕ) (l' leaves : List ℕ) → GoDone l l' n slots jump way_here → n ≤ 1 →
+          {r : Result (Unit {0}) Refusal} {l' leaves : List ℕ} → GoDone l l' r slots way_here → r ≡ Ok tt →
           leaves ≡ with_masks l' (shown_as (λ i. branched op (pop_count first) jump (on i wish) (with_active l' active i))) →
-          NumberDone l leaves n outcome
-      settle_made n l' leaves d h written =
-          record { number = g.number ∙ sym (ap step_number steps); left = there ∙ sym (ap (step_leaves l) steps) }
+          MoveDone l leaves (Ok jump) outcome
+      settle_made {r} {l'} {leaves} d h written =
+          record { answer = sym (ap step_answer steps); left = there ∙ sym (ap (step_leaves l) steps) }
         where
-          g : Gone l l' n slots jump way_here
+          g : Gone l l' slots way_here
           g = went_on way_here d h
 
           group_then : Group
@@ -235,7 +269,7 @@ wanted_of l first second alu predicate booleans =
     decided (jump_any first) (λ i. is_active (turned_of l first i)) (wishes_of first second alu predicate booleans)
 
 -- the first half of a step: the processors after B_ELSE, the wishes and what they come to, as the code has them
-module _ (limit : ℕ) (l : List ℕ) (first second alu predicate booleans : ℕ) (m : GroupGiven l)
+module _ (l : List ℕ) (first second alu predicate booleans : ℕ) (m : GroupGiven l)
     {active : ℕ} (ea : active ≡ active_mask (turned_if (eqb (first / 16 % 2) 1) (group_of l).procs)) where
   procs_turned : with_active l active ≡ turned_if (eqb (first / 16 % 2) 1) (group_of l).procs
   unfolding turned_if
@@ -274,11 +308,11 @@ module _ (limit : ℕ) (l : List ℕ) (first second alu predicate booleans : ℕ
         decided_same (jump_any first) (λ i. on i active) (λ i. is_active (procs_there i)) (λ i. on i wish) wish_here active_is wish_is
 
     settled_is :
-        (slots : ℕ) (jump : Bool) →
+        (limit slots : ℕ) (jump : Bool) →
         settled limit slots first second jump (λ i. on i wish) (with_active l active) (group_of l) ≡
         settled limit slots first second jump wish_here procs_there (group_of l)
     unfolding on turned_if
-    settled_is slots jump =
+    settled_is limit slots jump =
         ap (λ (f : ℕ → Proc). settled limit slots first second jump (λ i. on i wish) f (group_of l)) procs_turned ∙
         settled_same limit slots first second jump (λ i. on i wish) wish_here procs_there (group_of l) outside wish_is
       where
@@ -286,55 +320,57 @@ module _ (limit : ℕ) (l : List ℕ) (first second alu predicate booleans : ℕ
         outside i h = turned_absent (b_else first) (m.sound.outside i h)
 
 -- a step by another name
-step_as : {l leaves : List ℕ} {n : ℕ} {o o' : Outcome} → o ≡ o' → NumberDone l leaves n o → NumberDone l leaves n o'
-step_as {l} {leaves} {n} e d = subst (NumberDone l leaves n) e d
+step_as : {l leaves : List ℕ} {r : Result Bool Refusal} {o o' : Outcome} → o ≡ o' → MoveDone l leaves r o → MoveDone l leaves r o'
+step_as {l} {leaves} {r} e d = subst (MoveDone l leaves r) e d
 
 -- a step with its decision
-module _ (limit : ℕ) (l : List ℕ) (first second slots decision alu predicate booleans : ℕ) (m : GroupGiven l)
+module _ (limit : ℕ) (l : List ℕ) (first second slots : ℕ) (decision : Option Bool) (alu predicate booleans : ℕ) (m : GroupGiven l)
     {ok : Bool} (eok : ok ≡ fits_first first) where
   pub slot_refused :
-      {n : ℕ} → n ≡ 13 → ok ≡ false → NumberDone l l n (decided_step limit slots first second decision alu predicate booleans (group_of l))
+      ok ≡ false → MoveDone l l (Err FlowField) (decided_step limit slots first second decision alu predicate booleans (group_of l))
   unfolding decided_step
-  slot_refused en f = refused 13 en (pick_no _ _ (sym eok ∙ f))
+  slot_refused f = refused at_13 refl (pick_no _ _ (sym eok ∙ f))
 
   module _ {active : ℕ} (ea : active ≡ active_mask (turned_if (eqb (first / 16 % 2) 1) (group_of l).procs)) (good : ok ≡ true)
       {wish : ℕ} (ew : wish ≡ pack 32 (wish_of (first / 256 % 256) (eqb (booleans / 2 ^ (second % 32) % 2) 1) alu predicate))
       {wanted : Bool} (ej : wanted ≡ decided (eqb (first / 32 % 2) 1) (λ i. on i active) (λ i. on i wish))
-      {jump : Bool} (ed : jump ≡ decision_by decision wanted) where
+      {jump : Bool} (ed : jump ≡ unwrap_or decision wanted) where
     pub slot_done :
-        {leaves : List ℕ} {n : ℕ} →
-        NumberDone l leaves n (settled_in limit slots first second jump wish active l) →
-        NumberDone l leaves n (decided_step limit slots first second decision alu predicate booleans (group_of l))
+        {leaves : List ℕ} {r : Result Bool Refusal} →
+        MoveDone l leaves r (settled_in limit slots first second jump wish active l) →
+        MoveDone l leaves r (decided_step limit slots first second decision alu predicate booleans (group_of l))
     unfolding decided_step
     slot_done d =
         step_as
-        (settled_is limit l first second alu predicate booleans m ea ew slots jump ∙
+        (settled_is l first second alu predicate booleans m ea ew limit slots jump ∙
         ap (λ (j : Bool). settled limit slots first second j (wishes_of first second alu predicate booleans) (turned_of l first) (group_of l))
-        (ed ∙ ap (decision_by decision) (wanted_is limit l first second alu predicate booleans m ea ew ej)) ∙
+        (ed ∙ ap (unwrap_or decision) (wanted_is l first second alu predicate booleans m ea ew ej)) ∙
         sym (pick_yes _ (Fails 13) (sym eok ∙ good)))
         d
 
 -- a step of op 0
 module _ (limit : ℕ) (l : List ℕ) (first second slots alu predicate booleans : ℕ) (op : op_of first ≡ 0) {ok : Bool} (eok : ok ≡ plain_second second) where
   pub jump_refused :
-      {n : ℕ} → n ≡ 13 → ok ≡ false → NumberDone l l n (jump_step limit slots first second alu predicate booleans (group_of l))
+      ok ≡ false → MoveDone l l (Err FlowField) (jump_step limit slots first second alu predicate booleans (group_of l))
   unfolding jump_step
-  jump_refused en f =
-      refused 13 en
+  jump_refused f =
+      refused at_13 refl
       (pick_no _ _ (allowed_parts first second op ∙ and_no_right (fits_first first) (sym eok ∙ f)))
 
   pub jump_done :
-      {leaves : List ℕ} {n : ℕ} → ok ≡ true →
-      NumberDone l leaves n (decided_step limit slots first second 2 alu predicate booleans (group_of l)) →
-      NumberDone l leaves n (jump_step limit slots first second alu predicate booleans (group_of l))
-  unfolding jump_step decided_step decision_by
+      {leaves : List ℕ} {r : Result Bool Refusal} → ok ≡ true →
+      MoveDone l leaves r (decided_step limit slots first second None alu predicate booleans (group_of l)) →
+      MoveDone l leaves r (jump_step limit slots first second alu predicate booleans (group_of l))
+  unfolding jump_step decided_step
   jump_done good d =
       step_as
-      (ap₂
-      (λ (b j : Bool).
-      pick b (settled limit slots first second j (wishes_of first second alu predicate booleans) (turned_of l first) (group_of l)) (Fails 13))
-      (sym (allowed_parts first second op ∙ and_last (fits_first first) (sym eok ∙ good)))
-      (pick_yes (wanted_of l first second alu predicate booleans) (eqb 2 1) refl))
+      (ap
+      (λ (b : Bool).
+      pick b
+      (settled limit slots first second (wanted_of l first second alu predicate booleans) (wishes_of first second alu predicate booleans) (turned_of l first)
+      (group_of l))
+      (Fails 13))
+      (sym (allowed_parts first second op ∙ and_last (fits_first first) (sym eok ∙ good))))
       d
 
 -- what is stored last: the loops
@@ -370,23 +406,28 @@ settled_reloop limit slots first second jump wish procs g loops = by (tested (ov
         arrived_reloop slots jump _ g loops (way_of (a_op first) jump g.position (jump_address second) g.returns) ∙
         sym (ap (reloop loops) (pick_no _ _ e))
 
--- a loop's decision is its own
-by_loop : (jump wanted : Bool) → decision_by (digit jump) wanted ≡ jump
-unfolding decision_by digit pick
-by_loop true wanted = refl
-by_loop false wanted = refl
+-- what an answered turn holds
+abbrev made_turn : Bool → List Opened → Turned
+made_turn jump loops =
+    record { jump = jump; loops = record { l0 = cell_at loops 0; l1 = cell_at loops 1; l2 = cell_at loops 2; l3 = cell_at loops 3 } }
+
+abbrev turn_in : Turned → Result Turned Refusal → Turned
+turn_in t (Ok x) = x
+turn_in t (Err why) = t
+
+given_turn : {t : Turned} (jump : Bool) (loops : List Opened) → Ok t ≡ turn_answer (Turns jump loops) → t ≡ made_turn jump loops
+given_turn {t} jump loops e = ap (turn_in t) e
 
 -- a step of another op, return by return
 module _ (l : List ℕ) (first second slots word alu predicate booleans : ℕ) {ok : Bool} (eok : ok ≡ allowed_loop first second) where
   abbrev loop_outcome : Outcome
   loop_outcome = loop_step counter_limit slots word first second alu predicate booleans (group_of l)
 
-  pub loop_bad : {n : ℕ} → n ≡ 13 → ok ≡ false → NumberDone l l n loop_outcome
+  pub loop_bad : ok ≡ false → MoveDone l l (Err FlowField) loop_outcome
   unfolding loop_step
-  loop_bad en f = refused 13 en (pick_no _ _ (sym eok ∙ f))
+  loop_bad f = refused at_13 refl (pick_no _ _ (sym eok ∙ f))
 
-  module _ (good : ok ≡ true) (t : Turned)
-      (et : t ≡ turn_cells (loop_in 0 l) (loop_in 1 l) (loop_in 2 l) (loop_in 3 l) (turn_of (first % 16) word (group_of l).loops)) where
+  module _ (good : ok ≡ true) {answer : Result Turned Refusal} (et : answer ≡ turn_answer (turn_of (first % 16) word (group_of l).loops)) where
     abbrev wish_loop : ℕ → Bool
     wish_loop = wishes_of first second alu predicate booleans
 
@@ -405,86 +446,78 @@ module _ (l : List ℕ) (first second slots word alu predicate booleans : ℕ) {
         pick_yes _ _ (sym eok ∙ good) ∙
         sym (ap (λ (op : ℕ). on_turn (turn_of op word (group_of l).loops) next) (low_field first))
 
-    answer_of_lem : {u : Turn} → turn_here ≡ u → t.answer ≡ (turn_cells (loop_in 0 l) (loop_in 1 l) (loop_in 2 l) (loop_in 3 l) u).answer
-    answer_of_lem e = ap (λ (x : Turned). x.answer) (et ∙ ap (turn_cells (loop_in 0 l) (loop_in 1 l) (loop_in 2 l) (loop_in 3 l)) e)
-
     -- the loop is refused
-    pub loop_stops : 1 < t.answer → NumberDone l l t.answer loop_outcome
-    loop_stops h = go turn_here refl
+    pub loop_stops : {why : Refusal} → answer ≡ Err why → MoveDone l l (Err why) loop_outcome
+    loop_stops {why} h = go turn_here refl
       where
-        go : (u : Turn) → turn_here ≡ u → NumberDone l l t.answer loop_outcome
-        go (Turns jump loops) e =
-            let z : t.answer ≡ digit jump = answer_of_lem e in
-            let y : digit jump < 2 = digit_lt jump in
-            absurd (omega arith)
-        go NoRoom e = refused 14 (answer_of_lem e) (by_turn ∙ ap (λ (u : Turn). on_turn u next) e)
-        go NoWord e = refused 13 (answer_of_lem e) (by_turn ∙ ap (λ (u : Turn). on_turn u next) e)
+        told : {u : Turn} → turn_here ≡ u → Err why ≡ turn_answer u
+        told e = sym h ∙ et ∙ ap turn_answer e
+
+        go : (u : Turn) → turn_here ≡ u → MoveDone l l (Err why) loop_outcome
+        go (Turns jump loops) e = absurd (never {x = made_turn jump loops} refl (sym (told e)))
+        go NoRoom e = refused at_14 (ap turn_carried (told e)) (by_turn ∙ ap (λ (u : Turn). on_turn u next) e)
+        go NoWord e = refused at_13 (ap turn_carried (told e)) (by_turn ∙ ap (λ (u : Turn). on_turn u next) e)
 
     -- the loop decides, and the rest of the step is made
-    module _ (h : t.answer ≤ 1) (l' : List ℕ) (n : ℕ)
-        (d : NumberDone l l' n (decided_step counter_limit slots first second t.answer alu predicate booleans (group_of l))) where
+    module _ {t : Turned} (is : answer ≡ Ok t) {l' : List ℕ} {r : Result Bool Refusal}
+        (d : MoveDone l l' r (decided_step counter_limit slots first second (Some t.jump) alu predicate booleans (group_of l))) where
+      told_turn : {u : Turn} → turn_here ≡ u → Ok t ≡ turn_answer u
+      told_turn e = sym is ∙ et ∙ ap turn_answer e
+
+      cells_of_lem : {jump : Bool} {loops : List Opened} → turn_here ≡ Turns jump loops → t ≡ made_turn jump loops
+      cells_of_lem {jump} {loops} e = given_turn jump loops (told_turn e)
+
       rest_is :
-          (jump : Bool) → t.answer ≡ digit jump →
-          decided_step counter_limit slots first second t.answer alu predicate booleans (group_of l) ≡
+          (jump : Bool) → t.jump ≡ jump →
+          decided_step counter_limit slots first second (Some t.jump) alu predicate booleans (group_of l) ≡
           settled counter_limit slots first second jump wish_loop procs_loop (group_of l)
       unfolding decided_step
       rest_is jump e =
           pick_yes _ (Fails 13) (loop_fits_lem first second (sym eok ∙ good)) ∙
-          ap (λ (j : Bool). settled counter_limit slots first second j wish_loop procs_loop (group_of l))
-          (ap (λ (k : ℕ). decision_by k (wanted_of l first second alu predicate booleans)) e ∙
-          by_loop jump (wanted_of l first second alu predicate booleans))
+          ap (λ (j : Bool). settled counter_limit slots first second j wish_loop procs_loop (group_of l)) e
 
-      pub loop_refused : 1 < n → NumberDone l l' n loop_outcome
-      loop_refused k = go turn_here refl
+      pub loop_refused : {why : Refusal} → r ≡ Err why → MoveDone l l' (Err why) loop_outcome
+      loop_refused {why} k = subst (λ (x : Result Bool Refusal). MoveDone l l' x loop_outcome) k (go turn_here refl)
         where
-          stopped : (loops : List Opened) (o : Outcome) → NumberDone l l' n o → NumberDone l l' n (reloop loops o)
-          stopped loops (Steps jump g) x =
-              let z : n ≡ digit jump = x.number in
-              let y : digit jump < 2 = digit_lt jump in
-              absurd (omega arith)
-          stopped loops (Fails why) x = record { number = x.number; left = x.left }
+          stopped : (loops : List Opened) (o : Outcome) → MoveDone l l' r o → MoveDone l l' r (reloop loops o)
+          stopped loops (Steps jump g) x = absurd (never x.answer k)
+          stopped loops (Fails n) x = record { answer = x.answer; left = x.left }
 
-          go : (u : Turn) → turn_here ≡ u → NumberDone l l' n loop_outcome
+          go : (u : Turn) → turn_here ≡ u → MoveDone l l' r loop_outcome
           go (Turns jump loops) e =
               step_as (sym (by_turn ∙ ap (λ (u : Turn). on_turn u next) e ∙ settled_reloop counter_limit slots first second jump _ _ (group_of l) loops))
-              (stopped loops _ (step_as (rest_is jump (answer_of_lem e)) d))
-          go NoRoom e = let z : t.answer ≡ 14 = answer_of_lem e in absurd (omega arith)
-          go NoWord e = let z : t.answer ≡ 13 = answer_of_lem e in absurd (omega arith)
+              (stopped loops _ (step_as (rest_is jump (ap (λ (x : Turned). x.jump) (cells_of_lem e))) d))
+          go NoRoom e = absurd (never is (et ∙ ap turn_answer e))
+          go NoWord e = absurd (never is (et ∙ ap turn_answer e))
 
       pub loop_stored :
-          n ≤ 1 → SoundAfter counter_limit loop_outcome → {leaves : List ℕ} →
-          leaves ≡ set_loops l' t.l0 t.l1 t.l2 t.l3 → NumberDone l leaves n loop_outcome
-      loop_stored k s {leaves} written = go turn_here refl
+          {jumped : Bool} → r ≡ Ok jumped → {leaves : List ℕ} →
+          leaves ≡ set_loops l' t.loops.l0 t.loops.l1 t.loops.l2 t.loops.l3 → MoveDone l leaves (Ok jumped) loop_outcome
+      loop_stored {jumped} k {leaves} written = subst (λ (x : Result Bool Refusal). MoveDone l leaves x loop_outcome) k (go turn_here refl)
         where
-          cells_of_lem : (jump : Bool) (loops : List Opened) → turn_here ≡ Turns jump loops → t ≡ turn_cells (loop_in 0 l) (loop_in 1 l) (loop_in 2 l) (loop_in 3 l) (Turns jump loops)
-          cells_of_lem jump loops e = et ∙ ap (turn_cells (loop_in 0 l) (loop_in 1 l) (loop_in 2 l) (loop_in 3 l)) e
-
           stored :
-              (jump : Bool) (loops : List Opened) → turn_here ≡ Turns jump loops → (o : Outcome) → SoundAfter counter_limit (reloop loops o) →
-              NumberDone l l' n o → NumberDone l leaves n (reloop loops o)
-          stored jump loops e (Steps j g) q x =
+              (jump : Bool) (loops : List Opened) → turn_here ≡ Turns jump loops → (o : Outcome) →
+              MoveDone l l' r o → MoveDone l leaves r (reloop loops o)
+          stored jump loops e (Steps j g) x =
               record {
-                number = x.number;
+                answer = x.answer;
                 left =
-                    written ∙ ap (λ (y : List ℕ). set_loops y t.l0 t.l1 t.l2 t.l3) x.left ∙
-                    ap (λ (y : Turned). set_loops (cells_of (mode_in l) g) y.l0 y.l1 y.l2 y.l3) (cells_of_lem jump loops e);
+                    written ∙ ap (λ (y : List ℕ). set_loops y t.loops.l0 t.loops.l1 t.loops.l2 t.loops.l3) x.left ∙
+                    ap (λ (y : Turned). set_loops (cells_of (mode_in l) g) y.loops.l0 y.loops.l1 y.loops.l2 y.loops.l3) (cells_of_lem e);
               }
-          stored jump loops e (Fails why) q x =
-              let z : n ≡ why = x.number in
-              let y : 12 < why = q.0 in
-              absurd (omega arith)
+          stored jump loops e (Fails n) x = absurd (never k x.answer)
 
-          go : (u : Turn) → turn_here ≡ u → NumberDone l leaves n loop_outcome
+          go : (u : Turn) → turn_here ≡ u → MoveDone l leaves r loop_outcome
           go (Turns jump loops) e =
               let q : loop_outcome ≡ reloop loops (settled counter_limit slots first second jump wish_loop procs_loop (group_of l)) =
               by_turn ∙ ap (λ (u : Turn). on_turn u next) e ∙ settled_reloop counter_limit slots first second jump _ _ (group_of l) loops in
-              step_as (sym q) (stored jump loops e _ (subst (SoundAfter counter_limit) q s) (step_as (rest_is jump (answer_of_lem e)) d))
-          go NoRoom e = let z : t.answer ≡ 14 = answer_of_lem e in absurd (omega arith)
-          go NoWord e = let z : t.answer ≡ 13 = answer_of_lem e in absurd (omega arith)
+              step_as (sym q) (stored jump loops e _ (step_as (rest_is jump (ap (λ (x : Turned). x.jump) (cells_of_lem e))) d))
+          go NoRoom e = absurd (never is (et ∙ ap turn_answer e))
+          go NoWord e = absurd (never is (et ∙ ap turn_answer e))
 
 -- the cells that a step leaves are as many as they were
-pub left_size : {l leaves : List ℕ} {n : ℕ} {o : Outcome} → length l ≡ cell_count → NumberDone l leaves n o → length leaves ≡ cell_count
-left_size {l} {leaves} {n} {o} h d = ap length d.left ∙ by o
+pub left_size : {l leaves : List ℕ} {r : Result Bool Refusal} {o : Outcome} → length l ≡ cell_count → MoveDone l leaves r o → length leaves ≡ cell_count
+left_size {l} {leaves} {r} {o} h d = ap length d.left ∙ by o
   where
     by : (o : Outcome) → length (step_leaves l o) ≡ cell_count
     by (Steps jump g) = refl
@@ -507,33 +540,32 @@ module _ (l firsts seconds : List ℕ) (slots alu predicate booleans : ℕ) (int
   abbrev slot_here : Outcome
   slot_here = slot_step (mode_in l) slots integers (word_here firsts l) (word_here seconds l) alu predicate booleans (group_of l)
 
-  pub step_ended : {n : ℕ} → n ≡ 16 → slots ≤ position_in l → NumberDone l l n whole_step
+  pub step_ended : slots ≤ position_in l → MoveDone l l (Err Ended) whole_step
   unfolding group_step ended
-  step_ended en h = refused 16 en (pick_yes _ _ (le-leb slots (position_in l) h))
+  step_ended h = refused at_16 refl (pick_yes _ _ (le-leb slots (position_in l) h))
 
   module _ (goes : position_in l < slots) where
-    pub step_many : {n : ℕ} → n ≡ 15 → store_slots < slots → NumberDone l l n whole_step
+    pub step_many : store_slots < slots → MoveDone l l (Err PastEnd) whole_step
     unfolding group_step ended
-    step_many en k =
-        refused 15 en (pick_no _ _ (lt-leb slots (position_in l) goes) ∙ pick_no _ _ (lt-leb slots store_slots k))
+    step_many k =
+        refused at_15 refl (pick_no _ _ (lt-leb slots (position_in l) goes) ∙ pick_no _ _ (lt-leb slots store_slots k))
 
-    module _ (most : slots ≤ store_slots) {leaves : List ℕ} {n : ℕ} where
-      step_slot : NumberDone l leaves n slot_here → NumberDone l leaves n whole_step
+    module _ (most : slots ≤ store_slots) where
+      step_slot : {leaves : List ℕ} {r : Result Bool Refusal} → MoveDone l leaves r slot_here → MoveDone l leaves r whole_step
       unfolding group_step ended
       step_slot d = step_as (sym (pick_no _ _ (lt-leb slots (position_in l) goes) ∙ pick_yes _ _ (le-leb slots store_slots most))) d
 
       -- of a first word that the mode may permit
       module _ {may : Bool} (emay : may ≡ permits (mode_in l) (word_here firsts l)) where
-        pub step_forbidden : n ≡ 13 → may ≡ false → leaves ≡ l → NumberDone l leaves n whole_step
+        pub step_forbidden : may ≡ false → MoveDone l l (Err FlowField) whole_step
         unfolding slot_step
-        step_forbidden en f e =
-            step_slot (subst (λ (x : List ℕ). NumberDone l x n slot_here) (sym e) (refused 13 en (pick_no _ _ (sym emay ∙ f))))
+        step_forbidden f = step_slot (refused at_13 refl (pick_no _ _ (sym emay ∙ f)))
 
         -- of op 0
         pub step_jump :
-            may ≡ true → word_here firsts l % 16 ≡ 0 →
-            NumberDone l leaves n (jump_step (own_limit l) slots (word_here firsts l) (word_here seconds l) alu predicate booleans (group_of l)) →
-            NumberDone l leaves n whole_step
+            {leaves : List ℕ} {r : Result Bool Refusal} → may ≡ true → word_here firsts l % 16 ≡ 0 →
+            MoveDone l leaves r (jump_step (own_limit l) slots (word_here firsts l) (word_here seconds l) alu predicate booleans (group_of l)) →
+            MoveDone l leaves r whole_step
         step_jump p z d =
             step_slot
             (step_as
@@ -544,9 +576,9 @@ module _ (l firsts seconds : List ℕ) (slots alu predicate booleans : ℕ) (int
 
         -- of another op, which full mode alone permits, with the integer word that the list has
         pub step_loop :
-            {word : ℕ} → may ≡ true → (word_here firsts l % 16 ≡ 0 → ⊥) → word ≡ word_at (word_here seconds l / 256 % 32) integers →
-            NumberDone l leaves n (loop_step counter_limit slots word (word_here firsts l) (word_here seconds l) alu predicate booleans (group_of l)) →
-            NumberDone l leaves n whole_step
+            {word : ℕ} {leaves : List ℕ} {r : Result Bool Refusal} → may ≡ true → (word_here firsts l % 16 ≡ 0 → ⊥) → word ≡ word_at (word_here seconds l / 256 % 32) integers →
+            MoveDone l leaves r (loop_step counter_limit slots word (word_here firsts l) (word_here seconds l) alu predicate booleans (group_of l)) →
+            MoveDone l leaves r whole_step
         unfolding slot_step
         step_loop p z e d =
             step_slot

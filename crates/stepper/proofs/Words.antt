@@ -1,25 +1,44 @@
 -- The words of a slot and the return stack, as the code finds them test by test. Assumes nothing.
 use mathlib.Core.Path.{◌≡◌, refl, sym, ap, ◌∙◌}
-use mathlib.Core.Bool.{Bool, true, false}
+use mathlib.Core.Bool.{Bool, true, false, ◌&&◌, ◌||◌}
 use mathlib.Core.List.{List, [], ◌∷◌}
 use Prim.Native.Nat.{ℕ, suc, ◌+◌, ◌%◌, ◌<◌, ◌≤◌}
 use native.Mathlib.Omega.{arith}
 use lib.Dec.{eqb, leb}
 use lib.ListN.{length, get_or}
-use borrow.Author.Tests.{leb-true, lt-ltb, le-ltb, le-leb, lt-leb, eq-eqb, ne_eqb}
-use Rattle.laws.specs.Choice.{◌and◌}
-use Rattle.laws.proofs.Choice.{pick_yes, pick_no, and_left, and_right, and_yes, and_no_left}
+use borrow.Author.Tests.{leb-true, lt-ltb, le-ltb, eq-eqb, ne_eqb}
+use Rattle.laws.specs.Choice.{◌and◌, pick}
+use Rattle.laws.proofs.Choice.{pick_yes, pick_no, and_left, and_right, and_yes}
 use Rattle.loops.specs.Loops.{field}
 use Rattle.group.specs.Group.{Way, Goes, Stuck, op_of, allowed, fits_first, plain_second, allowed_loop, popped, pushed, way_of}
 use Rattle.group.specs.Cells.{a_return, are_returns}
 use Rattle.stepper.specs.Answers.{Stack}
 
--- a judgement by tests one after the other: one that fails ends it, one that holds leaves it to the rest
-pub and_stop : {a : Bool} (b : Bool) → a ≡ false → false ≡ (a and b)
-and_stop b e = sym (and_no_left b e)
+-- the code's `&` and `|` on tests: two, three, four and five of them
+pub two_tests : (a b : Bool) → (a && b) ≡ (a and b)
+unfolding ◌and◌
+two_tests true b = refl
+two_tests false b = refl
 
-pub and_on : {a b c : Bool} → a ≡ true → c ≡ b → c ≡ (a and b)
-and_on e f = f ∙ sym (and_yes _ e)
+pub three_tests : (a b c : Bool) → ((a && b) && c) ≡ (a and b and c)
+unfolding ◌and◌
+three_tests true b c = two_tests b c
+three_tests false b c = refl
+
+pub four_tests : (a b c d : Bool) → (((a && b) && c) && d) ≡ (a and b and c and d)
+unfolding ◌and◌
+four_tests true b c d = three_tests b c d
+four_tests false b c d = refl
+
+pub five_tests : (a b c d e : Bool) → ((((a && b) && c) && d) && e) ≡ (a and b and c and d and e)
+unfolding ◌and◌
+five_tests true b c d e = four_tests b c d e
+five_tests false b c d e = refl
+
+pub picked_test : (a b : Bool) → (a || b) ≡ pick a true b
+unfolding pick
+picked_test true b = refl
+picked_test false b = refl
 
 pub and_last : (a : Bool) {b : Bool} → b ≡ true → (a and b) ≡ a
 unfolding ◌and◌
@@ -30,12 +49,8 @@ and_last false e = refl
 pub low_field : (first : ℕ) → first % 16 ≡ op_of first
 low_field first = omega arith
 
--- the op of a loop's word
-pub op_low : (first : ℕ) → first % 16 ≤ 4 → leb (op_of first) 4 ≡ true
-op_low first h = le-leb (op_of first) 4 (omega arith)
-
-pub op_high : (first : ℕ) → 4 < first % 16 → leb (op_of first) 4 ≡ false
-op_high first h = lt-leb (op_of first) 4 (omega arith)
+pub low_op : (first : ℕ) → leb (first % 16) 4 ≡ leb (op_of first) 4
+low_op first = ap (λ (n : ℕ). leb n 4) (low_field first)
 
 -- the words of op 0: the first word's other fields, and the second word
 and_nested : (a b c : Bool) → ((a and b) and c) ≡ (a and b and c)

@@ -1,34 +1,39 @@
 -- What the answer of a step tells, in document 01's numbers and values, and what a step leaves in the cells. Assumes nothing.
-use Rattle.std.specs.Prelude.{◌≡◌, Bool, true, List, [], ◌∷◌, ℕ, ◌≤◌, eqb, leb, length, get_or, set}
+use Rattle.std.specs.Prelude.{◌≡◌, Bool, true, false, List, [], ◌∷◌, ℕ, ◌≤◌, eqb, leb, length, get_or, set, Option, unwrap_or, Result, Ok, Err}
 use Rattle.laws.specs.Choice.{pick}
 use Rattle.laws.specs.Masks.{digit, on}
+use Rattle.refusal.specs.declared.Refusal.{Refusal}
+use Rattle.refusal.specs.declared.Refusal.TheVariants.{AtLimit, PastEnd, FlowField, Ended}
 use Rattle.refusal.specs.Number.{number_of}
 use Rattle.refusal.specs.Told.{Told, gives, refuses}
-use Rattle.group.specs.Proc.{is_active, decided}
+use Rattle.group.specs.Proc.{is_active, decided, counter_limit}
 use Rattle.group.specs.Group.{Group, Outcome, Steps, Fails, Program, Way, Goes, Stuck, Run, most_returns, group_step, group_run, step_told}
 use Rattle.group.specs.Group.{b_else, jump_any, jump_func, boolean_number, fits_first, turned_if, wish_of, settled}
 use Rattle.group.specs.Modes.{limit_of}
 use Rattle.group.specs.Cells.{mode_in, with_active, group_of, are_returns, with_place, step_leaves}
+use Rattle.group.specs.Masks.{some_at_limit_in, some_at_own_limit}
 use Rattle.stepper.specs.declared.Stepped.{Stepped}
-use Rattle.stepper.specs.declared.Stepped.TheVariants as stepped
 
 -- a jump tells 1, a stay 0, and both the next position
-abbrev pub told_stepped : Stepped → Told
-told_stepped (stepped.Jumped p) = gives (1 ∷ p.0 ∷ [])
-told_stepped (stepped.Stayed p) = gives (0 ∷ p.0 ∷ [])
-told_stepped (stepped.Refused why) = refuses (number_of why)
+abbrev pub told_stepped : Result Stepped Refusal → Told
+told_stepped (Ok s) = gives (digit s.jumped ∷ s.next.0 ∷ [])
+told_stepped (Err why) = refuses (number_of why)
 
--- a step's answer in one number: 1 for a jump and 0 for a stay, or the refusal's
-abbrev pub step_number : Outcome → ℕ
-step_number (Steps jump g) = digit jump
-step_number (Fails why) = why
+-- a step's refusal by its number, 13 to 16
+unfoldable pub refusal_of : ℕ → Refusal
+refusal_of n = pick (eqb n 13) FlowField (pick (eqb n 14) AtLimit (pick (eqb n 15) PastEnd Ended))
 
-pub record NumberDone (entry leaves : List ℕ) (r : ℕ) (o : Outcome) : Type 0 where
-  pub number : r ≡ step_number o
+-- a step's answer before its place is told: whether the group jumped, or the refusal
+abbrev pub step_answer : Outcome → Result Bool Refusal
+step_answer (Steps jump g) = Ok jump
+step_answer (Fails why) = Err (refusal_of why)
+
+pub record MoveDone (entry leaves : List ℕ) (r : Result Bool Refusal) (o : Outcome) : Type 0 where
+  pub answer : r ≡ step_answer o
   pub left : leaves ≡ step_leaves entry o
 
 -- a step is told as its outcome says, and leaves the cells that its outcome leads to
-pub record StepDone (entry leaves : List ℕ) (r : Stepped) (o : Outcome) : Type 0 where
+pub record StepDone (entry leaves : List ℕ) (r : Result Stepped Refusal) (o : Outcome) : Type 0 where
   pub told : told_stepped r ≡ step_told o
   pub left : leaves ≡ step_leaves entry o
 
@@ -41,17 +46,17 @@ pub record Stack (rs : List ℕ) (r0 r1 r2 r3 : ℕ) : Type 0 where
   pub depth : length rs ≤ most_returns
   pub slots : are_returns rs ≡ true
 
--- going on by a way: 14 where the stack is at its limit, 15 past the end, else 1 for a jump and 0 for a stay, at the new place
-abbrev pub gone_number : ℕ → Bool → Way → ℕ
-gone_number slots jump (Goes at rs) = pick (leb at slots) (digit jump) 15
-gone_number slots jump Stuck = 14
+-- going on by a way: 14 where the stack is at its limit, 15 past the end, else the new place
+abbrev pub gone_answer : ℕ → Way → Result (Unit {0}) Refusal
+gone_answer slots (Goes at rs) = pick (leb at slots) (Ok tt) (Err PastEnd)
+gone_answer slots Stuck = Err AtLimit
 
 abbrev pub gone_cells : ℕ → List ℕ → Way → List ℕ
 gone_cells slots l (Goes at rs) = pick (leb at slots) (with_place l at rs) l
 gone_cells slots l Stuck = l
 
-pub record GoDone (entry leaves : List ℕ) (r slots : ℕ) (jump : Bool) (w : Way) : Type 0 where
-  pub number : r ≡ gone_number slots jump w
+pub record GoDone (entry leaves : List ℕ) (r : Result (Unit {0}) Refusal) (slots : ℕ) (w : Way) : Type 0 where
+  pub answer : r ≡ gone_answer slots w
   pub left : leaves ≡ gone_cells slots entry w
 
 -- the limit of the counters in these cells: their mode's
@@ -63,20 +68,23 @@ abbrev pub settled_in : ℕ → ℕ → ℕ → ℕ → Bool → ℕ → ℕ →
 settled_in limit slots first second jump wish active l =
     settled limit slots first second jump (λ i. on i wish) (with_active l active) (group_of l)
 
--- a decision in a number: a loop's, 0 to stay and 1 to jump; with 2 the processors' wishes decide
-abbrev pub by_wishes : ℕ
-by_wishes = 2
+-- the limit of a step of ops 1 to 4, which full mode alone has, or of op 0
+abbrev pub limit_by : Bool → List ℕ → ℕ
+limit_by true l = counter_limit
+limit_by false l = own_limit l
 
-unfoldable pub decision_by : ℕ → Bool → Bool
-decision_by decision wanted = pick (eqb decision by_wishes) wanted (eqb decision 1)
+-- and whether some counter is at it
+abbrev pub some_at_limit_by : Bool → List ℕ → Bool
+some_at_limit_by true l = some_at_limit_in l
+some_at_limit_by false l = some_at_own_limit (mode_in l) l
 
--- a step on a slot's words but their op and their second word's gaps, with its decision
-unfoldable pub decided_step : ℕ → ℕ → ℕ → ℕ → ℕ → ℕ → ℕ → ℕ → Group → Outcome
+-- a step on a slot's words but their op and their second word's gaps, with a loop's decision; where there is none the wishes decide
+unfoldable pub decided_step : ℕ → ℕ → ℕ → ℕ → Option Bool → ℕ → ℕ → ℕ → Group → Outcome
 decided_step limit slots first second decision alu predicate booleans g =
     let procs = turned_if (b_else first) g.procs in
     let wish = wish_of (jump_func first) (on (boolean_number second) booleans) alu predicate in
     pick (fits_first first)
-    (settled limit slots first second (decision_by decision (decided (jump_any first) (λ i. is_active (procs i)) wish)) wish procs g)
+    (settled limit slots first second (unwrap_or decision (decided (jump_any first) (λ i. is_active (procs i)) wish)) wish procs g)
     (Fails 13)
 
 -- the cells with other loops

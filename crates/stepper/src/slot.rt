@@ -86,61 +86,35 @@ pub fn permitted(mode: u32, first: u32) -> bool
 pub fn fits_first(first: u32) -> bool
     ensures { result ≡ fits_first first }
 {
-    if LAST_CODE < first / A_OP % CODES {
-        return false;
-    }
-    if first / LOW_GAP % LOW_GAPS != 0 {
-        return false;
-    }
-    if LAST_CODE < first / B_OP0 % CODES {
-        return false;
-    }
-    if LAST_CODE < first / B_OP1 % CODES {
-        return false;
-    }
-    first / HIGH_GAP % HIGH_GAPS == 0
+    (first / A_OP % CODES <= LAST_CODE)
+        & (first / LOW_GAP % LOW_GAPS == 0)
+        & (first / B_OP0 % CODES <= LAST_CODE)
+        & (first / B_OP1 % CODES <= LAST_CODE)
+        & (first / HIGH_GAP % HIGH_GAPS == 0)
 }
 
 // Whether the second word is one of op 0: without an integer number.
 pub fn plain_second(second: u32) -> bool
     ensures { result ≡ plain_second second }
 {
-    if second / SECOND_GAP % SECOND_GAPS != 0 {
-        return false;
-    }
-    second / TOP_GAP % TOP_GAPS == 0
+    (second / SECOND_GAP % SECOND_GAPS == 0) & (second / TOP_GAP % TOP_GAPS == 0)
 }
 
 // Whether the second word is one of ops 1 to 4, of which those that open a loop have an integer number.
 fn fits_second(opens: bool, second: u32) -> bool
     ensures { result ≡ fits_second opens second }
 {
-    if second / BELOW_INTEGER % INTEGER_GAPS != 0 {
-        return false;
-    }
-    if second / ABOVE_INTEGER % INTEGER_GAPS != 0 {
-        return false;
-    }
-    if second / TOP_GAP % TOP_GAPS != 0 {
-        return false;
-    }
-    if opens {
-        return true;
-    }
-    second / INTEGER % INTEGERS == 0
+    (second / BELOW_INTEGER % INTEGER_GAPS == 0)
+        & (second / ABOVE_INTEGER % INTEGER_GAPS == 0)
+        & (second / TOP_GAP % TOP_GAPS == 0)
+        & (opens | (second / INTEGER % INTEGERS == 0))
 }
 
 // Whether the words of ops 1 to 4 are allowed.
 pub fn allowed_loop(first: u32, second: u32) -> bool
     ensures { result ≡ allowed_loop first second }
 {
-    if LAST_OP < first % OPS {
-        return false;
-    }
-    if fits_first(first) {
-        return fits_second(first % 2 == 1, second);
-    }
-    false
+    (first % OPS <= LAST_OP) & fits_first(first) & fits_second(first % 2 == 1, second)
 }
 
 // The branch operation that the decision picks: B_OP1 on a jump, B_OP0 on a stay.

@@ -4,18 +4,18 @@ use Rattle.flow.specs.Answers.{told_begun}
 use Rattle.refusal.specs.Crossing.{status_of}
 use Rattle.group_rooms.proofs.begin.Goals as goal
 
-pub returns-in-Refused : goal.returns-in-Refused
-returns-in-Refused c =
+pub returns-in-Err : goal.returns-in-Err
+returns-in-Err c =
     record {
       status =
           c.from.ensures ∙ ap status_of
-          (ap told_begun (sym c.in-Refused.is) ∙ c.begin.ensures.told);
+          (ap told_begun (sym c.in-Err.is) ∙ c.begin.ensures.told);
       left = c.begin.ensures.left;
     }
 
-pub returns-in-Ready : goal.returns-in-Ready
-returns-in-Ready c =
+pub returns-in-Ok : goal.returns-in-Ok
+returns-in-Ok c =
     record {
-      status = ap status_of (ap told_begun (sym c.in-Ready.is) ∙ c.begin.ensures.told);
+      status = ap status_of (ap told_begun (sym c.in-Ok.is) ∙ c.begin.ensures.told);
       left = c.begin.ensures.left;
     }

@@ -1,7 +1,5 @@
 -- `stepper::place::pop` meets its contract: the first cell tells an empty stack. Assumes nothing.
 use mathlib.Core.Path.{refl}
-use mathlib.Core.Bool.{true}
-use Rattle.laws.specs.Masks.{digit}
 use Rattle.group.specs.Cells.{group_of}
 use Rattle.stepper.proofs.Words.{pop_empty, pop_last}
 use Rattle.stepper.proofs.Going.{given_stack, given_named, gone_stuck, gone_past, gone_there}
@@ -10,22 +8,21 @@ use Rattle.stepper.proofs.place.pop.Goals as goal
 pub returns-then-at-eq0 : goal.returns-then-at-eq0
 returns-then-at-eq0 c =
     let cells = c.args.cells.now in
-    gone_stuck cells c.args.slots true
-    (pop_empty (group_of cells).returns (given_stack cells c.requires) c.if-at-eq0.true) c.from.ensures
+    gone_stuck cells c.args.slots
+    (pop_empty (group_of cells).returns (given_stack cells c.requires) c.if-at-eq0.true) refl
 
 pub returns-then-slots-at : goal.returns-then-slots-at
 returns-then-slots-at c =
     let cells = c.args.cells.now in
-    gone_past cells c.args.slots true
-    (pop_last (group_of cells).returns (given_stack cells c.requires) c.if-at-eq0.false) c.if-slots-at.true c.from-then-slots-at.ensures
+    gone_past cells c.args.slots
+    (pop_last (group_of cells).returns (given_stack cells c.requires) c.if-at-eq0.false) c.if-slots-at.true refl
 
 pub put_place-requires : goal.put_place-requires
 put_place-requires c =
     given_named c.args.cells.now c.requires
 
 pub returns : goal.returns
-unfolding digit
 returns c =
     let cells = c.args.cells.now in
-    gone_there cells c.args.slots true
+    gone_there cells c.args.slots
     (pop_last (group_of cells).returns (given_stack cells c.requires) c.if-at-eq0.false) c.put_place.ensures c.if-slots-at.false refl
