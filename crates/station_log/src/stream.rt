@@ -10,7 +10,6 @@ ghost use Rattle.station_log.specs.Asked.{Became, Begins, ByteLeft, batch, Gathe
 ghost use Rattle.replay.specs.Own.{reply_of};
 
 use refusal::Refusal;
-use replay::bytes::Answer;
 use replay::{bytes, own};
 use session::stream;
 
@@ -94,29 +93,21 @@ fn open_byte(
     tallies: &mut [u64; state::TALLIES],
     shared: &mut [u32; state::SHARED_CELLS],
     byte: u32,
-) -> Answer
+) -> Result<(), Refusal>
     requires { OpenAsked log.old marks.old own.old tallies.old shared.old byte }
     ensures { Became (open_step (replay_in log.old marks.old own.old tallies.old shared.old) byte) (reply_of result) log.new marks.new own.new tallies.new shared.new }
 {
     let count = log[own::COUNT];
     if count < 4 {
         own::add(log, count, byte);
-        return Answer::Taken;
+        return Ok(());
     }
     let value = bytes::number(log[own::LOW], log[own::SECOND], log[own::THIRD], byte);
     if log[own::KIND] == 1 {
         take_word(log, own, tallies, shared, value);
-        return Answer::Taken;
+        return Ok(());
     }
     bytes::midnight(log, marks, tallies, value)
-}
-
-// A byte as a wider number.
-fn wide(byte: u8) -> u32
-    ensures value { result ≡ byte }
-    ensures most { result < 256 }
-{
-    byte as u32
 }
 
 // The refusal that stopped a replay.
@@ -139,13 +130,13 @@ fn read_byte(
     tallies: &mut [u64; state::TALLIES],
     shared: &mut [u32; state::SHARED_CELLS],
     byte: u32,
-) -> Answer
+) -> Result<(), Refusal>
     requires { ReplayGiven log.old marks.old own.old tallies.old shared.old × (byte < 256) }
     ensures { Became (byte_step (replay_in log.old marks.old own.old tallies.old shared.old) byte) (reply_of result) log.new marks.new own.new tallies.new shared.new }
 {
     let by = log[own::STOPPED_BY];
     if by != 0 {
-        return Answer::Refused(stop_cause(by));
+        return Err(stop_cause(by));
     }
     if log[own::COUNT] == 0 {
         return bytes::kind_byte(log, byte);
@@ -159,10 +150,10 @@ fn word_at(bytes: &[u8], i: usize) -> u32
     ensures { result ≡ word_at bytes.now i }
 {
     bytes::number(
-        wide(bytes[i + 1]),
-        wide(bytes[i + 2]),
-        wide(bytes[i + 3]),
-        wide(bytes[i + 4]),
+        u32::from(bytes[i + 1]),
+        u32::from(bytes[i + 2]),
+        u32::from(bytes[i + 3]),
+        u32::from(bytes[i + 4]),
     )
 }
 
@@ -171,8 +162,7 @@ fn word_at(bytes: &[u8], i: usize) -> u32
 fn records_in(bytes: usize) -> usize
     ensures { (5 * result ≤ bytes) × (result ≤ batch) }
 {
-    let whole = bytes / RECORD;
-    if whole < BATCH { whole } else { BATCH }
+    (bytes / RECORD).min(BATCH)
 }
 
 // Adds to the words that were gathered from a place on those of the next records, up to so many, before the first that is of
@@ -181,17 +171,14 @@ fn gather_next(bytes: &[u8], at: usize, words: &mut [u32], gathered: usize, next
     requires { MoreAsked bytes.now at words.old gathered next }
     ensures { MoreGathered bytes.now at gathered next result words.new }
 {
-    let mut k: usize = 0;
-    while k < next {
-        let n = gathered + k;
+    for n in gathered..gathered + next {
         let i = at + RECORD * n;
         if bytes[i] != WORD_KIND {
             return n;
         }
         words[n] = word_at(bytes, i);
-        k = k + 1;
     }
-    gathered + k
+    gathered + next
 }
 
 // The words of the records of kind 1 that lie whole in a piece from a place on, one after the other, as many as there is room
@@ -231,10 +218,7 @@ fn take_records(
     if bytes.len() - at < RECORD {
         return 0;
     }
-    if log[own::STOPPED_BY] != 0 {
-        return 0;
-    }
-    if log[own::COUNT] != 0 {
+    if log[own::STOPPED_BY] != 0 || log[own::COUNT] != 0 {
         return 0;
     }
     let n = gather(bytes, at, words);
@@ -281,14 +265,13 @@ pub fn take_byte(
     requires { ReplayGiven log.old marks.old own.old tallies.old shared.old }
     ensures { ByteLeft (replay_of (replay_in log.old marks.old own.old tallies.old shared.old) (byte ∷ [])) result log.new marks.new own.new tallies.new shared.new }
 {
-    let number = wide(byte);
+    let number = u32::from(byte);
     if grows(log, number) {
         return 0;
     }
-    let answer = read_byte(log, marks, own, tallies, shared, number);
-    match answer {
-        Answer::Taken => 0,
-        Answer::Refused(why) => u32::from(why),
+    match read_byte(log, marks, own, tallies, shared, number) {
+        Ok(()) => 0,
+        Err(why) => u32::from(why),
     }
 }
 
@@ -312,23 +295,25 @@ pub fn feed(
     ensures { PieceLeft (replay_of (replay_in log.old marks.old own.old tallies.old shared.old) bytes.now) result log.new marks.new own.new tallies.new shared.new }
 {
     let mut i: usize = 0;
-    let mut refusal: Option<Refusal> = None;
     let mut words: [u32; BATCH] = [0; BATCH];
     while i < bytes.len() {
         let records = take_records(log, own, tallies, shared, bytes, i, &mut words);
         if 0 < records {
-            i = i + RECORD * records;
+            i += RECORD * records;
             continue;
         }
-        let answer = read_byte(log, marks, own, tallies, shared, wide(bytes[i]));
-        if let Answer::Refused(why) = answer {
-            refusal = Some(why);
-            break;
+        match read_byte(log, marks, own, tallies, shared, u32::from(bytes[i])) {
+            Ok(()) => i += 1,
+            Err(why) => {
+                return Fed {
+                    taken: BytePosition(i as u64),
+                    refusal: Some(why),
+                };
+            }
         }
-        i = i + 1;
     }
     Fed {
         taken: BytePosition(i as u64),
-        refusal,
+        refusal: None,
     }
 }
