@@ -23,6 +23,7 @@ use Rattle.score.specs.Lease.{Lease}
 use Rattle.score.specs.Score.{score_of, score_of_log}
 use Rattle.fleet.specs.Answers.{month_from, ScoredAs}
 use Rattle.fleet.specs.declared.station.Month.{Month}
+use Rattle.std.specs.Prelude.{Result}
 
 -- arrays that hold a replay with a valid session show it
 shows : (r : Replay) → Valid r.session → {l m o t s : List ℕ} → ReplayHeld r l m o t s → replay_in l m o t s ≡ r
@@ -55,7 +56,7 @@ module _ (edition : ℕ) (known : is_edition edition ≡ true) {n : ℕ} {l m o 
 
     -- so the month of the arrays is the log's
     pub replayed_month : (l : Lease) (bytes : List ℕ) {r : Fed} {l2 m2 o2 t2 s2 : List ℕ} →
-        PieceLeft (replay_of (replay_in l1 m1 o1 t1 s1) bytes) r l2 m2 o2 t2 s2 → {month : Month} → ScoredAs l l2 m2 t2 month →
+        PieceLeft (replay_of (replay_in l1 m1 o1 t1 s1) bytes) r l2 m2 o2 t2 s2 → {month : Result Month ℕ} → ScoredAs l l2 m2 t2 month →
         month ≡ month_from l (score_of_log edition l bytes)
     replayed_month l bytes {r} {l2} {m2} {o2} {t2} {s2} p k =
         k.told o2 s2 ∙ ap (λ (x : Replay). month_from l (score_of l x)) (fed_is bytes r l2 m2 o2 t2 s2 p)

@@ -1,5 +1,5 @@
 -- `fleet::station::replayed` meets its contract: the arrays hold the replay of the bytes. Assumes nothing.
-use Rattle.score.specs.Answers.{lease_line}
+use Rattle.score.specs.Lease.{lease_of}
 use Rattle.fleet.proofs.Replays.{may_feed, replayed_month}
 use Rattle.fleet.proofs.station.summed.Reads as summed_reads
 use Rattle.station_log.proofs.stream.begin.Reads as begin_reads
@@ -13,5 +13,5 @@ feed-requires c =
 pub returns : goal.returns
 returns c =
     let args = c.args in
-    replayed_month _ c.requires c.begin.ensures (lease_line args.first_day args.days args.owed) args.bytes.now
+    replayed_month _ c.requires c.begin.ensures (lease_of args.line) args.bytes.now
     c.feed.ensures c.summed.ensures
