@@ -36,8 +36,7 @@ pub fn feed(
 {
     let piece = stream::feed(log, marks, own, tallies, shared, bytes);
     *taken = [piece.taken.0];
-    let refusal = piece.refusal;
-    match refusal {
+    match piece.refusal {
         None => 0,
         Some(why) => u32::from(why),
     }
