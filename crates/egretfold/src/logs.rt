@@ -99,5 +99,6 @@ pub extern "C" fn egretfold_log_trim(
     requires { length log.old ≡ log_length }
     ensures { TrimCrosses log.old marks.old result log.new marks.new }
 {
-    trim::cross(log, marks)
+    trim::trim(log, marks);
+    0
 }
