@@ -84,6 +84,7 @@ pub fn part(
     }
 }
 
+// Kept (design pass 1, C interface): C is told 0 for what isn't there, as a replay's cells have it.
 // Where a replay stands: the number that stopped it; the first refused word's number, and the midnights before it; the
 // midnights so far, the first and the last day; and how many bytes of an unfinished record stand. What isn't there is 0.
 #[derive(Clone, Copy, Debug, PartialEq, Eq)]

@@ -1,10 +1,13 @@
 -- A log replayed in arrays of its own: what they hold in the end is the replay of its bytes, by the edition. Assumes nothing.
 use mathlib.Core.Path.{◌≡◌, sym, ap, ap₂, ◌∙◌, subst}
 use mathlib.Core.Bool.{true}
-use mathlib.Core.List.{List}
+use mathlib.Core.List.{List, []}
+use Rattle.laws.proofs.Choice.{pick_yes}
+use Rattle.refusal.specs.Told.{gives, refuses}
+use Rattle.refusal.specs.Crossing.{status_of}
 use Prim.Native.Nat.{ℕ}
 use Rattle.state.specs.State.{Session}
-use Rattle.state.specs.Start.{is_edition}
+use Rattle.state.specs.Start.{is_edition, edition_told}
 use Rattle.state.specs.Cells.{session_of}
 use Rattle.state.specs.Valid.{Valid}
 use Rattle.state.proofs.Cells as cells
@@ -35,6 +38,9 @@ shows r v {l} {m} {o} {t} {s} h =
 module _ (edition : ℕ) (known : is_edition edition ≡ true) {n : ℕ} {l m o t s l1 m1 o1 t1 s1 : List ℕ}
     (b : Begins edition n l m o t s l1 m1 o1 t1 s1)
   where
+    pub begun_fine : n ≡ 0
+    begun_fine = b.status ∙ unfold edition_told in ap status_of (pick_yes (gives []) (refuses 3) known)
+
     pub may_feed : ReplayGiven l1 m1 o1 t1 s1
     may_feed = begun_given edition known (b.held known)
 

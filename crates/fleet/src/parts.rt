@@ -4,6 +4,7 @@ ghost use Rattle.fleet.specs.Fleet.{most_month};
 ghost use Rattle.fleet.specs.Answers.{AddAsked, added, no_fleet, part_next};
 
 // The number that stands for no station.
+// Kept (design pass 1, what may not change): `no_part`, `joined` and `sums_cells` have 64 for none, and so have the cells that C lends.
 pub const NONE: u64 = crate::STATIONS as u64;
 
 // The station with the smallest served part so far, and its two numbers: NONE, 0 and 0 while none owes anything.

@@ -13,7 +13,13 @@ use refusal::Refusal;
 use state::edition;
 
 // The month of a station, whose log begins at `start`.
-fn month_at(edition: u32, logs: &[u8], numbers: &[u64], start: usize, k: usize) -> Result<Month, u32>
+fn month_at(
+    edition: u32,
+    logs: &[u8],
+    numbers: &[u64],
+    start: usize,
+    k: usize,
+) -> Result<Month, u32>
     requires { MonthAsked edition logs.now numbers.now start k }
     ensures { result ≡ month_from (lease_at numbers.now k) (station_at edition logs.now numbers.now k).score }
 {

@@ -70,7 +70,7 @@ fn replayed(edition: u32, bytes: &[u8], line: LeaseLine) -> Result<Month, u32>
         &mut tallies,
         &mut shared,
         edition,
-    );
+    )?;
     stream::feed(
         &mut log,
         &mut marks,
@@ -90,7 +90,13 @@ fn narrow(number: u64) -> Result<u32, Refusal>
 }
 
 // The month of a station, whose lease line's numbers may be wider than 32 bits: 21 for these.
-pub fn month_of(edition: u32, bytes: &[u8], first_day: u64, days: u64, owed: u64) -> Result<Month, u32>
+pub fn month_of(
+    edition: u32,
+    bytes: &[u8],
+    first_day: u64,
+    days: u64,
+    owed: u64,
+) -> Result<Month, u32>
     requires { is_edition edition ≡ true }
     ensures { result ≡ month_from (lease_line first_day days owed) (score_of_log edition (lease_line first_day days owed) bytes.now) }
 {

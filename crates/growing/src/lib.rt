@@ -19,6 +19,7 @@ use refusal::Refusal;
 use score::line::LeaseLine;
 use state::{edition, own};
 
+// Kept (design pass 6, C interface): C lends a report's eight numbers as one array.
 pub const SUMS: usize = 8;
 
 // Numbers that a report tells: a fleet report's four, and whether a station is named.
@@ -124,7 +125,8 @@ pub fn add_month(sums: &mut [u64; SUMS], served: u64, owed: u64, silent: u64) ->
     requires { SumsGiven sums.old }
     ensures { Crosses (add_month_told (sums_in sums.old) served owed silent) (status_in result) sums.old sums.new }
 {
-    if sums[1] >= MOST_STATIONS {
+    let count = sums[1];
+    if count >= MOST_STATIONS {
         return Err(Refusal::TooManyLogs);
     }
     if !is_month(served, owed, silent) {
@@ -172,6 +174,7 @@ pub fn join(sums: &mut [u64; SUMS], other: &[u64; SUMS]) -> Result<(), Refusal>
     Ok(())
 }
 
+// Kept (design pass 1, C interface): the status of an answer that is never refused.
 // Tells a fleet report's four numbers, and 1 where a station is named: 64 and 0 where none owes anything.
 pub fn tell(sums: &[u64; SUMS], room: &mut [u64; TOLD]) -> u32
     ensures { Shows (told_numbers (sums_in sums.now)) result room.new }

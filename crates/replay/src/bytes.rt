@@ -8,6 +8,7 @@ use crate::own;
 use refusal::Refusal;
 
 // The number of four bytes, low byte first.
+// Kept (design pass 4, C interface): three of them stand as numbers of 32 bits in cells that C lends, so from_le_bytes is no plainer.
 pub fn number(low: u32, second: u32, third: u32, high: u32) -> u32
     requires { NumberAsked low second third high }
     ensures { result ≡ number_from low second third high }

@@ -2,7 +2,6 @@
 ghost use Rattle.std.specs.Prelude.{◌≡◌};
 ghost use Rattle.score.specs.Lease.{lease_of, lease_told, told_judged};
 
-
 use refusal::Refusal;
 
 // The most days of a lease line: the rooms of a month have as many places.

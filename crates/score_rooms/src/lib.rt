@@ -12,6 +12,7 @@ use refusal::Refusal;
 use score::line::LeaseLine;
 use state::edition;
 
+// Kept (design pass 1, C interface): each public function below hands out a status number.
 // The length of a month's room: what was served and owed in all, and the verdict.
 pub const MONTH_NUMBERS: usize = 3;
 

@@ -1,12 +1,11 @@
 // The bytes of a log, one by one and in pieces.
 ghost use Rattle.std.specs.Prelude.{◌≡◌, [], ◌∷◌, ◌+◌, ◌*◌, ◌<◌, ◌≤◌, length, drop};
-ghost use Rattle.refusal.specs.Number.{number_of};
 ghost use Rattle.replay.specs.Places.{log_length};
 ghost use Rattle.station_log.specs.Bytes.{byte_step, open_step};
 ghost use Rattle.station_log.specs.Feed.{replay_of};
 ghost use Rattle.replay.specs.Cells.{ReplayGiven, replay_in};
-ghost use Rattle.replay.specs.Step.{StopNumber};
 ghost use Rattle.station_log.specs.Asked.{Became, Begins, ByteLeft, batch, Gathered, Grew, MoreAsked, MoreGathered, OpenAsked, PieceLeft, RecordsLeft, WordsAsked, WordsLeft, word_at};
+ghost use Rattle.session.specs.Answers.{begun_status};
 ghost use Rattle.replay.specs.Own.{reply_of};
 
 use refusal::Refusal;
@@ -26,8 +25,8 @@ const WORD_KIND: u8 = 1;
 #[derive(Drop)]
 pub struct BytePosition(pub u64);
 
-// Begins a replay that has read nothing, over a new session of an edition, 0; 3 where it is neither 1 nor 2, and nothing is
-// touched then.
+// Kept (design pass 5, C interface): C lends a replay's five arrays one by one, here and in each function below.
+// Begins a replay that has read nothing, over a new session of an edition; 3 where it is neither 1 nor 2, and nothing is touched then.
 pub fn begin(
     log: &mut [u32; replay::LOG_CELLS],
     marks: &mut [u64; replay::MARKS],
@@ -35,17 +34,13 @@ pub fn begin(
     tallies: &mut [u64; state::TALLIES],
     shared: &mut [u32; state::SHARED_CELLS],
     edition: u32,
-) -> u32
-    ensures { Begins edition result log.old marks.old own.old tallies.old shared.old log.new marks.new own.new tallies.new shared.new }
+) -> Result<(), Refusal>
+    ensures { Begins edition (begun_status result) log.old marks.old own.old tallies.old shared.old log.new marks.new own.new tallies.new shared.new }
 {
-    match stream::begin(own, tallies, shared, edition) {
-        Ok(()) => {
-            *log = [0; replay::LOG_CELLS];
-            *marks = [0; replay::MARKS];
-            0
-        }
-        Err(why) => u32::from(why),
-    }
+    stream::begin(own, tallies, shared, edition)?;
+    *log = [0; replay::LOG_CELLS];
+    *marks = [0; replay::MARKS];
+    Ok(())
 }
 
 // Words of records, fed to the session in one piece. A refused one stops the session, so that later ones add nothing.
@@ -68,6 +63,7 @@ fn take_words(
 }
 
 // The word of a record that was read byte by byte.
+// Kept (design pass 2, no plainer): a session answers one word and a piece of words by two functions with answers of two types.
 fn take_word(
     log: &mut [u32; replay::LOG_CELLS],
     own: &mut [u32; state::OWN_CELLS],
@@ -110,18 +106,6 @@ fn open_byte(
     bytes::midnight(log, marks, tallies, value)
 }
 
-// The refusal that stopped a replay.
-fn stop_cause(number: u32) -> Refusal
-    requires { StopNumber number }
-    ensures { number_of result ≡ number }
-{
-    if number == own::BY_KIND {
-        Refusal::RecordKind
-    } else {
-        Refusal::MidnightDay
-    }
-}
-
 // One byte. A replay that was stopped answers the same number again.
 fn read_byte(
     log: &mut [u32; replay::LOG_CELLS],
@@ -136,7 +120,7 @@ fn read_byte(
 {
     let by = log[own::STOPPED_BY];
     if by != 0 {
-        return Err(stop_cause(by));
+        return Err(refusal::with_number(by));
     }
     if log[own::COUNT] == 0 {
         return bytes::kind_byte(log, byte);
@@ -190,6 +174,7 @@ fn gather(bytes: &[u8], at: usize, words: &mut [u32]) -> usize
 {
     let most = records_in(bytes.len() - at);
     let mut n: usize = 0;
+    // Kept (design pass 3, no plainer): a for over eights would count them, and the rest goes by how many words there are.
     while 8 <= most - n {
         let next = gather_next(bytes, at, words, n, 8);
         if next < n + 8 {
@@ -252,8 +237,8 @@ fn grows(log: &mut [u32; replay::LOG_CELLS], byte: u32) -> bool
     false
 }
 
-// One byte by itself: 0 where it was taken, else 18 or 19. Four bytes of five only add to a record and touch the replay's own
-// numbers, so that is asked first; the answer is a number, since an enum of two would be written as two and read as one.
+// One byte by itself: 18 or 19 where it isn't taken. Four bytes of five only add to a record and touch the replay's own numbers, so
+// that is asked first.
 pub fn take_byte(
     log: &mut [u32; replay::LOG_CELLS],
     marks: &mut [u64; replay::MARKS],
@@ -261,18 +246,15 @@ pub fn take_byte(
     tallies: &mut [u64; state::TALLIES],
     shared: &mut [u32; state::SHARED_CELLS],
     byte: u8,
-) -> u32
+) -> Result<(), Refusal>
     requires { ReplayGiven log.old marks.old own.old tallies.old shared.old }
-    ensures { ByteLeft (replay_of (replay_in log.old marks.old own.old tallies.old shared.old) (byte ∷ [])) result log.new marks.new own.new tallies.new shared.new }
+    ensures { ByteLeft (replay_of (replay_in log.old marks.old own.old tallies.old shared.old) (byte ∷ [])) (begun_status result) log.new marks.new own.new tallies.new shared.new }
 {
     let number = u32::from(byte);
     if grows(log, number) {
-        return 0;
+        return Ok(());
     }
-    match read_byte(log, marks, own, tallies, shared, number) {
-        Ok(()) => 0,
-        Err(why) => u32::from(why),
-    }
+    read_byte(log, marks, own, tallies, shared, number)
 }
 
 // What a piece is answered: the bytes taken, which is also the place of the refused byte if there is one; and the refusal.
@@ -294,6 +276,7 @@ pub fn feed(
     requires { ReplayGiven log.old marks.old own.old tallies.old shared.old }
     ensures { PieceLeft (replay_of (replay_in log.old marks.old own.old tallies.old shared.old) bytes.now) result log.new marks.new own.new tallies.new shared.new }
 {
+    // Kept (design pass 3, no plainer): a step takes one byte or a whole row of records.
     let mut i: usize = 0;
     let mut words: [u32; BATCH] = [0; BATCH];
     while i < bytes.len() {

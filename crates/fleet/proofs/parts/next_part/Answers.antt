@@ -10,7 +10,7 @@ returns-then-owed-eq0 c = owes_nothing _ _ _ _ c.if-owed-eq0.true
 pub returns-then-part-eq0 : goal.returns-then-part-eq0
 returns-then-part-eq0 c =
     elim c.then-part-eq0.branch [
-        then-part-eq0-via-then-part-eq0 w ↦ first_part _ _ _ _ c.if-owed-eq0.false w.if-part-eq0.true
+      | then-part-eq0-via-then-part-eq0 w ↦ first_part _ _ _ _ c.if-owed-eq0.false w.if-part-eq0.true
       | then-part-eq0-via-else-part-eq0+then-is_smaller w ↦
           smaller_part _ _ _ _ c.if-owed-eq0.false w.if-part-eq0.false w.is_smaller.ensures w.if-is_smaller.true
     ]

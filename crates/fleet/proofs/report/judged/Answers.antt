@@ -15,7 +15,7 @@ returns-then-numbers-ne0 c =
     let known = sym c.is_known.ensures ∙ c.if-not-is_known.false in
     let by = c.from-then-numbers-ne0.ensures in
     elim c.then-numbers-ne0.branch [
-        then-numbers-ne0-via-then-numbers-ne0 w ↦ not_in_fours _ _ _ _ known w.if-numbers-ne0.true by
+      | then-numbers-ne0-via-then-numbers-ne0 w ↦ not_in_fours _ _ _ _ known w.if-numbers-ne0.true by
       | then-numbers-ne0-via-else-numbers-ne0+then-room-ne-ROOM w ↦ room_not_four _ _ _ _ known w.if-room-ne-ROOM.true by
     ]
 

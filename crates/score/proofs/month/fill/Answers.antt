@@ -27,7 +27,7 @@ overflow_add-total c =
       c.loop-k.invariant.bounded.few_days,
       c.loop-k-test.true,
       counted_most _ _ c.loop-k.invariant c.loop-k-test.true _ _ c.claimed_on-number.ensures
-    (c.min-counted.ensures ∙ ap (min c.claimed_on-number.result) c.from.ensures),
+          (c.min-counted.ensures ∙ ap (min c.claimed_on-number.result) c.from.ensures),
     )
 
 pub loop-k-preserved : goal.loop-k-preserved

@@ -8,7 +8,7 @@ use Rattle.score.proofs.month.score.Goals as goal
 
 pub returns-in_err-judge : goal.returns-in_err-judge
 returns-in_err-judge c =
-    let p = err_from_is_err_and c.from_residual.result c.from_residual.ensures.1 in 
+    let p = err_from_is_err_and c.from_residual.result c.from_residual.ensures.1 in
     rw (p.1, p.2)
     (score_line _ _ _ _ _ _ (was_refused _ _ c.judge.ensures _ c.in_err-judge.was) _ (was_21 _ _ c.judge.ensures _ c.in_err-judge.was))
 

@@ -1,6 +1,6 @@
 -- `log::stream::take_byte` meets its contract. Assumes nothing.
 use native.Mathlib.Omega.{arith}
-use Rattle.station_log.proofs.Singles.{byte_grown, still_given, byte_taken, byte_refused}
+use Rattle.station_log.proofs.Singles.{byte_grown, still_given, byte_read}
 use Rattle.station_log.proofs.stream.take_byte.Goals as goal
 
 -- it only added to a record
@@ -14,14 +14,8 @@ read_byte-requires c = (
   (omega arith),
 )
 
--- it was read and taken
-pub returns-in-Ok : goal.returns-in-Ok
-returns-in-Ok c =
-    byte_taken _ _ _ _ _ c.requires _ _ c.from-number.ensures _ _ c.grows.ensures c.if-grows.false
-    (omega arith) _ _ _ _ _ _ c.read_byte.ensures _ c.in-Ok.is
-
--- it was read and refused
-pub returns-in-Err : goal.returns-in-Err
-returns-in-Err c =
-    byte_refused _ _ _ _ _ c.requires _ _ c.from-number.ensures _ _ c.grows.ensures c.if-grows.false
-    (omega arith) _ _ _ _ _ _ c.read_byte.ensures _ c.in-Err.is _ c.from.ensures
+-- it was read
+pub returns : goal.returns
+returns c =
+    byte_read _ _ _ _ _ c.requires _ _ c.from-number.ensures _ _ c.grows.ensures c.if-grows.false (omega arith) _ _ _ _ _ _
+    c.read_byte.ensures

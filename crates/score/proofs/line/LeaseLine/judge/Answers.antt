@@ -7,7 +7,7 @@ use Rattle.score.proofs.line.LeaseLine.judge.Goals.{then-self-lt1-via-then-self-
 pub returns-then-self-lt1 : goal.returns-then-self-lt1
 returns-then-self-lt1 c =
     elim c.then-self-lt1.branch [
-        then-self-lt1-via-then-self-lt1 w ↦ no_days _ _ _ w.if-self-lt1.true
+      | then-self-lt1-via-then-self-lt1 w ↦ no_days _ _ _ w.if-self-lt1.true
       | then-self-lt1-via-else-self-lt1+then-self-gt-MOST_DAYS w ↦ many_days _ _ _ w.if-self-gt-MOST_DAYS.true
       | then-self-lt1-via-else-self-lt1+else-self-gt-MOST_DAYS+then-self-gt-MOST_OWED w ↦ much_owed _ _ _ w.if-self-gt-MOST_OWED.true
     ]
