@@ -13,6 +13,8 @@ ghost use Rattle.fleet.specs.Join.{joined};
 ghost use Rattle.growing.specs.Sums.{is_month, is_placed, with_month};
 ghost use Rattle.growing.specs.Cells.{AddCrosses, JoinAsked, PutAsked, SumsGiven, add_month_told, begun_told, join_told, number_in, status_in, sums_cells, sums_in, told_numbers, totals_in};
 
+pub mod rooms;
+
 use fleet::parts::{Fleet, Part};
 use fleet::{parts, station};
 use refusal::Refusal;
