@@ -7,7 +7,6 @@ ghost use Rattle.score.specs.Answers.{lease_line};
 ghost use Rattle.growing.specs.Cells.{AddCrosses, SumsGiven, add_month_told, begun_told, join_told, sums_in, told_numbers};
 
 use fleet::report;
-use score::line::LeaseLine;
 
 // What was served and owed in all, the silent days, and the station with the smallest served part; 3, 11 or 22, then the first
 // station's 21, 18 or 19.
@@ -28,10 +27,7 @@ pub extern "C" fn egretfold_fleet_report(
 pub extern "C" fn egretfold_fleet_begin(sums: &mut [u64; growing::SUMS], edition: u32) -> u32
     ensures { Crosses (begun_told edition) result sums.old sums.new }
 {
-    match growing::begin(sums, edition) {
-        Ok(()) => 0,
-        Err(why) => u32::from(why),
-    }
+    growing::rooms::begin(sums, edition)
 }
 
 // One station more, by its replay and lease line; 3 for another edition, 22 for more than 2^32 stations, then 21, 18 or 19.
@@ -49,15 +45,7 @@ pub extern "C" fn egretfold_fleet_add(
     requires { SumsGiven sums.old }
     ensures { AddCrosses (lease_line first_day days owed) log.now marks.now own.now tallies.now result sums.old sums.new }
 {
-    let line = LeaseLine {
-        first_day,
-        days,
-        owed,
-    };
-    match growing::add(sums, log, marks, own, tallies, line) {
-        Ok(()) => 0,
-        Err(number) => number,
-    }
+    growing::rooms::add(sums, log, marks, own, tallies, first_day, days, owed)
 }
 
 // One station more, by its month's numbers; 22 for more than 2^32 stations, then 21 where no month has such numbers.
@@ -71,10 +59,7 @@ pub extern "C" fn egretfold_fleet_add_month(
     requires { SumsGiven sums.old }
     ensures { Crosses (add_month_told (sums_in sums.old) served owed silent) result sums.old sums.new }
 {
-    match growing::add_month(sums, served, owed, silent) {
-        Ok(()) => 0,
-        Err(why) => u32::from(why),
-    }
+    growing::rooms::add_month(sums, served, owed, silent)
 }
 
 // Another report's stations behind these; 3 for another edition, 22 for more than 2^32 stations.
@@ -86,10 +71,7 @@ pub extern "C" fn egretfold_fleet_join(
     requires { SumsGiven sums.old × SumsGiven other.now }
     ensures { Crosses (join_told (sums_in sums.old) (sums_in other.now)) result sums.old sums.new }
 {
-    match growing::join(sums, other) {
-        Ok(()) => 0,
-        Err(why) => u32::from(why),
-    }
+    growing::rooms::join(sums, other)
 }
 
 // A fleet report's four numbers, and 1 where a station is named, 0 where none owes anything.
