@@ -3,7 +3,7 @@ use mathlib.Core.Path.{◌≡◌, refl, sym, ap, ap₂, ◌∙◌}
 use mathlib.Core.List.{List, []}
 use Prim.Native.Nat.{ℕ, zero, suc, ◌+◌, ◌-◌, ◌*◌, ◌<◌, ◌≤◌}
 use native.Mathlib.Omega.{arith}
-use lib.ListN.{length, get_or, get_or-eq_default}
+use lib.ListN.{get_or}
 use borrow.Author.Tests.{eq-eqb, ne_eqb, le-leb, lt-leb}
 use Rattle.laws.proofs.Choice.{pick_yes, pick_no}
 use Rattle.state.specs.State.{Tally, new_session}
@@ -27,10 +27,6 @@ with_first l day =
       last_day = get_or l 4 0;
       unfinished = get_or l 5 0;
     }
-
--- there is no number past the end
-pub past : (numbers : List ℕ) (place : ℕ) → length numbers ≤ place → 0 ≡ get_or numbers place 0
-past numbers place h = sym (get_or-eq_default numbers 0 h)
 
 pub mark_numbers : (runs claims : ℕ) (marks : List ℕ) (k : ℕ) → runs ≡ get_or marks (2 * k) 0 → claims ≡ get_or marks (2 * k + 1) 0 →
     tally runs claims ≡ mark_at marks k

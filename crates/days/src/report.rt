@@ -9,27 +9,17 @@ ghost use Rattle.days.specs.Reported.{midnights_in, now_in, standing_of, tally_o
 use replay::own;
 
 // Runs, and claimed elements.
-#[derive(Drop)]
+#[derive(Clone, Copy, Debug, Default, PartialEq, Eq)]
 pub struct Counts {
     pub runs: u64,
     pub claims: u64,
-}
-
-fn difference(a: u64, b: u64) -> u64
-    ensures { result ≡ a - b }
-{
-    if a < b { 0 } else { a - b }
 }
 
 // The number at a place; 0 past the end.
 fn number_at(numbers: &[u64], place: usize) -> u64
     ensures { result ≡ get_or numbers.now place 0 }
 {
-    if place < numbers.len() {
-        numbers[place]
-    } else {
-        0
-    }
+    numbers.get(place).copied().unwrap_or(0)
 }
 
 // The marks of midnight `k`, counted from 0; 0 and 0 past the room.
@@ -48,7 +38,7 @@ pub fn began(marks: &[u64; replay::MARKS], k: u32) -> Counts
     ensures { tally_of result ≡ began_with marks.now k }
 {
     if k == 0 {
-        Counts { runs: 0, claims: 0 }
+        Counts::default()
     } else {
         mark(marks, k - 1)
     }
@@ -84,19 +74,20 @@ pub fn part(
 {
     let midnights = log[own::MIDNIGHTS];
     if midnights < k {
-        return Counts { runs: 0, claims: 0 };
+        return Counts::default();
     }
     let from = began(marks, k);
     let to = ended(marks, midnights, tallies, k);
     Counts {
-        runs: difference(to.runs, from.runs),
-        claims: difference(to.claims, from.claims),
+        runs: to.runs.saturating_sub(from.runs),
+        claims: to.claims.saturating_sub(from.claims),
     }
 }
 
+// Kept (design pass 1, C interface): C is told 0 for what isn't there, as a replay's cells have it.
 // Where a replay stands: the number that stopped it; the first refused word's number, and the midnights before it; the
 // midnights so far, the first and the last day; and how many bytes of an unfinished record stand. What isn't there is 0.
-#[derive(Drop)]
+#[derive(Clone, Copy, Debug, PartialEq, Eq)]
 pub struct Standing {
     pub stopped_by: u32,
     pub refused: u32,
@@ -114,8 +105,7 @@ fn first_day(midnights: u32, last: u32) -> u32
     if midnights == 0 {
         return 0;
     }
-    let before = midnights - 1;
-    if last < before { 0 } else { last - before }
+    last.saturating_sub(midnights - 1)
 }
 
 pub fn standing_of(log: &[u32; replay::LOG_CELLS]) -> Standing

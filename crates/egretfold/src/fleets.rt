@@ -27,7 +27,7 @@ pub extern "C" fn egretfold_fleet_report(
 pub extern "C" fn egretfold_fleet_begin(sums: &mut [u64; growing::SUMS], edition: u32) -> u32
     ensures { Crosses (begun_told edition) result sums.old sums.new }
 {
-    growing::begin(sums, edition)
+    growing::rooms::begin(sums, edition)
 }
 
 // One station more, by its replay and lease line; 3 for another edition, 22 for more than 2^32 stations, then 21, 18 or 19.
@@ -45,7 +45,7 @@ pub extern "C" fn egretfold_fleet_add(
     requires { SumsGiven sums.old }
     ensures { AddCrosses (lease_line first_day days owed) log.now marks.now own.now tallies.now result sums.old sums.new }
 {
-    growing::add(sums, log, marks, own, tallies, first_day, days, owed)
+    growing::rooms::add(sums, log, marks, own, tallies, first_day, days, owed)
 }
 
 // One station more, by its month's numbers; 22 for more than 2^32 stations, then 21 where no month has such numbers.
@@ -59,7 +59,7 @@ pub extern "C" fn egretfold_fleet_add_month(
     requires { SumsGiven sums.old }
     ensures { Crosses (add_month_told (sums_in sums.old) served owed silent) result sums.old sums.new }
 {
-    growing::add_month(sums, served, owed, silent)
+    growing::rooms::add_month(sums, served, owed, silent)
 }
 
 // Another report's stations behind these; 3 for another edition, 22 for more than 2^32 stations.
@@ -71,7 +71,7 @@ pub extern "C" fn egretfold_fleet_join(
     requires { SumsGiven sums.old × SumsGiven other.now }
     ensures { Crosses (join_told (sums_in sums.old) (sums_in other.now)) result sums.old sums.new }
 {
-    growing::join(sums, other)
+    growing::rooms::join(sums, other)
 }
 
 // A fleet report's four numbers, and 1 where a station is named, 0 where none owes anything.

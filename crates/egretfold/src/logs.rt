@@ -13,7 +13,6 @@ ghost use Rattle.setting_rooms.specs.Rooms.{tally_numbers};
 ghost use Rattle.log_rooms.specs.Rooms.{FeedCrosses, standing_numbers};
 ghost use Rattle.trim.specs.Left.{TrimCrosses};
 
-use station_log::stream;
 
 // A replay that has read nothing, over a new session of an edition; 3.
 #[unsafe(no_mangle)]
@@ -27,7 +26,7 @@ pub extern "C" fn egretfold_log_begin(
 ) -> u32
     ensures { Begins edition result log.old marks.old own.old tallies.old shared.old log.new marks.new own.new tallies.new shared.new }
 {
-    stream::begin(log, marks, own, tallies, shared, edition)
+    log_rooms::begin(log, marks, own, tallies, shared, edition)
 }
 
 // One byte: 0 where it was taken, else 18 or 19.
@@ -43,7 +42,7 @@ pub extern "C" fn egretfold_log_byte(
     requires { ReplayGiven log.old marks.old own.old tallies.old shared.old }
     ensures { ByteLeft (replay_of (replay_in log.old marks.old own.old tallies.old shared.old) (byte ∷ [])) result log.new marks.new own.new tallies.new shared.new }
 {
-    stream::take_byte(log, marks, own, tallies, shared, byte)
+    log_rooms::take_byte(log, marks, own, tallies, shared, byte)
 }
 
 // A piece of bytes: how many were taken, and 18 or 19 for the first that wasn't, if any.
@@ -99,5 +98,6 @@ pub extern "C" fn egretfold_log_trim(
     requires { length log.old ≡ log_length }
     ensures { TrimCrosses log.old marks.old result log.new marks.new }
 {
-    trim::cross(log, marks)
+    trim::trim(log, marks);
+    0
 }

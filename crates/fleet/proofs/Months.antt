@@ -6,6 +6,7 @@ use Prim.Native.Nat.{ℕ, suc, ◌+◌, ◌<◌, ◌≤◌}
 use native.Mathlib.Nat.{le_trans}
 use native.Mathlib.Omega.{arith}
 use lib.Dec.{eqb, ltb}
+use mir.Val.{bool_byte}
 use lib.ListN.{length, get_or}
 use borrow.Author.Tests.{eqb-false, lt-ltb, le-ltb}
 use Rattle.laws.specs.Choice.{◌and◌, pick}
@@ -19,16 +20,25 @@ use Rattle.score.specs.Score.{Score, scored, refused, served_at, score_of, month
 use Rattle.score.specs.Score.{Month as Month'}
 use Rattle.score.specs.Answers.{Left, answer_of, served_after}
 use Rattle.score.specs.declared.month.Totals.{Totals}
-use Rattle.score.specs.declared.month.Scored.{Scored}
-use Rattle.score.specs.declared.month.Scored.TheVariants as answer
+use Rattle.std.specs.Prelude.{Result, Ok, Err}
 use Rattle.score.proofs.Lines.{bounds}
 use Rattle.score.proofs.Scores.{owed_small}
 use Rattle.score.proofs.Promises.{line_first, scored_as}
 use Rattle.score.proofs.Rooms.{room_length}
 use Rattle.score.proofs.Verdicts.{served_month}
 use Rattle.fleet.specs.Fleet.{silent_in, refusal_in, is_refused, served_in, owed_in, silent_days, most_month}
-use Rattle.fleet.specs.Answers.{month_from, refused_month}
+use Rattle.fleet.specs.Answers.{month_from}
 use Rattle.fleet.specs.declared.station.Month.{Month}
+
+-- a test as the number that the code adds for it
+pub as_digit : (t : Bool) → bool_byte t ≡ digit t
+unfolding digit
+as_digit true = refl
+as_digit false = refl
+
+pub digit_most : (t : Bool) → bool_byte t ≤ 1
+digit_most true = omega arith
+digit_most false = omega arith
 
 -- silent days, counted one after the other
 module _ (owed : ℕ) (served : List ℕ) where
@@ -120,8 +130,7 @@ monthly l r = go (tested (is_lease l)) (tested (eqb r.stopped_by 0))
 
 -- a lease line with a number wider than 32 bits is out of its bounds
 module _ (edition : ℕ) (l : Lease) (bytes : List ℕ) where
-  refused_line : is_lease l ≡ false → month_from l (score_of_log edition l bytes) ≡ refused_month 21
-  unfolding refusal_in served_in owed_in silent_days
+  refused_line : is_lease l ≡ false → month_from l (score_of_log edition l bytes) ≡ Err 21
   refused_line e = ap (month_from l) (line_first l e _)
 
   unbounded : (is_lease l ≡ true → ⊥) → is_lease l ≡ false
@@ -131,19 +140,19 @@ module _ (edition : ℕ) (l : Lease) (bytes : List ℕ) where
       go (holds e) = absurd (denied e)
       go (fails e) = e
 
-  pub wide_day : {m : Month} → 4294967295 < l.first_day → m ≡ refused_month 21 → m ≡ month_from l (score_of_log edition l bytes)
+  pub wide_day : {m : Result Month ℕ} → 4294967296 ≤ l.first_day → m ≡ Err 21 → m ≡ month_from l (score_of_log edition l bytes)
   wide_day h k = k ∙ sym (refused_line (unbounded (λ e. no (bounds l e).some_days (bounds l e).no_wrap)))
     where
       no : 1 ≤ l.days → l.first_day + l.days ≤ 4294967296 → ⊥
       no a b = omega arith
 
-  pub wide_days : {m : Month} → 4294967295 < l.days → m ≡ refused_month 21 → m ≡ month_from l (score_of_log edition l bytes)
+  pub wide_days : {m : Result Month ℕ} → 4294967296 ≤ l.days → m ≡ Err 21 → m ≡ month_from l (score_of_log edition l bytes)
   wide_days h k = k ∙ sym (refused_line (unbounded (λ e. no (bounds l e).few_days)))
     where
       no : l.days ≤ 31 → ⊥
       no a = omega arith
 
-  pub wide_owed : {m : Month} → 4294967295 < l.owed → m ≡ refused_month 21 → m ≡ month_from l (score_of_log edition l bytes)
+  pub wide_owed : {m : Result Month ℕ} → 4294967296 ≤ l.owed → m ≡ Err 21 → m ≡ month_from l (score_of_log edition l bytes)
   wide_owed h k = k ∙ sym (refused_line (unbounded (λ e. no (bounds l e).few_owed)))
     where
       no : l.owed ≤ 100000000 → ⊥
@@ -170,36 +179,51 @@ unfolding refusal_in is_refused
 refused_is (scored m) z = absurd (z refl)
 refused_is (refused n) z = refl
 
--- what a score's answer says of the score
-answers_apart : {A : Type 0} {t : Totals} {n : ℕ} → answer.Month t ≡ answer.Refused n → A
+-- a month and a refusal are apart
+answers_apart : {A T : Type 0} {t : T} {n : ℕ} → ◌≡◌ {A = Result T ℕ} (Ok t) (Err n) → A
 answers_apart e = absurd (let z : ◌≡◌ {A = ℕ} 0 1 = cc in omega arith)
 
-same_number : {m n : ℕ} → answer.Refused m ≡ answer.Refused n → m ≡ n
+same_number : {T : Type 0} {m n : ℕ} → ◌≡◌ {A = Result T ℕ} (Err m) (Err n) → m ≡ n
 same_number e = cc
 
-same_totals : {t u : Totals} → answer.Month t ≡ answer.Month u → t ≡ u
-same_totals e = cc
+same_value : {T : Type 0} {t u : T} → ◌≡◌ {A = Result T ℕ} (Ok t) (Ok u) → t ≡ u
+same_value e = cc
 
-pub told_refused : (l : Lease) (s : Score) (n : ℕ) → answer.Refused n ≡ answer_of s → refused_month n ≡ month_from l s
-unfolding refusal_in served_in owed_in silent_days
+-- the numbers of a score that is a month
+abbrev pub month_numbers : Lease → Score → Month
+month_numbers l s = record { served = served_in s; owed = owed_in s; silent = silent_days l s }
+
+-- what a month's answer says of its score
+pub was_month : (l : Lease) (s : Score) {m : Month} → Ok m ≡ month_from l s → (m ≡ month_numbers l s) × (is_refused s ≡ false)
+unfolding is_refused served_in owed_in
+was_month l (scored k) e = (same_value e, refl)
+was_month l (refused n) e = answers_apart e
+
+pub was_number : (l : Lease) (s : Score) {n : ℕ} → Err n ≡ month_from l s → (n ≡ refusal_in s) × (is_refused s ≡ true)
+unfolding is_refused refusal_in
+was_number l (scored k) e = answers_apart (sym e)
+was_number l (refused n) e = (same_number e, refl)
+
+-- what a score's answer says of the month
+pub told_refused : (l : Lease) (s : Score) (n : ℕ) → Err n ≡ answer_of s → Err n ≡ month_from l s
 told_refused l (scored m) n e = answers_apart (sym e)
-told_refused l (refused k) n e = ap refused_month (same_number e)
+told_refused l (refused k) n e = ap Err (same_number e)
 
-pub told_month : (l : Lease) (s : Score) (t : Totals) (room room1 : List ℕ) (silent : ℕ) → answer.Month t ≡ answer_of s →
+pub told_month : (l : Lease) (s : Score) (t : Totals) (room room1 : List ℕ) (silent : ℕ) → Ok t ≡ answer_of s →
     room1 ≡ served_after s room → silent ≡ silent_in l.days l.owed room1 →
-    record { status = 0; served = t.served; owed = t.owed; silent = silent } ≡ month_from l s
-unfolding refusal_in served_in owed_in silent_days
+    Ok (record { served = t.served; owed = t.owed; silent = silent }) ≡ month_from l s
+unfolding silent_days
 told_month l (scored m) t room room1 silent e f k =
     λ i.
-    record {
-      status = 0;
-      served = (same_totals e i).served;
-      owed = (same_totals e i).owed;
+    Ok
+    (record {
+      served = (same_value e i).served;
+      owed = (same_value e i).owed;
       silent = (k ∙ ap (silent_in l.days l.owed) f) i;
-    }
+    })
 told_month l (refused n) t room room1 silent e f k = answers_apart e
 
-pub told_days : (l : Lease) (r : Replay) (t : Totals) → answer.Month t ≡ answer_of (score_of l r) → l.days ≤ 31
+pub told_days : (l : Lease) (r : Replay) (t : Totals) → Ok t ≡ answer_of (score_of l r) → l.days ≤ 31
 told_days l r t e = go (tested (is_lease l))
   where
     go : Tested (is_lease l) → l.days ≤ 31
@@ -207,12 +231,12 @@ told_days l r t e = go (tested (is_lease l))
     go (fails k) = answers_apart (e ∙ ap answer_of (line_first l k r))
 
 -- a month's room has a number for each of 31 days
-pub served_length : (l : Lease) (r : Replay) {a : Scored} {t : Totals} {claimed served claimed1 served1 : List ℕ} →
-    Left (score_of l r) a claimed served claimed1 served1 → a ≡ answer.Month t → length served1 ≡ 31
+pub served_length : (l : Lease) (r : Replay) {a : Result Totals ℕ} {t : Totals} {claimed served claimed1 served1 : List ℕ} →
+    Left (score_of l r) a claimed served claimed1 served1 → a ≡ Ok t → length served1 ≡ 31
 served_length l r {a} {t} {claimed} {served} {claimed1} {served1} left e =
     go (score_of l r) refl (sym e ∙ left.answer) left.served_room
   where
-    go : (s : Score) → score_of l r ≡ s → answer.Month t ≡ answer_of s → served1 ≡ served_after s served → length served1 ≡ 31
+    go : (s : Score) → score_of l r ≡ s → Ok t ≡ answer_of s → served1 ≡ served_after s served → length served1 ≡ 31
     go (scored m) is a room =
         ap length room ∙ ap (λ (x : Month'). length x.served) (scored_as l r m is).month ∙ room_length (served_at l r) l.days
     go (refused n) is a room = answers_apart a

@@ -39,7 +39,8 @@ use Rattle.fleet.specs.declared.station.Month.{Month}
 use Rattle.fleet.specs.declared.parts.Part.{Part}
 use Rattle.fleet.specs.declared.parts.Fleet.{Fleet}
 use Rattle.fleet.proofs.Least.{least_is, least_none}
-use Rattle.fleet.proofs.Months.{Monthly, monthly, zero_fine, refused_is}
+use Rattle.fleet.proofs.Months.{Monthly, monthly, month_numbers, was_month, was_number}
+use Rattle.std.specs.Prelude.{Result, Ok, Err}
 use Rattle.fleet.proofs.Slices.{start_next, start_most}
 use Rattle.fleet.proofs.Smallest.{Best, none, best, best_next, best_named}
 
@@ -112,17 +113,20 @@ module _ (edition : ℕ) (logs numbers : List ℕ) where
     pub start_fits : k < n → start + length_at numbers k ≤ length logs
     start_fits h = (month_asked h).inside
 
-    module _ {month : Month} (is : month ≡ month_from (lease_at numbers k) (f k).score) where
+    module _ {answer : Result Month ℕ} (is : answer ≡ month_from (lease_at numbers k) (f k).score) where
       -- the first refused station is told
-      pub summing_refused : k < n → (month.status ≡ 0 → ⊥) → refuses month.status ≡ fleet_told n f
+      pub summing_refused : k < n → {number : ℕ} → answer ≡ Err number → refuses number ≡ fleet_told n f
       unfolding fleet_told first_refused
-      summing_refused h z =
-          let number : month.status ≡ refusal_in (f k).score = ap (λ (m : Month). m.status) is in
+      summing_refused h {number} e =
+          let was = was_number (lease_at numbers k) (f k).score (sym e ∙ is) in
           let first : least n (λ j. is_refused (f j).score) ≡ k =
-          least_is n (λ j. is_refused (f j).score) k h (refused_is (f k).score (λ e. z (number ∙ e))) a.none_refused
+          least_is n (λ j. is_refused (f j).score) k h was.1 a.none_refused
           in
-          ap refuses (number ∙ ap (λ (j : ℕ). refusal_in (f j).score) (sym first)) ∙
+          ap refuses (was.0 ∙ ap (λ (j : ℕ). refusal_in (f j).score) (sym first)) ∙
           sym (pick_yes _ _ (ap (λ (j : ℕ). ltb j n) first ∙ lt-ltb k n h))
+
+      month_is : {month : Month} → answer ≡ Ok month → (month ≡ month_numbers (f k).lease (f k).score) × (is_refused (f k).score ≡ false)
+      month_is e = was_month (lease_at numbers k) (f k).score (sym e ∙ is)
 
       part_bounds : (p : Part) → Best served owed k p → (p.served ≤ most_month) × (p.owed ≤ most_month)
       part_bounds p (none h) = (omega arith, omega arith)
@@ -131,9 +135,9 @@ module _ (edition : ℕ) (logs numbers : List ℕ) where
       few : k < n → k ≤ 63
       few h = omega (arith, a.asked.few)
 
-      pub add_asked : k < n → AddAsked fleet month.served month.owed month.silent
-      add_asked h =
-          subst (λ (m : Month). AddAsked fleet m.served m.owed m.silent) (sym is)
+      pub add_asked : k < n → {month : Month} → answer ≡ Ok month → AddAsked fleet month.served month.owed month.silent
+      add_asked h e =
+          subst (λ (m : Month). AddAsked fleet m.served m.owed m.silent) (sym (month_is e).0)
           (record {
             served_month = (bounded k).served_most;
             owed_month = (bounded k).owed_most;
@@ -146,18 +150,18 @@ module _ (edition : ℕ) (logs numbers : List ℕ) where
           })
 
       -- one station more
-      pub summing_goes : k < n → month.status ≡ 0 → {fleet1 : Fleet} →
+      pub summing_goes : k < n → {month : Month} → answer ≡ Ok month → {fleet1 : Fleet} →
           fleet1 ≡ added fleet k month.served month.owed month.silent → Summing fleet1 (start + length_at numbers k) (k + 1)
-      summing_goes h z {fleet1} e = subst (λ (x : Fleet). Summing x (start + length_at numbers k) (k + 1)) (sym (e ∙ from_score)) more
+      summing_goes h {month} z {fleet1} e = subst (λ (x : Fleet). Summing x (start + length_at numbers k) (k + 1)) (sym (e ∙ from_score)) more
         where
           from_score : added fleet k month.served month.owed month.silent ≡ added fleet k (served k) (owed k) (silent k)
-          from_score = ap (λ (m : Month). added fleet k m.served m.owed m.silent) is
+          from_score = ap (λ (m : Month). added fleet k m.served m.owed m.silent) (month_is z).0
 
           one_on : k + 1 ≡ suc k
           one_on = omega arith
 
           fine : is_refused (f k).score ≡ false
-          fine = zero_fine (f k).lease _ (sym (ap (λ (m : Month). m.status) is) ∙ z)
+          fine = (month_is z).1
 
           one_more : (j : ℕ) → j < k + 1 → is_refused (f j).score ≡ false
           one_more j l = go (tested (ltb j k))

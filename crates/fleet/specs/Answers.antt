@@ -1,7 +1,9 @@
 -- What the routines of a report ask, and what their answers tell. Assumes nothing.
-use Rattle.std.specs.Prelude.{◌≡◌, true, List, [], ◌∷◌, ℕ, ◌+◌, ◌*◌, ◌%◌, ◌<◌, ◌≤◌, eqb, ltb, length}
+use Rattle.std.specs.Prelude.{◌≡◌, true, List, [], ◌∷◌, ℕ, ◌+◌, ◌*◌, ◌%◌, ◌<◌, ◌≤◌, eqb, ltb, length, Result, Ok, Err}
 use Rattle.laws.specs.Choice.{pick}
 use Rattle.refusal.specs.Told.{Told, gives, refuses}
+use Rattle.refusal.specs.declared.Refusal.{Refusal}
+use Rattle.refusal.specs.declared.Refusal.TheVariants.{LeaseLine}
 use Rattle.state.specs.Start.{is_edition}
 use Rattle.replay.specs.Cells.{replay_in}
 use Rattle.score.specs.Lease.{Lease}
@@ -10,20 +12,20 @@ use Rattle.fleet.specs.Fleet.{refusal_in, served_in, owed_in, silent_days, most_
 use Rattle.fleet.specs.declared.station.Month.{Month}
 use Rattle.fleet.specs.declared.parts.Part.{Part}
 use Rattle.fleet.specs.declared.parts.Fleet.{Fleet}
-use Rattle.fleet.specs.declared.report.Reported.{Reported}
-use Rattle.fleet.specs.declared.report.Reported.TheVariants as reported
 
--- a station's month in the code's numbers
-abbrev pub month_from : Lease → Score → Month
-month_from l s = record { status = refusal_in s; served = served_in s; owed = owed_in s; silent = silent_days l s }
-
--- that of a refused one
-abbrev pub refused_month : ℕ → Month
-refused_month n = record { status = n; served = 0; owed = 0; silent = 0 }
+-- a station's month in the code's numbers, or the number of the refusal
+abbrev pub month_from : Lease → Score → Result Month ℕ
+month_from l (scored m) = Ok (record { served = m.totals.served; owed = m.totals.owed; silent = silent_days l (scored m) })
+month_from l (refused n) = Err n
 
 -- that of a replay, whatever its session's other arrays hold
-pub record ScoredAs (l : Lease) (log marks tallies : List ℕ) (r : Month) : Type 0 where
+pub record ScoredAs (l : Lease) (log marks tallies : List ℕ) (r : Result Month ℕ) : Type 0 where
   pub told : (own shared : List ℕ) → r ≡ month_from l (score_of l (replay_in log marks own tallies shared))
+
+-- a number in 32 bits, or the refusal of a lease line with a wider one
+abbrev pub narrowed : Result ℕ Refusal → ℕ → Type 0
+narrowed (Ok n) number = n ≡ number
+narrowed (Err why) number = (why ≡ LeaseLine) × (4294967296 ≤ number)
 
 -- no station yet
 abbrev pub no_fleet : Fleet
@@ -74,16 +76,15 @@ pub record MonthAsked (edition : ℕ) (logs numbers : List ℕ) (start k : ℕ) 
   pub begins : start ≡ start_at numbers k
   pub inside : start + length_at numbers k ≤ length logs
 
--- the same with a room of four
-pub record CountedAsked (edition : ℕ) (logs numbers room : List ℕ) : Type 0 where
+-- the same of any number of stations
+pub record CountedAsked (edition : ℕ) (logs numbers : List ℕ) : Type 0 where
   pub known : is_edition edition ≡ true
   pub fours : length numbers % 4 ≡ 0
   pub slice : add_up numbers (length logs) ≡ true
-  pub room_length : length room ≡ 4
 
 abbrev pub fleet_numbers : Fleet → List ℕ
 fleet_numbers f = f.served ∷ f.owed ∷ f.silent ∷ f.part.station ∷ []
 
-abbrev pub told_reported : Reported → Told
-told_reported (reported.Is f) = gives (fleet_numbers f)
-told_reported (reported.Refused n) = refuses n
+abbrev pub told_reported : Result Fleet ℕ → Told
+told_reported (Ok f) = gives (fleet_numbers f)
+told_reported (Err n) = refuses n

@@ -8,14 +8,12 @@ pub fn add_up(numbers: &[u64], slice: u64) -> bool
     ensures { result ≡ add_up numbers.now slice }
 {
     let mut left = slice;
-    let mut k: usize = 0;
-    while k < numbers.len() / crate::NUMBERS {
+    for k in 0..numbers.len() / crate::NUMBERS {
         let log = numbers[crate::NUMBERS * k];
         if left < log {
             return false;
         }
         left = left - log;
-        k = k + 1;
     }
     left == 0
 }

@@ -7,6 +7,7 @@ pub mod parts;
 pub mod report;
 pub mod station;
 
+// Kept (design pass 6, C interface): C lends four numbers a station in one slice.
 // Numbers of a station: its log's length, first day, days, and the elements owed a day.
 pub const NUMBERS: usize = 4;
 

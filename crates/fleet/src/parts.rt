@@ -4,10 +4,11 @@ ghost use Rattle.fleet.specs.Fleet.{most_month};
 ghost use Rattle.fleet.specs.Answers.{AddAsked, added, no_fleet, part_next};
 
 // The number that stands for no station.
+// Kept (design pass 1, what may not change): `no_part`, `joined` and `sums_cells` have 64 for none, and so have the cells that C lends.
 pub const NONE: u64 = crate::STATIONS as u64;
 
 // The station with the smallest served part so far, and its two numbers: NONE, 0 and 0 while none owes anything.
-#[derive(Drop)]
+#[derive(Clone, Copy, Debug, PartialEq, Eq)]
 pub struct Part {
     pub station: u64,
     pub served: u64,
@@ -15,7 +16,7 @@ pub struct Part {
 }
 
 // What the stations so far come to.
-#[derive(Drop)]
+#[derive(Clone, Copy, Debug, PartialEq, Eq)]
 pub struct Fleet {
     pub served: u64,
     pub owed: u64,
@@ -40,14 +41,7 @@ pub fn next_part(part: Part, number: u64, served: u64, owed: u64) -> Part
     if owed == 0 {
         return part;
     }
-    if part.owed == 0 {
-        return Part {
-            station: number,
-            served,
-            owed,
-        };
-    }
-    if is_smaller(served, owed, part.served, part.owed) {
+    if part.owed == 0 || is_smaller(served, owed, part.served, part.owed) {
         return Part {
             station: number,
             served,

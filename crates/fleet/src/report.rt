@@ -12,15 +12,14 @@ use crate::{lengths, parts, station};
 use refusal::Refusal;
 use state::edition;
 
-// What the stations come to, or the number of the first refusal.
-#[derive(Drop)]
-enum Reported {
-    Is(Fleet),
-    Refused(u32),
-}
-
 // The month of a station, whose log begins at `start`.
-fn month_at(edition: u32, logs: &[u8], numbers: &[u64], start: usize, k: usize) -> Month
+fn month_at(
+    edition: u32,
+    logs: &[u8],
+    numbers: &[u64],
+    start: usize,
+    k: usize,
+) -> Result<Month, u32>
     requires { MonthAsked edition logs.now numbers.now start k }
     ensures { result ≡ month_from (lease_at numbers.now k) (station_at edition logs.now numbers.now k).score }
 {
@@ -32,24 +31,19 @@ fn month_at(edition: u32, logs: &[u8], numbers: &[u64], start: usize, k: usize) 
     station::month_of(edition, &logs[start..end], first_day, days, owed)
 }
 
-// The stations one after the other, up to the first refused one. `start` is where the next log begins.
-fn stations(edition: u32, logs: &[u8], numbers: &[u64]) -> Reported
+// What the stations come to one after the other, or the number of the first refusal. `start` is where the next log begins.
+fn stations(edition: u32, logs: &[u8], numbers: &[u64]) -> Result<Fleet, u32>
     requires { FleetAsked edition logs.now numbers.now }
     ensures { told_reported result ≡ fleet_in edition logs.now numbers.now }
 {
     let mut fleet = parts::none();
     let mut start: usize = 0;
-    let mut k: usize = 0;
-    while k < numbers.len() / crate::NUMBERS {
-        let month = month_at(edition, logs, numbers, start, k);
-        if month.status != 0 {
-            return Reported::Refused(month.status);
-        }
+    for k in 0..numbers.len() / crate::NUMBERS {
+        let month = month_at(edition, logs, numbers, start, k)?;
         fleet = parts::add(fleet, k as u64, month.served, month.owed, month.silent);
-        start = start + numbers[crate::NUMBERS * k] as usize;
-        k = k + 1;
+        start += numbers[crate::NUMBERS * k] as usize;
     }
-    Reported::Is(fleet)
+    Ok(fleet)
 }
 
 // Writes the four numbers of a report.
@@ -64,39 +58,30 @@ fn write(room: &mut [u64], fleet: Fleet)
 }
 
 // The report where all lengths are right: 22, then what the stations come to.
-fn counted(edition: u32, logs: &[u8], numbers: &[u64], room: &mut [u64]) -> u32
-    requires { CountedAsked edition logs.now numbers.now room.old }
-    ensures { Crosses (counted_told edition logs.now numbers.now) result room.old room.new }
+fn counted(edition: u32, logs: &[u8], numbers: &[u64]) -> Result<Fleet, u32>
+    requires { CountedAsked edition logs.now numbers.now }
+    ensures { told_reported result ≡ counted_told edition logs.now numbers.now }
 {
     if crate::STATIONS < numbers.len() / crate::NUMBERS {
-        return u32::from(Refusal::TooManyLogs);
+        return Err(u32::from(Refusal::TooManyLogs));
     }
-    let answer = stations(edition, logs, numbers);
-    match answer {
-        Reported::Refused(number) => number,
-        Reported::Is(fleet) => {
-            write(room, fleet);
-            0
-        }
-    }
+    stations(edition, logs, numbers)
 }
 
-// The report of an edition that is one of the two: 11 for the lengths first.
-fn judged(edition: u32, logs: &[u8], numbers: &[u64], room: &mut [u64]) -> u32
-    requires { is_edition edition ≡ true }
-    ensures { Crosses (judged_told edition logs.now numbers.now (length room.old)) result room.old room.new }
+// The report by the length of the room: 3 for the edition, then 11 for the lengths.
+fn judged(edition: u32, logs: &[u8], numbers: &[u64], room: usize) -> Result<Fleet, u32>
+    ensures { told_reported result ≡ report_told edition logs.now numbers.now room }
 {
-    if numbers.len() % crate::NUMBERS != 0 {
-        return u32::from(Refusal::WrongLength);
+    if !edition::is_known(edition) {
+        return Err(u32::from(Refusal::Malformed));
     }
-    if room.len() != crate::ROOM {
-        return u32::from(Refusal::WrongLength);
+    if numbers.len() % crate::NUMBERS != 0 || room != crate::ROOM {
+        return Err(u32::from(Refusal::WrongLength));
     }
-    let whole = lengths::add_up(numbers, logs.len() as u64);
-    if whole {
-        return counted(edition, logs, numbers, room);
+    if !lengths::add_up(numbers, logs.len() as u64) {
+        return Err(u32::from(Refusal::WrongLength));
     }
-    u32::from(Refusal::WrongLength)
+    counted(edition, logs, numbers)
 }
 
 // The report of a fleet: the logs as one slice, four numbers a station, and a room of four: what was served and owed in all, the silent
@@ -104,8 +89,11 @@ fn judged(edition: u32, logs: &[u8], numbers: &[u64], room: &mut [u64]) -> u32
 pub fn report(edition: u32, logs: &[u8], numbers: &[u64], room: &mut [u64]) -> u32
     ensures { Crosses (report_told edition logs.now numbers.now (length room.old)) result room.old room.new }
 {
-    if edition::is_known(edition) {
-        return judged(edition, logs, numbers, room);
+    match judged(edition, logs, numbers, room.len()) {
+        Ok(fleet) => {
+            write(room, fleet);
+            0
+        }
+        Err(number) => number,
     }
-    u32::from(Refusal::Malformed)
 }

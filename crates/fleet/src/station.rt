@@ -1,36 +1,22 @@
 // One station: its log replayed and scored under its lease line.
-ghost use Rattle.std.specs.Prelude.{◌≡◌, true, ◌≤◌, eqb, length};
-ghost use Rattle.laws.specs.Masks.{digit};
+ghost use Rattle.std.specs.Prelude.{◌≡◌, true, ◌≤◌, length};
 ghost use Rattle.state.specs.Start.{is_edition};
+ghost use Rattle.score.specs.Lease.{lease_of};
 ghost use Rattle.score.specs.Answers.{lease_line};
 ghost use Rattle.score.specs.Score.{score_of_log};
 ghost use Rattle.fleet.specs.Fleet.{silent_in};
-ghost use Rattle.fleet.specs.Answers.{ScoredAs, month_from, refused_month};
+ghost use Rattle.fleet.specs.Answers.{ScoredAs, month_from, narrowed};
 
-use score::month::Scored;
+use refusal::Refusal;
+use score::line::LeaseLine;
 use station_log::stream;
 
-// The greatest number of 32 bits: a lease line with a wider one is out of its bounds.
-const WIDEST: u64 = 4294967295;
-
-// The number of a lease line out of its bounds: that of refusal::Refusal::LeaseLine.
-const LEASE_LINE: u32 = 21;
-
-// What a station's month comes to; of a refused one the number of the refusal, and 0 and 0 and 0.
-#[derive(Drop)]
+// What a station's month comes to.
+#[derive(Clone, Copy, Debug, PartialEq, Eq)]
 pub struct Month {
-    pub status: u32,
     pub served: u64,
     pub owed: u64,
     pub silent: u64,
-}
-
-// 1 for a day that is served 0, 0 for another.
-fn one_if_silent(served: u64) -> u64
-    ensures value { result ≡ digit (eqb served 0) }
-    ensures most { result ≤ 1 }
-{
-    if served == 0 { 1 } else { 0 }
 }
 
 // The days of a lease line that owe something and are served 0, by the month's room of served numbers.
@@ -42,57 +28,35 @@ fn silent_days(served: &[u64; score::DAYS], days: u32, owed: u32) -> u64
         return 0;
     }
     let mut silent = 0u64;
-    let mut k = 0u32;
-    while k < days {
-        silent += one_if_silent(served[k as usize]);
-        k += 1;
+    for k in 0..days {
+        silent += u64::from(served[k as usize] == 0);
     }
     silent
 }
 
-// The month of a replay.
+// The month of a replay, or the number of its score's refusal.
 pub fn summed(
     log: &[u32; replay::LOG_CELLS],
     marks: &[u64; replay::MARKS],
     tallies: &[u64; state::TALLIES],
-    first_day: u32,
-    days: u32,
-    owed: u32,
-) -> Month
-    ensures { ScoredAs (lease_line first_day days owed) log.now marks.now tallies.now result }
+    line: LeaseLine,
+) -> Result<Month, u32>
+    ensures { ScoredAs (lease_of line) log.now marks.now tallies.now result }
 {
     let mut claimed: [u64; score::DAYS] = [0; score::DAYS];
     let mut served: [u64; score::DAYS] = [0; score::DAYS];
-    let answer = score::month::score(
-        log,
-        marks,
-        tallies,
-        first_day,
-        days,
-        owed,
-        &mut claimed,
-        &mut served,
-    );
-    match answer {
-        Scored::Refused(number) => Month {
-            status: number,
-            served: 0,
-            owed: 0,
-            silent: 0,
-        },
-        Scored::Month(totals) => Month {
-            status: 0,
-            served: totals.served,
-            owed: totals.owed,
-            silent: silent_days(&served, days, owed),
-        },
-    }
+    let totals = score::month::score(log, marks, tallies, line, &mut claimed, &mut served)?;
+    Ok(Month {
+        served: totals.served,
+        owed: totals.owed,
+        silent: silent_days(&served, line.days, line.owed),
+    })
 }
 
 // The month of a log, replayed in arrays of its own.
-fn replayed(edition: u32, bytes: &[u8], first_day: u32, days: u32, owed: u32) -> Month
+fn replayed(edition: u32, bytes: &[u8], line: LeaseLine) -> Result<Month, u32>
     requires { is_edition edition ≡ true }
-    ensures { result ≡ month_from (lease_line first_day days owed) (score_of_log edition (lease_line first_day days owed) bytes.now) }
+    ensures { result ≡ month_from (lease_of line) (score_of_log edition (lease_of line) bytes.now) }
 {
     let mut log: [u32; replay::LOG_CELLS] = [0; replay::LOG_CELLS];
     let mut marks: [u64; replay::MARKS] = [0; replay::MARKS];
@@ -106,7 +70,7 @@ fn replayed(edition: u32, bytes: &[u8], first_day: u32, days: u32, owed: u32) ->
         &mut tallies,
         &mut shared,
         edition,
-    );
+    )?;
     stream::feed(
         &mut log,
         &mut marks,
@@ -115,34 +79,31 @@ fn replayed(edition: u32, bytes: &[u8], first_day: u32, days: u32, owed: u32) ->
         &mut shared,
         bytes,
     );
-    summed(&log, &marks, &tallies, first_day, days, owed)
+    summed(&log, &marks, &tallies, line)
 }
 
-// The month of a lease line out of its bounds.
-fn out_of_bounds() -> Month
-    ensures { result ≡ refused_month 21 }
+// A number of a lease line in 32 bits: a wider one is out of its bounds, 21.
+fn narrow(number: u64) -> Result<u32, Refusal>
+    ensures { narrowed result number }
 {
-    Month {
-        status: LEASE_LINE,
-        served: 0,
-        owed: 0,
-        silent: 0,
-    }
+    u32::try_from(number).map_err(|_| Refusal::LeaseLine)
 }
 
 // The month of a station, whose lease line's numbers may be wider than 32 bits: 21 for these.
-pub fn month_of(edition: u32, bytes: &[u8], first_day: u64, days: u64, owed: u64) -> Month
+pub fn month_of(
+    edition: u32,
+    bytes: &[u8],
+    first_day: u64,
+    days: u64,
+    owed: u64,
+) -> Result<Month, u32>
     requires { is_edition edition ≡ true }
     ensures { result ≡ month_from (lease_line first_day days owed) (score_of_log edition (lease_line first_day days owed) bytes.now) }
 {
-    if WIDEST < first_day {
-        return out_of_bounds();
-    }
-    if WIDEST < days {
-        return out_of_bounds();
-    }
-    if WIDEST < owed {
-        return out_of_bounds();
-    }
-    replayed(edition, bytes, first_day as u32, days as u32, owed as u32)
+    let line = LeaseLine {
+        first_day: narrow(first_day)?,
+        days: narrow(days)?,
+        owed: narrow(owed)?,
+    };
+    replayed(edition, bytes, line)
 }

@@ -25,7 +25,8 @@ use Rattle.fleet.specs.Join.{joined}
 use Rattle.fleet.specs.declared.station.Month.{Month}
 use Rattle.fleet.specs.declared.parts.Part.{Part}
 use Rattle.fleet.specs.declared.parts.Fleet.{Fleet}
-use Rattle.fleet.proofs.Months.{monthly, zero_fine, refused_is}
+use Rattle.fleet.proofs.Months.{monthly, month_numbers, was_month, was_number}
+use Rattle.std.specs.Prelude.{Result, Ok, Err}
 use Rattle.growing.specs.Sums.{Sums, no_sums, with_month, with_station, joined_sums, most_stations, is_month, is_placed, SumsValid}
 use Rattle.growing.specs.Cells.{
   totals_in,
@@ -135,48 +136,43 @@ module _ (l : Lease) (log marks own tallies sums : List ℕ) where
               crosses_refuses _ r 22 sums k (pick_yes _ _ (its_own shared) ∙ pick_no _ _ (le-ltb (get_or sums 1 0) most_stations h));
         }
 
-    module _ (less : get_or sums 1 0 < most_stations) {month : Month} (is : ScoredAs l log marks tallies month) where
-      as_scored : (shared : List ℕ) → month ≡ record {
-        status = refusal_in (score_of l (replay shared));
-        served = served_in (score_of l (replay shared));
-        owed = owed_in (score_of l (replay shared));
-        silent = silent_days l (score_of l (replay shared));
-      }
-      as_scored shared = is.told own shared
-
+    module _ (less : get_or sums 1 0 < most_stations) {answer : Result Month ℕ} (is : ScoredAs l log marks tallies answer) where
       -- the station is refused
-      pub refused_as : (month.status ≡ 0 → ⊥) → AddCrosses l log marks own tallies month.status sums sums
+      pub refused_as : {number : ℕ} → answer ≡ Err number → AddCrosses l log marks own tallies number sums sums
       unfolding add_told
-      refused_as ne =
+      refused_as {number} e =
           record {
             told =
                 λ shared.
-                let number : month.status ≡ refusal_in (score_of l (replay shared)) = ap (λ (m : Month). m.status) (as_scored shared) in
-                crosses_refuses _ month.status (refusal_in (score_of l (replay shared))) sums number
-                (pick_yes _ _ (its_own shared) ∙ pick_yes _ _ (lt-ltb (get_or sums 1 0) most_stations less) ∙
-                pick_yes _ _ (refused_is (score_of l (replay shared)) (λ z. ne (number ∙ z))));
+                let was = was_number l (score_of l (replay shared)) (sym e ∙ is.told own shared) in
+                crosses_refuses _ number (refusal_in (score_of l (replay shared))) sums was.0
+                (pick_yes _ _ (its_own shared) ∙ pick_yes _ _ (lt-ltb (get_or sums 1 0) most_stations less) ∙ pick_yes _ _ was.1);
           }
 
-      -- its month has room
-      pub may_put : SumsGiven sums → PutAsked sums month.served month.owed month.silent
-      may_put g =
-          subst (λ (m : Month). PutAsked sums m.served m.owed m.silent) (sym (as_scored []))
-          (record { given = g; room = less; month = score_month l (replay []) })
+      module _ {month : Month} (e : answer ≡ Ok month) where
+        as_scored : (shared : List ℕ) → month ≡ month_numbers l (score_of l (replay shared))
+        as_scored shared = (was_month l (score_of l (replay shared)) (sym e ∙ is.told own shared)).0
 
-      -- the station is added
-      pub added_as : month.status ≡ 0 → {sums1 : List ℕ} →
-          sums1 ≡ sums_cells (with_month (sums_in sums) month.served month.owed month.silent) →
-          AddCrosses l log marks own tallies 0 sums sums1
-      unfolding add_told
-      added_as z {sums1} c =
-          record {
-            told =
-                λ shared.
-                crosses_into
-                (pick_yes _ _ (its_own shared) ∙ pick_yes _ _ (lt-ltb (get_or sums 1 0) most_stations less) ∙
-                pick_no _ _ (zero_fine l (replay shared) (sym (ap (λ (m : Month). m.status) (as_scored shared)) ∙ z)))
-                (c ∙ ap (λ (m : Month). sums_cells (with_month (sums_in sums) m.served m.owed m.silent)) (as_scored shared));
-          }
+        -- its month has room
+        pub may_put : SumsGiven sums → PutAsked sums month.served month.owed month.silent
+        may_put g =
+            subst (λ (m : Month). PutAsked sums m.served m.owed m.silent) (sym (as_scored []))
+            (record { given = g; room = less; month = score_month l (replay []) })
+
+        -- the station is added
+        pub added_as : {sums1 : List ℕ} →
+            sums1 ≡ sums_cells (with_month (sums_in sums) month.served month.owed month.silent) →
+            AddCrosses l log marks own tallies 0 sums sums1
+        unfolding add_told
+        added_as {sums1} c =
+            record {
+              told =
+                  λ shared.
+                  crosses_into
+                  (pick_yes _ _ (its_own shared) ∙ pick_yes _ _ (lt-ltb (get_or sums 1 0) most_stations less) ∙
+                  pick_no _ _ (was_month l (score_of l (replay shared)) (sym e ∙ is.told own shared)).1)
+                  (c ∙ ap (λ (m : Month). sums_cells (with_month (sums_in sums) m.served m.owed m.silent)) (as_scored shared));
+            }
 
 -- a month by its numbers
 module _ (sums : List ℕ) (served owed silent : ℕ) where

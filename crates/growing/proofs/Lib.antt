@@ -1,4 +1,3 @@
 pub mod Adding
 pub mod Calls
 pub mod Growing
-pub mod Judging

@@ -1,8 +1,10 @@
 -- The sums in eight numbers that a caller lends, and what the calls on them tell. Assumes nothing.
-use Rattle.std.specs.Prelude.{◌≡◌, true, List, [], ◌∷◌, ℕ, ◌+◌, ◌*◌, ◌<◌, ◌≤◌, eqb, leb, ltb, length, get_or}
+use Rattle.std.specs.Prelude.{◌≡◌, true, List, [], ◌∷◌, ℕ, ◌+◌, ◌*◌, ◌<◌, ◌≤◌, eqb, leb, ltb, length, get_or, Result, Ok, Err}
 use Rattle.laws.specs.Choice.{pick}
 use Rattle.refusal.specs.Told.{Told, gives, refuses}
 use Rattle.refusal.specs.Crossing.{Crosses}
+use Rattle.refusal.specs.Number.{number_of}
+use Rattle.refusal.specs.declared.Refusal.{Refusal}
 use Rattle.state.specs.Start.{is_edition}
 use Rattle.replay.specs.State.{Replay}
 use Rattle.replay.specs.Cells.{replay_in}
@@ -28,6 +30,16 @@ abbrev pub sums_cells : Sums → List ℕ
 sums_cells a =
     a.edition ∷ a.count ∷ a.fleet.served ∷ a.fleet.owed ∷ a.fleet.silent ∷ a.fleet.part.station ∷
     a.fleet.part.served ∷ a.fleet.part.owed ∷ []
+
+-- an answer as the status that it is handed out as: 0, or the refusal's number
+abbrev pub status_in : Result (Unit {0}) Refusal → ℕ
+status_in (Ok _) = 0
+status_in (Err why) = number_of why
+
+-- the same of one whose refusal is a number already
+abbrev pub number_in : Result (Unit {0}) ℕ → ℕ
+number_in (Ok _) = 0
+number_in (Err number) = number
 
 -- eight numbers that hold valid sums
 pub record SumsGiven (l : List ℕ) : Type 0 where

@@ -4,21 +4,24 @@
 // owes 0 there is none. A refusal touches nothing.
 #![tactic(auto)]
 
-ghost use Rattle.std.specs.Prelude.{◌≡◌, length, get_or};
+ghost use Rattle.std.specs.Prelude.{◌≡◌, length};
 ghost use Rattle.refusal.specs.Crossing.{Crosses, Shows};
 ghost use Rattle.state.specs.Start.{is_edition};
-ghost use Rattle.score.specs.Answers.{lease_line};
+ghost use Rattle.score.specs.Lease.{lease_of};
 ghost use Rattle.judges.specs.Judged.{Judges};
 ghost use Rattle.fleet.specs.Join.{joined};
 ghost use Rattle.growing.specs.Sums.{is_month, is_placed, with_month};
-ghost use Rattle.growing.specs.Cells.{AddCrosses, JoinAsked, PutAsked, SumsGiven, add_month_told, begun_told, join_told, sums_cells, sums_in, told_numbers, totals_in};
+ghost use Rattle.growing.specs.Cells.{AddCrosses, JoinAsked, PutAsked, SumsGiven, add_month_told, begun_told, join_told, number_in, status_in, sums_cells, sums_in, told_numbers, totals_in};
+
+pub mod rooms;
 
 use fleet::parts::{Fleet, Part};
 use fleet::{parts, station};
-use judges::tests::both;
 use refusal::Refusal;
+use score::line::LeaseLine;
 use state::{edition, own};
 
+// Kept (design pass 6, C interface): C lends a report's eight numbers as one array.
 pub const SUMS: usize = 8;
 
 // Numbers that a report tells: a fleet report's four, and whether a station is named.
@@ -66,14 +69,14 @@ fn put(sums: &mut [u64; SUMS], edition: u64, count: u64, fleet: Fleet)
 }
 
 // No station yet; 3 for a number that is no edition's.
-pub fn begin(sums: &mut [u64; SUMS], edition: u32) -> u32
-    ensures { Crosses (begun_told edition) result sums.old sums.new }
+pub fn begin(sums: &mut [u64; SUMS], edition: u32) -> Result<(), Refusal>
+    ensures { Crosses (begun_told edition) (status_in result) sums.old sums.new }
 {
-    if edition::is_known(edition) {
-        put(sums, edition as u64, 0, parts::none());
-        return 0;
+    if !edition::is_known(edition) {
+        return Err(Refusal::Malformed);
     }
-    u32::from(Refusal::Malformed)
+    put(sums, u64::from(edition), 0, parts::none());
+    Ok(())
 }
 
 // One station more, by its month's numbers.
@@ -87,13 +90,6 @@ fn put_month(sums: &mut [u64; SUMS], served: u64, owed: u64, silent: u64)
     put(sums, edition, count + 1, fleet);
 }
 
-// The edition of a replay's session.
-fn edition_in(own: &[u32; state::OWN_CELLS]) -> u32
-    ensures { result ≡ get_or own.now 18 0 }
-{
-    own[own::EDITION]
-}
-
 // Adds the station of a replay, under its lease line: 3 where the replay's session isn't of the report's edition, 22 for one more than
 // 2^32, then 21, 18 or 19.
 pub fn add(
@@ -102,26 +98,20 @@ pub fn add(
     marks: &[u64; replay::MARKS],
     own: &[u32; state::OWN_CELLS],
     tallies: &[u64; state::TALLIES],
-    first_day: u32,
-    days: u32,
-    owed: u32,
-) -> u32
+    line: LeaseLine,
+) -> Result<(), u32>
     requires { SumsGiven sums.old }
-    ensures { AddCrosses (lease_line first_day days owed) log.now marks.now own.now tallies.now result sums.old sums.new }
+    ensures { AddCrosses (lease_of line) log.now marks.now own.now tallies.now (number_in result) sums.old sums.new }
 {
-    let born = edition_in(own);
-    if sums[0] != born as u64 {
-        return u32::from(Refusal::Malformed);
+    if sums[0] != u64::from(own[own::EDITION]) {
+        return Err(u32::from(Refusal::Malformed));
     }
     if sums[1] >= MOST_STATIONS {
-        return u32::from(Refusal::TooManyLogs);
+        return Err(u32::from(Refusal::TooManyLogs));
     }
-    let month = station::summed(log, marks, tallies, first_day, days, owed);
-    if month.status != 0 {
-        return month.status;
-    }
+    let month = station::summed(log, marks, tallies, line)?;
     put_month(sums, month.served, month.owed, month.silent);
-    0
+    Ok(())
 }
 
 // Whether a month may have these numbers: it owes at most 31 days of 100,000,000 elements, is served no more than it owes, and has no
@@ -129,26 +119,23 @@ pub fn add(
 fn is_month(served: u64, owed: u64, silent: u64) -> bool
     ensures { result ≡ is_month served owed silent }
 {
-    both(
-        owed <= MOST_MONTH,
-        both(served <= owed, silent <= MOST_DAYS),
-    )
+    owed <= MOST_MONTH && (served <= owed && silent <= MOST_DAYS)
 }
 
 // Adds a station by its month's numbers: 22 for one more than 2^32, then 21 where no month has such numbers.
-pub fn add_month(sums: &mut [u64; SUMS], served: u64, owed: u64, silent: u64) -> u32
+pub fn add_month(sums: &mut [u64; SUMS], served: u64, owed: u64, silent: u64) -> Result<(), Refusal>
     requires { SumsGiven sums.old }
-    ensures { Crosses (add_month_told (sums_in sums.old) served owed silent) result sums.old sums.new }
+    ensures { Crosses (add_month_told (sums_in sums.old) served owed silent) (status_in result) sums.old sums.new }
 {
     let count = sums[1];
     if count >= MOST_STATIONS {
-        return u32::from(Refusal::TooManyLogs);
+        return Err(Refusal::TooManyLogs);
     }
-    if is_month(served, owed, silent) {
-        put_month(sums, served, owed, silent);
-        return 0;
+    if !is_month(served, owed, silent) {
+        return Err(Refusal::LeaseLine);
     }
-    u32::from(Refusal::LeaseLine)
+    put_month(sums, served, owed, silent);
+    Ok(())
 }
 
 // Two fleets, the second of which is numbered on from the `count` stations of the first. The second's smallest part is a part like
@@ -171,24 +158,25 @@ fn join_fleets(first: Fleet, count: u64, second: Fleet) -> Fleet
 }
 
 // Puts another report's stations behind these: 3 where it is of another edition, 22 where they are more than 2^32 together.
-pub fn join(sums: &mut [u64; SUMS], other: &[u64; SUMS]) -> u32
+pub fn join(sums: &mut [u64; SUMS], other: &[u64; SUMS]) -> Result<(), Refusal>
     requires { SumsGiven sums.old × SumsGiven other.now }
-    ensures { Crosses (join_told (sums_in sums.old) (sums_in other.now)) result sums.old sums.new }
+    ensures { Crosses (join_told (sums_in sums.old) (sums_in other.now)) (status_in result) sums.old sums.new }
 {
     let edition = sums[0];
     if edition != other[0] {
-        return u32::from(Refusal::Malformed);
+        return Err(Refusal::Malformed);
     }
     let before = sums[1];
     let count = before + other[1];
     if count > MOST_STATIONS {
-        return u32::from(Refusal::TooManyLogs);
+        return Err(Refusal::TooManyLogs);
     }
     let fleet = join_fleets(totals_in(sums), before, totals_in(other));
     put(sums, edition, count, fleet);
-    0
+    Ok(())
 }
 
+// Kept (design pass 1, C interface): the status of an answer that is never refused.
 // Tells a fleet report's four numbers, and 1 where a station is named: 64 and 0 where none owes anything.
 pub fn tell(sums: &[u64; SUMS], room: &mut [u64; TOLD]) -> u32
     ensures { Shows (told_numbers (sums_in sums.now)) result room.new }
@@ -205,11 +193,7 @@ pub fn tell(sums: &[u64; SUMS], room: &mut [u64; TOLD]) -> u32
 fn is_edition(number: u64) -> bool
     ensures { result ≡ is_edition number }
 {
-    if number == edition::BY_OUTPUT as u64 {
-        true
-    } else {
-        number == edition::BY_CHANNEL as u64
-    }
+    number == u64::from(edition::BY_OUTPUT) || number == u64::from(edition::BY_CHANNEL)
 }
 
 // Whether a station is one of so many, or stands for none where it owes nothing.
@@ -234,8 +218,8 @@ pub fn is_kept(sums: &[u64; SUMS]) -> bool
     }
     let known = is_edition(sums[0]);
     let placed = is_placed(count, sums[5], sums[7]);
-    let served = both(sums[2] <= sums[3], sums[6] <= sums[7]);
-    let owed = both(sums[3] <= count * MOST_MONTH, sums[7] <= MOST_MONTH);
+    let served = sums[2] <= sums[3] && sums[6] <= sums[7];
+    let owed = sums[3] <= count * MOST_MONTH && sums[7] <= MOST_MONTH;
     let silent = sums[4] <= count * MOST_DAYS;
-    both(both(known, placed), both(both(served, owed), silent))
+    known && placed && served && owed && silent
 }

@@ -28,10 +28,8 @@ fn all_grow(marks: &[u64; replay::MARKS], midnights: u32, tallies: &[u64; state:
     ensures { result ≡ every (midnights + 1) (grows_at marks.now midnights (now_in tallies.now)) }
 {
     let mut good = true;
-    let mut k: u32 = 0;
-    while k <= midnights {
+    for k in 0..midnights + 1 {
         good = both(good, grows(marks, midnights, tallies, k));
-        k = k + 1;
     }
     good
 }
@@ -41,11 +39,7 @@ fn is_rest(marks: &[u64; replay::MARKS], midnights: u32, k: usize) -> bool
     requires { (midnights ≤ most_midnights) × (k < marks_length) }
     ensures { result ≡ rest_at marks.now midnights k }
 {
-    if k < 2 * midnights as usize {
-        true
-    } else {
-        marks[k] == 0
-    }
+    k < 2 * midnights as usize || marks[k] == 0
 }
 
 // Whether the marks of the midnights that haven't come are 0.
@@ -54,10 +48,8 @@ fn are_rest(marks: &[u64; replay::MARKS], midnights: u32) -> bool
     ensures { result ≡ every marks_length (rest_at marks.now midnights) }
 {
     let mut good = true;
-    let mut k: usize = 0;
-    while k < replay::MARKS {
+    for k in 0..replay::MARKS {
         good = both(good, is_rest(marks, midnights, k));
-        k = k + 1;
     }
     good
 }

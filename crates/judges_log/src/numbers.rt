@@ -60,7 +60,7 @@ fn are_days(midnights: u32, last: u32) -> bool
     }
     both(
         midnights <= replay::MOST_MIDNIGHTS,
-        midnights as u64 <= last as u64 + 1,
+        u64::from(midnights) <= u64::from(last) + 1,
     )
 }
 

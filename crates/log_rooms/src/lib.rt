@@ -3,8 +3,9 @@
 // session's.
 #![tactic(auto)]
 
-ghost use Rattle.std.specs.Prelude.{[]};
+ghost use Rattle.std.specs.Prelude.{[], ◌∷◌};
 ghost use Rattle.state.specs.State.{new_session};
+ghost use Rattle.station_log.specs.Asked.{Begins, ByteLeft};
 ghost use Rattle.station_log.specs.Feed.{replay_of};
 ghost use Rattle.replay.specs.Report.{part_of};
 ghost use Rattle.replay.specs.Cells.{ReplayGiven, replay_in, viewed};
@@ -16,10 +17,46 @@ ghost use Rattle.log_rooms.specs.Rooms.{FeedCrosses, standing_numbers};
 use days::report;
 use station_log::stream;
 
+// Kept (design pass 1, C interface): each function below hands out a status number.
 // Lengths of rooms: where a replay stands, in seven numbers; runs and claims.
 pub const STANDING_NUMBERS: usize = 7;
 
 pub const PART_NUMBERS: usize = 2;
+
+// A replay that has read nothing, over a new session of an edition; 3.
+pub fn begin(
+    log: &mut [u32; replay::LOG_CELLS],
+    marks: &mut [u64; replay::MARKS],
+    own: &mut [u32; state::OWN_CELLS],
+    tallies: &mut [u64; state::TALLIES],
+    shared: &mut [u32; state::SHARED_CELLS],
+    edition: u32,
+) -> u32
+    ensures { Begins edition result log.old marks.old own.old tallies.old shared.old log.new marks.new own.new tallies.new shared.new }
+{
+    match stream::begin(log, marks, own, tallies, shared, edition) {
+        Ok(()) => 0,
+        Err(why) => u32::from(why),
+    }
+}
+
+// One byte: 0 where it was taken, else 18 or 19.
+pub fn take_byte(
+    log: &mut [u32; replay::LOG_CELLS],
+    marks: &mut [u64; replay::MARKS],
+    own: &mut [u32; state::OWN_CELLS],
+    tallies: &mut [u64; state::TALLIES],
+    shared: &mut [u32; state::SHARED_CELLS],
+    byte: u8,
+) -> u32
+    requires { ReplayGiven log.old marks.old own.old tallies.old shared.old }
+    ensures { ByteLeft (replay_of (replay_in log.old marks.old own.old tallies.old shared.old) (byte ∷ [])) result log.new marks.new own.new tallies.new shared.new }
+{
+    match stream::take_byte(log, marks, own, tallies, shared, byte) {
+        Ok(()) => 0,
+        Err(why) => u32::from(why),
+    }
+}
 
 // A piece of bytes: how many were taken, and 18 or 19 for the first that wasn't, if any.
 pub fn feed(
@@ -36,8 +73,7 @@ pub fn feed(
 {
     let piece = stream::feed(log, marks, own, tallies, shared, bytes);
     *taken = [piece.taken.0];
-    let refusal = piece.refusal;
-    match refusal {
+    match piece.refusal {
         None => 0,
         Some(why) => u32::from(why),
     }

@@ -1,14 +1,13 @@
 -- What the routines of a record ask of the arrays that they are lent, and what they leave: a change of a replay's own ten numbers, the
 -- same by a byte that is answered, and a midnight. Assumes nothing.
-use Rattle.std.specs.Prelude.{◌≡◌, List, ℕ, ◌<◌, length, get_or}
+use Rattle.std.specs.Prelude.{◌≡◌, List, ℕ, ◌<◌, length, get_or, Result, Ok, Err}
 use Rattle.state.specs.State.{Session}
 use Rattle.replay.specs.State.{Replay, no_record, marks_length}
 use Rattle.replay.specs.Places.{log_length, count_place}
 use Rattle.replay.specs.Step.{Reply, taken, refused, Stepped, noted}
 use Rattle.replay.specs.Cells.{viewed, replay_in}
 use Rattle.refusal.specs.Number.{number_of}
-use Rattle.replay.specs.declared.bytes.Answer.{Answer}
-use Rattle.replay.specs.declared.bytes.Answer.TheVariants as answer
+use Rattle.refusal.specs.declared.Refusal.{Refusal}
 
 -- the ten numbers were changed, and nothing else
 pub record Changed (f : Replay → Replay) (log log1 : List ℕ) : Type 0 where
@@ -53,9 +52,10 @@ day_begun midnights day r =
       marks = r.marks;
     }
 
-abbrev pub reply_of : Answer → Reply
-reply_of answer.Taken = taken
-reply_of (answer.Refused why) = refused (number_of why)
+-- what a byte is answered: it is taken, or the refusal, 18 or 19
+abbrev pub reply_of : Result (Unit {0}) Refusal → Reply
+reply_of (Ok _) = taken
+reply_of (Err why) = refused (number_of why)
 
 -- four bytes
 pub record NumberAsked (low second third high : ℕ) : Type 0 where

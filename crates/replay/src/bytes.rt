@@ -7,14 +7,8 @@ ghost use Rattle.replay.specs.Own.{Answered, MidnightAsked, MidnightLeft, Number
 use crate::own;
 use refusal::Refusal;
 
-// What a byte is answered: it is taken, or the refusal, 18 or 19.
-#[derive(Drop)]
-pub enum Answer {
-    Taken,
-    Refused(Refusal),
-}
-
 // The number of four bytes, low byte first.
+// Kept (design pass 4, C interface): three of them stand as numbers of 32 bits in cells that C lends, so from_le_bytes is no plainer.
 pub fn number(low: u32, second: u32, third: u32, high: u32) -> u32
     requires { NumberAsked low second third high }
     ensures { result ≡ number_from low second third high }
@@ -26,35 +20,27 @@ pub fn number(low: u32, second: u32, third: u32, high: u32) -> u32
 pub fn is_kind(byte: u32) -> bool
     ensures { result ≡ is_kind byte }
 {
-    if byte == 1 { true } else { byte == 2 }
+    byte == 1 || byte == 2
 }
 
 // A record's first byte: 18 where it is no kind.
-pub fn kind_byte(log: &mut [u32; crate::LOG_CELLS], byte: u32) -> Answer
+pub fn kind_byte(log: &mut [u32; crate::LOG_CELLS], byte: u32) -> Result<(), Refusal>
     requires { length log.old ≡ log_length }
     ensures { Answered (λ s. kind_step s byte) (reply_of result) log.old log.new }
 {
     if is_kind(byte) {
         own::open(log, byte);
-        return Answer::Taken;
+        return Ok(());
     }
     own::stop(log, own::BY_KIND);
-    Answer::Refused(Refusal::RecordKind)
+    Err(Refusal::RecordKind)
 }
 
 // Whether a day may begin: the first midnight may name any, each later one is one more than the last; at most 400 come.
 fn may_begin(midnights: u32, last: u32, day: u32) -> bool
     ensures { result ≡ may_begin midnights last day }
 {
-    if midnights < crate::MOST_MIDNIGHTS {
-        if midnights == 0 {
-            true
-        } else {
-            day as u64 == last as u64 + 1
-        }
-    } else {
-        false
-    }
+    midnights < crate::MOST_MIDNIGHTS && (midnights == 0 || u64::from(day) == u64::from(last) + 1)
 }
 
 // A midnight: the session's tallies are marked, and a day begins; 19 where it may not.
@@ -63,7 +49,7 @@ pub fn midnight(
     marks: &mut [u64; crate::MARKS],
     tallies: &[u64; state::TALLIES],
     day: u32,
-) -> Answer
+) -> Result<(), Refusal>
     requires { MidnightAsked log.old marks.old tallies.now }
     ensures { MidnightLeft (λ s. midnight_step s day) (reply_of result) log.old marks.old tallies.now log.new marks.new }
 {
@@ -73,8 +59,8 @@ pub fn midnight(
         marks[at] = tallies[0];
         marks[at + 1] = tallies[1];
         own::begin_day(log, midnights + 1, day);
-        return Answer::Taken;
+        return Ok(());
     }
     own::stop(log, own::BY_DAY);
-    Answer::Refused(Refusal::MidnightDay)
+    Err(Refusal::MidnightDay)
 }

@@ -8,6 +8,7 @@ pub mod own;
 // How many numbers a replay lies in beside its session's: its own, and two marks for each midnight.
 pub const LOG_CELLS: usize = 10;
 
+// Kept (design pass 6, C interface): C lends the marks of all midnights, runs and claims by turns, as one array.
 pub const MARKS: usize = 2 * MOST_MIDNIGHTS as usize;
 
 // "at most 400 come in all".

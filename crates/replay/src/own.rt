@@ -28,6 +28,7 @@ pub const SECOND: usize = 8;
 pub const THIRD: usize = 9;
 
 // The numbers that stop a replay, as its first number keeps them: the numbers of the kind's and of the day's refusal.
+// Kept (design pass 1, C interface): the cells that C lends keep the stop and a record's kind as numbers; so does all of `own`.
 pub const BY_KIND: u32 = 18;
 
 pub const BY_DAY: u32 = 19;

@@ -16,12 +16,10 @@ use Rattle.replay.specs.Cells.{viewed, replay_in}
 use Rattle.score.specs.Lease.{Lease, is_lease, lease_told, told_judged}
 use Rattle.score.specs.Score.{Score, scored, claimed_on, served_at, owed_in_all, verdict_of, month_of, score_of}
 use Rattle.score.specs.Answers.{replay_for, Filled, called_by, Left, Scores}
-use Rattle.score.specs.declared.line.Judged.{Judged}
-use Rattle.score.specs.declared.line.Judged.TheVariants as judged
+use Rattle.std.specs.Prelude.{Result, Ok, Err}
 use Rattle.score.specs.declared.month.Verdict.{Verdict}
 use Rattle.score.specs.declared.month.Verdict.TheVariants.{Full, Short, NothingOwed}
-use Rattle.score.specs.declared.month.Scored.{Scored}
-use Rattle.score.specs.declared.month.Scored.TheVariants as answer
+use Rattle.score.specs.declared.month.Totals.{Totals}
 use Rattle.score.proofs.Lines.{bounds}
 use Rattle.score.proofs.Verdicts.{by_numbers}
 
@@ -40,10 +38,10 @@ module _ (served owed : ℕ) where
   called_less ne e = sym (pick_no _ _ (ne_eqb owed 0 ne) ∙ pick_no _ _ (ne_eqb served owed e))
 
 -- what is known of a lease line that was judged
-module _ (l : Lease) (j : Judged) (told : told_judged j ≡ lease_told l) where
-  pub was_taken : j ≡ judged.Accepted → is_lease l ≡ true
+module _ (l : Lease) (j : Result (Unit {0}) Refusal) (told : told_judged j ≡ lease_told l) where
+  pub was_taken : (u : Unit {0}) → j ≡ Ok u → is_lease l ≡ true
   unfolding lease_told
-  was_taken e = go (tested (is_lease l))
+  was_taken u e = go (tested (is_lease l))
     where
       go : Tested (is_lease l) → is_lease l ≡ true
       go (holds t) = t
@@ -51,7 +49,7 @@ module _ (l : Lease) (j : Judged) (told : told_judged j ≡ lease_told l) where
           let other : gives [] ≡ refuses 21 = sym (ap told_judged e) ∙ told ∙ pick_no _ _ t in
           let z : ◌≡◌ {A = ℕ} 0 1 = cc in absurd (omega arith)
 
-  pub was_refused : (why : Refusal) → j ≡ judged.Refused why → is_lease l ≡ false
+  pub was_refused : (why : Refusal) → j ≡ Err why → is_lease l ≡ false
   unfolding lease_told
   was_refused why e = go (tested (is_lease l))
     where
@@ -61,7 +59,7 @@ module _ (l : Lease) (j : Judged) (told : told_judged j ≡ lease_told l) where
           let other : refuses (number_of why) ≡ gives [] = sym (ap told_judged e) ∙ told ∙ pick_yes _ _ t in
           let z : ◌≡◌ {A = ℕ} 0 1 = cc in absurd (omega arith)
 
-  pub was_21 : (why : Refusal) → j ≡ judged.Refused why → number_of why ≡ 21
+  pub was_21 : (why : Refusal) → j ≡ Err why → number_of why ≡ 21
   unfolding lease_told
   was_21 why e =
       let same : refuses (number_of why) ≡ refuses 21 = sym (ap told_judged e) ∙ told ∙ pick_no _ _ (was_refused why e) in cc
@@ -81,24 +79,24 @@ module _ (l : Lease) (log marks tallies claimed served : List ℕ) where
   abbrev score : List ℕ → List ℕ → Score
   score own shared = score_of l (replay_in log marks own tallies shared)
 
-  left_by : (s : Score) {t : Score} {r : Scored} {claimed' served' : List ℕ} → s ≡ t →
+  left_by : (s : Score) {t : Score} {r : Result Totals ℕ} {claimed' served' : List ℕ} → s ≡ t →
       Left t r claimed served claimed' served' → Left s r claimed served claimed' served'
   left_by s {t} {r} {claimed'} {served'} e h =
       subst (λ (x : Score). Left x r claimed served claimed' served') (sym e) h
 
   pub score_line : is_lease l ≡ false → (n : ℕ) → n ≡ 21 →
-      Scores l log marks tallies (answer.Refused n) claimed served claimed served
+      Scores l log marks tallies (Err n) claimed served claimed served
   unfolding score_of
   score_line e n same =
       record {
         told =
             λ own shared.
             left_by (score own shared) (pick_no _ _ e)
-            (record { answer = ap answer.Refused same; claimed_room = refl; served_room = refl });
+            (record { answer = ap Err same; claimed_room = refl; served_room = refl });
       }
 
   pub score_stopped : is_lease l ≡ true → (get_or log 0 0 ≡ 0 → ⊥) →
-      Scores l log marks tallies (answer.Refused (get_or log 0 0)) claimed served claimed served
+      Scores l log marks tallies (Err (get_or log 0 0)) claimed served claimed served
   unfolding score_of viewed
   score_stopped e ne =
       record {
@@ -116,7 +114,7 @@ module _ (l : Lease) (log marks tallies claimed served : List ℕ) where
 
   pub score_given : is_lease l ≡ true → get_or log 0 0 ≡ 0 → (total : ℕ) (claimed' served' : List ℕ) →
       Filled l (replay_for log marks tallies) total claimed' served' → (v : Verdict) → v ≡ called_by total (owed_in_all l) →
-      Scores l log marks tallies (answer.Month (record { served = total; owed = owed_in_all l; verdict = v })) claimed served
+      Scores l log marks tallies (Ok (record { served = total; owed = owed_in_all l; verdict = v })) claimed served
       claimed' served'
   score_given e z total claimed' served' f v named =
       record {
@@ -125,7 +123,7 @@ module _ (l : Lease) (log marks tallies claimed served : List ℕ) where
             left_by (score own shared) (score_month e z own shared)
             (record {
               answer =
-                  ap₂ (λ (t : ℕ) (u : Verdict). answer.Month (record { served = t; owed = owed_in_all l; verdict = u })) f.sum
+                  ap₂ (λ (t : ℕ) (u : Verdict). Ok (record { served = t; owed = owed_in_all l; verdict = u })) f.sum
                   (named ∙ ap (λ (t : ℕ). called_by t (owed_in_all l)) f.sum ∙
                   by_numbers l (replay_for log marks tallies) (bounds l e).some_days);
               claimed_room = f.claimed_room;

@@ -1,6 +1,6 @@
 -- What the routines of a score ask, what their answers tell, and what they leave in the rooms that they are lent.
 -- Assumes nothing.
-use Rattle.std.specs.Prelude.{◌≡◌, List, [], ℕ, ◌+◌, ◌≤◌, eqb}
+use Rattle.std.specs.Prelude.{◌≡◌, List, [], ℕ, ◌+◌, ◌≤◌, eqb, Result, Ok, Err}
 use Rattle.laws.specs.Choice.{pick}
 use Rattle.replay.specs.State.{Replay}
 use Rattle.replay.specs.Cells.{replay_in}
@@ -8,8 +8,7 @@ use Rattle.score.specs.Lease.{Lease, most_days, most_owed, past_days}
 use Rattle.score.specs.Score.{Score, scored, refused, claimed_at, served_at, served_in_all, room_for, score_of}
 use Rattle.score.specs.declared.month.Verdict.{Verdict}
 use Rattle.score.specs.declared.month.Verdict.TheVariants.{Full, Short, NothingOwed}
-use Rattle.score.specs.declared.month.Scored.{Scored}
-use Rattle.score.specs.declared.month.Scored.TheVariants as answer
+use Rattle.score.specs.declared.month.Totals.{Totals}
 
 abbrev pub lease_line : ℕ → ℕ → ℕ → Lease
 lease_line first_day days owed = record { first_day = first_day; days = days; owed = owed }
@@ -35,9 +34,10 @@ pub record Filled (l : Lease) (r : Replay) (total : ℕ) (claimed served : List 
 unfoldable pub called_by : ℕ → ℕ → Verdict
 called_by served owed = pick (eqb owed 0) NothingOwed (pick (eqb served owed) Full Short)
 
-abbrev pub answer_of : Score → Scored
-answer_of (scored m) = answer.Month m.totals
-answer_of (refused number) = answer.Refused number
+-- the month, or the number of the refusal
+abbrev pub answer_of : Score → Result Totals ℕ
+answer_of (scored m) = Ok m.totals
+answer_of (refused number) = Err number
 
 -- the rooms at return: a refusal writes nothing
 abbrev pub claimed_after : Score → List ℕ → List ℕ
@@ -48,13 +48,13 @@ abbrev pub served_after : Score → List ℕ → List ℕ
 served_after (scored m) room = m.served
 served_after (refused number) room = room
 
-pub record Left (s : Score) (r : Scored) (claimed served claimed' served' : List ℕ) : Type 0 where
+pub record Left (s : Score) (r : Result Totals ℕ) (claimed served claimed' served' : List ℕ) : Type 0 where
   pub answer : r ≡ answer_of s
   pub claimed_room : claimed' ≡ claimed_after s claimed
   pub served_room : served' ≡ served_after s served
 
 -- the score of a replay, whatever its session's other arrays hold
-pub record Scores (l : Lease) (log marks tallies : List ℕ) (r : Scored) (claimed served claimed' served' : List ℕ) : Type 0 where
+pub record Scores (l : Lease) (log marks tallies : List ℕ) (r : Result Totals ℕ) (claimed served claimed' served' : List ℕ) : Type 0 where
   pub told :
       (own shared : List ℕ) →
       Left (score_of l (replay_in log marks own tallies shared)) r claimed served claimed' served'

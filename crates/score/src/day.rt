@@ -1,5 +1,5 @@
 // One day of a lease: what was claimed on it, and how much of that is served.
-ghost use Rattle.std.specs.Prelude.{◌≡◌, min};
+ghost use Rattle.std.specs.Prelude.{◌≡◌};
 ghost use Rattle.score.specs.Score.{claimed_on, has_midnight};
 ghost use Rattle.score.specs.Answers.{replay_for};
 
@@ -10,11 +10,7 @@ use replay::own;
 fn has_midnight(midnights: u32, last: u32, day: u32) -> bool
     ensures { result ≡ has_midnight midnights last day }
 {
-    if day <= last {
-        last - day < midnights
-    } else {
-        false
-    }
+    day <= last && last - day < midnights
 }
 
 // The elements claimed on the day with this number; 0 where the log has no midnight record of it. What ended before the first
@@ -30,16 +26,8 @@ pub fn claimed_on(
     let midnights = log[own::MIDNIGHTS];
     let last = log[own::LAST_DAY];
     if has_midnight(midnights, last, day) {
-        let part = report::part(log, marks, tallies, midnights - (last - day));
-        part.claims
+        report::part(log, marks, tallies, midnights - (last - day)).claims
     } else {
         0
     }
-}
-
-// The claimed number, capped at the owed number.
-pub fn capped(claimed: u64, owed: u64) -> u64
-    ensures { result ≡ min claimed owed }
-{
-    if claimed < owed { claimed } else { owed }
 }

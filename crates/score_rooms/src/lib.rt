@@ -3,48 +3,41 @@
 #![tactic(auto)]
 
 ghost use Rattle.std.specs.Prelude.{◌≡◌};
-ghost use Rattle.score.specs.Lease.{lease_told};
+ghost use Rattle.score.specs.Lease.{lease_of, told_judged};
 ghost use Rattle.score.specs.Answers.{lease_line};
 ghost use Rattle.refusal.specs.Crossing.{status_of};
-ghost use Rattle.score_rooms.specs.Rooms.{ScoreCrosses, line_told, verdict_number};
+ghost use Rattle.score_rooms.specs.Rooms.{ScoreCrosses, line_told};
 
 use refusal::Refusal;
-use score::line;
-use score::line::Judged;
-use score::month::{Scored, Verdict};
+use score::line::LeaseLine;
 use state::edition;
 
+// Kept (design pass 1, C interface): each public function below hands out a status number.
 // The length of a month's room: what was served and owed in all, and the verdict.
 pub const MONTH_NUMBERS: usize = 3;
 
-// Whether a lease line is within its bounds; 21.
-fn line_status(first_day: u32, days: u32, owed: u32) -> u32
-    ensures { result ≡ status_of (lease_told (lease_line first_day days owed)) }
+// Whether an edition is one of the two and a lease line within its bounds; 3, then 21.
+fn judge(edition: u32, line: LeaseLine) -> Result<(), Refusal>
+    ensures { told_judged result ≡ line_told edition (lease_of line) }
 {
-    let judged = line::judge(first_day, days, owed);
-    match judged {
-        Judged::Accepted => 0,
-        Judged::Refused(why) => u32::from(why),
+    if !edition::is_known(edition) {
+        return Err(Refusal::Malformed);
     }
+    line.judge()
 }
 
-// Whether an edition is one of the two and a lease line within its bounds; 3, then 21.
+// The same as a status.
 pub fn lease(edition: u32, first_day: u32, days: u32, owed: u32) -> u32
     ensures { result ≡ status_of (line_told edition (lease_line first_day days owed)) }
 {
-    if edition::is_known(edition) {
-        return line_status(first_day, days, owed);
-    }
-    u32::from(Refusal::Malformed)
-}
-
-fn verdict_number(verdict: Verdict) -> u64
-    ensures { result ≡ verdict_number verdict }
-{
-    match verdict {
-        Verdict::Full => 0,
-        Verdict::Short => 1,
-        Verdict::NothingOwed => 2,
+    let line = LeaseLine {
+        first_day,
+        days,
+        owed,
+    };
+    match judge(edition, line) {
+        Ok(()) => 0,
+        Err(why) => u32::from(why),
     }
 }
 
@@ -63,12 +56,15 @@ pub fn month(
 ) -> u32
     ensures { ScoreCrosses (lease_line first_day days owed) log.now marks.now tallies.now result claimed.old served.old month.old claimed.new served.new month.new }
 {
-    let answer = score::month::score(log, marks, tallies, first_day, days, owed, claimed, served);
-    match answer {
-        Scored::Refused(number) => number,
-        Scored::Month(totals) => {
-            let verdict = totals.verdict;
-            *month = [totals.served, totals.owed, verdict_number(verdict)];
+    let line = LeaseLine {
+        first_day,
+        days,
+        owed,
+    };
+    match score::month::score(log, marks, tallies, line, claimed, served) {
+        Err(number) => number,
+        Ok(totals) => {
+            *month = [totals.served, totals.owed, totals.verdict as u64];
             0
         }
     }

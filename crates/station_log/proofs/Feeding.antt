@@ -20,8 +20,7 @@ use Rattle.station_log.specs.Feed as piece
 use Rattle.replay.specs.Cells.{viewed, replay_in, ReplayHeld, ReplayValid, ReplayGiven}
 use Rattle.station_log.specs.Asked.{PieceLeft, ReplaySized, Became, WordsAsked, WordsLeft, Words32, Gathered, Idle, RecordsLeft, unread, read}
 use Rattle.replay.specs.Own.{reply_of}
-use Rattle.replay.specs.declared.bytes.Answer.{Answer}
-use Rattle.replay.specs.declared.bytes.Answer.TheVariants.{Taken, Refused}
+use Rattle.std.specs.Prelude.{Result, Ok, Err}
 use Rattle.station_log.specs.declared.stream.Fed.{Fed}
 use Rattle.replay.proofs.Changes.{log_canon}
 use Rattle.station_log.proofs.Kept.{byte_valid, words_valid}
@@ -95,15 +94,15 @@ module _ (r : Replay) (bs l m o t s : List ℕ) (i : ℕ) (f : Fold r bs l m o t
         (subst (λ (t : Stepped). ReplayValid t.replay) e.view (byte_valid now f.given.valid b h))
 
     -- the byte as the code has it
-    as_read : (a c : Answer) (x : ℕ) → x ≡ b → a ≡ c → Became (byte_step now x) (reply_of a) l1 m1 o1 t1 s1 →
+    as_read : (a c : Result (Unit {0}) Refusal) (x : ℕ) → x ≡ b → a ≡ c → Became (byte_step now x) (reply_of a) l1 m1 o1 t1 s1 →
         Became (byte_step now b) (reply_of c) l1 m1 o1 t1 s1
     as_read a c x same e d =
-        subst (λ (y : Answer). Became (byte_step now b) (reply_of y) l1 m1 o1 t1 s1) e
+        subst (λ (y : Result (Unit {0}) Refusal). Became (byte_step now b) (reply_of y) l1 m1 o1 t1 s1) e
         (subst (λ (n : ℕ). Became (byte_step now n) (reply_of a) l1 m1 o1 t1 s1) same d)
 
-    pub fold_refused : (a : Answer) (why : Refusal) (x : ℕ) → x ≡ b → x < 256 → a ≡ Refused why →
+    pub fold_refused : (a : Result (Unit {0}) Refusal) (why : Refusal) (x : ℕ) → x ≡ b → x < 256 → a ≡ Err why →
         Became (byte_step now x) (reply_of a) l1 m1 o1 t1 s1 → PieceLeft (replay_of r bs) (answered i (Some why)) l1 m1 o1 t1 s1
-    fold_refused a why x same fits e c = stopping (as_read a (Refused why) x same e c)
+    fold_refused a why x same fits e c = stopping (as_read a (Err why) x same e c)
       where
         h : b < 256
         h = omega (arith, same, fits)
@@ -125,9 +124,9 @@ module _ (r : Replay) (bs l m o t s : List ℕ) (i : ℕ) (f : Fold r bs l m o t
               ap (λ (k : ℕ). ahead (i + 1) (replay_of (replay_in l1 m1 o1 t1 s1) (drop k bs))) (sym (add-one i));
         }
 
-    pub fold_goes : (a : Answer) (x : ℕ) → x ≡ b → x < 256 → a ≡ Taken → Became (byte_step now x) (reply_of a) l1 m1 o1 t1 s1 →
+    pub fold_goes : (a : Result (Unit {0}) Refusal) (u : Unit {0}) (x : ℕ) → x ≡ b → x < 256 → a ≡ Ok u → Became (byte_step now x) (reply_of a) l1 m1 o1 t1 s1 →
         Fold r bs l1 m1 o1 t1 s1 (i + 1)
-    fold_goes a x same fits e c = goes (omega (arith, same, fits)) (as_read a Taken x same e c)
+    fold_goes a u x same fits e c = goes (omega (arith, same, fits)) (as_read a (Ok u) x same e c)
 
   -- records of words
   idle_ready : Idle l → Ready now

@@ -11,8 +11,8 @@ use Rattle.replay.specs.State.{Replay}
 use Rattle.replay.specs.Step.{Reply, taken, refused, Stepped}
 use Rattle.replay.specs.Cells.{viewed, replay_in, ReplayValid, ReplayGiven}
 use Rattle.replay.specs.Own.{reply_of}
-use Rattle.replay.specs.declared.bytes.Answer.{Answer}
-use Rattle.replay.specs.declared.bytes.Answer.TheVariants.{Taken, Refused}
+use Rattle.std.specs.Prelude.{Result, Ok, Err}
+use Rattle.session.specs.Answers.{begun_status}
 use Rattle.replay.proofs.Changes.{log_canon}
 use Rattle.station_log.specs.Bytes.{byte_step}
 use Rattle.station_log.specs.Feed.{proceed, replay_of}
@@ -91,18 +91,26 @@ module _ (l m o t s : List ℕ) (g : ReplayGiven l m o t s) (byte b : ℕ) (e : 
     pub still_given : ReplayGiven l1 m o t s
     still_given = subst (λ (x : List ℕ). ReplayGiven x m o t s) unchanged g
 
-    module _ (h : b < 256) (a : Answer) (l2 m2 o2 t2 s2 : List ℕ) (d : Became (byte_step (replay_in l1 m o t s) b) (reply_of a) l2 m2 o2 t2 s2) where
+    module _ (h : b < 256) (a : Result (Unit {0}) Refusal) (l2 m2 o2 t2 s2 : List ℕ) (d : Became (byte_step (replay_in l1 m o t s) b) (reply_of a) l2 m2 o2 t2 s2) where
       read : Became (byte_step (replay_in l m o t s) b) (reply_of a) l2 m2 o2 t2 s2
       read = subst (λ (x : List ℕ). Became (byte_step (replay_in x m o t s) b) (reply_of a) l2 m2 o2 t2 s2) (sym unchanged) d
 
-      pub byte_taken : a ≡ Taken → Told 0 l2 m2 o2 t2 s2
-      byte_taken q =
+      byte_taken : (u : Unit {0}) → a ≡ Ok u → Told 0 l2 m2 o2 t2 s2
+      byte_taken u q =
           as_told 0 l2 m2 o2 t2 s2
           (taken_left l m o t s g b h l2 m2 o2 t2 s2
-          (subst (λ (x : Answer). Became (byte_step (replay_in l m o t s) b) (reply_of x) l2 m2 o2 t2 s2) q read))
+          (subst (λ (x : Result (Unit {0}) Refusal). Became (byte_step (replay_in l m o t s) b) (reply_of x) l2 m2 o2 t2 s2) q read))
 
-      pub byte_refused : (why : Refusal) → a ≡ Refused why → (n : ℕ) → n ≡ number_of why → Told n l2 m2 o2 t2 s2
+      byte_refused : (why : Refusal) → a ≡ Err why → (n : ℕ) → n ≡ number_of why → Told n l2 m2 o2 t2 s2
       byte_refused why q n f =
           as_told n l2 m2 o2 t2 s2
           (refused_left l m o t s g b h l2 m2 o2 t2 s2 (number_of why) n f
-          (subst (λ (x : Answer). Became (byte_step (replay_in l m o t s) b) (reply_of x) l2 m2 o2 t2 s2) q read))
+          (subst (λ (x : Result (Unit {0}) Refusal). Became (byte_step (replay_in l m o t s) b) (reply_of x) l2 m2 o2 t2 s2) q read))
+
+      -- either way
+      pub byte_read : Told (begun_status a) l2 m2 o2 t2 s2
+      byte_read = go a refl
+        where
+          go : (x : Result (Unit {0}) Refusal) → a ≡ x → Told (begun_status x) l2 m2 o2 t2 s2
+          go (Ok u) e = byte_taken u e
+          go (Err why) e = byte_refused why e (number_of why) refl

@@ -34,7 +34,7 @@ use Rattle.station_log.specs.Bytes.{record_step, open_step, byte_step}
 use Rattle.station_log.specs.Feed.{noted_first, after_words}
 use Rattle.replay.specs.Cells.{viewed, replay_in, ReplayGiven}
 use Rattle.replay.specs.Own.{Changed, Answered, noting}
-use Rattle.refusal.specs.Number.{number_of}
+use Rattle.refusal.specs.Number.{number_of, IsNumber}
 use Rattle.refusal.specs.declared.Refusal.{Refusal}
 use Rattle.refusal.specs.declared.Refusal.TheVariants as refusal
 use Rattle.station_log.specs.Asked.{Became, ReplaySized, OpenAsked, WordsAsked, WordsLeft}
@@ -312,6 +312,7 @@ module _ (l marks own tallies shared : List ℕ) (b : ℕ) (g : ReplayGiven l ma
   unfolding viewed
   cause h = g.valid.stops h
 
-pub other_cause : (n : ℕ) → StopNumber n → (n ≡ 18 → ⊥) → 19 ≡ n
-other_cause n by_kind h = absurd (h refl)
-other_cause n by_day h = refl
+-- a number that stops a replay is a refusal's
+pub is_number : {n : ℕ} → StopNumber n → IsNumber n
+is_number by_kind = record { refusal = refusal.RecordKind; number = refl }
+is_number by_day = record { refusal = refusal.MidnightDay; number = refl }

@@ -1,16 +1,14 @@
 // The bytes of a log, one by one and in pieces.
 ghost use Rattle.std.specs.Prelude.{◌≡◌, [], ◌∷◌, ◌+◌, ◌*◌, ◌<◌, ◌≤◌, length, drop};
-ghost use Rattle.refusal.specs.Number.{number_of};
 ghost use Rattle.replay.specs.Places.{log_length};
 ghost use Rattle.station_log.specs.Bytes.{byte_step, open_step};
 ghost use Rattle.station_log.specs.Feed.{replay_of};
 ghost use Rattle.replay.specs.Cells.{ReplayGiven, replay_in};
-ghost use Rattle.replay.specs.Step.{StopNumber};
 ghost use Rattle.station_log.specs.Asked.{Became, Begins, ByteLeft, batch, Gathered, Grew, MoreAsked, MoreGathered, OpenAsked, PieceLeft, RecordsLeft, WordsAsked, WordsLeft, word_at};
+ghost use Rattle.session.specs.Answers.{begun_status};
 ghost use Rattle.replay.specs.Own.{reply_of};
 
 use refusal::Refusal;
-use replay::bytes::Answer;
 use replay::{bytes, own};
 use session::stream;
 
@@ -27,8 +25,8 @@ const WORD_KIND: u8 = 1;
 #[derive(Drop)]
 pub struct BytePosition(pub u64);
 
-// Begins a replay that has read nothing, over a new session of an edition, 0; 3 where it is neither 1 nor 2, and nothing is
-// touched then.
+// Kept (design pass 5, C interface): C lends a replay's five arrays one by one, here and in each function below.
+// Begins a replay that has read nothing, over a new session of an edition; 3 where it is neither 1 nor 2, and nothing is touched then.
 pub fn begin(
     log: &mut [u32; replay::LOG_CELLS],
     marks: &mut [u64; replay::MARKS],
@@ -36,17 +34,13 @@ pub fn begin(
     tallies: &mut [u64; state::TALLIES],
     shared: &mut [u32; state::SHARED_CELLS],
     edition: u32,
-) -> u32
-    ensures { Begins edition result log.old marks.old own.old tallies.old shared.old log.new marks.new own.new tallies.new shared.new }
+) -> Result<(), Refusal>
+    ensures { Begins edition (begun_status result) log.old marks.old own.old tallies.old shared.old log.new marks.new own.new tallies.new shared.new }
 {
-    match stream::begin(own, tallies, shared, edition) {
-        Ok(()) => {
-            *log = [0; replay::LOG_CELLS];
-            *marks = [0; replay::MARKS];
-            0
-        }
-        Err(why) => u32::from(why),
-    }
+    stream::begin(own, tallies, shared, edition)?;
+    *log = [0; replay::LOG_CELLS];
+    *marks = [0; replay::MARKS];
+    Ok(())
 }
 
 // Words of records, fed to the session in one piece. A refused one stops the session, so that later ones add nothing.
@@ -69,6 +63,7 @@ fn take_words(
 }
 
 // The word of a record that was read byte by byte.
+// Kept (design pass 2, no plainer): a session answers one word and a piece of words by two functions with answers of two types.
 fn take_word(
     log: &mut [u32; replay::LOG_CELLS],
     own: &mut [u32; state::OWN_CELLS],
@@ -94,41 +89,21 @@ fn open_byte(
     tallies: &mut [u64; state::TALLIES],
     shared: &mut [u32; state::SHARED_CELLS],
     byte: u32,
-) -> Answer
+) -> Result<(), Refusal>
     requires { OpenAsked log.old marks.old own.old tallies.old shared.old byte }
     ensures { Became (open_step (replay_in log.old marks.old own.old tallies.old shared.old) byte) (reply_of result) log.new marks.new own.new tallies.new shared.new }
 {
     let count = log[own::COUNT];
     if count < 4 {
         own::add(log, count, byte);
-        return Answer::Taken;
+        return Ok(());
     }
     let value = bytes::number(log[own::LOW], log[own::SECOND], log[own::THIRD], byte);
     if log[own::KIND] == 1 {
         take_word(log, own, tallies, shared, value);
-        return Answer::Taken;
+        return Ok(());
     }
     bytes::midnight(log, marks, tallies, value)
-}
-
-// A byte as a wider number.
-fn wide(byte: u8) -> u32
-    ensures value { result ≡ byte }
-    ensures most { result < 256 }
-{
-    byte as u32
-}
-
-// The refusal that stopped a replay.
-fn stop_cause(number: u32) -> Refusal
-    requires { StopNumber number }
-    ensures { number_of result ≡ number }
-{
-    if number == own::BY_KIND {
-        Refusal::RecordKind
-    } else {
-        Refusal::MidnightDay
-    }
 }
 
 // One byte. A replay that was stopped answers the same number again.
@@ -139,13 +114,13 @@ fn read_byte(
     tallies: &mut [u64; state::TALLIES],
     shared: &mut [u32; state::SHARED_CELLS],
     byte: u32,
-) -> Answer
+) -> Result<(), Refusal>
     requires { ReplayGiven log.old marks.old own.old tallies.old shared.old × (byte < 256) }
     ensures { Became (byte_step (replay_in log.old marks.old own.old tallies.old shared.old) byte) (reply_of result) log.new marks.new own.new tallies.new shared.new }
 {
     let by = log[own::STOPPED_BY];
     if by != 0 {
-        return Answer::Refused(stop_cause(by));
+        return Err(refusal::with_number(by));
     }
     if log[own::COUNT] == 0 {
         return bytes::kind_byte(log, byte);
@@ -159,10 +134,10 @@ fn word_at(bytes: &[u8], i: usize) -> u32
     ensures { result ≡ word_at bytes.now i }
 {
     bytes::number(
-        wide(bytes[i + 1]),
-        wide(bytes[i + 2]),
-        wide(bytes[i + 3]),
-        wide(bytes[i + 4]),
+        u32::from(bytes[i + 1]),
+        u32::from(bytes[i + 2]),
+        u32::from(bytes[i + 3]),
+        u32::from(bytes[i + 4]),
     )
 }
 
@@ -171,8 +146,7 @@ fn word_at(bytes: &[u8], i: usize) -> u32
 fn records_in(bytes: usize) -> usize
     ensures { (5 * result ≤ bytes) × (result ≤ batch) }
 {
-    let whole = bytes / RECORD;
-    if whole < BATCH { whole } else { BATCH }
+    (bytes / RECORD).min(BATCH)
 }
 
 // Adds to the words that were gathered from a place on those of the next records, up to so many, before the first that is of
@@ -181,17 +155,14 @@ fn gather_next(bytes: &[u8], at: usize, words: &mut [u32], gathered: usize, next
     requires { MoreAsked bytes.now at words.old gathered next }
     ensures { MoreGathered bytes.now at gathered next result words.new }
 {
-    let mut k: usize = 0;
-    while k < next {
-        let n = gathered + k;
+    for n in gathered..gathered + next {
         let i = at + RECORD * n;
         if bytes[i] != WORD_KIND {
             return n;
         }
         words[n] = word_at(bytes, i);
-        k = k + 1;
     }
-    gathered + k
+    gathered + next
 }
 
 // The words of the records of kind 1 that lie whole in a piece from a place on, one after the other, as many as there is room
@@ -203,6 +174,7 @@ fn gather(bytes: &[u8], at: usize, words: &mut [u32]) -> usize
 {
     let most = records_in(bytes.len() - at);
     let mut n: usize = 0;
+    // Kept (design pass 3, no plainer): a for over eights would count them, and the rest goes by how many words there are.
     while 8 <= most - n {
         let next = gather_next(bytes, at, words, n, 8);
         if next < n + 8 {
@@ -231,10 +203,7 @@ fn take_records(
     if bytes.len() - at < RECORD {
         return 0;
     }
-    if log[own::STOPPED_BY] != 0 {
-        return 0;
-    }
-    if log[own::COUNT] != 0 {
+    if log[own::STOPPED_BY] != 0 || log[own::COUNT] != 0 {
         return 0;
     }
     let n = gather(bytes, at, words);
@@ -268,8 +237,8 @@ fn grows(log: &mut [u32; replay::LOG_CELLS], byte: u32) -> bool
     false
 }
 
-// One byte by itself: 0 where it was taken, else 18 or 19. Four bytes of five only add to a record and touch the replay's own
-// numbers, so that is asked first; the answer is a number, since an enum of two would be written as two and read as one.
+// One byte by itself: 18 or 19 where it isn't taken. Four bytes of five only add to a record and touch the replay's own numbers, so
+// that is asked first.
 pub fn take_byte(
     log: &mut [u32; replay::LOG_CELLS],
     marks: &mut [u64; replay::MARKS],
@@ -277,19 +246,15 @@ pub fn take_byte(
     tallies: &mut [u64; state::TALLIES],
     shared: &mut [u32; state::SHARED_CELLS],
     byte: u8,
-) -> u32
+) -> Result<(), Refusal>
     requires { ReplayGiven log.old marks.old own.old tallies.old shared.old }
-    ensures { ByteLeft (replay_of (replay_in log.old marks.old own.old tallies.old shared.old) (byte ∷ [])) result log.new marks.new own.new tallies.new shared.new }
+    ensures { ByteLeft (replay_of (replay_in log.old marks.old own.old tallies.old shared.old) (byte ∷ [])) (begun_status result) log.new marks.new own.new tallies.new shared.new }
 {
-    let number = wide(byte);
+    let number = u32::from(byte);
     if grows(log, number) {
-        return 0;
+        return Ok(());
     }
-    let answer = read_byte(log, marks, own, tallies, shared, number);
-    match answer {
-        Answer::Taken => 0,
-        Answer::Refused(why) => u32::from(why),
-    }
+    read_byte(log, marks, own, tallies, shared, number)
 }
 
 // What a piece is answered: the bytes taken, which is also the place of the refused byte if there is one; and the refusal.
@@ -311,24 +276,27 @@ pub fn feed(
     requires { ReplayGiven log.old marks.old own.old tallies.old shared.old }
     ensures { PieceLeft (replay_of (replay_in log.old marks.old own.old tallies.old shared.old) bytes.now) result log.new marks.new own.new tallies.new shared.new }
 {
+    // Kept (design pass 3, no plainer): a step takes one byte or a whole row of records.
     let mut i: usize = 0;
-    let mut refusal: Option<Refusal> = None;
     let mut words: [u32; BATCH] = [0; BATCH];
     while i < bytes.len() {
         let records = take_records(log, own, tallies, shared, bytes, i, &mut words);
         if 0 < records {
-            i = i + RECORD * records;
+            i += RECORD * records;
             continue;
         }
-        let answer = read_byte(log, marks, own, tallies, shared, wide(bytes[i]));
-        if let Answer::Refused(why) = answer {
-            refusal = Some(why);
-            break;
+        match read_byte(log, marks, own, tallies, shared, u32::from(bytes[i])) {
+            Ok(()) => i += 1,
+            Err(why) => {
+                return Fed {
+                    taken: BytePosition(i as u64),
+                    refusal: Some(why),
+                };
+            }
         }
-        i = i + 1;
     }
     Fed {
         taken: BytePosition(i as u64),
-        refusal,
+        refusal: None,
     }
 }

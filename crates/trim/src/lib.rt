@@ -2,20 +2,13 @@
 // room of 400. What it was before that midnight is forgotten; the runs and claims from there on are the same.
 #![tactic(auto)]
 
-ghost use Rattle.std.specs.Prelude.{◌≡◌, ◌-◌, length};
+ghost use Rattle.std.specs.Prelude.{◌≡◌, length};
 ghost use Rattle.replay.specs.Places.{log_length};
-ghost use Rattle.trim.specs.Left.{TrimCrosses, Trims};
+ghost use Rattle.trim.specs.Left.{Trims};
 ghost use Rattle.trim.specs.Trim.{only_mark};
 
 use days::report;
 use replay::own;
-
-// How many midnights are left of those before a word, where the first `cut` are forgotten.
-fn rest(after: u32, cut: u32) -> u32
-    ensures { result ≡ after - cut }
-{
-    if after < cut { 0 } else { after - cut }
-}
 
 // Leaves the marks of one midnight.
 fn keep(marks: &mut [u64; replay::MARKS], runs: u64, claims: u64)
@@ -35,16 +28,7 @@ pub fn trim(log: &mut [u32; replay::LOG_CELLS], marks: &mut [u64; replay::MARKS]
     if midnights > 0 {
         let last = report::began(marks, midnights);
         keep(marks, last.runs, last.claims);
-        log[own::REFUSED_AFTER] = rest(log[own::REFUSED_AFTER], midnights - 1);
+        log[own::REFUSED_AFTER] = log[own::REFUSED_AFTER].saturating_sub(midnights - 1);
         log[own::MIDNIGHTS] = 1;
     }
-}
-
-// The same as an entry: 0 in any case.
-pub fn cross(log: &mut [u32; replay::LOG_CELLS], marks: &mut [u64; replay::MARKS]) -> u32
-    requires { length log.old ≡ log_length }
-    ensures { TrimCrosses log.old marks.old result log.new marks.new }
-{
-    trim(log, marks);
-    0
 }

@@ -1,30 +1,32 @@
 -- `growing::add` meets its contract. Assumes nothing.
 use mathlib.Core.Path.{sym, ◌∙◌}
-use Rattle.score.specs.Answers.{lease_line}
+use Rattle.std.proofs.lemmas.Result.{err_from_is_err_and}
+use Rattle.score.specs.Lease.{lease_of}
 use Rattle.growing.proofs.Adding.{other_edition, no_more, refused_as, may_put, added_as}
 use Rattle.growing.proofs.add.Goals as goal
 
-pub returns-then-sums-born : goal.returns-then-sums-born
-returns-then-sums-born c =
-    other_edition (lease_line _ _ _) _ _ _ _ _ (λ e. c.if-sums-born.true (e ∙ sym c.edition_in-born.ensures))
-    c.from.ensures
+pub returns-then-sums-from : goal.returns-then-sums-from
+returns-then-sums-from c =
+    other_edition (lease_of _) _ _ _ _ _ (λ e. c.if-sums-from.true (e ∙ sym c.from.ensures)) c.from-then-sums-from.ensures
 
 pub returns-then-sums-ge-MOST_STATIONS : goal.returns-then-sums-ge-MOST_STATIONS
 returns-then-sums-ge-MOST_STATIONS c =
-    no_more (lease_line _ _ _) _ _ _ _ _ (c.if-sums-born.false ∙ c.edition_in-born.ensures) c.if-sums-ge-MOST_STATIONS.true
+    no_more (lease_of _) _ _ _ _ _ (c.if-sums-from.false ∙ c.from.ensures) c.if-sums-ge-MOST_STATIONS.true
     c.from-then-sums-ge-MOST_STATIONS.ensures
 
-pub returns-then-month-ne0 : goal.returns-then-month-ne0
-returns-then-month-ne0 c =
-    refused_as (lease_line _ _ _) _ _ _ _ _ (c.if-sums-born.false ∙ c.edition_in-born.ensures) c.if-sums-ge-MOST_STATIONS.false
-    c.summed-month.ensures c.if-month-ne0.true
+pub returns-in_err-month : goal.returns-in_err-month
+returns-in_err-month c =
+    let p = err_from_is_err_and c.from_residual.result c.from_residual.ensures.1 in
+    rw (p.1, p.2)
+    (refused_as (lease_of _) _ _ _ _ _ (c.if-sums-from.false ∙ c.from.ensures) c.if-sums-ge-MOST_STATIONS.false c.summed.ensures
+    c.in_err-month.was)
 
 pub put_month-requires : goal.put_month-requires
 put_month-requires c =
-    may_put (lease_line _ _ _) _ _ c.args.own.now _ _ (c.if-sums-born.false ∙ c.edition_in-born.ensures)
-    c.if-sums-ge-MOST_STATIONS.false c.summed-month.ensures c.requires
+    may_put (lease_of _) _ _ c.args.own.now _ _ (c.if-sums-from.false ∙ c.from.ensures) c.if-sums-ge-MOST_STATIONS.false c.summed.ensures
+    c.in_ok-month.was c.requires
 
 pub returns : goal.returns
 returns c =
-    added_as (lease_line _ _ _) _ _ _ _ _ (c.if-sums-born.false ∙ c.edition_in-born.ensures) c.if-sums-ge-MOST_STATIONS.false
-    c.summed-month.ensures c.if-month-ne0.false c.put_month.ensures
+    added_as (lease_of _) _ _ _ _ _ (c.if-sums-from.false ∙ c.from.ensures) c.if-sums-ge-MOST_STATIONS.false c.summed.ensures
+    c.in_ok-month.was c.put_month.ensures

@@ -1,11 +1,10 @@
--- `score_rooms::lease` meets its contract: the edition first, then the line. Assumes nothing.
-use Rattle.score_rooms.proofs.Lines.{line_judged, edition_refused}
+-- `score_rooms::lease` meets its contract: each answer crosses as it is told. Assumes nothing.
+use mathlib.Core.Path.{sym, ap, ◌∙◌}
+use Rattle.refusal.specs.Crossing.{status_of}
 use Rattle.score_rooms.proofs.lease.Goals as goal
 
-pub returns-then-is_known : goal.returns-then-is_known
-returns-then-is_known c =
-    line_judged _ _ c.is_known.ensures c.if-is_known.true c.line_status.ensures
+pub returns-in-Ok : goal.returns-in-Ok
+returns-in-Ok c = ap status_of c.in-Ok.ensures
 
-pub returns : goal.returns
-returns c =
-    edition_refused _ _ c.is_known.ensures c.if-is_known.false c.from.ensures
+pub returns-in-Err : goal.returns-in-Err
+returns-in-Err c = c.from.ensures ∙ ap status_of c.in-Err.ensures

@@ -1,11 +1,9 @@
 -- `score_rooms::month` meets its contract: each answer crosses as it is told. Assumes nothing.
-use Rattle.score_rooms.proofs.Months.{month_refused, month_given}
+use Rattle.score_rooms.proofs.Months.{numbered, month_refused, month_given}
 use Rattle.score_rooms.proofs.month.Goals as goal
 
-pub returns-in-Refused : goal.returns-in-Refused
-returns-in-Refused c = month_refused _ _ _ _ _ _ _ _ _ _ c.score-answer.ensures _ c.in-Refused.is
+pub returns-in-Err : goal.returns-in-Err
+returns-in-Err c = month_refused _ _ _ _ _ _ _ _ _ _ c.score.ensures _ c.in-Err.is
 
-pub returns-in-Month : goal.returns-in-Month
-returns-in-Month c =
-    month_given _ _ _ _ _ _ _ _ _ _ c.score-answer.ensures _ c.in-Month.is
-    _ c.verdict_number.ensures
+pub returns-in-Ok : goal.returns-in-Ok
+returns-in-Ok c = month_given _ _ _ _ _ _ _ _ _ _ c.score.ensures _ c.in-Ok.is _ (numbered _)

@@ -6,8 +6,5 @@ use Rattle.days.proofs.report.first_day.Goals as goal
 pub returns-then-midnights-eq0 : goal.returns-then-midnights-eq0
 returns-then-midnights-eq0 c = no_day _ _ c.if-midnights-eq0.true
 
-pub returns-then-last-before : goal.returns-then-last-before
-returns-then-last-before c = first_day_lem _ _ c.if-midnights-eq0.false _ (omega arith)
-
-pub returns-else-last-before : goal.returns-else-last-before
-returns-else-last-before c = first_day_lem _ _ c.if-midnights-eq0.false _ (omega arith)
+pub returns : goal.returns
+returns c = first_day_lem _ _ c.if-midnights-eq0.false _ (omega (arith, c.saturating_sub.ensures))

@@ -1,11 +1,6 @@
 -- `fleet::lengths::add_up` meets its contract. Loop: what is left and the lengths so far are the slice. Assumes nothing.
-use Prim.Native.Nat.{◌-◌}
-use Rattle.fleet.specs.Fleet.{stations_in}
 use Rattle.fleet.proofs.Slices.{Adding}
 use Rattle.fleet.proofs.lengths.add_up.Given as goal
 
 abbrev pub invariant-loop-k : goal.invariant-loop-k
 invariant-loop-k l = Adding l.numbers l.slice l.left l.k
-
-abbrev pub decreases-loop-k : goal.decreases-loop-k
-decreases-loop-k l = stations_in l.numbers - l.k

@@ -1,16 +1,15 @@
--- `fleet::report::report` meets its contract: 3 for the edition first. Assumes nothing.
-use Rattle.fleet.proofs.Judging.{then_judged, edition_refused}
+-- `fleet::report::report` meets its contract: the answer as it crosses. Assumes nothing.
+use Rattle.fleet.proofs.Judging.{room_four, refused_crosses, fleet_crosses}
 use Rattle.fleet.proofs.report.judged.Reads as judged_reads
-use Rattle.state.proofs.edition.is_known.Reads as is_known_reads
-use mathlib.Core.Path.{sym, ◌∙◌}
+use Rattle.fleet.proofs.report.write.Reads as write_reads
+use mathlib.Core.Path.{sym, ap, ◌∙◌}
 use Rattle.fleet.proofs.report.report.Goals as goal
 
-pub judged-requires : goal.judged-requires
-judged-requires c = sym c.is_known.ensures ∙ c.if-is_known.true
+pub returns-in-Err : goal.returns-in-Err
+returns-in-Err c = refused_crosses _ _ _ _ c.in-Err.ensures
 
-pub returns-then-is_known : goal.returns-then-is_known
-returns-then-is_known c =
-    then_judged _ _ _ _ c.is_known.ensures c.if-is_known.true c.judged.ensures
+pub write-requires : goal.write-requires
+write-requires c = room_four _ _ _ _ c.in-Ok.ensures
 
-pub returns : goal.returns
-returns c = edition_refused _ _ _ _ c.is_known.ensures c.if-is_known.false c.from.ensures
+pub returns-in-Ok : goal.returns-in-Ok
+returns-in-Ok c = fleet_crosses _ _ _ _ c.in-Ok.fleet c.in-Ok.ensures c.write.ensures

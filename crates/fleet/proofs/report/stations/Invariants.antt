@@ -1,6 +1,4 @@
 -- `fleet::report::stations` meets its contract. Loop: the first stations are summed up, and none of them is refused. Assumes nothing.
-use Prim.Native.Nat.{◌-◌}
-use Rattle.fleet.specs.Fleet.{stations_in}
 use Rattle.fleet.proofs.Summing.{Summing}
 use Rattle.fleet.proofs.parts.add.Reads as add_reads
 use Rattle.fleet.proofs.parts.none.Reads as none_reads
@@ -9,6 +7,3 @@ use Rattle.fleet.proofs.report.stations.Given as goal
 
 abbrev pub invariant-loop-k : goal.invariant-loop-k
 invariant-loop-k l = Summing l.edition l.logs l.numbers l.fleet l.start l.k
-
-abbrev pub decreases-loop-k : goal.decreases-loop-k
-decreases-loop-k l = stations_in l.numbers - l.k

@@ -1,15 +1,28 @@
 -- `fleet::station::month_of` meets its contract: 21 for a lease line with a number wider than 32 bits. Assumes nothing.
+use mathlib.Core.Path.{ap}
+use Rattle.std.proofs.Common.{Err}
+use Rattle.refusal.specs.Number.{number_of}
+use Rattle.std.proofs.lemmas.Result.{err_from_is_err_and}
 use Rattle.score.specs.Answers.{lease_line}
 use Rattle.fleet.proofs.Months.{wide_day, wide_days, wide_owed}
-use Rattle.fleet.proofs.station.out_of_bounds.Reads as out_of_bounds_reads
+use Rattle.fleet.proofs.station.narrow.Reads as narrow_reads
 use Rattle.fleet.proofs.station.replayed.Reads as replayed_reads
 use Rattle.fleet.proofs.station.month_of.Goals as goal
 
-pub returns-then-first_day-gt-WIDEST : goal.returns-then-first_day-gt-WIDEST
-returns-then-first_day-gt-WIDEST c = wide_day _ (lease_line _ _ _) _ c.if-first_day-gt-WIDEST.true c.out_of_bounds.ensures
+pub returns-in_err-narrow : goal.returns-in_err-narrow
+returns-in_err-narrow c =
+    let p = err_from_is_err_and c.from_residual.result c.from_residual.ensures.1 in
+    rw (p.1, p.2) (wide_day _ (lease_line _ _ _) _ c.in_err-narrow.ensures.1 (ap Err (ap number_of c.in_err-narrow.ensures.0)))
 
-pub returns-then-days-gt-WIDEST : goal.returns-then-days-gt-WIDEST
-returns-then-days-gt-WIDEST c = wide_days _ (lease_line _ _ _) _ c.if-days-gt-WIDEST.true c.out_of_bounds-then-days-gt-WIDEST.ensures
+pub returns-in_err-narrow-2 : goal.returns-in_err-narrow-2
+returns-in_err-narrow-2 c =
+    let p = err_from_is_err_and c.from_residual-in_err-narrow-2.result c.from_residual-in_err-narrow-2.ensures.1 in
+    rw (p.1, p.2) (wide_days _ (lease_line _ _ _) _ c.in_err-narrow-2.ensures.1 (ap Err (ap number_of c.in_err-narrow-2.ensures.0)))
 
-pub returns-then-owed-gt-WIDEST : goal.returns-then-owed-gt-WIDEST
-returns-then-owed-gt-WIDEST c = wide_owed _ (lease_line _ _ _) _ c.if-owed-gt-WIDEST.true c.out_of_bounds-then-owed-gt-WIDEST.ensures
+pub returns-in_err-narrow-3 : goal.returns-in_err-narrow-3
+returns-in_err-narrow-3 c =
+    let p = err_from_is_err_and c.from_residual-in_err-narrow-3.result c.from_residual-in_err-narrow-3.ensures.1 in
+    rw (p.1, p.2) (wide_owed _ (lease_line _ _ _) _ c.in_err-narrow-3.ensures.1 (ap Err (ap number_of c.in_err-narrow-3.ensures.0)))
+
+pub returns : goal.returns
+returns c = rw (c.in_ok-narrow.ensures, c.in_ok-narrow-2.ensures, c.in_ok-narrow-3.ensures) at c.replayed.ensures

@@ -1,10 +1,6 @@
 -- `fleet::station::silent_days` meets its contract. Loop: the silent days among the first. Assumes nothing.
-use Prim.Native.Nat.{◌-◌}
 use Rattle.fleet.proofs.Months.{Counting}
 use Rattle.fleet.proofs.station.silent_days.Given as goal
 
 abbrev pub invariant-loop-k : goal.invariant-loop-k
 invariant-loop-k l = Counting l.served l.days l.owed l.silent l.k
-
-abbrev pub decreases-loop-k : goal.decreases-loop-k
-decreases-loop-k l = l.days - l.k

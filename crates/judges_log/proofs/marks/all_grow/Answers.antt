@@ -9,17 +9,11 @@ use Rattle.judges_log.proofs.marks.grows.Reads as grows_reads
 use Rattle.judges_log.proofs.marks.all_grow.Goals as goal
 
 pub loop-k-init : goal.loop-k-init
-loop-k-init c = (omega arith, none_yet _)
-
-pub overflow_add-k : goal.overflow_add-k
-overflow_add-k c = omega arith
-
-pub loop-k-smaller : goal.loop-k-smaller
-loop-k-smaller c = omega arith
+loop-k-init c = none_yet _
 
 pub loop-k-preserved : goal.loop-k-preserved
 loop-k-preserved c =
-    (omega arith, joined c.both-good.ensures c.loop-k.invariant.1 c.grows.ensures ∙ one_more _ _)
+    joined c.both-good.ensures c.loop-k.invariant c.grows.ensures ∙ one_more _ _
 
 pub returns : goal.returns
-returns c = all_tested _ c.loop-k.invariant.1 (omega arith)
+returns c = all_tested _ c.loop-k.invariant (omega arith)

@@ -11,7 +11,4 @@ use Rattle.judges_log.proofs.marks.grows.Reads as grows_reads
 use Rattle.judges_log.proofs.marks.all_grow.Given as goal
 
 abbrev pub invariant-loop-k : goal.invariant-loop-k
-invariant-loop-k l = (l.k ≤ l.midnights + 1) × (l.good ≡ every l.k (grows_at l.marks l.midnights (now_in l.tallies)))
-
-abbrev pub decreases-loop-k : goal.decreases-loop-k
-decreases-loop-k l = l.midnights + 1 - l.k
+invariant-loop-k l = l.good ≡ every l.k (grows_at l.marks l.midnights (now_in l.tallies))

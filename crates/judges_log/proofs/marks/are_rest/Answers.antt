@@ -9,20 +9,14 @@ use Rattle.judges_log.proofs.marks.is_rest.Reads as is_rest_reads
 use Rattle.judges_log.proofs.marks.are_rest.Goals as goal
 
 pub loop-k-init : goal.loop-k-init
-loop-k-init c = (omega arith, none_yet _)
+loop-k-init c = none_yet _
 
 pub is_rest-requires : goal.is_rest-requires
 is_rest-requires c = (c.requires, c.loop-k-test.true)
 
-pub overflow_add-k : goal.overflow_add-k
-overflow_add-k c = omega arith
-
-pub loop-k-smaller : goal.loop-k-smaller
-loop-k-smaller c = omega arith
-
 pub loop-k-preserved : goal.loop-k-preserved
 loop-k-preserved c =
-    (omega arith, joined c.both-good.ensures c.loop-k.invariant.1 c.is_rest.ensures ∙ one_more _ _)
+    joined c.both-good.ensures c.loop-k.invariant c.is_rest.ensures ∙ one_more _ _
 
 pub returns : goal.returns
-returns c = all_tested _ c.loop-k.invariant.1 (omega arith)
+returns c = all_tested _ c.loop-k.invariant (omega arith)

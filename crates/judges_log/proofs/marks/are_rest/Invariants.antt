@@ -11,7 +11,4 @@ use Rattle.judges_log.proofs.marks.is_rest.Reads as is_rest_reads
 use Rattle.judges_log.proofs.marks.are_rest.Given as goal
 
 abbrev pub invariant-loop-k : goal.invariant-loop-k
-invariant-loop-k l = (l.k ≤ marks_length) × (l.good ≡ every l.k (rest_at l.marks l.midnights))
-
-abbrev pub decreases-loop-k : goal.decreases-loop-k
-decreases-loop-k l = marks_length - l.k
+invariant-loop-k l = l.good ≡ every l.k (rest_at l.marks l.midnights)

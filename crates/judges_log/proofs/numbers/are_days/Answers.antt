@@ -14,4 +14,4 @@ returns-then-midnights-eq0 c = sym (pick_yes _ _ (eq-eqb _ _ c.if-midnights-eq0.
 
 pub returns : goal.returns
 unfolding days_by
-returns c = c.both.ensures ∙ sym (pick_no _ _ (ne_eqb _ _ c.if-midnights-eq0.false))
+returns c = (rw (c.from.ensures, c.from-2.ensures) at c.both.ensures) ∙ sym (pick_no _ _ (ne_eqb _ _ c.if-midnights-eq0.false))

@@ -14,7 +14,7 @@ pub returns-then-has_midnight : goal.returns-then-has_midnight
 returns-then-has_midnight c =
     let has-midnight-told = sym c.has_midnight.ensures ∙ c.if-has_midnight.true in
     claimed_part _ _ _ _ has-midnight-told _ (omega (arith, not_after _ _ _ has-midnight-told, not_before _ _ _ has-midnight-told)) _
-    c.part-part.ensures
+    c.part.ensures
 
 pub returns-else-has_midnight : goal.returns-else-has_midnight
 returns-else-has_midnight c = claimed_none _ _ _ _ (sym c.has_midnight.ensures ∙ c.if-has_midnight.false)

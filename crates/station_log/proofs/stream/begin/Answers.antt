@@ -1,22 +1,19 @@
 -- `log::stream::begin` meets its contract. Assumes nothing.
-use mathlib.Core.Path.{refl, sym, subst}
-use Prim.Native.Nat.{ℕ}
+use mathlib.Core.Path.{refl}
 use native.Mathlib.Omega.{arith}
-use Rattle.session.specs.Answers.{Begins}
+use Rattle.std.proofs.lemmas.Result.{err_from_is_err_and}
 use Rattle.station_log.proofs.Handed.{begins, begins_not}
 use Rattle.station_log.proofs.Steps.{number_between}
 use Rattle.station_log.proofs.stream.begin.Goals as goal
 
-pub returns-in-Ok : goal.returns-in-Ok
-returns-in-Ok c =
-    -- the session was begun, and the replay with it
-    begins _ c.in-Ok.ensures refl
-
-pub returns-in-Err : goal.returns-in-Err
-returns-in-Err c =
+pub returns-in_err-begin : goal.returns-in_err-begin
+returns-in_err-begin c =
     -- the session was refused, and nothing was touched
-    begins_not _
-    (subst
-    (λ (n : ℕ). Begins c.args.edition n c.args.own.now c.args.tallies.now c.args.shared.now c.begin.new.own c.begin.new.tallies c.begin.new.shared)
-    (sym c.from.ensures) c.in-Err.ensures)
-    (λ z. omega (arith, z, c.from.ensures, (number_between c.in-Err.why).0))
+    let p = err_from_is_err_and c.from_residual.result c.from_residual.ensures.1 in
+    rw (p.1, p.2)
+    (begins_not _ c.in_err-begin.ensures (λ z. omega (arith, z, (number_between c.in_err-begin.field-0.0).0)))
+
+pub returns : goal.returns
+returns c =
+    -- the session was begun, and the replay with it
+    begins _ c.in_ok-begin.ensures refl

@@ -6,15 +6,15 @@ use mathlib.Core.Path.{refl, sym}
 use Rattle.station_log.proofs.stream.feed.Goals as goal
 
 pub loop-i-init : goal.loop-i-init
-loop-i-init c = (fold_begins _ _ _ _ _ _ c.requires, (refl, search rules))
+loop-i-init c = (fold_begins _ _ _ _ _ _ c.requires, search rules)
 
 pub slice_bounds-take_records-end : goal.slice_bounds-take_records-end
-slice_bounds-take_records-end c = sym c.loop-i.invariant.1.1
+slice_bounds-take_records-end c = sym c.loop-i.invariant.1
 
 pub take_records-records-requires : goal.take_records-records-requires
 take_records-records-requires c =
     let loop = c.loop-i in
-    (asked _ _ _ _ _ _ _ _ loop.invariant.0, (loop.invariant.0.within, loop.invariant.1.1))
+    (asked _ _ _ _ _ _ _ _ loop.invariant.0, (loop.invariant.0.within, loop.invariant.1))
 
 pub overflow_mul-i : goal.overflow_mul-i
 overflow_mul-i c =
@@ -34,34 +34,28 @@ pub loop-i-preserved-then-records-gt0 : goal.loop-i-preserved-then-records-gt0
 loop-i-preserved-then-records-gt0 c =
     let loop = c.loop-i in
     let records = c.take_records-records.ensures in
-    (fold_records _ _ _ _ _ _ _ _ loop.invariant.0 _ _ _ _ _ c.if-records-gt0.true records.read, (loop.invariant.1.0, records.room))
+    (fold_records _ _ _ _ _ _ _ _ loop.invariant.0 _ _ _ _ _ c.if-records-gt0.true records.read, records.room)
 
-pub read_byte-answer-requires : goal.read_byte-answer-requires
-read_byte-answer-requires c =
+pub read_byte-requires : goal.read_byte-requires
+read_byte-requires c =
     let same = fold_same _ _ _ _ _ _ _ _ c.loop-i.invariant.0 _ _ _ _ _ c.if-records-gt0.false c.take_records-records.ensures.read in
-    (same.given, c.wide.ensures.most)
-
-pub overflow_add-i-in-loop-i : goal.overflow_add-i-in-loop-i
-overflow_add-i-in-loop-i c =
-    omega (arith, c.loop-i-test.true)
+    (same.given, omega arith)
 
 pub loop-i-preserved : goal.loop-i-preserved
 loop-i-preserved c =
     let loop = c.loop-i in
     let records = c.take_records-records.ensures in
-    let byte = c.wide.ensures in
     let same = fold_same _ _ _ _ _ _ _ _ loop.invariant.0 _ _ _ _ _ c.if-records-gt0.false records.read in (
-      fold_goes _ _ _ _ _ _ _ _ same c.loop-i-test.true _ _ _ _ _ _ _ byte.value byte.most c.in_default.is
-          c.read_byte-answer.ensures,
-      (loop.invariant.1.0, records.room),
+      fold_goes _ _ _ _ _ _ _ _ same c.loop-i-test.true _ _ _ _ _ _ _ _ c.from.ensures (omega arith) c.in-Ok.is
+          c.read_byte.ensures,
+      records.room,
     )
 
-pub returns-after-loop-i : goal.returns-after-loop-i
-returns-after-loop-i c = fold_ends _ _ _ _ _ _ _ _ c.loop-i.invariant.0 c.loop-i-test.false _ c.loop-i.invariant.1.0
+pub returns : goal.returns
+returns c = fold_ends _ _ _ _ _ _ _ _ c.loop-i.invariant.0 c.loop-i-test.false _ refl
 
-pub returns-in-Refused : goal.returns-in-Refused
-returns-in-Refused c =
-    let byte = c.wide.ensures in
+pub returns-in-Err : goal.returns-in-Err
+returns-in-Err c =
     let same = fold_same _ _ _ _ _ _ _ _ c.loop-i.invariant.0 _ _ _ _ _ c.if-records-gt0.false c.take_records-records.ensures.read in
-    fold_refused _ _ _ _ _ _ _ _ same c.loop-i-test.true _ _ _ _ _ _ _ _ byte.value byte.most c.in-Refused.is
-    c.read_byte-answer.ensures
+    fold_refused _ _ _ _ _ _ _ _ same c.loop-i-test.true _ _ _ _ _ _ _ _ c.from.ensures (omega arith) c.in-Err.is
+    c.read_byte.ensures

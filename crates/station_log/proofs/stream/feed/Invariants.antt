@@ -1,7 +1,6 @@
 -- `log::stream::feed` meets its contract. Assumes nothing.
 use Rattle.station_log.proofs.Feeding.{Fold}
 use Rattle.replay.specs.Cells.{replay_in}
-use Rattle.std.specs.Prelude.{None}
 use lib.ListN.{length}
 use Prim.Native.Nat.{◌-◌}
 use mathlib.Core.Path.{◌≡◌}
@@ -10,7 +9,7 @@ use Rattle.station_log.proofs.stream.feed.Given as goal
 
 abbrev pub invariant-loop-i : goal.invariant-loop-i
 invariant-loop-i l =
-    Fold (replay_in l.initial.log l.initial.marks l.initial.own l.initial.tallies l.initial.shared) l.bytes l.log l.marks l.own l.tallies l.shared l.i × ((l.refusal ≡ None) × (length l.words ≡ batch))
+    Fold (replay_in l.initial.log l.initial.marks l.initial.own l.initial.tallies l.initial.shared) l.bytes l.log l.marks l.own l.tallies l.shared l.i × (length l.words ≡ batch)
 
 abbrev pub decreases-loop-i : goal.decreases-loop-i
 decreases-loop-i l = length l.bytes - l.i

@@ -1,18 +1,19 @@
 -- `log::stream::read_byte` meets its contract. Assumes nothing.
-use Rattle.station_log.proofs.Steps.{again, begins, goes_on, cause}
+use Rattle.station_log.proofs.Steps.{again, begins, goes_on, cause, is_number}
 use Rattle.station_log.proofs.stream.read_byte.Goals as goal
 
-pub stop_cause-requires : goal.stop_cause-requires
-stop_cause-requires c =
+pub with_number-requires : goal.with_number-requires
+with_number-requires c =
     let args = c.args in
-    cause args.log.now args.marks.now args.own.now args.tallies.now args.shared.now args.byte c.requires.0
-    c.if-by-ne0.true
+    is_number
+    (cause args.log.now args.marks.now args.own.now args.tallies.now args.shared.now args.byte c.requires.0
+    c.if-by-ne0.true)
 
 pub returns-then-by-ne0 : goal.returns-then-by-ne0
 returns-then-by-ne0 c =
     let args = c.args in
     again args.log.now args.marks.now args.own.now args.tallies.now args.shared.now _ c.requires.0 _
-    c.stop_cause.ensures c.if-by-ne0.true
+    c.with_number.ensures c.if-by-ne0.true
 
 pub returns-then-log-eq0 : goal.returns-then-log-eq0
 returns-then-log-eq0 c =

@@ -12,9 +12,6 @@ returns-then-bytes-at-lt-RECORD c = record { read = unread; room = c.requires.1.
 pub returns-then-log-ne0 : goal.returns-then-log-ne0
 returns-then-log-ne0 c = record { read = unread; room = c.requires.1.1 }
 
-pub returns-then-log-ne0-2 : goal.returns-then-log-ne0-2
-returns-then-log-ne0-2 c = record { read = unread; room = c.requires.1.1 }
-
 pub slice_bounds-take_words-end : goal.slice_bounds-take_words-end
 slice_bounds-take_words-end c =
     omega (arith, c.gather-n.ensures.gathered.room)

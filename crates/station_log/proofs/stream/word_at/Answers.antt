@@ -6,4 +6,4 @@ use Rattle.station_log.proofs.stream.word_at.Goals as goal
 pub returns : goal.returns
 returns c =
     c.number.ensures ∙
-    (λ j. number_from (c.wide.ensures.value j) (c.wide-2.ensures.value j) (c.wide-3.ensures.value j) (c.wide-4.ensures.value j))
+    (λ j. number_from (c.from.ensures j) (c.from-2.ensures j) (c.from-3.ensures j) (c.from-4.ensures j))
