@@ -3,25 +3,23 @@
 #![tactic(auto)]
 
 use command::commands::{Command, NoEffect, Stored};
+use refusal::Refusal;
 use rules::writer;
 use session::stream;
-use session::stream::Answer;
 use state::edition;
 use std::io;
 use worked::streams::whole_stream;
 use worked::tally::Tally;
 
 // The last word's answer.
-fn last_answer(words: &[u32]) -> Answer {
+fn last_answer(words: &[u32]) -> Result<Option<Command>, Refusal> {
     let mut own: [u32; state::OWN_CELLS] = [0; state::OWN_CELLS];
     let mut tallies: [u64; state::TALLIES] = [0; state::TALLIES];
     let mut shared: [u32; state::SHARED_CELLS] = [0; state::SHARED_CELLS];
-    stream::begin(&mut own, &mut tallies, &mut shared, edition::BY_OUTPUT);
-    let mut answer = Answer::Open;
-    let mut i: usize = 0;
-    while i < words.len() {
-        answer = stream::word(&mut own, &mut tallies, &mut shared, words[i]);
-        i = i + 1;
+    stream::begin(&mut own, &mut tallies, &mut shared, edition::BY_OUTPUT)?;
+    let mut answer = Ok(None);
+    for word in words {
+        answer = stream::word(&mut own, &mut tallies, &mut shared, *word);
     }
     answer
 }
@@ -38,9 +36,9 @@ fn writes(command: Command, words: &[u32; 5]) -> bool {
 }
 
 // The answer to the last of the room's first words; still open where the room has fewer.
-fn answer_to(room: &[u32], count: usize) -> Answer {
+fn answer_to(room: &[u32], count: usize) -> Result<Option<Command>, Refusal> {
     if count > room.len() {
-        return Answer::Open;
+        return Ok(None);
     }
     last_answer(&room[..count])
 }
@@ -51,8 +49,7 @@ fn back(command: Command) -> bool {
     let Ok(count) = writer::write(command, &mut room) else {
         return false;
     };
-    let answer = answer_to(&room, count);
-    let Answer::Done(found) = answer else {
+    let Ok(Some(found)) = answer_to(&room, count) else {
         return false;
     };
     writes(found, &room)
@@ -108,8 +105,7 @@ fn start_back() -> Tally {
     let words = whole_stream();
     let start: [u32; 5] = [words[13], words[14], 0, 0, 0];
     let t = Tally::new().with(writes(Command::Start, &start));
-    let answer = last_answer(&words);
-    let Answer::Done(found) = answer else {
+    let Ok(Some(found)) = last_answer(&words) else {
         return t.with(false);
     };
     t.with(writes(found, &start))

@@ -2,12 +2,12 @@
 use Rattle.session.proofs.Handed.{first_given, word_given}
 use Rattle.command_worked.proofs.last_answer.Goals as goal
 
-pub loop-i-init : goal.loop-i-init
-loop-i-init c = first_given c.begin.ensures
+pub loop-word-init : goal.loop-word-init
+loop-word-init c = first_given c.begin.ensures
 
 pub word-answer-requires : goal.word-answer-requires
-word-answer-requires c = c.loop-i.invariant
+word-answer-requires c = c.loop-word.invariant
 
-pub loop-i-preserved : goal.loop-i-preserved
-loop-i-preserved c =
-    word_given _ _ c.loop-i.invariant c.word-answer.ensures
+pub loop-word-preserved : goal.loop-word-preserved
+loop-word-preserved c =
+    word_given _ _ c.loop-word.invariant c.word-answer.ensures
