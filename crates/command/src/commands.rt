@@ -50,7 +50,7 @@ pub enum Command {
 }
 
 // A command's parameters in four places; 0 where it has none.
-#[derive(Drop)]
+#[derive(Clone, Copy)]
 pub struct Places(pub u32, pub u32, pub u32, pub u32);
 
 // The command of a line, with the line's parameters in the first places.

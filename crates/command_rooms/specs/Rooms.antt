@@ -29,8 +29,3 @@ named_room header fields room =
 pub record CommandCrosses (header : ℕ) (fields : List ℕ) (r : ℕ) (before after written written' : List ℕ) : Type 0 where
   pub answer : Crosses (named_write_of header fields before) r written written'
   pub room : after ≡ named_room header fields before
-
--- the same of a command that is known
-pub record WordsCross (command : Command) (r : ℕ) (before after written written' : List ℕ) : Type 0 where
-  pub answer : Crosses (write_of command (length before)) r written written'
-  pub room : after ≡ room_after (write_of command (length before)) command before

@@ -6,9 +6,11 @@ ghost use Rattle.std.specs.Prelude.{◌≡◌, ◌<◌};
 ghost use Rattle.refusal.specs.Crossing.{Crosses};
 ghost use Rattle.command.specs.Table.{header_of};
 ghost use Rattle.command.specs.Commands.{command_of};
-ghost use Rattle.command_rooms.specs.Rooms.{parameters_of, CommandCrosses, WordsCross};
+ghost use Rattle.rules.specs.Writer.{Wrote};
+ghost use Rattle.rules.specs.Written.{told_written};
+ghost use Rattle.command_rooms.specs.Rooms.{parameters_of, CommandCrosses};
 
-use command::commands::Command;
+use command::commands::Places;
 use command::{commands, table};
 use refusal::Refusal;
 use rules::writer;
@@ -29,40 +31,18 @@ pub fn parameters(header: u32, count: &mut [u32; 1]) -> u32
     }
 }
 
-// A command's words to the front of the room, and their number; 3, 4, 5, 6 or 11.
-fn write_words(command: Command, room: &mut [u32], written: &mut [u32; 1]) -> u32
-    ensures { WordsCross command result room.old room.new written.old written.new }
-{
-    match writer::write(command, room) {
-        Err(why) => u32::from(why),
-        Ok(n) => {
-            *written = [n as u32];
-            0
-        }
-    }
-}
-
-// The same of the command of a line, whose header is given. The tests of the line come first, and the fields are asked one by one
-// only for the refusal that they cause.
-fn write_line(
-    line: u32,
-    header: u32,
-    p0: u32,
-    p1: u32,
-    p2: u32,
-    p3: u32,
-    room: &mut [u32],
-    written: &mut [u32; 1],
-) -> u32
+// How many words the command of a line, whose header is given, has in the room's front; 3, 4, 5, 6 or 11. The tests of the line come
+// first, and the fields are asked one by one only for the refusal that they cause.
+fn write_line(line: u32, header: u32, places: Places, room: &mut [u32]) -> Result<u32, Refusal>
     requires { (line < 21) × (header ≡ header_of line) }
-    ensures { WordsCross (command_of line p0 p1 p2 p3) result room.old room.new written.old written.new }
+    ensures { Wrote (command_of line places.0 places.1 places.2 places.3) (told_written result) room.old room.new }
 {
-    let words = line_writer::write(line, header, p0, p1, p2, p3, room);
-    if 0 < words {
-        *written = [words];
-        return 0;
+    if let Some(words) = line_writer::write(line, header, places, room) {
+        return Ok(words);
     }
-    write_words(commands::build(line, p0, p1, p2, p3), room, written)
+    let Places(p0, p1, p2, p3) = places;
+    let words = writer::write(commands::build(line, p0, p1, p2, p3), room)?;
+    Ok(words as u32)
 }
 
 // The words of the command with this header and these fields to the front of the room, and their number; 2, then the
@@ -70,10 +50,15 @@ fn write_line(
 pub fn write(header: u32, fields: &[u32; FIELDS], room: &mut [u32], written: &mut [u32; 1]) -> u32
     ensures { CommandCrosses header fields.now result room.old room.new written.old written.new }
 {
-    match table::line_of(header) {
-        None => u32::from(Refusal::UnknownHeader),
-        Some(line) => write_line(
-            line, header, fields[0], fields[1], fields[2], fields[3], room, written,
-        ),
+    let Some(line) = table::line_of(header) else {
+        return u32::from(Refusal::UnknownHeader);
+    };
+    let places = Places(fields[0], fields[1], fields[2], fields[3]);
+    match write_line(line, header, places, room) {
+        Err(why) => u32::from(why),
+        Ok(words) => {
+            *written = [words];
+            0
+        }
     }
 }

@@ -3,6 +3,7 @@
 #![tactic(auto)]
 
 use command::commands::{Command, NoEffect, Stored};
+use refusal::Refusal;
 use rules::writer;
 use session::stream;
 use state::edition;
@@ -10,17 +11,17 @@ use std::io;
 use worked::streams::whole_stream;
 use worked::tally::Tally;
 
-// The command that the last word completes, if it completes one.
-fn last_command(words: &[u32]) -> Option<Command> {
+// The last word's answer.
+fn last_answer(words: &[u32]) -> Result<Option<Command>, Refusal> {
     let mut own: [u32; state::OWN_CELLS] = [0; state::OWN_CELLS];
     let mut tallies: [u64; state::TALLIES] = [0; state::TALLIES];
     let mut shared: [u32; state::SHARED_CELLS] = [0; state::SHARED_CELLS];
-    let _ = stream::begin(&mut own, &mut tallies, &mut shared, edition::BY_OUTPUT);
-    let mut last: Option<Command> = None;
-    for i in 0..words.len() {
-        last = stream::word(&mut own, &mut tallies, &mut shared, words[i]).unwrap_or(None);
+    stream::begin(&mut own, &mut tallies, &mut shared, edition::BY_OUTPUT)?;
+    let mut answer = Ok(None);
+    for word in words {
+        answer = stream::word(&mut own, &mut tallies, &mut shared, *word);
     }
-    last
+    answer
 }
 
 fn same_five(a: &[u32; 5], b: &[u32; 5]) -> bool {
@@ -34,12 +35,12 @@ fn writes(command: Command, words: &[u32; 5]) -> bool {
     writer::write(command, &mut room).is_ok() && same_five(&room, words)
 }
 
-// The command that the last of the room's first words completes; none where the room has fewer.
-fn command_in(room: &[u32], count: usize) -> Option<Command> {
+// The answer to the last of the room's first words; still open where the room has fewer.
+fn answer_to(room: &[u32], count: usize) -> Result<Option<Command>, Refusal> {
     if count > room.len() {
-        return None;
+        return Ok(None);
     }
-    last_command(&room[..count])
+    last_answer(&room[..count])
 }
 
 // Whether a command, written and read by a new session, is answered by a command that writes the same.
@@ -48,7 +49,7 @@ fn back(command: Command) -> bool {
     let Ok(count) = writer::write(command, &mut room) else {
         return false;
     };
-    let Some(found) = command_in(&room, count) else {
+    let Ok(Some(found)) = answer_to(&room, count) else {
         return false;
     };
     writes(found, &room)
@@ -104,7 +105,7 @@ fn start_back() -> Tally {
     let words = whole_stream();
     let start: [u32; 5] = [words[13], words[14], 0, 0, 0];
     let t = Tally::new().with(writes(Command::Start, &start));
-    let Some(found) = last_command(&words) else {
+    let Ok(Some(found)) = last_answer(&words) else {
         return t.with(false);
     };
     t.with(writes(found, &start))

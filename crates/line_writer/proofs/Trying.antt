@@ -9,6 +9,7 @@ use lib.Dec.{lit≤}
 use lib.ListN.{length, get_or, take, drop}
 use lib.Seq.{length-take-le}
 use borrow.Author.Tests.{le-leb, lt-leb}
+use Rattle.std.specs.Prelude.{Option, Some, None}
 use Rattle.laws.proofs.Choice.{pick_yes, pick_no}
 use Rattle.laws.proofs.Table.{each, ◌&◌, NoneOf, none_at}
 use Rattle.refusal.specs.Told.{Told, gives, refuses, is_given, then_told}
@@ -33,12 +34,12 @@ use Rattle.line_writer.specs.Tried.{words_told, Tried}
 
 module _ (c : Command) (before : List ℕ) where
   -- a refusal, whatever would come next
-  refused : (t next : Told) → is_given t ≡ false → (0 ≡ words_told (then_told t next)) × (before ≡ room_after (then_told t next) c before)
+  refused : (t next : Told) → is_given t ≡ false → (None ≡ words_told (then_told t next)) × (before ≡ room_after (then_told t next) c before)
   unfolding then_told is_given room_after
   refused (gives values) next e = absurd (let z : ◌≡◌ {A = ℕ} 0 1 = cc in omega arith)
   refused (refuses number) next e = (refl, refl)
 
-  pub unfit : (fits : Bool) → fits ≡ is_given (judge_command_of c) → fits ≡ false → Tried c 0 before before
+  pub unfit : (fits : Bool) → fits ≡ is_given (judge_command_of c) → fits ≡ false → Tried c None before before
   unfolding write_of
   unfit fits same e = let both = refused (judge_command_of c) _ (sym same ∙ e) in record { words = both.0; room = both.1 }
 
@@ -46,7 +47,7 @@ module _ (c : Command) (before : List ℕ) where
     judged : judge_command_of c ≡ gives []
     judged = given_fine c (sym same ∙ e)
 
-    pub short : length before < length words → Tried c 0 before before
+    pub short : length before < length words → Tried c None before before
     unfolding write_of room_after
     short h =
         let told : write_of c (length before) ≡ refuses 11 =
@@ -54,7 +55,7 @@ module _ (c : Command) (before : List ℕ) where
         in
         record { words = sym (ap words_told told); room = sym (ap (λ (t : Told). room_after t c before) told) }
 
-    pub stored : (n : ℕ) (after : List ℕ) → length words ≡ n → n ≤ length before → after ≡ words ++ drop n before → Tried c n before after
+    pub stored : (n : ℕ) (after : List ℕ) → length words ≡ n → n ≤ length before → after ≡ words ++ drop n before → Tried c (Some n) before after
     unfolding write_of room_after
     stored n after counted h is =
         let told : write_of c (length before) ≡ gives (length (words_of c) ∷ []) =
@@ -62,7 +63,7 @@ module _ (c : Command) (before : List ℕ) where
         pick_yes _ _ (le-leb (length (words_of c)) (length before) (let k : length (words_of c) ≡ n = sym (ap length are) ∙ counted in omega arith))
         in
         record {
-          words = sym counted ∙ ap length are ∙ sym (ap words_told told);
+          words = ap (λ (k : ℕ). Some k) (sym counted ∙ ap length are) ∙ sym (ap words_told told);
           room = is ∙ ap₂ (λ (ws : List ℕ) (k : ℕ). ws ++ drop k before) are (sym counted ∙ ap length are) ∙ sym (ap (λ (t : Told). room_after t c before) told);
         }
 
@@ -72,7 +73,7 @@ counted n h p0 p1 p2 p3 most =
     let k : length (take n (p0 ∷ p1 ∷ p2 ∷ p3 ∷ [])) ≡ n = length-take-le n (p0 ∷ p1 ∷ p2 ∷ p3 ∷ []) most in omega arith
 
 -- a command by the number of its line
-module _ (p0 p1 p2 p3 r : ℕ) (before after : List ℕ) where
+module _ (p0 p1 p2 p3 : ℕ) (r : Option ℕ) (before after : List ℕ) where
   pub at_line_lem : (m n h : ℕ) → m ≡ n → h ≡ header_of m → (h ≡ header_of n → Tried (command_of n p0 p1 p2 p3) r before after) →
       Tried (command_of m p0 p1 p2 p3) r before after
   at_line_lem m n h e w q = subst (λ (x : ℕ). Tried (command_of x p0 p1 p2 p3) r before after) (sym e) (q (w ∙ ap header_of e))

@@ -9,6 +9,7 @@ ghost use Rattle.queries.specs.Queries.{bounds_of, setting_of};
 use state::{own, settings};
 
 // A format as it was set: base, format word and height; all 0 where it is not set.
+// Kept (design pass 1, what may not change; this, the bounds and the two flags below): clauses tell a flag and what the cells hold, set or not.
 #[derive(Drop)]
 pub struct Setting {
     pub present: bool,

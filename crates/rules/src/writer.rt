@@ -5,51 +5,50 @@ ghost use Rattle.rules.specs.Writer.{places_judged_of, judge_command_of, Wrote};
 ghost use Rattle.rules.specs.Written.{told_written};
 
 use crate::last::last_rule;
-use command::commands::{Command, fields, line};
+use command::commands::{Command, Places, fields, line};
 use command::kinds::{check, kind_at};
 use command::table::{header, parameters};
 use refusal::Refusal;
 
 // The parameters of a line, judged by their kinds: 3 before 4. A number stands first in its command and nowhere else, so
 // it is asked last. Places past the line's parameters are 0, which passes.
-fn check_places(line: u32, p0: u32, p1: u32, p2: u32, p3: u32) -> Result<(), Refusal>
+fn check_places(line: u32, places: Places) -> Result<(), Refusal>
     requires { line < 21 }
-    ensures { told_checked result ≡ places_judged_of line p0 p1 p2 p3 }
+    ensures { told_checked result ≡ places_judged_of line places.0 places.1 places.2 places.3 }
 {
-    check(kind_at(line, 1), p1)?;
-    check(kind_at(line, 2), p2)?;
-    check(kind_at(line, 3), p3)?;
-    check(kind_at(line, 0), p0)
+    check(kind_at(line, 1), places.1)?;
+    check(kind_at(line, 2), places.2)?;
+    check(kind_at(line, 3), places.3)?;
+    check(kind_at(line, 0), places.0)
 }
 
 // A command's fields, then the rules on the whole: fine, 3, 4, 5 or 6.
 pub fn check_command(command: Command) -> Result<(), Refusal>
     ensures { told_checked result ≡ judge_command_of command }
 {
-    let places = fields(command);
-    check_places(line(command), places.0, places.1, places.2, places.3)?;
+    check_places(line(command), fields(command))?;
     last_rule(command)
 }
 
 // A header and the first `count` parameters to the front of the room.
-pub fn put(room: &mut [u32], count: u32, first: u32, p0: u32, p1: u32, p2: u32, p3: u32)
+pub fn put(room: &mut [u32], count: u32, first: u32, places: Places)
     requires { (1 ≤ count) × (count ≤ 4) × (count < length room.old) }
-    ensures { room.new ≡ (first ∷ take count (p0 ∷ p1 ∷ p2 ∷ p3 ∷ [])) ++ drop (count + 1) room.old }
+    ensures { room.new ≡ (first ∷ take count (places.0 ∷ places.1 ∷ places.2 ∷ places.3 ∷ [])) ++ drop (count + 1) room.old }
 {
     room[0] = first;
-    room[1] = p0;
+    room[1] = places.0;
     if count < 2 {
         return;
     }
-    room[2] = p1;
+    room[2] = places.1;
     if count < 3 {
         return;
     }
-    room[3] = p2;
+    room[3] = places.2;
     if count < 4 {
         return;
     }
-    room[4] = p3;
+    room[4] = places.3;
 }
 
 // Writes a command's words to the front of the room and says how many; or the refusal that its fields cause, 3, 4, 5 or 6,
@@ -64,15 +63,6 @@ pub fn write(command: Command, room: &mut [u32]) -> Result<usize, Refusal>
     if room.len() < words {
         return Err(Refusal::WrongLength);
     }
-    let places = fields(command);
-    put(
-        room,
-        count,
-        header(line),
-        places.0,
-        places.1,
-        places.2,
-        places.3,
-    );
+    put(room, count, header(line), fields(command));
     Ok(words)
 }

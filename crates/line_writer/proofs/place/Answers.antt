@@ -12,11 +12,11 @@ pub returns-then-room-count : goal.returns-then-room-count
 returns-then-room-count c command same words =
     let a = c.args in
     short command _ _ same c.if-not-fits.false _ words
-    (let n = counted a.count a.header a.p0 a.p1 a.p2 a.p3 c.requires.1 in omega arith)
+    (let n = counted a.count a.header a.places.0 a.places.1 a.places.2 a.places.3 c.requires.1 in omega arith)
 
 -- the words are stored
 pub returns : goal.returns
 returns c command same words =
     let a = c.args in
-    stored command _ _ same c.if-not-fits.false _ words _ _ (counted a.count a.header a.p0 a.p1 a.p2 a.p3 c.requires.1)
+    stored command _ _ same c.if-not-fits.false _ words _ _ (counted a.count a.header a.places.0 a.places.1 a.places.2 a.places.3 c.requires.1)
     (omega arith) c.put.ensures

@@ -12,9 +12,9 @@ pub returns-in_err-check_places : goal.returns-in_err-check_places
 returns-in_err-check_places c =
     let p = err_from_is_err_and c.from_residual.result c.from_residual.ensures.1 in
     rw (p.1, p.2)
-    (command_refused _ _ c.fields-places.result _ c.line.ensures c.fields-places.ensures c.in_err-check_places.ensures _ refl)
+    (command_refused _ _ c.fields.result _ c.line.ensures c.fields.ensures c.in_err-check_places.ensures _ refl)
 
 pub returns : goal.returns
 returns c =
-    command_ruled _ _ c.fields-places.result _ c.line.ensures c.fields-places.ensures c.in_ok-check_places.ensures _ refl
+    command_ruled _ _ c.fields.result _ c.line.ensures c.fields.ensures c.in_ok-check_places.ensures _ refl
     c.last_rule.ensures

@@ -16,7 +16,7 @@ shape_of-room-then-count-lt2 c = simp length-set
 pub returns-then-count-lt2 : goal.returns-then-count-lt2
 returns-then-count-lt2 c =
     let a = c.args in
-    front a.room.now a.first a.count 1 (a.p0 ∷ a.p1 ∷ a.p2 ∷ a.p3 ∷ []) (omega arith) (lit≤ tt) (omega arith)
+    front a.room.now a.first a.count 1 (a.places.0 ∷ a.places.1 ∷ a.places.2 ∷ a.places.3 ∷ []) (omega arith) (lit≤ tt) (omega arith)
 
 pub bounds-room-2 : goal.bounds-room-2
 bounds-room-2 c = simp length-set (omega arith)
@@ -27,7 +27,7 @@ shape_of-room-then-count-lt3 c = simp length-set
 pub returns-then-count-lt3 : goal.returns-then-count-lt3
 returns-then-count-lt3 c =
     let a = c.args in
-    front a.room.now a.first a.count 2 (a.p0 ∷ a.p1 ∷ a.p2 ∷ a.p3 ∷ []) (omega arith) (lit≤ tt) (omega arith)
+    front a.room.now a.first a.count 2 (a.places.0 ∷ a.places.1 ∷ a.places.2 ∷ a.places.3 ∷ []) (omega arith) (lit≤ tt) (omega arith)
 
 pub bounds-room-3 : goal.bounds-room-3
 bounds-room-3 c = simp length-set (omega arith)
@@ -38,7 +38,7 @@ shape_of-room-then-count-lt4 c = simp length-set
 pub returns-then-count-lt4 : goal.returns-then-count-lt4
 returns-then-count-lt4 c =
     let a = c.args in
-    front a.room.now a.first a.count 3 (a.p0 ∷ a.p1 ∷ a.p2 ∷ a.p3 ∷ []) (omega arith) (lit≤ tt) (omega arith)
+    front a.room.now a.first a.count 3 (a.places.0 ∷ a.places.1 ∷ a.places.2 ∷ a.places.3 ∷ []) (omega arith) (lit≤ tt) (omega arith)
 
 pub bounds-room-4 : goal.bounds-room-4
 bounds-room-4 c = simp length-set (omega arith)
@@ -49,4 +49,4 @@ shape_of-room c = simp length-set
 pub returns : goal.returns
 returns c =
     let a = c.args in
-    front a.room.now a.first a.count 4 (a.p0 ∷ a.p1 ∷ a.p2 ∷ a.p3 ∷ []) (omega arith) (lit≤ tt) (omega arith)
+    front a.room.now a.first a.count 4 (a.places.0 ∷ a.places.1 ∷ a.places.2 ∷ a.places.3 ∷ []) (omega arith) (lit≤ tt) (omega arith)

@@ -23,4 +23,4 @@ put-requires c = room_fits c.args.command _ _ _ c.line-line.ensures c.parameters
 pub returns : goal.returns
 returns c =
     write_done _ _ (sym c.in_ok-check_command.ensures) _ _ c.line-line.ensures c.parameters-count.ensures _ _
-    c.fields-places.result c.if-room-words.false c.header.ensures c.fields-places.ensures c.put.ensures
+    c.fields.result c.if-room-words.false c.header.ensures c.fields.ensures c.put.ensures
