@@ -12,13 +12,23 @@ use refusal::Refusal;
 
 // The parameters of a line, judged by their kinds: 3 before 4. A number stands first in its command and nowhere else, so
 // it is asked last. Places past the line's parameters are 0, which passes.
+// Kept (design pass 1, may not change; also in `check_command`): a `?` would be shorter, and document 01 names let .. else for the writer.
 fn check_places(line: u32, places: Places) -> Result<(), Refusal>
     requires { line < 21 }
     ensures { told_checked result ≡ places_judged_of line places.0 places.1 places.2 places.3 }
 {
-    check(kind_at(line, 1), places.1)?;
-    check(kind_at(line, 2), places.2)?;
-    check(kind_at(line, 3), places.3)?;
+    let second = check(kind_at(line, 1), places.1);
+    let Ok(()) = second else {
+        return second;
+    };
+    let third = check(kind_at(line, 2), places.2);
+    let Ok(()) = third else {
+        return third;
+    };
+    let fourth = check(kind_at(line, 3), places.3);
+    let Ok(()) = fourth else {
+        return fourth;
+    };
     check(kind_at(line, 0), places.0)
 }
 
@@ -26,7 +36,10 @@ fn check_places(line: u32, places: Places) -> Result<(), Refusal>
 pub fn check_command(command: Command) -> Result<(), Refusal>
     ensures { told_checked result ≡ judge_command_of command }
 {
-    check_places(line(command), fields(command))?;
+    let checked = check_places(line(command), fields(command));
+    let Ok(()) = checked else {
+        return checked;
+    };
     last_rule(command)
 }
 
