@@ -16,6 +16,14 @@ pub fn store_all(part: &mut [u8], given: &[u8], n: usize)
     }
 }
 
+// The element writer: given bytes into a part of memory that is as long.
+pub fn store(part: &mut [u8], given: &[u8])
+    requires { length part.old ≡ length given.now }
+    ensures { part.new ≡ given.now }
+{
+    part.copy_from_slice(given);
+}
+
 // Bytes of a reading with a part of memory put in place `at`.
 pub fn put(bytes: [u8; 16], at: usize, part: &[u8]) -> [u8; 16]
     requires { PutAsked bytes at part.now }

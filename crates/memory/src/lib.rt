@@ -47,6 +47,6 @@ pub fn write(
     if given.len() != size {
         return Err(Refusal::WrongLength);
     }
-    memory[at..at + size].copy_from_slice(given);
+    copy::store(&mut memory[at..at + size], given);
     Ok(())
 }

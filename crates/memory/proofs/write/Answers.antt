@@ -8,8 +8,8 @@ use Rattle.memory.proofs.write.Goals as goal
 pub overflow_add-at : goal.overflow_add-at
 overflow_add-at c = record { fits = end_fits _ _ _ _ _ _ (sym c.find.ensures ∙ ap told_place c.in_ok-at.was) }
 
-pub slice_bounds-copy_from_slice-end : goal.slice_bounds-copy_from_slice-end
-slice_bounds-copy_from_slice-end c = ends_inside _ _ _ _ _ _ (sym c.find.ensures ∙ ap told_place c.in_ok-at.was)
+pub slice_bounds-store-end : goal.slice_bounds-store-end
+slice_bounds-store-end c = ends_inside _ _ _ _ _ _ (sym c.find.ensures ∙ ap told_place c.in_ok-at.was)
 
 pub returns-then-given-size : goal.returns-then-given-size
 returns-then-given-size c = write_unfit _ _ _ _ _ _ _ (sym c.find.ensures ∙ ap told_place c.in_ok-at.was) c.if-given-size.true
@@ -22,4 +22,4 @@ returns-in_err-at c =
 pub returns : goal.returns
 returns c =
     write_done _ _ _ _ _ _ _ (sym c.find.ensures ∙ ap told_place c.in_ok-at.was) _ c.if-given-size.false
-    c.copy_from_slice.ensures.after
+    c.store.ensures
