@@ -115,7 +115,7 @@ fn output_at(
     step: u32,
     span: u32,
 ) -> Output
-    requires { (length shared.now ≡ shared_length) × (at < 98) }
+    requires { at < 98 }
     ensures { result ≡ output_by bits (muted owned (buffer_at shared.now at)) (window_from step span) }
 {
     let flag = shown(owned, shared[at]);
@@ -233,7 +233,6 @@ fn by_output(a: Output, b: Output, c: Output, d: Output) -> u32
 
 // The number of the unmasked channels of the outputs that a party owns.
 fn by_channel(mine: u32, shared: &[u32; state::SHARED_CELLS]) -> u32
-    requires { length shared.now ≡ shared_length }
     ensures { result ≡ channels_in (shared_of shared.now).mask (seen_outputs mine (shared_of shared.now).outputs) }
 {
     let mask = shared[settings::MASK];
@@ -277,7 +276,6 @@ fn credit(
     d: Output,
     shared: &[u32; state::SHARED_CELLS],
 ) -> u32
-    requires { length shared.now ≡ shared_length }
     ensures { result ≡ credit_by a b c d edition (channels_in (shared_of shared.now).mask (seen_outputs mine (shared_of shared.now).outputs)) }
 {
     if edition == edition::BY_CHANNEL {
@@ -303,7 +301,6 @@ fn first_of(complete: bool, covered: bool, disjoint: bool) -> u32
 // The number that the settings alone give a start, by the gauge that is kept: after a command that set the domain or the
 // instruction format.
 pub fn settle(own: &mut [u32; state::OWN_CELLS])
-    requires { length own.old ≡ own_length }
     ensures { own.new ≡ party_cells (settled (party_of own.old [])) }
 {
     let complete = both(
