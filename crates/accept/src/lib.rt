@@ -5,7 +5,6 @@
 #![tactic(auto)]
 
 ghost use Rattle.std.specs.Prelude.{◌≡◌, List, [], ◌∷◌, ℕ, ◌+◌, ◌<◌, ◌≤◌, length, drop};
-ghost use Rattle.state.specs.Cells.{shared_length};
 ghost use Rattle.command.specs.Table.{header_of};
 ghost use Rattle.command.specs.Commands.{no_effect_line, stored_line};
 ghost use Rattle.command.specs.declared.commands.NoEffect.{NoEffect};

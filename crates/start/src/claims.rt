@@ -1,8 +1,8 @@
 // What a start that passes claims, and its count in the tallies.
-ghost use Rattle.std.specs.Prelude.{◌≡◌, [], ◌+◌, ◌-◌, ◌*◌, ◌<◌, ◌≤◌, length};
+ghost use Rattle.std.specs.Prelude.{◌≡◌, [], ◌+◌, ◌-◌, ◌*◌, ◌<◌, ◌≤◌};
 ghost use Rattle.command.specs.declared.commands.Command.{Command};
 ghost use Rattle.state.specs.Asked.{OwnAsked};
-ghost use Rattle.state.specs.Cells.{party_of, shared_of, tally_cells, own_length};
+ghost use Rattle.state.specs.Cells.{party_of, shared_of, tally_cells};
 ghost use Rattle.state.specs.Effects.{own_after};
 ghost use Rattle.state.specs.Start.{most_claim, most_credit, most_pairs, pairs_of};
 ghost use Rattle.state.specs.Valid.{DomainValid};

@@ -1,10 +1,10 @@
 // What the settings alone give a start, 0, 7, 8 or 9, kept in a party's own cells: renewed by each command that sets one of the
 // settings, so that a start only reads it.
-ghost use Rattle.std.specs.Prelude.{◌≡◌, true, [], ◌%◌, ◌^◌, ◌<◌, ◌≤◌, length};
+ghost use Rattle.std.specs.Prelude.{◌≡◌, true, [], ◌%◌, ◌^◌, ◌<◌, ◌≤◌};
 ghost use Rattle.laws.specs.Choice.{◌and◌, pick};
 ghost use Rattle.laws.specs.Masks.{digit as digit_of};
 ghost use Rattle.command.specs.Format.{channels_of};
-ghost use Rattle.state.specs.Cells.{buffer_at, party_of, party_cells, shared_of, own_length, shared_length};
+ghost use Rattle.state.specs.Cells.{buffer_at, party_of, party_cells, shared_of};
 ghost use Rattle.state.specs.Effects.{renewed, window_from};
 ghost use Rattle.state.specs.Readiness.{lesser as lesser_of};
 ghost use Rattle.state.specs.Seen.{seen_outputs};

@@ -1,10 +1,10 @@
 // A party's own cells: the stop, the words taken, the open command, the domain, the instruction format, and what the settings
 // alone give a start.
-ghost use Rattle.std.specs.Prelude.{◌≡◌, ◌+◌, ◌<◌, ◌≤◌, [], length};
+ghost use Rattle.std.specs.Prelude.{◌≡◌, ◌+◌, ◌<◌, ◌≤◌, []};
 ghost use Rattle.state.specs.State.{at_line, none};
 ghost use Rattle.state.specs.Effects.{buffer, domain_from, limit, opening, stop as stopped, took, took_words, with_domain, with_instructions, with_parameter};
 ghost use Rattle.state.specs.Effects.{gauge_from, window_from, with_gauge, with_number, with_readiness, with_window};
-ghost use Rattle.state.specs.Cells.{party_of, party_cells, own_length};
+ghost use Rattle.state.specs.Cells.{party_of, party_cells};
 
 // A word's place in a piece or in a session, counted from 0: one of document 01's three kinds of number, never a byte
 // address or a slot number.

@@ -1,7 +1,7 @@
 // The places of the shared settings, and how a buffer is stored there.
-ghost use Rattle.std.specs.Prelude.{◌≡◌, ◌<◌, length};
+ghost use Rattle.std.specs.Prelude.{◌≡◌, ◌<◌};
 ghost use Rattle.state.specs.Effects.{buffer};
-ghost use Rattle.state.specs.Cells.{set_buffer, shared_length};
+ghost use Rattle.state.specs.Cells.{set_buffer};
 
 // Places of the cells. A buffer takes four: whether it is set, base, format and height.
 pub const MASK: usize = 0;
