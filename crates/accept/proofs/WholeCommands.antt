@@ -499,14 +499,11 @@ module _ {l t h : List ℕ} {m : ℕ} (a : RoomFor m l × OwnAsked l t h) where
   pub room_for : (n : ℕ) → n ≤ m → RoomFor n l
   room_for n k = record { own_length_lem = a.0.own_length_lem; room = omega (arith, a.0.room, k) }
 
-  pub room_shared : (n : ℕ) → n ≤ m → RoomFor n l × (length h ≡ shared_length)
-  room_shared n k = (room_for n k, a.1.sized.shared_length_lem)
-
   pub room_renew : (n : ℕ) → n ≤ m → RoomFor n l × RenewAsked l h
   room_renew n k = (room_for n k, renew_asked l t h a.1)
 
-  pub room_constants : (n at : ℕ) → n ≤ m → at < 98 → RoomFor n l × ((length h ≡ shared_length) × (at < 98))
-  room_constants n at k j = (room_for n k, (a.1.sized.shared_length_lem, j))
+  pub room_constants : (n at : ℕ) → n ≤ m → at < 98 → RoomFor n l × (at < 98)
+  room_constants n at k j = (room_for n k, j)
 
   pub room_start : (n : ℕ) → n ≤ m → RoomFor n l × OwnAsked l t h
   room_start n k = (room_for n k, a.1)

@@ -5,7 +5,6 @@
 #![tactic(auto)]
 
 ghost use Rattle.std.specs.Prelude.{◌≡◌, List, [], ◌∷◌, ℕ, ◌+◌, ◌<◌, ◌≤◌, length, drop};
-ghost use Rattle.state.specs.Cells.{shared_length};
 ghost use Rattle.command.specs.Table.{header_of};
 ghost use Rattle.command.specs.Commands.{no_effect_line, stored_line};
 ghost use Rattle.command.specs.declared.commands.NoEffect.{NoEffect};
@@ -101,7 +100,7 @@ fn take_constants(
     base: u32,
     format: u32,
 ) -> u32
-    requires { RoomFor words own.old × ((length shared.old ≡ shared_length) × (at < 98)) }
+    requires { (RoomFor words own.old) × (at < 98) }
     ensures { (what : Stored) → KeptAt what at → SharedTried (Command.Store what base format) (header_of (stored_line what) ∷ base ∷ format ∷ []) words result own.old shared.old own.new shared.new }
 {
     if fits::window(base, format, 1) {
@@ -126,7 +125,7 @@ fn take_input(
     format: u32,
     height: u32,
 ) -> u32
-    requires { RoomFor words own.old × (length shared.old ≡ shared_length) }
+    requires { RoomFor words own.old }
     ensures { SharedTried (Command.Input number base format height) (header_of 4 ∷ number ∷ base ∷ format ∷ height ∷ []) words result own.old shared.old own.new shared.new }
 {
     if fits::input(number, base, format, height) {
@@ -190,7 +189,7 @@ fn take_conditional(
     format: u32,
     height: u32,
 ) -> u32
-    requires { RoomFor words own.old × (length shared.old ≡ shared_length) }
+    requires { RoomFor words own.old }
     ensures { SharedTried (Command.Conditional base format height) (header_of 6 ∷ base ∷ format ∷ height ∷ []) words result own.old shared.old own.new shared.new }
 {
     if fits::window(base, format, height) {
@@ -232,7 +231,7 @@ fn take_conditional_mask(
     words: u32,
     mask: u32,
 ) -> u32
-    requires { RoomFor words own.old × (length shared.old ≡ shared_length) }
+    requires { RoomFor words own.old }
     ensures { SharedTried (Command.ConditionalMask mask) (header_of 19 ∷ mask ∷ []) words result own.old shared.old own.new shared.new }
 {
     if mask < 2 {
@@ -255,7 +254,7 @@ fn take_test(
     words: u32,
     test: u32,
 ) -> u32
-    requires { RoomFor words own.old × (length shared.old ≡ shared_length) }
+    requires { RoomFor words own.old }
     ensures { SharedTried (Command.Test test) (header_of 20 ∷ test ∷ []) words result own.old shared.old own.new shared.new }
 {
     if test < 8 {

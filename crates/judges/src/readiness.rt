@@ -1,8 +1,8 @@
 // What is kept of readiness, judged by working it out anew from the settings.
-ghost use Rattle.std.specs.Prelude.{◌≡◌, [], ◌<◌, length};
+ghost use Rattle.std.specs.Prelude.{◌≡◌, [], ◌<◌};
 ghost use Rattle.laws.specs.Choice.{pick};
 ghost use Rattle.state.specs.State.{unset};
-ghost use Rattle.state.specs.Cells.{buffer_at, party_of, party_cells, shared_of, own_length};
+ghost use Rattle.state.specs.Cells.{buffer_at, party_of, party_cells, shared_of};
 ghost use Rattle.state.specs.Effects.{renewed, window_from};
 ghost use Rattle.state.specs.Readiness.{readiness_for, window_for};
 ghost use Rattle.judges.specs.Judged.{WorkAsked, same_readiness, window_kept};
@@ -31,7 +31,7 @@ fn window_at(owned: bool, shared: &[u32; state::SHARED_CELLS], at: usize) -> Win
 
 // Keeps the window of one output of the settings.
 fn keep_window(own: &mut [u32; state::OWN_CELLS], shared: &[u32; state::SHARED_CELLS], number: u32)
-    requires { (length own.old ≡ own_length) × (number < 4) }
+    requires { number < 4 }
     ensures { own.new ≡ party_cells (window_kept number (shared_of shared.now) (party_of own.old [])) }
 {
     let owned = owners::is_on(own[own::MINE], owners::FIRST_OUTPUT + number);

@@ -6,7 +6,7 @@ use mathlib.Core.List.{List, [], ◌∷◌, ◌++◌}
 use Prim.Native.Nat.{ℕ, ◌+◌, ◌<◌, ◌≤◌}
 use native.Mathlib.Omega.{arith}
 use lib.Dec.{leb}
-use lib.ListN.{length, get_or, drop, take-append-drop}
+use lib.ListN.{get_or, drop, take-append-drop}
 use borrow.Author.Tests.{eq-eqb, ne_eqb}
 use Rattle.laws.specs.Choice.{◌and◌, pick}
 use Rattle.laws.proofs.Choice.{pick_yes, pick_no}
@@ -30,7 +30,7 @@ use Rattle.state.specs.Start.{readiness_of}
 use Rattle.state.specs.Readiness.{worked_out}
 use Rattle.state.specs.Effects.{opening, stop, after}
 use Rattle.state.specs.Asked.{Held, OwnAsked}
-use Rattle.state.specs.Cells.{party_of, party_cells, tally_cells, session_of, own_length}
+use Rattle.state.specs.Cells.{party_of, party_cells, tally_cells, session_of}
 use Rattle.start.proofs.Readiness.{number_given, number_refused, readiness_number}
 use Rattle.accept.specs.Whole.{RoomFor, Denied, by_words, by_fields, by_owner, by_settings, Tried, untaken, accepted, LineTried, last_word}
 use Rattle.session.specs.Step.{completed, refused, start_rule_of, completing}
@@ -224,10 +224,6 @@ module _ (l t s : List ℕ) (a : CompleteAsked l t s) where
   left_closed : after c ss ≡ at_word (after c ss) ((party_of l t).taken + 1) none
   left_closed = after_at_word c ss (party_of l t).taken (party_of l t).opened
 
-  held_length : (l1 t1 s1 : List ℕ) → Held left l1 t1 s1 → length l1 ≡ own_length
-  unfolding party_cells
-  held_length l1 t1 s1 h = ap length h.own_cells
-
   closed : (l1 t1 s1 : List ℕ) → Held left l1 t1 s1 → (l2 : List ℕ) → l2 ≡ party_cells (opening none (party_of l1 [])) →
       Held (after c ss) l2 t1 s1
   unfolding party_of party_cells tally_cells
@@ -247,14 +243,7 @@ module _ (l t s : List ℕ) (a : CompleteAsked l t s) where
       whole_accepted l t s a [] (then_given (start_rule_of c ss) (readable c judged).rules_kept ∙ rule) d e l2 t3 s3
       (closed l3 t3 s3 held l2 f)
 
-  length_of : (ws : List ℕ) (m : ℕ) (l1 t1 s1 : List ℕ) → Tried c ws 1 l t s m l1 t1 s1 → length l1 ≡ own_length
-  length_of ws m l1 t1 s1 (untaken w) = a.asked.sized.own_length_lem
-  length_of ws m l1 t1 s1 (accepted rest l2 t2 s2 begins judged own rule held) = held_length l2 t2 s2 held
-
   module _ (m : ℕ) (l1 t1 s1 : List ℕ) (tried : Last m l1 t1 s1) where
-    pub last_length : length l1 ≡ own_length
-    last_length = length_of _ m l1 t1 s1 (tried [])
-
     pub last_done : 0 < m → (d : Command) → d ≡ whole o → (l2 : List ℕ) → l2 ≡ party_cells (opening none (party_of l1 [])) →
         Left (completing o ss) (completed d) l2 t1 s1
     last_done k d e l2 f = done _ m l1 t1 s1 k (tried []) d e l2 f

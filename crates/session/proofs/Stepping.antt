@@ -23,7 +23,7 @@ use Rattle.session.specs.Step.{still_open, completed, refused, Stepped, refusing
 use Rattle.state.specs.Valid.{parameters_of, OpenValid}
 use Rattle.state.specs.Asked.{Held}
 use Rattle.session.specs.Asked.{Left, CompleteAsked, ParameterAsked, whole_of}
-use Rattle.state.specs.Cells.{Sized, party_of, party_cells, tally_cells, shared_of, session_of, own_length}
+use Rattle.state.specs.Cells.{Sized, party_of, party_cells, tally_cells, shared_of, session_of}
 use Rattle.state.proofs.Cells.{tally_canon, shared_canon}
 use Rattle.session.proofs.Kept.{allowed_more, named_first, open_owned}
 use Rattle.session.proofs.Ways.{whole}
@@ -116,18 +116,18 @@ module _ (l t s : List ℕ) (w : ℕ) (a : ParameterAsked l t s w) where
   count_lt : (party_of l t).opened.count < 4
   count_lt = omega (arith, open_valid.fewer, count_most (party_of l t).opened.line a.line)
 
-  pub place_asked : (length l ≡ own_length) × ((get_or l 3 0 < 4) × ((party_of l []).opened.count ≡ get_or l 3 0))
+  pub place_asked : (get_or l 3 0 < 4) × ((party_of l []).opened.count ≡ get_or l 3 0)
   unfolding party_of
-  place_asked = (a.given.sized.own_length_lem, (count_lt, refl))
+  place_asked = (count_lt, refl)
 
   pub count_fits : get_or l 3 0 + 1 < 2 ^ 32
   unfolding party_of
   count_fits = omega (arith, count_lt)
 
   module _ (l1 : List ℕ) (e1 : l1 ≡ party_cells (opening next (party_of l []))) where
-    pub placed_asked : (length l1 ≡ own_length) × ((party_of l1 []).taken < limit)
+    pub placed_asked : (party_of l1 []).taken < limit
     unfolding party_of party_cells
-    placed_asked = rw e1 (refl, a.taken)
+    placed_asked = rw e1 a.taken
 
     pub placed_open : get_or l 3 0 + 1 < count_of (get_or l 2 0) → (l2 : List ℕ) → l2 ≡ party_cells (took (party_of l1 [])) →
         Left (placing next sw) still_open l2 t s
@@ -168,7 +168,7 @@ module _ (l t s : List ℕ) (w : ℕ) (a : ParameterAsked l t s w) where
               record {
                 sized =
                     record {
-                      own_length_lem = placed_asked.0;
+                      own_length_lem = unfold party_cells in ap length e1;
                       tallies_length_lem = a.given.sized.tallies_length_lem;
                       shared_length_lem = a.given.sized.shared_length_lem;
                     };

@@ -138,9 +138,9 @@ module _ (l t s : List ℕ) (w : ℕ) (g : Given l t s) where
         none_open : (party_of l t).opened ≡ none
         none_open = g.valid.closed (unfold party_of in e)
 
-        pub line_asked : (length l ≡ own_length) × (((party_of l []).taken < limit) × ((party_of l []).opened ≡ none))
+        pub line_asked : ((party_of l []).taken < limit) × ((party_of l []).opened ≡ none)
         unfolding party_of
-        line_asked = (g.sized.own_length_lem, (k, none_open))
+        line_asked = (k, none_open)
 
         one_line : {x y : ℕ} → gives (x ∷ []) ≡ gives (y ∷ []) → x ≡ y
         one_line h = cc

@@ -7,7 +7,7 @@ ghost use Rattle.owners.specs.Owners.{may_name};
 ghost use Rattle.state.specs.State.{new_session, new_party_of, new_shared};
 ghost use Rattle.state.specs.Effects.{limit, with_parameter};
 ghost use Rattle.session.specs.Step.{completing, parameter_step, placing, step_of};
-ghost use Rattle.state.specs.Cells.{own_length, party_of, session_of, shared_cells};
+ghost use Rattle.state.specs.Cells.{party_of, session_of, shared_cells};
 ghost use Rattle.state.specs.Asked.{Given, Held, HeldOwn};
 ghost use Rattle.session.specs.Asked.{CompleteAsked, Fold, Judged, Left, OpenAsked, ParameterAsked, Reach, Read, RefusalAsked, Told, refusal_at, stored_in};
 ghost use Rattle.session.specs.Answers.{Begins, PieceLeft, begun_status, last_reply_of, reply_of};
@@ -272,7 +272,7 @@ pub struct Fed {
 // How many of the next words whole commands may take: none where the session is stopped or a command is open, and no more than
 // there are left and the session has room for.
 fn reach(own: &[u32; state::OWN_CELLS], left: usize) -> usize
-    requires { (length own.now ≡ own_length) × ((party_of own.now []).taken ≤ limit) }
+    requires { (party_of own.now []).taken ≤ limit }
     ensures { (result ≤ left) × Reach own.now result }
 {
     if own[own::STOPPED] == 1 {

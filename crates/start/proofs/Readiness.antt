@@ -601,9 +601,9 @@ module _ (own tallies shared : List ℕ) (asked : OwnAsked own tallies shared) w
   credit_kept = ap (λ (r : Readiness). r.gauge.credit) asked.kept
 
   pub claim_asked :
-      (length own ≡ own_length) × (((party_of own []).readiness.gauge.credit ≤ most_credit) × DomainValid (party_of own []).domain)
+      ((party_of own []).readiness.gauge.credit ≤ most_credit) × DomainValid (party_of own []).domain
   claim_asked =
-      (asked.sized.own_length_lem, (rw credit_kept (credit_bounded edition (shared_of shared).mask seen_by), unfold party_of in asked.domain))
+      (rw credit_kept (credit_bounded edition (shared_of shared).mask seen_by), unfold party_of in asked.domain)
 
   pub claim_kept : {n : ℕ} → n ≡ pairs_of (party_of own []).domain * (party_of own []).readiness.gauge.credit →
       n ≡ claim_for (party_of own []) (shared_of shared)

@@ -1,8 +1,8 @@
 // What a start that passes claims, and its count in the tallies.
-ghost use Rattle.std.specs.Prelude.{◌≡◌, [], ◌+◌, ◌-◌, ◌*◌, ◌<◌, ◌≤◌, length};
+ghost use Rattle.std.specs.Prelude.{◌≡◌, [], ◌+◌, ◌-◌, ◌*◌, ◌<◌, ◌≤◌};
 ghost use Rattle.command.specs.declared.commands.Command.{Command};
 ghost use Rattle.state.specs.Asked.{OwnAsked};
-ghost use Rattle.state.specs.Cells.{party_of, shared_of, tally_cells, own_length};
+ghost use Rattle.state.specs.Cells.{party_of, shared_of, tally_cells};
 ghost use Rattle.state.specs.Effects.{own_after};
 ghost use Rattle.state.specs.Start.{most_claim, most_credit, most_pairs, pairs_of};
 ghost use Rattle.state.specs.Valid.{DomainValid};
@@ -22,7 +22,7 @@ fn pairs(i0: u32, j0: u32, i1: u32, j1: u32) -> u64
 
 // The elements that a start claims: for each of the domain's pairs what the outputs give for one.
 fn claim(own: &[u32; state::OWN_CELLS]) -> u64
-    requires { (length own.now ≡ own_length) × (((party_of own.now []).readiness.gauge.credit ≤ most_credit) × DomainValid (party_of own.now []).domain) }
+    requires { ((party_of own.now []).readiness.gauge.credit ≤ most_credit) × (DomainValid (party_of own.now []).domain) }
     ensures value { result ≡ pairs_of (party_of own.now []).domain * (party_of own.now []).readiness.gauge.credit }
     ensures most { result ≤ most_claim }
 {

@@ -1,10 +1,10 @@
 // What the settings alone give a start, 0, 7, 8 or 9, kept in a party's own cells: renewed by each command that sets one of the
 // settings, so that a start only reads it.
-ghost use Rattle.std.specs.Prelude.{◌≡◌, true, [], ◌%◌, ◌^◌, ◌<◌, ◌≤◌, length};
+ghost use Rattle.std.specs.Prelude.{◌≡◌, true, [], ◌%◌, ◌^◌, ◌<◌, ◌≤◌};
 ghost use Rattle.laws.specs.Choice.{◌and◌, pick};
 ghost use Rattle.laws.specs.Masks.{digit as digit_of};
 ghost use Rattle.command.specs.Format.{channels_of};
-ghost use Rattle.state.specs.Cells.{buffer_at, party_of, party_cells, shared_of, own_length, shared_length};
+ghost use Rattle.state.specs.Cells.{buffer_at, party_of, party_cells, shared_of};
 ghost use Rattle.state.specs.Effects.{renewed, window_from};
 ghost use Rattle.state.specs.Readiness.{lesser as lesser_of};
 ghost use Rattle.state.specs.Seen.{seen_outputs};
@@ -115,7 +115,7 @@ fn output_at(
     step: u32,
     span: u32,
 ) -> Output
-    requires { (length shared.now ≡ shared_length) × (at < 98) }
+    requires { at < 98 }
     ensures { result ≡ output_by bits (muted owned (buffer_at shared.now at)) (window_from step span) }
 {
     let flag = shown(owned, shared[at]);
@@ -233,7 +233,6 @@ fn by_output(a: Output, b: Output, c: Output, d: Output) -> u32
 
 // The number of the unmasked channels of the outputs that a party owns.
 fn by_channel(mine: u32, shared: &[u32; state::SHARED_CELLS]) -> u32
-    requires { length shared.now ≡ shared_length }
     ensures { result ≡ channels_in (shared_of shared.now).mask (seen_outputs mine (shared_of shared.now).outputs) }
 {
     let mask = shared[settings::MASK];
@@ -277,7 +276,6 @@ fn credit(
     d: Output,
     shared: &[u32; state::SHARED_CELLS],
 ) -> u32
-    requires { length shared.now ≡ shared_length }
     ensures { result ≡ credit_by a b c d edition (channels_in (shared_of shared.now).mask (seen_outputs mine (shared_of shared.now).outputs)) }
 {
     if edition == edition::BY_CHANNEL {
@@ -303,7 +301,6 @@ fn first_of(complete: bool, covered: bool, disjoint: bool) -> u32
 // The number that the settings alone give a start, by the gauge that is kept: after a command that set the domain or the
 // instruction format.
 pub fn settle(own: &mut [u32; state::OWN_CELLS])
-    requires { length own.old ≡ own_length }
     ensures { own.new ≡ party_cells (settled (party_of own.old [])) }
 {
     let complete = both(

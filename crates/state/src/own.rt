@@ -1,10 +1,10 @@
 // A party's own cells: the stop, the words taken, the open command, the domain, the instruction format, and what the settings
 // alone give a start.
-ghost use Rattle.std.specs.Prelude.{◌≡◌, ◌+◌, ◌<◌, ◌≤◌, [], length};
+ghost use Rattle.std.specs.Prelude.{◌≡◌, ◌+◌, ◌<◌, ◌≤◌, []};
 ghost use Rattle.state.specs.State.{at_line, none};
 ghost use Rattle.state.specs.Effects.{buffer, domain_from, limit, opening, stop as stopped, took, took_words, with_domain, with_instructions, with_parameter};
 ghost use Rattle.state.specs.Effects.{gauge_from, window_from, with_gauge, with_number, with_readiness, with_window};
-ghost use Rattle.state.specs.Cells.{party_of, party_cells, own_length};
+ghost use Rattle.state.specs.Cells.{party_of, party_cells};
 
 // A word's place in a piece or in a session, counted from 0: one of document 01's three kinds of number, never a byte
 // address or a slot number.
@@ -89,7 +89,6 @@ pub const NO_LINE: u32 = 21;
 
 // No command is open.
 pub fn close(own: &mut [u32; crate::OWN_CELLS])
-    requires { length own.old ≡ own_length }
     ensures { own.new ≡ party_cells (opening none (party_of own.old [])) }
 {
     own[LINE] = NO_LINE;
@@ -102,7 +101,6 @@ pub fn close(own: &mut [u32; crate::OWN_CELLS])
 
 // The session is stopped and its open command dropped.
 pub fn stop(own: &mut [u32; crate::OWN_CELLS])
-    requires { length own.old ≡ own_length }
     ensures { own.new ≡ party_cells (stopped (party_of own.old [])) }
 {
     own[STOPPED] = 1;
@@ -111,7 +109,7 @@ pub fn stop(own: &mut [u32; crate::OWN_CELLS])
 
 // One more word is taken.
 pub fn count_word(own: &mut [u32; crate::OWN_CELLS])
-    requires { (length own.old ≡ own_length) × ((party_of own.old []).taken < limit) }
+    requires { (party_of own.old []).taken < limit }
     ensures { own.new ≡ party_cells (took (party_of own.old [])) }
 {
     own[TAKEN] = own[TAKEN] + 1;
@@ -119,7 +117,7 @@ pub fn count_word(own: &mut [u32; crate::OWN_CELLS])
 
 // So many words more are taken.
 pub fn count_words(own: &mut [u32; crate::OWN_CELLS], words: u32)
-    requires { (length own.old ≡ own_length) × ((party_of own.old []).taken + words ≤ limit) }
+    requires { (party_of own.old []).taken + words ≤ limit }
     ensures { own.new ≡ party_cells (took_words words (party_of own.old [])) }
 {
     own[TAKEN] = own[TAKEN] + words;
@@ -127,7 +125,7 @@ pub fn count_words(own: &mut [u32; crate::OWN_CELLS], words: u32)
 
 // A header is taken: the command of this line is open.
 pub fn open_line(own: &mut [u32; crate::OWN_CELLS], line: u32)
-    requires { (length own.old ≡ own_length) × (((party_of own.old []).taken < limit) × ((party_of own.old []).opened ≡ none)) }
+    requires { ((party_of own.old []).taken < limit) × ((party_of own.old []).opened ≡ none) }
     ensures { own.new ≡ party_cells (took (opening (at_line line) (party_of own.old []))) }
 {
     own[LINE] = line;
@@ -136,7 +134,7 @@ pub fn open_line(own: &mut [u32; crate::OWN_CELLS], line: u32)
 
 // The next parameter of the open command, of which `count` were there.
 pub fn place(own: &mut [u32; crate::OWN_CELLS], count: u32, word: u32)
-    requires { (length own.old ≡ own_length) × ((count < 4) × ((party_of own.old []).opened.count ≡ count)) }
+    requires { (count < 4) × ((party_of own.old []).opened.count ≡ count) }
     ensures { own.new ≡ party_cells (opening (with_parameter (party_of own.old []).opened word) (party_of own.old [])) }
 {
     let at = PARAMETER_0 + count as usize;
@@ -145,7 +143,6 @@ pub fn place(own: &mut [u32; crate::OWN_CELLS], count: u32, word: u32)
 }
 
 pub fn set_domain(own: &mut [u32; crate::OWN_CELLS], i0: u32, j0: u32, i1: u32, j1: u32)
-    requires { length own.old ≡ own_length }
     ensures { own.new ≡ party_cells (with_domain (domain_from i0 j0 i1 j1) (party_of own.old [])) }
 {
     own[DOMAIN] = 1;
@@ -156,7 +153,6 @@ pub fn set_domain(own: &mut [u32; crate::OWN_CELLS], i0: u32, j0: u32, i1: u32, 
 }
 
 pub fn set_instructions(own: &mut [u32; crate::OWN_CELLS], base: u32, format: u32)
-    requires { length own.old ≡ own_length }
     ensures { own.new ≡ party_cells (with_instructions (buffer base format 1) (party_of own.old [])) }
 {
     own[INSTRUCTIONS] = 1;
@@ -167,7 +163,7 @@ pub fn set_instructions(own: &mut [u32; crate::OWN_CELLS], base: u32, format: u3
 
 // An output's row step and span.
 pub fn set_window(own: &mut [u32; crate::OWN_CELLS], number: u32, step: u32, span: u32)
-    requires { (length own.old ≡ own_length) × (number < 4) }
+    requires { number < 4 }
     ensures { own.new ≡ party_cells (with_readiness (with_window number (window_from step span) (party_of own.old []).readiness) (party_of own.old [])) }
 {
     let at = STEP_0 + 2 * number as usize;
@@ -184,7 +180,6 @@ pub fn set_gauge(
     apart: u32,
     credit: u32,
 )
-    requires { length own.old ≡ own_length }
     ensures { own.new ≡ party_cells (with_readiness (with_gauge (gauge_from some columns rows apart credit) (party_of own.old []).readiness) (party_of own.old [])) }
 {
     own[SOME] = some;
@@ -196,7 +191,6 @@ pub fn set_gauge(
 
 // The number that the settings alone give a start.
 pub fn set_readiness(own: &mut [u32; crate::OWN_CELLS], number: u32)
-    requires { length own.old ≡ own_length }
     ensures { own.new ≡ party_cells (with_readiness (with_number number (party_of own.old []).readiness) (party_of own.old [])) }
 {
     own[READINESS] = number;

@@ -1,7 +1,7 @@
 // The places of the shared settings, and how a buffer is stored there.
-ghost use Rattle.std.specs.Prelude.{◌≡◌, ◌<◌, length};
+ghost use Rattle.std.specs.Prelude.{◌≡◌, ◌<◌};
 ghost use Rattle.state.specs.Effects.{buffer};
-ghost use Rattle.state.specs.Cells.{set_buffer, shared_length};
+ghost use Rattle.state.specs.Cells.{set_buffer};
 
 // Places of the cells. A buffer takes four: whether it is set, base, format and height.
 pub const MASK: usize = 0;
@@ -36,7 +36,7 @@ pub const INPUTS: usize = 37;
 
 // Stores a buffer from a place on.
 pub fn put(shared: &mut [u32; crate::SHARED_CELLS], at: usize, base: u32, format: u32, height: u32)
-    requires { (length shared.old ≡ shared_length) × (at < 98) }
+    requires { at < 98 }
     ensures { shared.new ≡ set_buffer shared.old at (buffer base format height) }
 {
     shared[at] = 1;

@@ -15,7 +15,7 @@ is_on-requires c =
 
 pub put-requires : goal.put-requires
 put-requires c =
-    (c.requires.1, input_place _ _ _ _ (fine _ c.input.ensures c.if-input.true))
+    input_place _ _ _ _ (fine _ c.input.ensures c.if-input.true)
 
 pub returns-then-is_on : goal.returns-then-is_on
 returns-then-is_on c =

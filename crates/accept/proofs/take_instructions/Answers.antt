@@ -1,18 +1,11 @@
 -- `accept::take_instructions` meets its contract. Assumes nothing.
-use Rattle.accept.proofs.WholeCommands.{counted_length, instructions_tried, denied, fine, stored_judged}
-use Rattle.start.proofs.Readiness.{kept_length}
+use Rattle.accept.proofs.WholeCommands.{instructions_tried, denied, fine, stored_judged}
 use Rattle.command.specs.declared.commands.Stored.TheVariants.{Instructions}
 use Rattle.rules.proofs.fits.window.Reads as window_reads
 use Rattle.start.proofs.ready.settle.Reads as settle_reads
 use Rattle.state.proofs.own.count_words.Reads as count_words_reads
 use Rattle.state.proofs.own.set_instructions.Reads as set_instructions_reads
 use Rattle.accept.proofs.take_instructions.Goals as goal
-
-pub set_instructions-requires : goal.set_instructions-requires
-set_instructions-requires c = counted_length _ _ _ c.count_words.ensures
-
-pub settle-requires : goal.settle-requires
-settle-requires c = kept_length _ c.set_instructions.ensures
 
 pub returns-then-window : goal.returns-then-window
 returns-then-window c =

@@ -4,7 +4,7 @@ use native.Mathlib.Omega.{arith}
 use Rattle.command.specs.Commands.{stored_line, command_of}
 use Rattle.command.specs.declared.commands.Stored.TheVariants.{Floats, Integers, Booleans}
 use Rattle.accept.specs.Whole.{last_word}
-use Rattle.accept.proofs.WholeCommands.{room_for, room_renew, room_shared, room_constants, room_start, at_line_lem, effectless_at_lem, effectless_at, effectless_line}
+use Rattle.accept.proofs.WholeCommands.{room_for, room_renew, room_constants, room_start, at_line_lem, effectless_at_lem, effectless_at, effectless_line}
 use Rattle.accept.proofs.take_last.Goals as goal
 
 pub take_domain-requires : goal.take_domain-requires
@@ -17,13 +17,13 @@ pub take_instructions-requires : goal.take_instructions-requires
 take_instructions-requires c = room_for c.requires.1 _ (omega arith)
 
 pub take_input-requires : goal.take_input-requires
-take_input-requires c = room_shared c.requires.1 _ (omega arith)
+take_input-requires c = room_for c.requires.1 _ (omega arith)
 
 pub take_output-requires : goal.take_output-requires
 take_output-requires c = room_renew c.requires.1 _ (omega arith)
 
 pub take_conditional-requires : goal.take_conditional-requires
-take_conditional-requires c = room_shared c.requires.1 _ (omega arith)
+take_conditional-requires c = room_for c.requires.1 _ (omega arith)
 
 pub take_constants-requires : goal.take_constants-requires
 take_constants-requires c = room_constants c.requires.1 _ _ (omega arith) (omega arith)
@@ -38,10 +38,10 @@ pub take_mask-requires : goal.take_mask-requires
 take_mask-requires c = room_renew c.requires.1 _ (omega arith)
 
 pub take_conditional_mask-requires : goal.take_conditional_mask-requires
-take_conditional_mask-requires c = room_shared c.requires.1 _ (omega arith)
+take_conditional_mask-requires c = room_for c.requires.1 _ (omega arith)
 
 pub take_test-requires : goal.take_test-requires
-take_test-requires c = room_shared c.requires.1 _ (omega arith)
+take_test-requires c = room_for c.requires.1 _ (omega arith)
 
 pub take_effectless-requires : goal.take_effectless-requires
 take_effectless-requires c = room_for c.requires.1 _ (omega arith)

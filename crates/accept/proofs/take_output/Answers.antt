@@ -6,7 +6,7 @@ use Rattle.command.specs.declared.format.Window.{Window}
 use Rattle.command.proofs.Windows.{seen_given}
 use Rattle.rules.proofs.Fitting.{output_window}
 use Rattle.accept.proofs.Outputs.{output_asked}
-use Rattle.accept.proofs.WholeCommands.{counted_length, output_most, output_place, output_tried, output_owner, owner_at, unowned, denied, fine}
+use Rattle.accept.proofs.WholeCommands.{output_most, output_place, output_tried, output_owner, owner_at, unowned, denied, fine}
 use Rattle.accept.proofs.take_output.Reads as reads
 use Rattle.accept.proofs.take_output.Lts as lts
 use Rattle.command.proofs.format.window_of.Reads as window_of_reads
@@ -28,7 +28,7 @@ is_on-requires c =
 
 pub put-requires : goal.put-requires
 put-requires c =
-    (c.requires.1.shared_length_lem, output_place _ _ _ _ (fine _ c.output.ensures c.if-output.true))
+    output_place _ _ _ _ (fine _ c.output.ensures c.if-output.true)
 
 pub unwrap-window-requires : goal.unwrap-window-requires
 unwrap-window-requires c =
@@ -37,7 +37,7 @@ unwrap-window-requires c =
 
 pub set_window-requires : goal.set_window-requires
 set_window-requires c =
-    (counted_length _ _ _ c.count_words.ensures, output_most _ _ _ _ (fine _ c.output.ensures c.if-output.true))
+    output_most _ _ _ _ (fine _ c.output.ensures c.if-output.true)
 
 pub renew-requires : goal.renew-requires
 renew-requires c =

@@ -4,4 +4,4 @@ use Rattle.judges.proofs.readiness.keep_window.Goals as goal
 
 pub returns : goal.returns
 returns c =
-    window_kept_lem _ _ _ c.requires.1 c.set_window.ensures c.is_on-owned.ensures c.window_at-window.ensures
+    window_kept_lem _ _ _ c.requires c.set_window.ensures c.is_on-owned.ensures c.window_at-window.ensures

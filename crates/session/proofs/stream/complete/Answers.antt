@@ -1,18 +1,12 @@
 -- `session::stream::complete` meets its contract. Assumes nothing.
 use mathlib.Core.Path.{refl}
-use Rattle.session.proofs.LastWords.{last_asked, last_length, last_done, refusal_asked, last_refused}
+use Rattle.session.proofs.LastWords.{last_asked, last_done, refusal_asked, last_refused}
 use Rattle.session.proofs.stream.complete.Goals as goal
 
 pub take_last-requires : goal.take_last-requires
 take_last-requires c =
     let args = c.args in
     last_asked args.own.now args.tallies.now args.shared.now c.requires
-
-pub close-requires : goal.close-requires
-close-requires c =
-    let args = c.args in
-    last_length args.own.now args.tallies.now args.shared.now c.requires _ _ _ _
-    c.take_last.ensures
 
 -- it is taken, and closed
 pub returns-then-take_last-gt0 : goal.returns-then-take_last-gt0
@@ -26,12 +20,6 @@ refusal_of-why-requires c =
     let args = c.args in
     refusal_asked args.own.now args.tallies.now args.shared.now c.requires _ _ _ _
     c.take_last.ensures c.if-take_last-gt0.false
-
-pub stop-requires : goal.stop-requires
-stop-requires c =
-    let args = c.args in
-    last_length args.own.now args.tallies.now args.shared.now c.requires _ _ _ _
-    c.take_last.ensures
 
 -- it is refused, and the session stopped
 pub returns : goal.returns

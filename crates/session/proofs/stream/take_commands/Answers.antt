@@ -10,7 +10,7 @@ overflow_sub-words c = omega (arith, c.requires.1)
 
 pub reach-room-requires : goal.reach-room-requires
 reach-room-requires c =
-    (c.requires.0.sized.own_length_lem, unfold party_of in c.requires.0.valid.full)
+    unfold party_of in c.requires.0.valid.full
 
 pub loop-taken-init : goal.loop-taken-init
 loop-taken-init c =

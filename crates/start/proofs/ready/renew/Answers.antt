@@ -1,6 +1,5 @@
 -- `start::ready::renew` meets its contract. Assumes nothing.
-use native.Mathlib.Omega.{arith}
-use Rattle.start.proofs.Readiness.{gauge_told, kept_length, renew_told}
+use Rattle.start.proofs.Readiness.{gauge_told, renew_told}
 use Rattle.start.proofs.ready.renew.Reads as reads
 use Rattle.start.proofs.ready.renew.Lts as lts
 use Rattle.owners.proofs.is_on.Reads as is_on_reads
@@ -14,21 +13,6 @@ use Rattle.start.proofs.ready.settle.Reads as settle_reads
 use Rattle.start.proofs.ready.some_set.Reads as some_set_reads
 use Rattle.state.proofs.own.set_gauge.Reads as set_gauge_reads
 use Rattle.start.proofs.ready.renew.Goals as goal
-
-pub output_at-d-requires : goal.output_at-d-requires
-output_at-d-requires c =
-    (c.requires.shared_length_lem, omega arith)
-
-pub credit-requires : goal.credit-requires
-credit-requires c =
-    c.requires.shared_length_lem
-
-pub set_gauge-requires : goal.set_gauge-requires
-set_gauge-requires c =
-    c.requires.own_length_lem
-
-pub settle-requires : goal.settle-requires
-settle-requires c = kept_length _ c.set_gauge.ensures
 
 pub returns : goal.returns
 returns c =

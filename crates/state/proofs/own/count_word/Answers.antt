@@ -6,7 +6,7 @@ use Rattle.state.proofs.own.count_word.Goals as goal
 
 pub overflow_add-own : goal.overflow_add-own
 unfolding party_of
-overflow_add-own c = omega (arith, c.requires.1)
+overflow_add-own c = omega (arith, c.requires)
 
 pub returns : goal.returns
-returns c = took_cells c.args.own.now c.requires.0
+returns c = took_cells c.args.own.now c.told-own

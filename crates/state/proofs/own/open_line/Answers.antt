@@ -5,7 +5,7 @@ use Rattle.state.proofs.Puts.{line_taken, line_cells}
 use Rattle.state.proofs.own.open_line.Goals as goal
 
 pub count_word-requires : goal.count_word-requires
-count_word-requires c = (simp length-set c.requires.0, rw (line_taken c.args.own.now c.requires.0 c.args.line) c.requires.1.0)
+count_word-requires c = rw (line_taken c.args.own.now c.told-own c.args.line) c.requires.0
 
 pub returns : goal.returns
-returns c = c.count_word.ensures ∙ line_cells c.args.own.now c.requires.0 c.args.line c.requires.1.1
+returns c = c.count_word.ensures ∙ line_cells c.args.own.now c.told-own c.args.line c.requires.1

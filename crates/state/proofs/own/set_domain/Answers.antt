@@ -3,4 +3,4 @@ use Rattle.state.proofs.Puts.{domain_cells}
 use Rattle.state.proofs.own.set_domain.Goals as goal
 
 pub returns : goal.returns
-returns c = domain_cells c.args.own.now c.requires _ _ _ _
+returns c = domain_cells c.args.own.now c.told-own _ _ _ _

@@ -3,4 +3,4 @@ use Rattle.state.proofs.Puts.{gauge_cells}
 use Rattle.state.proofs.own.set_gauge.Goals as goal
 
 pub returns : goal.returns
-returns c = gauge_cells _ c.requires _ _ _ _ _
+returns c = gauge_cells _ c.told-own _ _ _ _ _

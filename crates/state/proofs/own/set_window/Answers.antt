@@ -3,4 +3,4 @@ use Rattle.state.proofs.Puts.{window_cells}
 use Rattle.state.proofs.own.set_window.Goals as goal
 
 pub returns : goal.returns
-returns c = window_cells _ c.requires.0 _ _ _ c.requires.1
+returns c = window_cells _ c.told-own _ _ _ c.requires
