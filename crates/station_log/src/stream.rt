@@ -1,6 +1,5 @@
 // The bytes of a log, one by one and in pieces.
 ghost use Rattle.std.specs.Prelude.{◌≡◌, [], ◌∷◌, ◌+◌, ◌*◌, ◌<◌, ◌≤◌, length, drop};
-ghost use Rattle.replay.specs.Places.{log_length};
 ghost use Rattle.station_log.specs.Bytes.{byte_step, open_step};
 ghost use Rattle.station_log.specs.Feed.{replay_of};
 ghost use Rattle.replay.specs.Cells.{ReplayGiven, replay_in};
@@ -216,7 +215,6 @@ fn take_records(
 // Whether a byte only adds to a record, as its kind or inside its number; then it is added. The session isn't looked at, so that
 // a log that comes byte by byte is soon read.
 fn grows(log: &mut [u32; replay::LOG_CELLS], byte: u32) -> bool
-    requires { length log.old ≡ log_length }
     ensures { Grew byte log.old result log.new }
 {
     if log[own::STOPPED_BY] != 0 {
