@@ -132,12 +132,7 @@ fn word_at(bytes: &[u8], i: usize) -> u32
     requires { i + 5 ≤ length bytes.now }
     ensures { result ≡ word_at bytes.now i }
 {
-    bytes::number(
-        u32::from(bytes[i + 1]),
-        u32::from(bytes[i + 2]),
-        u32::from(bytes[i + 3]),
-        u32::from(bytes[i + 4]),
-    )
+    u32::from_le_bytes([bytes[i + 1], bytes[i + 2], bytes[i + 3], bytes[i + 4]])
 }
 
 // How many records lie whole in so many bytes, but no more than are gathered at once. With fewer a piece would take longer, and
