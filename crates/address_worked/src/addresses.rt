@@ -1,11 +1,12 @@
 // Addresses: C1 to C8, row steps, and small windows of every size and kind, pair by pair, byte by byte and address by
 // address.
+use crate::walks::{each_pair, each_window};
 use address::Located;
 use layout::{Accepted, ByteAddress, Layout};
 use refusal::Refusal;
 use std::io;
 use worked::tally::Tally;
-use worked::windows::{linear, tiled, window_of};
+use worked::windows::{linear, tiled};
 
 // Whether a pair goes to this address.
 pub fn goes_to(layout: Layout, x: u32, y: u32, at: u32) -> bool {
@@ -85,7 +86,7 @@ fn steps() -> Tally {
         .with(has_step(linear(1, 0, 8188, 1), 0))
 }
 
-// Every byte of a pair's element leads back to the pair.
+// There and back: every byte of a pair's element leads back to the pair.
 fn element(layout: Layout, x: u32, y: u32) -> Tally {
     let mut t = Tally::new();
     match address::translate(layout, x, y) {
@@ -96,23 +97,6 @@ fn element(layout: Layout, x: u32, y: u32) -> Tally {
             }
         }
         Err(_) => t = t.with(false),
-    }
-    t
-}
-
-fn row(layout: Layout, y: u32, step: u32) -> Tally {
-    let mut t = Tally::new();
-    for x in 0..step {
-        t = t.and(element(layout, x, y));
-    }
-    t
-}
-
-// There and back for every pair of a window.
-fn pairs(layout: Layout, step: u32) -> Tally {
-    let mut t = Tally::new();
-    for y in 0..layout.height {
-        t = t.and(row(layout, y, step));
     }
     t
 }
@@ -168,7 +152,7 @@ fn sweep(layout: Layout, first: u32, count: u32) -> Swept {
 fn window(layout: Layout) -> Tally {
     match layout::judge(layout) {
         Ok(Accepted { step, span }) => {
-            let t = pairs(layout, step);
+            let t = each_pair(layout, step, |x, y| element(layout, x, y));
             let around = std::num::wrapping_add_u32(span, 4096);
             let swept = sweep(
                 layout,
@@ -182,14 +166,6 @@ fn window(layout: Layout) -> Tally {
         }
         Err(_) => Tally::new().with(false),
     }
-}
-
-fn windows() -> Tally {
-    let mut t = Tally::new();
-    for k in 0..90 {
-        t = t.and(window(window_of(k)));
-    }
-    t
 }
 
 // The last bytes below 2^32, from both sides.
@@ -210,6 +186,6 @@ fn edges() -> Tally {
 pub fn run(rt: &impl Print) -> io::Result<()> {
     cases().print(rt, "C1 to C8")?;
     steps().print(rt, "row steps")?;
-    windows().print(rt, "windows there and back")?;
+    each_window(window).print(rt, "windows there and back")?;
     edges().print(rt, "the last bytes")
 }

@@ -1,10 +1,11 @@
 // Runs: those of C1 to C6, and of every pair of small windows of every size and kind, element by element.
 use crate::addresses::goes_to;
+use crate::walks::{each_pair, each_window};
 use address::Translated;
 use layout::Layout;
 use std::io;
 use worked::tally::Tally;
-use worked::windows::{linear, tiled, window_of};
+use worked::windows::{linear, tiled};
 
 // Whether this is a pair's run.
 fn has_run(layout: Layout, x: u32, y: u32, wanted: u32) -> bool {
@@ -43,38 +44,14 @@ fn element(layout: Layout, x: u32, y: u32) -> Tally {
     t
 }
 
-fn row(layout: Layout, y: u32, step: u32) -> Tally {
-    let mut t = Tally::new();
-    for x in 0..step {
-        t = t.and(element(layout, x, y));
-    }
-    t
-}
-
-fn pairs(layout: Layout, step: u32) -> Tally {
-    let mut t = Tally::new();
-    for y in 0..layout.height {
-        t = t.and(row(layout, y, step));
-    }
-    t
-}
-
 fn window(layout: Layout) -> Tally {
     match layout::judge(layout) {
-        Ok(taken) => pairs(layout, taken.step),
+        Ok(taken) => each_pair(layout, taken.step, |x, y| element(layout, x, y)),
         Err(_) => Tally::new().with(false),
     }
 }
 
-fn windows() -> Tally {
-    let mut t = Tally::new();
-    for k in 0..90 {
-        t = t.and(window(window_of(k)));
-    }
-    t
-}
-
 pub fn run(rt: &impl Print) -> io::Result<()> {
     cases().print(rt, "runs of C1 to C6")?;
-    windows().print(rt, "runs, element by element")
+    each_window(window).print(rt, "runs, element by element")
 }

@@ -1,81 +1,78 @@
 // Groups of every size that decides, programs of every length that decides, and runs.
 ghost use Rattle.std.specs.Prelude.{◌≤◌};
 
+use refusal::Refusal;
 use std::io;
 use worked::tally::Tally;
 
-// The mask of a fresh group, or 0 where the size or the mode gets 13.
-fn mask_of(size: u32, mode: u32) -> u32 {
+// The mask of a fresh group.
+fn mask_of(size: u32, mode: u32) -> Result<u32, Refusal> {
     let mut cells = [0u32; group::CELLS];
-    match flow::begin(size, mode, &mut cells) {
-        Ok(()) => cells[group::ACTIVE],
-        Err(_) => 0,
-    }
+    flow::begin(size, mode, &mut cells)?;
+    Ok(cells[group::ACTIVE])
 }
 
 fn sizes(rt: &impl Print) -> io::Result<()> {
     Tally::new()
-        .with(mask_of(0, group::FULL) == 0)
-        .with(mask_of(1, group::FULL) == 1)
-        .with(mask_of(31, group::FULL) == 0x7FFFFFFF)
-        .with(mask_of(32, group::FULL) == 0xFFFFFFFF)
-        .with(mask_of(33, group::FULL) == 0)
+        .with(mask_of(0, group::FULL) == Err(Refusal::FlowField))
+        .with(mask_of(1, group::FULL) == Ok(1))
+        .with(mask_of(31, group::FULL) == Ok(0x7FFFFFFF))
+        .with(mask_of(32, group::FULL) == Ok(0xFFFFFFFF))
+        .with(mask_of(33, group::FULL) == Err(Refusal::FlowField))
         .print(rt, "sizes of groups")
 }
 
 fn modes(rt: &impl Print) -> io::Result<()> {
     Tally::new()
-        .with(mask_of(4, group::FULL) == 15)
-        .with(mask_of(4, group::PARTIAL) == 15)
-        .with(mask_of(4, 2) == 0)
-        .with(mask_of(33, group::PARTIAL) == 0)
+        .with(mask_of(4, group::FULL) == Ok(15))
+        .with(mask_of(4, group::PARTIAL) == Ok(15))
+        .with(mask_of(4, 2) == Err(Refusal::FlowField))
+        .with(mask_of(33, group::PARTIAL) == Err(Refusal::FlowField))
         .print(rt, "modes of groups")
 }
 
-// The slots of a program of these words, or 1000 where it gets 15.
-fn slots_of(words: &[u32]) -> u32 {
+// The slots of a program of these words.
+fn slots_of(words: &[u32]) -> Result<u32, Refusal> {
     let mut firsts = [0u32; group::SLOTS];
     let mut seconds = [0u32; group::SLOTS];
-    flow::load(words, &mut firsts, &mut seconds).unwrap_or(1000)
+    flow::load(words, &mut firsts, &mut seconds)
 }
 
 fn lengths(rt: &impl Print) -> io::Result<()> {
     let words = [0u32; 1026];
     Tally::new()
-        .with(slots_of(&words[..0]) == 1000)
-        .with(slots_of(&words[..2]) == 1)
-        .with(slots_of(&words[..3]) == 1000)
-        .with(slots_of(&words[..1024]) == 512)
-        .with(slots_of(&words[..1025]) == 1000)
-        .with(slots_of(&words) == 1000)
+        .with(slots_of(&words[..0]) == Err(Refusal::PastEnd))
+        .with(slots_of(&words[..2]) == Ok(1))
+        .with(slots_of(&words[..3]) == Err(Refusal::PastEnd))
+        .with(slots_of(&words[..1024]) == Ok(512))
+        .with(slots_of(&words[..1025]) == Err(Refusal::PastEnd))
+        .with(slots_of(&words) == Err(Refusal::PastEnd))
         .print(rt, "lengths of programs")
 }
 
-// Whether a run of a program on a fresh group of four makes so many steps, with this first active processor and number of
-// active ones, and ends at this position; a run that is refused answers its number in place of the steps.
+// What a run of a program on a fresh group of four reports: its steps, the first active processor and the number of active ones.
+fn report(
+    words: &[u32],
+    masks: &[u32],
+    cells: &mut [u32; group::CELLS],
+) -> Result<(usize, u32, u32), Refusal> {
+    let mut firsts = [0u32; group::SLOTS];
+    let mut seconds = [0u32; group::SLOTS];
+    let slots = flow::load(words, &mut firsts, &mut seconds)?;
+    crate::stepping::fresh(4, cells);
+    let ran = flow::run(&firsts, &seconds, slots, cells, masks, 0, &[3])?;
+    Ok((ran.steps, ran.first, ran.active))
+}
+
+// Whether a run of a program on a fresh group of four reports this and ends at this position.
 fn runs(
     words: &[u32],
     masks: &[u32],
-    steps: usize,
-    first: u32,
-    active: u32,
+    wanted: Result<(usize, u32, u32), Refusal>,
     position: u32,
 ) -> bool {
-    let mut firsts = [0u32; group::SLOTS];
-    let mut seconds = [0u32; group::SLOTS];
-    let slots = flow::load(words, &mut firsts, &mut seconds).unwrap_or(0);
     let mut cells = [0u32; group::CELLS];
-    crate::stepping::fresh(4, &mut cells);
-    let ran = flow::run(&firsts, &seconds, slots, &mut cells, masks, 0, &[3]);
-    if cells[group::POSITION] != position {
-        return false;
-    }
-    match ran {
-        Ok(report) => {
-            report.steps == steps && (report.first == first && report.active == active)
-        }
-        Err(why) => u32::from(why) as usize == steps,
-    }
+    report(words, masks, &mut cells) == wanted && cells[group::POSITION] == position
 }
 
 // Four processors, the condition true for 0 and 1 (alu 0011).
@@ -100,14 +97,14 @@ fn branches(rt: &impl Print) -> io::Result<()> {
     ];
     let masks = [3, 0, 0, 0, 0, 0, 0, 0, 0, 0, 0, 0, 0, 0];
     Tally::new()
-        .with(runs(&program, &masks[..10], 5, 0, 4, 5))
-        .with(runs(&program, &masks, 5, 0, 4, 5))
-        .with(runs(&program, &masks[..9], 4, 2, 2, 4))
-        .with(runs(&program, &masks[2..], 3, 0, 4, 5))
+        .with(runs(&program, &masks[..10], Ok((5, 0, 4)), 5))
+        .with(runs(&program, &masks, Ok((5, 0, 4)), 5))
+        .with(runs(&program, &masks[..9], Ok((4, 2, 2)), 4))
+        .with(runs(&program, &masks[2..], Ok((3, 0, 4)), 5))
         .print(rt, "if, else, endif")?;
     Tally::new()
-        .with(runs(&program, &masks[..0], 0, 0, 4, 0))
-        .with(runs(&program, &masks[..1], 0, 0, 4, 0))
+        .with(runs(&program, &masks[..0], Ok((0, 0, 4)), 0))
+        .with(runs(&program, &masks[..1], Ok((0, 0, 4)), 0))
         .print(rt, "short lists")
 }
 
@@ -126,16 +123,16 @@ fn calls(rt: &impl Print) -> io::Result<()> {
     ];
     let masks = [0, 0, 0, 0, 0, 0, 0, 0];
     Tally::new()
-        .with(runs(&program, &masks, 4, 0, 4, 4))
+        .with(runs(&program, &masks, Ok((4, 0, 4)), 4))
         .print(rt, "call and return")?;
     let bad = [flow::PLAIN_FIRST, flow::PLAIN_SECOND, 5, 0];
     Tally::new()
-        .with(runs(&bad, &masks, 13, 0, 0, 0))
+        .with(runs(&bad, &masks, Err(Refusal::FlowField), 0))
         .print(rt, "refused whole")
 }
 
 // A run that ends its program of one plain slot, and then another one with no masks at all, which gets 16.
-fn again() -> u32 {
+fn again() -> Option<Refusal> {
     let mut firsts = [0u32; group::SLOTS];
     let mut seconds = [0u32; group::SLOTS];
     let words = [flow::PLAIN_FIRST, flow::PLAIN_SECOND];
@@ -144,10 +141,7 @@ fn again() -> u32 {
     crate::stepping::fresh(4, &mut cells);
     let masks = [0, 0];
     let _ = flow::run(&firsts, &seconds, 1, &mut cells, &masks, 0, &[3]);
-    match flow::run(&firsts, &seconds, 1, &mut cells, &masks[..0], 0, &[3]) {
-        Ok(_) => 0,
-        Err(why) => u32::from(why),
-    }
+    flow::run(&firsts, &seconds, 1, &mut cells, &masks[..0], 0, &[3]).err()
 }
 
 // Whether a run reports this first active processor and this number of them where its mask is `mask`.
@@ -173,7 +167,7 @@ pub fn run(rt: &impl Print) -> io::Result<()> {
     branches(rt)?;
     calls(rt)?;
     Tally::new()
-        .with(again() == 16)
+        .with(again() == Some(Refusal::Ended))
         .print(rt, "a run after the end")?;
     counts(rt)
 }

@@ -4,21 +4,12 @@ ghost use Rattle.group.specs.Cells.{GroupGiven};
 
 use refusal::Refusal;
 use std::io;
-use stepper::Stepped;
 use worked::tally::Tally;
 
-// A step's answer as a number: a jump, a stay, else the refusal's number.
-pub const JUMPED: u32 = 101;
+// What a step answers: whether the group jumped, or the refusal.
+pub const JUMPED: Result<bool, Refusal> = Ok(true);
 
-const STAYED: u32 = 100;
-
-pub fn told(answer: Result<Stepped, Refusal>) -> u32 {
-    match answer {
-        Ok(made) if made.jumped => JUMPED,
-        Ok(_) => STAYED,
-        Err(why) => u32::from(why),
-    }
-}
+const STAYED: Result<bool, Refusal> = Ok(false);
 
 // A fresh group of a size and in a mode that are allowed.
 fn fresh_in(size: u32, mode: u32, cells: &mut [u32; group::CELLS])
@@ -44,13 +35,13 @@ fn one(
     alu: u32,
     predicate: u32,
     booleans: u32,
-) -> u32
+) -> Result<bool, Refusal>
     requires { GroupGiven cells.old }
     ensures { GroupGiven cells.new }
 {
     let firsts = [first; group::SLOTS];
     let seconds = [second; group::SLOTS];
-    told(flow::step(&firsts, &seconds, 4, cells, alu, predicate, booleans, &[3]))
+    flow::step(&firsts, &seconds, 4, cells, alu, predicate, booleans, &[3]).map(|made| made.jumped)
 }
 
 // Whether a step gives this answer and leaves these processors active.
@@ -59,7 +50,7 @@ fn steps(
     first: u32,
     second: u32,
     alu: u32,
-    answer: u32,
+    answer: Result<bool, Refusal>,
     active: u32,
 ) -> bool
     requires { GroupGiven cells.old }
@@ -94,8 +85,8 @@ fn calls(rt: &impl Print) -> io::Result<()> {
     let second = steps(&mut cells, 0xFF80, 0, 0, JUMPED, 15);
     let third = steps(&mut cells, 0xFF80, 0, 0, JUMPED, 15);
     let fourth = steps(&mut cells, 0xFF80, 0, 0, JUMPED, 15);
-    let full = steps(&mut cells, 0xFF80, 0x50000, 0, 14, 15);
-    let reserved = steps(&mut cells, 0xFF85, 0x50000, 0, 13, 15);
+    let full = steps(&mut cells, 0xFF80, 0x50000, 0, Err(Refusal::AtLimit), 15);
+    let reserved = steps(&mut cells, 0xFF85, 0x50000, 0, Err(Refusal::FlowField), 15);
     Tally::new()
         .with(first)
         .with(second)
@@ -114,7 +105,7 @@ fn returns(rt: &impl Print) -> io::Result<()> {
     let again = steps(&mut cells, 0xFF80, 0, 0, JUMPED, 15);
     let back = steps(&mut cells, 0xFF40, 0, 0, JUMPED, 15);
     let first = steps(&mut cells, 0xFF40, 0, 0, JUMPED, 15);
-    let empty = steps(&mut cells, 0xFF40, 0, 0, 14, 15);
+    let empty = steps(&mut cells, 0xFF40, 0, 0, Err(Refusal::AtLimit), 15);
     Tally::new()
         .with(called)
         .with(again)
@@ -128,9 +119,9 @@ fn returns(rt: &impl Print) -> io::Result<()> {
 fn ends(rt: &impl Print) -> io::Result<()> {
     let mut cells = [0u32; group::CELLS];
     fresh(4, &mut cells);
-    let past = steps(&mut cells, 0xFF00, 0x50000, 0, 15, 15);
+    let past = steps(&mut cells, 0xFF00, 0x50000, 0, Err(Refusal::PastEnd), 15);
     let to = steps(&mut cells, 0xFF00, 0x40000, 0, JUMPED, 15);
-    let after = steps(&mut cells, 0x21, 0, 0, 16, 15);
+    let after = steps(&mut cells, 0x21, 0, 0, Err(Refusal::Ended), 15);
     Tally::new()
         .with(past)
         .with(to)
@@ -144,11 +135,11 @@ fn nested(mode: u32) -> u32
 {
     let mut cells = [0u32; group::CELLS];
     fresh_in(4, mode, &mut cells);
-    one(0x02000F00, 0, &mut cells, 3, 0, 0);
+    let _ = one(0x02000F00, 0, &mut cells, 3, 0, 0);
     for deeper in 0u32..100 {
         // The program's four slots are run through over and over, so the position is set back by a jump to slot 0.
         let answer = one(0x0A00FF00, 0, &mut cells, 0, 0, 0);
-        if answer == 14 {
+        if answer == Err(Refusal::AtLimit) {
             return deeper;
         }
     }
@@ -167,11 +158,11 @@ fn partial(rt: &impl Print) -> io::Result<()> {
     let kept = one(0x000000A0, 0, &mut cells, 0, 0, 0);
     let plain = one(0x0000FF00, 0, &mut cells, 0, 0, 0);
     Tally::new()
-        .with(opening == 13)
-        .with(close == 13)
-        .with(push == 13)
-        .with(pop == 13)
-        .with(kept == 13)
+        .with(opening == Err(Refusal::FlowField))
+        .with(close == Err(Refusal::FlowField))
+        .with(push == Err(Refusal::FlowField))
+        .with(pop == Err(Refusal::FlowField))
+        .with(kept == Err(Refusal::FlowField))
         .with(plain == JUMPED)
         .print(rt, "partial mode")
 }
@@ -217,7 +208,7 @@ fn above(rt: &impl Print) -> io::Result<()> {
 }
 
 // One processor with these bits of the masks and this boolean, number 5, under a JUMP_FUNC of one bit.
-fn wishes(bit: u32, alu: u32, predicate: u32, boolean: u32) -> u32
+fn wishes(bit: u32, alu: u32, predicate: u32, boolean: u32) -> Result<bool, Refusal>
     requires { (bit ≤ 7) × (boolean ≤ 1) }
 {
     let mut cells = [0u32; group::CELLS];
@@ -244,7 +235,7 @@ fn functions(rt: &impl Print) -> io::Result<()> {
 }
 
 // A step on a fresh group with one word that isn't 0, the first or the second.
-fn one_word(word: u32, in_first: bool) -> u32 {
+fn one_word(word: u32, in_first: bool) -> Result<bool, Refusal> {
     let mut cells = [0u32; group::CELLS];
     fresh(4, &mut cells);
     if in_first {
@@ -258,7 +249,7 @@ fn bits(reserved: u32, in_first: bool) -> Tally {
     let mut tally = Tally::new();
     for bit in 0u32..32 {
         let word = 1u32 << bit;
-        let refused = one_word(word, in_first) == 13;
+        let refused = one_word(word, in_first) == Err(Refusal::FlowField);
         tally = tally.with(refused == (reserved & word != 0));
     }
     tally
@@ -268,9 +259,9 @@ fn bits(reserved: u32, in_first: bool) -> Tally {
 fn codes(rt: &impl Print) -> io::Result<()> {
     let mut cells = [0u32; group::CELLS];
     fresh(4, &mut cells);
-    let returning = steps(&mut cells, 0xC0, 0, 0, 13, 15);
-    let stay = steps(&mut cells, 0x03000000, 0, 0, 13, 15);
-    let jump = steps(&mut cells, 0x0C000000, 0, 0, 13, 15);
+    let returning = steps(&mut cells, 0xC0, 0, 0, Err(Refusal::FlowField), 15);
+    let stay = steps(&mut cells, 0x03000000, 0, 0, Err(Refusal::FlowField), 15);
+    let jump = steps(&mut cells, 0x0C000000, 0, 0, Err(Refusal::FlowField), 15);
     Tally::new()
         .with(returning)
         .with(stay)

@@ -1,12 +1,12 @@
 // What a step does to the processors' masks: bit i of every word is processor i, and the branch counters lie in five planes,
 // bit i of plane k being bit k of processor i's counter. No loop: each operation works on all processors at once.
-ghost use Rattle.std.specs.Prelude.{◌≡◌, ◌<◌, eqb, length};
+ghost use Rattle.std.specs.Prelude.{◌≡◌, ◌<◌, eqb};
 ghost use Rattle.laws.specs.Choice.{◌and◌};
 ghost use Rattle.laws.specs.Below.{some};
 ghost use Rattle.laws.specs.Masks.{differ, on, pack};
 ghost use Rattle.group.specs.Proc.{turned, lowered, raised, decided, increment, most_processors};
 ghost use Rattle.group.specs.Group.{turned_if, wish_of};
-ghost use Rattle.group.specs.Cells.{cell_count, mode_in, proc_at, with_active, active_mask};
+ghost use Rattle.group.specs.Cells.{mode_in, proc_at, with_active, active_mask};
 ghost use Rattle.group.specs.Masks.{OwnMasks, OwnMasksIn, shown_as, some_at_limit, some_at_limit_in, some_at_partial, some_at_partial_in, some_at_own_limit};
 
 // The active processors and the five planes that a branch operation leaves.
@@ -83,7 +83,6 @@ pub fn upper_bits(p3: u32, p4: u32) -> bool
 // Whether the operation is an increment that a counter at its limit forbids. Few groups have a counter with both upper bits, so that
 // test is first: the processor can predict it, which it often can't the operation.
 pub fn over_limit(op: u32, cells: &[u32; crate::CELLS]) -> bool
-    requires { length cells.now ≡ cell_count }
     ensures { result ≡ (eqb op increment and some_at_limit_in cells.now) }
 {
     if upper_bits(cells[crate::PLANE_3], cells[crate::PLANE_4]) {
@@ -112,7 +111,6 @@ pub fn at_partial(p0: u32, p1: u32, p2: u32, p3: u32, p4: u32) -> bool
 // The same as `over_limit` by the limit of partial mode. The operation is asked first here: so a step that isn't an increment reads no plane,
 // and takes no longer than in full mode.
 pub fn over_partial(op: u32, cells: &[u32; crate::CELLS]) -> bool
-    requires { length cells.now ≡ cell_count }
     ensures { result ≡ (eqb op increment and some_at_partial_in cells.now) }
 {
     if op == crate::INCREMENT {
@@ -129,7 +127,6 @@ pub fn over_partial(op: u32, cells: &[u32; crate::CELLS]) -> bool
 
 // The same by the limit of the mode that the cells have. A group's mode never changes, so the processor predicts this test.
 pub fn over_own_limit(op: u32, cells: &[u32; crate::CELLS]) -> bool
-    requires { length cells.now ≡ cell_count }
     ensures { result ≡ (eqb op increment and some_at_own_limit (mode_in cells.now) cells.now) }
 {
     if cells[crate::MODE] == crate::PARTIAL {
@@ -140,7 +137,7 @@ pub fn over_own_limit(op: u32, cells: &[u32; crate::CELLS]) -> bool
 
 // The active processors as the wishes see them: turned by B_ELSE where the slot has it. The planes are read for that alone.
 pub fn turn_if(otherwise: bool, active: u32, cells: &[u32; crate::CELLS]) -> u32
-    requires { (length cells.now ≡ cell_count) × OwnMasksIn cells.now active }
+    requires { OwnMasksIn cells.now active }
     ensures { result ≡ active_mask (turned_if otherwise (with_active cells.now active)) }
 {
     if otherwise {

@@ -1,12 +1,11 @@
 // Whether 20 cells that were kept elsewhere are those of a group: yes just where a step, a run, a kill and the loops told may have them.
 #![tactic(auto)]
 
-ghost use Rattle.std.specs.Prelude.{◌≡◌, not, length, eqb};
+ghost use Rattle.std.specs.Prelude.{◌≡◌, not, eqb};
 ghost use Rattle.laws.specs.Choice.{◌and◌, pick};
 ghost use Rattle.laws.specs.Below.{some};
 ghost use Rattle.laws.specs.Masks.{◌or◌, on, pack};
 ghost use Rattle.group.specs.Proc.{most_processors};
-ghost use Rattle.group.specs.Cells.{cell_count};
 ghost use Rattle.judges_group.specs.Judged.{strays, in_aRow, too_high, counters_fit, stack_of, loop_fits, returns_fit, loops_fit, Words, JudgesGroup};
 
 // The lowest of bits 31:24, which are 1 in a LOOP's cell and 0 in a REP's.
@@ -134,7 +133,6 @@ fn loops_fit(l0: u32, l1: u32, l2: u32, l3: u32) -> bool
 
 // Whether the cells are a group's. Nothing is written.
 pub fn is_group(cells: &[u32; group::CELLS]) -> bool
-    requires { length cells.now ≡ cell_count }
     ensures { JudgesGroup cells.now result }
 {
     let masks = masks_fit(

@@ -4,13 +4,13 @@
 // 11) leaves the cells as they were.
 #![tactic(auto)]
 
-ghost use Rattle.std.specs.Prelude.{◌≡◌, not, ◌*◌, length, set};
+ghost use Rattle.std.specs.Prelude.{◌≡◌, not, ◌*◌, set};
 ghost use Rattle.laws.specs.Choice.{◌and◌};
 ghost use Rattle.laws.specs.Below.{count};
 ghost use Rattle.laws.specs.Masks.{◌or◌, on, pack};
 ghost use Rattle.registers.specs.Registers.{channel_count};
 ghost use Rattle.group.specs.Proc.{most_processors};
-ghost use Rattle.group.specs.Cells.{cell_count, group_of, GroupGiven};
+ghost use Rattle.group.specs.Cells.{group_of, GroupGiven};
 ghost use Rattle.kill.specs.Kill.{kill_of};
 ghost use Rattle.kill.specs.Answers.{KillDone, TakesOut, TakenOut};
 
@@ -51,7 +51,6 @@ fn either(a: u32, b: u32) -> u32
 
 // Stores who is in the group, who is active and who was killed.
 fn put(cells: &mut [u32; group::CELLS], live: u32, active: u32, killed: u32)
-    requires { length cells.old ≡ cell_count }
     ensures { cells.new ≡ set (set (set cells.old 0 live) 1 active) 13 killed }
 {
     cells[group::LIVE] = live;

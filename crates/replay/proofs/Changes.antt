@@ -11,7 +11,7 @@ use Rattle.laws.proofs.Choice.{pick_yes, pick_no}
 use Rattle.laws.proofs.Table.{each, ◌&◌}
 use Rattle.state.specs.State.{Session}
 use Rattle.replay.specs.State.{OpenRecord, WordRefused, Replay, no_record}
-use Rattle.replay.specs.Step.{opening, stopped, with_byte, noted}
+use Rattle.replay.specs.Step.{opening, stopped, with_byte}
 use Rattle.replay.specs.Cells.{viewed, log_cells}
 use Rattle.replay.specs.Own.{Changed, AddAsked, noting, day_begun}
 

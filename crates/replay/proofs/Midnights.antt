@@ -7,7 +7,6 @@ use native.Mathlib.Omega.{arith}
 use lib.Dec.{eqb}
 use lib.ListN.{length, get_or, set, length-set}
 use borrow.Author.Tests.{eq-eqb, ne_eqb, eqb-true, lt-ltb, le-ltb, ltb-true}
-use Rattle.laws.specs.Choice.{◌and◌}
 use Rattle.laws.specs.Masks.{◌or◌}
 use Rattle.laws.proofs.Choice.{pick_yes, pick_no, and_left, and_right, and_yes, and_no_left, Tested, tested, holds, fails}
 use Rattle.state.specs.Cells.{party_of, session_of}

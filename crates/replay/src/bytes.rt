@@ -1,6 +1,5 @@
 // The bytes that a record begins and ends with: its kind, the number that its bytes are, and a midnight.
-ghost use Rattle.std.specs.Prelude.{◌≡◌, length};
-ghost use Rattle.replay.specs.Places.{log_length};
+ghost use Rattle.std.specs.Prelude.{◌≡◌};
 ghost use Rattle.replay.specs.Step.{is_kind, kind_step, may_begin, midnight_step, number_from};
 ghost use Rattle.replay.specs.Own.{Answered, MidnightAsked, MidnightLeft, NumberAsked, reply_of};
 
@@ -25,7 +24,6 @@ pub fn is_kind(byte: u32) -> bool
 
 // A record's first byte: 18 where it is no kind.
 pub fn kind_byte(log: &mut [u32; crate::LOG_CELLS], byte: u32) -> Result<(), Refusal>
-    requires { length log.old ≡ log_length }
     ensures { Answered (λ s. kind_step s byte) (reply_of result) log.old log.new }
 {
     if is_kind(byte) {

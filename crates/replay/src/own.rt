@@ -1,7 +1,5 @@
 // A replay's own ten numbers, and what a byte does to them.
-ghost use Rattle.std.specs.Prelude.{◌≡◌, length};
 ghost use Rattle.replay.specs.State.{no_record};
-ghost use Rattle.replay.specs.Places.{log_length};
 ghost use Rattle.replay.specs.Step.{of_kind, opening, stopped, with_byte};
 ghost use Rattle.replay.specs.Own.{AddAsked, Changed, day_begun, noting};
 
@@ -35,7 +33,6 @@ pub const BY_DAY: u32 = 19;
 
 // Stores the open record: how many bytes stand, its kind and its number's first bytes, 0 for those that haven't come.
 fn put_record(log: &mut [u32; crate::LOG_CELLS], count: u32, kind: u32)
-    requires { length log.old ≡ log_length }
     ensures { Changed (opening (record { count = count; kind = kind; low = 0; second = 0; third = 0 })) log.old log.new }
 {
     log[COUNT] = count;
@@ -47,7 +44,6 @@ fn put_record(log: &mut [u32; crate::LOG_CELLS], count: u32, kind: u32)
 
 // No record is open.
 pub fn close(log: &mut [u32; crate::LOG_CELLS])
-    requires { length log.old ≡ log_length }
     ensures { Changed (opening no_record) log.old log.new }
 {
     put_record(log, 0, 0)
@@ -55,7 +51,6 @@ pub fn close(log: &mut [u32; crate::LOG_CELLS])
 
 // A record is open, of which the kind byte stands.
 pub fn open(log: &mut [u32; crate::LOG_CELLS], kind: u32)
-    requires { length log.old ≡ log_length }
     ensures { Changed (opening (of_kind kind)) log.old log.new }
 {
     put_record(log, 1, kind)
@@ -72,7 +67,6 @@ pub fn add(log: &mut [u32; crate::LOG_CELLS], count: u32, byte: u32)
 
 // The replay is stopped by 18 or 19, and the open record dropped.
 pub fn stop(log: &mut [u32; crate::LOG_CELLS], number: u32)
-    requires { length log.old ≡ log_length }
     ensures { Changed (stopped number) log.old log.new }
 {
     log[STOPPED_BY] = number;
@@ -81,7 +75,6 @@ pub fn stop(log: &mut [u32; crate::LOG_CELLS], number: u32)
 
 // A refused word's number is kept, with the midnights before it, unless one was kept before.
 pub fn note(log: &mut [u32; crate::LOG_CELLS], number: u32)
-    requires { length log.old ≡ log_length }
     ensures { Changed (noting number) log.old log.new }
 {
     if log[REFUSED] == 0 {
@@ -92,7 +85,6 @@ pub fn note(log: &mut [u32; crate::LOG_CELLS], number: u32)
 
 // One more midnight, at which a day begins.
 pub fn begin_day(log: &mut [u32; crate::LOG_CELLS], midnights: u32, day: u32)
-    requires { length log.old ≡ log_length }
     ensures { Changed (day_begun midnights day) log.old log.new }
 {
     log[MIDNIGHTS] = midnights;

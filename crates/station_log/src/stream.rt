@@ -1,6 +1,5 @@
 // The bytes of a log, one by one and in pieces.
 ghost use Rattle.std.specs.Prelude.{◌≡◌, [], ◌∷◌, ◌+◌, ◌*◌, ◌<◌, ◌≤◌, length, drop};
-ghost use Rattle.replay.specs.Places.{log_length};
 ghost use Rattle.station_log.specs.Bytes.{byte_step, open_step};
 ghost use Rattle.station_log.specs.Feed.{replay_of};
 ghost use Rattle.replay.specs.Cells.{ReplayGiven, replay_in};
@@ -133,12 +132,7 @@ fn word_at(bytes: &[u8], i: usize) -> u32
     requires { i + 5 ≤ length bytes.now }
     ensures { result ≡ word_at bytes.now i }
 {
-    bytes::number(
-        u32::from(bytes[i + 1]),
-        u32::from(bytes[i + 2]),
-        u32::from(bytes[i + 3]),
-        u32::from(bytes[i + 4]),
-    )
+    u32::from_le_bytes([bytes[i + 1], bytes[i + 2], bytes[i + 3], bytes[i + 4]])
 }
 
 // How many records lie whole in so many bytes, but no more than are gathered at once. With fewer a piece would take longer, and
@@ -216,7 +210,6 @@ fn take_records(
 // Whether a byte only adds to a record, as its kind or inside its number; then it is added. The session isn't looked at, so that
 // a log that comes byte by byte is soon read.
 fn grows(log: &mut [u32; replay::LOG_CELLS], byte: u32) -> bool
-    requires { length log.old ≡ log_length }
     ensures { Grew byte log.old result log.new }
 {
     if log[own::STOPPED_BY] != 0 {

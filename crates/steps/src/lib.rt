@@ -8,7 +8,7 @@ ghost use Rattle.laws.specs.Choice.{◌and◌};
 ghost use Rattle.laws.specs.Masks.{on};
 ghost use Rattle.group.specs.Group.{op_of, jump_step, loop_step, store_slots};
 ghost use Rattle.group.specs.Proc.{branched, increment, counter_limit};
-ghost use Rattle.group.specs.Cells.{cell_count, position_in, with_active, group_of, GroupGiven, CellsNamed};
+ghost use Rattle.group.specs.Cells.{position_in, with_active, group_of, GroupGiven, CellsNamed};
 ghost use Rattle.group.specs.Masks.{OwnMasksIn, with_masks, shown_as};
 ghost use Rattle.stepper.specs.Answers.{MoveDone, own_limit, limit_by, some_at_limit_by, settled_in, decided_step, set_loops};
 
@@ -19,7 +19,6 @@ use stepper::{SlotNumber, place, slot};
 
 // Whether the operation is an increment that a counter at its limit forbids: at full mode's, the only one of ops 1 to 4, or at that of the cells' mode.
 fn forbidden<const LOOP: bool>(op: u32, cells: &[u32; group::CELLS]) -> bool
-    requires { length cells.now ≡ cell_count }
     ensures { result ≡ (eqb op increment and some_at_limit_by LOOP cells.now) }
 {
     if LOOP {
@@ -157,7 +156,6 @@ pub fn jump_slot<const RUN: bool>(
 
 // Stores the open loops.
 fn put_loops(cells: &mut [u32; group::CELLS], loops: OpenLoops)
-    requires { length cells.old ≡ cell_count }
     ensures { cells.new ≡ set_loops cells.old loops.l0 loops.l1 loops.l2 loops.l3 }
 {
     cells[group::LOOP_0] = loops.l0;

@@ -4,7 +4,6 @@ ghost use Rattle.worked.specs.Windows.{laid, window_of};
 
 use layout::{ByteAddress, Layout};
 
-// Kept (design pass 2, no plainer): in lists of cases two names read plainer than one with a flag.
 pub fn linear(size: u32, base: u32, pitch: u32, height: u32) -> Layout
     ensures { result ≡ laid false size base pitch height }
 {
@@ -21,11 +20,8 @@ pub fn tiled(size: u32, base: u32, pitch: u32, height: u32) -> Layout
     ensures { result ≡ laid true size base pitch height }
 {
     Layout {
-        base: ByteAddress(base),
-        pitch,
-        height,
-        size,
         tiled: true,
+        ..linear(size, base, pitch, height)
     }
 }
 

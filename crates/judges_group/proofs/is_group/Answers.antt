@@ -17,6 +17,6 @@ returns c =
     (joined (both_tests _ _) c.loops_fit-loops.ensures
     (joined (both_tests _ _) refl (both_tests _ _)))))) in
     record {
-      sound = λ e. judged_given l c.requires c.masks_fit-masks.ensures.words (sym judged ∙ e);
+      sound = λ e. judged_given l c.told-cells c.masks_fit-masks.ensures.words (sym judged ∙ e);
       complete = λ v. judged ∙ given_judged l v;
     }

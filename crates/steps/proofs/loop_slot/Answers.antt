@@ -1,7 +1,7 @@
 -- `steps::loop_slot` meets its contract: the words, the loop's turn, the rest of the step, and the loops last. Assumes nothing.
 use Rattle.group.proofs.State.{given_loops}
 use Rattle.std.proofs.lemmas.Result.{err_from_is_err_and}
-use Rattle.stepper.proofs.Stepping.{loop_bad, loop_stops, loop_refused, loop_stored, left_size}
+use Rattle.stepper.proofs.Stepping.{loop_bad, loop_stops, loop_refused, loop_stored}
 use Rattle.steps.proofs.loop_slot.Goals as goal
 
 pub turn-requires : goal.turn-requires
@@ -24,10 +24,6 @@ returns-in_err-jumped c =
     (loop_refused c.args.cells.now c.args.first c.args.second c.args.slots c.args.word c.args.alu
     c.args.predicate c.args.booleans c.allowed_loop.ensures c.if-allowed_loop.true c.turn.ensures
     c.in_ok-t.was c.step_slot.ensures c.in_err-jumped.was)
-
-pub put_loops-requires : goal.put_loops-requires
-put_loops-requires c =
-    left_size c.requires.0.size c.step_slot.ensures
 
 -- the step is made, and the loops are stored
 pub returns-then-allowed_loop : goal.returns-then-allowed_loop

@@ -7,9 +7,6 @@ use Rattle.stepper.proofs.Going.{gone_named, gone_masks}
 use Rattle.stepper.proofs.Stepping.{over_by, settle_over, settle_refused, settle_made}
 use Rattle.steps.proofs.settle.Goals as goal
 
-pub forbidden-requires : goal.forbidden-requires
-forbidden-requires g c = c.requires.0.size
-
 pub returns-then-forbidden : goal.returns-then-forbidden
 returns-then-forbidden g c =
     settle_over _ c.args.cells.now c.args.first c.args.second c.args.slots c.args.active

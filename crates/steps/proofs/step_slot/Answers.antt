@@ -5,7 +5,7 @@ use Rattle.steps.proofs.step_slot.Goals as goal
 
 pub turn_if-active-requires : goal.turn_if-active-requires
 turn_if-active-requires g c =
-    (c.requires.0.size, given_masks c.args.cells.now c.requires.0)
+    given_masks c.args.cells.now c.requires.0
 
 pub settle-requires : goal.settle-requires
 settle-requires g c = (

@@ -9,4 +9,4 @@ returns-then-otherwise c =
     c.turn.ensures ∙ turned_yes (with_active c.args.cells.now c.args.active) c.if-otherwise.true
 
 pub returns : goal.returns
-returns c = c.requires.1.active_word ∙ turned_no (with_active c.args.cells.now c.args.active) c.if-otherwise.false
+returns c = c.requires.active_word ∙ turned_no (with_active c.args.cells.now c.args.active) c.if-otherwise.false

@@ -3,7 +3,7 @@ use Rattle.replay.proofs.Changes.{notes, notes_not}
 use Rattle.replay.proofs.own.note.Goals as goal
 
 pub returns-then-log-eq0 : goal.returns-then-log-eq0
-returns-then-log-eq0 c = notes _ _ c.requires c.if-log-eq0.true
+returns-then-log-eq0 c = notes _ _ c.told-log c.if-log-eq0.true
 
 pub returns-else-log-eq0 : goal.returns-else-log-eq0
-returns-else-log-eq0 c = notes_not _ _ c.requires c.if-log-eq0.false
+returns-else-log-eq0 c = notes_not _ _ c.told-log c.if-log-eq0.false

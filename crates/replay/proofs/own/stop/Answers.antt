@@ -3,4 +3,4 @@ use Rattle.replay.proofs.Changes.{stops}
 use Rattle.replay.proofs.own.stop.Goals as goal
 
 pub returns : goal.returns
-returns c = stops _ _ _ c.requires c.close.ensures
+returns c = stops _ _ _ c.told-log c.close.ensures
