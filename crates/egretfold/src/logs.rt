@@ -13,7 +13,6 @@ ghost use Rattle.setting_rooms.specs.Rooms.{tally_numbers};
 ghost use Rattle.log_rooms.specs.Rooms.{FeedCrosses, standing_numbers};
 ghost use Rattle.trim.specs.Left.{TrimCrosses};
 
-
 // A replay that has read nothing, over a new session of an edition; 3.
 #[unsafe(no_mangle)]
 pub extern "C" fn egretfold_log_begin(

@@ -11,9 +11,9 @@ ghost use Rattle.session.specs.Step.{step_of};
 ghost use Rattle.session_rooms.specs.Rooms.{FeedCrosses, WordCrosses};
 
 use command::{commands, table};
+use refusal::Refusal;
 use session::stream;
 use session::stream::Progress;
-use refusal::Refusal;
 
 // Lengths of rooms: whether a command is complete, its header and four parameters; a piece's words taken and commands completed.
 pub const COMMAND_NUMBERS: usize = 6;

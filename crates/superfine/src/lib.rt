@@ -41,12 +41,7 @@ fn parts<const N: usize>(memory: &[u8], a: usize, b: usize, c: usize, d: usize) 
 
 // The elements of `size` bytes at four addresses, one after the other, or 11 where memory is too long, ends too high or
 // doesn't hold all of each. A superfine read has two sizes, and each is a constant in its branch, so that no loop is left there.
-fn four(
-    memory: &[u8],
-    first: ByteAddress,
-    size: u32,
-    corners: Corners,
-) -> Result<Reading, Refusal>
+fn four(memory: &[u8], first: ByteAddress, size: u32, corners: Corners) -> Result<Reading, Refusal>
     requires { (size ≡ 2) ⊎ (size ≡ 4) }
     ensures { Answered (four_of first.0 memory.now size corners.right.0 corners.below.0 corners.across.0 corners.own.0) result }
 {
