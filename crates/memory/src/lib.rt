@@ -22,7 +22,13 @@ pub struct Reading {
 // The bytes of the element at (x, y) as they stand in memory whose first byte is at `first`; or 3 and 6 for a layout that
 // isn't accepted, 10 for a pair outside its window, 11 where memory is too long, ends too high or doesn't hold the whole
 // element.
-pub fn read(layout: Layout, x: u32, y: u32, memory: &[u8], first: ByteAddress) -> Result<Reading, Refusal>
+pub fn read(
+    layout: Layout,
+    x: u32,
+    y: u32,
+    memory: &[u8],
+    first: ByteAddress,
+) -> Result<Reading, Refusal>
     ensures { Answered (read_of layout x y first.0 memory.now) result }
 {
     let at = place::find(layout, x, y, first, memory.len())?;
