@@ -50,6 +50,7 @@ fn one_run(
 
 // Whole runs of `unit` elements in tiles, from place `from` on, as many as there is room for, and where they end. Where unit and size are
 // constants, a run is one or two wide stores.
+// Kept (design pass 3, no plainer): the answer is where the last whole run ends, and a loop over a range hands no such place on.
 fn whole_runs(
     unit: usize,
     size: u32,
@@ -140,6 +141,7 @@ fn byte_offset(table: &[u16; PLACES], stride: u32, x: u32, y: u32) -> u32
 }
 
 // The addresses of one-byte elements in tiles: the table is taken once, and lent down.
+// Kept (design pass 3, no plainer): each step is as long as the run that its column begins, which no range goes by.
 fn by_places(base: u32, stride: u32, x: u32, y: u32, room: &mut [u32])
     requires { RowAsked base 1 true stride x y (length room.old) }
     ensures { room.new ≡ listed (element_at base 1 true (stride / 1) x y) 0 (length room.old) }

@@ -1,8 +1,8 @@
 -- Reads and writes by the number of a translation: each return as a law. Assumes nothing.
-use mathlib.Core.Path.{◌≡◌, sym, ap, ◌∙◌, subst}
+use mathlib.Core.Path.{◌≡◌, sym, ap, ◌∙◌}
 use mathlib.Core.Bool.{Bool}
 use mathlib.Core.List.{List, [], ◌∷◌}
-use Prim.Native.Nat.{ℕ, ◌+◌, ◌-◌, ◌%◌, ◌^◌, ◌<◌, ◌≤◌}
+use Prim.Native.Nat.{ℕ, ◌+◌, ◌-◌, ◌≤◌}
 use lib.ListN.{length, take, drop, replicate, length-replicate}
 use native.Mathlib.Omega.{arith}
 use Rattle.refusal.specs.Told.{Told, gives, refuses}
@@ -15,11 +15,10 @@ use Rattle.address.specs.Address.{layout_of, translate_of}
 use Rattle.address.proofs.Answers.{malformed, none_form}
 use borrow.Rule.Slice.PartMut.{mid_len}
 use Rattle.memory.specs.Answers.{PutAsked}
-use Rattle.memory.specs.Elements.{read_of, find_of, start_of, overwritten, Wrote}
-use Rattle.memory.proofs.Places.{find_refused, find_started, found}
+use Rattle.memory.specs.Elements.{read_of, find_of, overwritten, Wrote}
+use Rattle.memory.proofs.Places.{find_refused}
 use Rattle.memory.proofs.Calls.{read_refused, read_found, small_element, ends_inside}
 use Rattle.memory.proofs.Copies.{reading_of_one}
-use Rattle.memory.proofs.Overwritten.{part_overwritten}
 use Rattle.element_rooms.specs.Rooms.{in_sixteen, WriteCrosses}
 
 -- a read, by what the place tells

@@ -7,7 +7,6 @@ use native.Mathlib.Omega.{arith}
 use lib.ListN.{length, take, drop}
 use borrow.Author.Tests.{eq-eqb, ne_eqb}
 use borrow.Rule.Slice.PartMut.{post_of, mid_len}
-use Rattle.laws.specs.Choice.{◌and◌}
 use Rattle.laws.proofs.Choice.{and_intro, and_right, and_no_left}
 use Rattle.refusal.specs.Number.{number_of}
 use Rattle.refusal.specs.Told.{Told, gives, refuses}

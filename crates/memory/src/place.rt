@@ -33,10 +33,11 @@ pub fn start(
     if at < low {
         return Err(Refusal::WrongLength);
     }
-    if end < at as u64 + size as u64 {
+    let place = (at - low) as usize;
+    if length < place + size as usize {
         return Err(Refusal::WrongLength);
     }
-    Ok((at - low) as usize)
+    Ok(place)
 }
 
 // Where a pair's element begins, or 3, 6, 10 or 11.

@@ -64,6 +64,7 @@ fn judge(
 }
 
 // The elements of the room, row by row, into memory; 3, 6, 10 or 11.
+// Kept (design pass 2, C interface): memory is written here and the room is not, in `copy_out` the other way round; `carry` is what they share.
 pub fn paint(
     base: u32,
     pitch: u32,

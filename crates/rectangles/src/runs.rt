@@ -6,6 +6,7 @@ use crate::stretch;
 use address::{offset, run};
 
 // `count` elements of the row y from column x on, in a tiled window whose base is at the place `at` of memory.
+// Kept (design pass 3, no plainer): each step is as long as the run that its column begins, which no range goes by.
 pub fn by_runs(
     out: bool,
     size: u32,

@@ -14,13 +14,13 @@ returns-in_err-at g c =
 
 pub overflow_add-at : goal.overflow_add-at
 overflow_add-at g c =
-    record { fits = omega (arith, c.requires, end_fits _ _ _ _ _ _ (sym c.find.ensures ∙ ap told_place c.in_ok-at.was)) }
+    record { fits = omega (arith, end_fits _ _ _ _ _ _ (sym c.find.ensures ∙ ap told_place c.in_ok-at.was)) }
 
 pub slice_bounds-put-end : goal.slice_bounds-put-end
-slice_bounds-put-end g c = omega (arith, c.requires, ends_inside _ _ _ _ _ _ (sym c.find.ensures ∙ ap told_place c.in_ok-at.was))
+slice_bounds-put-end g c = omega (arith, ends_inside _ _ _ _ _ _ (sym c.find.ensures ∙ ap told_place c.in_ok-at.was))
 
 pub put-requires : goal.put-requires
-put-requires g c = rw c.requires at (put_asked _ _ _ _ _ _ (sym c.find.ensures ∙ ap told_place c.in_ok-at.was))
+put-requires g c = put_asked _ _ _ _ _ _ (sym c.find.ensures ∙ ap told_place c.in_ok-at.was)
 
 pub returns : goal.returns
-returns g c = read_yes _ _ _ _ _ _ _ (sym c.find.ensures ∙ ap told_place c.in_ok-at.was) _ (rw c.requires c.put.ensures)
+returns g c = read_yes _ _ _ _ _ _ _ (sym c.find.ensures ∙ ap told_place c.in_ok-at.was) _ c.put.ensures

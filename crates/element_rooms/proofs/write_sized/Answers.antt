@@ -14,16 +14,16 @@ returns-in_err-at g c =
 
 pub returns-then-given : goal.returns-then-given
 returns-then-given g c =
-    write_crosses _ refl (write_unfit _ _ _ _ _ _ _ (sym c.find.ensures ∙ ap told_place c.in_ok-at.was) (λ e. c.if-given.true (e ∙ c.requires)))
+    write_crosses _ refl (write_unfit _ _ _ _ _ _ _ (sym c.find.ensures ∙ ap told_place c.in_ok-at.was) c.if-given.true)
 
 pub overflow_add-at : goal.overflow_add-at
 overflow_add-at g c =
-    record { fits = omega (arith, c.requires, end_fits _ _ _ _ _ _ (sym c.find.ensures ∙ ap told_place c.in_ok-at.was)) }
+    record { fits = omega (arith, end_fits _ _ _ _ _ _ (sym c.find.ensures ∙ ap told_place c.in_ok-at.was)) }
 
 pub slice_bounds-copy_from_slice-end-2 : goal.slice_bounds-copy_from_slice-end-2
-slice_bounds-copy_from_slice-end-2 g c = omega (arith, c.requires, ends_inside _ _ _ _ _ _ (sym c.find.ensures ∙ ap told_place c.in_ok-at.was))
+slice_bounds-copy_from_slice-end-2 g c = omega (arith, ends_inside _ _ _ _ _ _ (sym c.find.ensures ∙ ap told_place c.in_ok-at.was))
 
 pub returns : goal.returns
 returns g c =
-    rw (sym c.requires) (write_crosses _ refl (write_done _ _ _ _ _ _ _ (sym c.find.ensures ∙ ap told_place c.in_ok-at.was) _ (c.if-given.false ∙ sym c.requires)
-    (c.copy_from_slice-2.ensures.after ∙ c.copy_from_slice.ensures.after)))
+    write_crosses _ refl (write_done _ _ _ _ _ _ _ (sym c.find.ensures ∙ ap told_place c.in_ok-at.was) _ c.if-given.false
+    (c.copy_from_slice-2.ensures.after ∙ c.copy_from_slice.ensures.after))

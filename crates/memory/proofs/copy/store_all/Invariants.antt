@@ -1,6 +1,6 @@
 -- `memory::copy::store_all` meets its contract: before byte i is copied, the part has the first i given bytes, then its own.
 -- Assumes nothing.
-use Prim.Native.Nat.{◌≤◌, ◌-◌}
+use Prim.Native.Nat.{◌≤◌}
 use mathlib.Core.Path.{◌≡◌}
 use mathlib.Core.List.{◌++◌}
 use lib.ListN.{length, take, drop}
