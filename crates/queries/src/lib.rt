@@ -182,6 +182,7 @@ fn not_set() -> Setting
 }
 
 // Output `number`, 0 to 3.
+// Kept (design pass 2, no plainer; also `input`): what both do is in setting_at and not_set; a count and a place are all that they add to it.
 pub fn output(shared: &[u32; state::SHARED_CELLS], number: u32) -> Setting
     ensures { result ≡ setting_of (get_or (shared_of shared.now).outputs number unset) }
 {

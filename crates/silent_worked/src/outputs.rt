@@ -24,6 +24,7 @@ struct Came {
 }
 
 // A refusal's number, 0 for none.
+// Kept (design pass 1, no plainer): the numbers that a test expects are the document's own, and are compared as such.
 fn number(refusal: Option<Refusal>) -> u32 {
     match refusal {
         None => 0,
@@ -62,6 +63,7 @@ fn mask_of(n: u32, nibble: u32, others: bool) -> u32 {
 }
 
 // The last column of the domain: the first window has 64 columns, the second 128.
+// Kept (design pass 2, no plainer; also `second_base`): two tables of the same three lies, each with numbers of its own.
 fn last_column(lie: Lie) -> u32 {
     match lie {
         Lie::Apart => 3,

@@ -12,7 +12,7 @@ use lib.ListN.{get_or-eq_default}
 use lib.Pow.{pow_pos, pow_mono, shr-shr, field, mod-mod-pow}
 use borrow.Author.Tests.{eq-eqb, ne_eqb, eqb-true, leb-true, ltb-true, ltb-false}
 use Rattle.laws.specs.Below.{some, every, sum, count}
-use Rattle.laws.specs.Choice.{◌and◌, pick}
+use Rattle.laws.specs.Choice.{◌and◌}
 use Rattle.laws.proofs.Choice.{Tested, holds, fails, tested, pick_yes, pick_no}
 use Rattle.laws.specs.Masks.{on, digit}
 use Rattle.laws.proofs.Below.{some_same, every_at, none_at, count_same, count_none, count_bounded}

@@ -10,7 +10,7 @@ use Rattle.laws.specs.Choice.{◌and◌, pick}
 use Rattle.laws.specs.Below.{some, every}
 use Rattle.laws.specs.Masks.{digit}
 use Rattle.laws.proofs.Choice.{pick_yes, pick_no, Tested, holds, fails, tested}
-use Rattle.refusal.specs.Told.{Told, gives, refuses}
+use Rattle.refusal.specs.Told.{gives, refuses}
 use Rattle.state.specs.State.{Buffer, Domain, Readiness, Party, Shared, most_extent}
 use Rattle.state.specs.Seen.{seen_outputs}
 use Rattle.state.specs.Start.{step_of_buffer, output, is_set, counts, contains_domain, complete, covered, disjoint, ready_of, number_told, readiness_of}

@@ -1,49 +1,33 @@
 -- What a start asks of the settings and what it claims: each answer of the code, from what its tests found.
 -- Assumes nothing.
-use mathlib.Core.Path.{◌≡◌, refl, sym, ap, ap₂, ◌∙◌}
-use mathlib.Core.Bool.{Bool, true, false}
-use mathlib.Core.List.{List, [], ◌∷◌}
-use Prim.Native.Nat.{ℕ, ◌+◌, ◌-◌, ◌*◌, ◌/◌, ◌<◌, ◌≤◌, ◌^◌}
+use mathlib.Core.Path.{◌≡◌, refl, sym, ap, ◌∙◌}
+use mathlib.Core.Bool.{Bool, true, false, ◌&&◌, ◌||◌}
+use mathlib.Core.List.{List, []}
+use Prim.Native.Nat.{ℕ, ◌+◌, ◌-◌, ◌*◌, ◌/◌, ◌<◌, ◌≤◌}
 use native.Mathlib.Nat.{mul-le-mul}
 use native.Mathlib.Omega.{arith}
 use lib.Dec.{eqb, ltb}
 use lib.ListN.{length, get_or}
-use borrow.Author.Tests.{eq-eqb, ne_eqb, lt-ltb, le-ltb}
+use borrow.Author.Tests.{ltb-true, ltb-false, eq-eqb, ne_eqb}
 use Rattle.laws.specs.Below.{some, every, sum, count}
 use Rattle.laws.specs.Choice.{◌and◌, pick}
 use Rattle.laws.specs.Masks.{◌or◌, digit, on}
-use Rattle.laws.proofs.Choice.{pick_yes, pick_no, and_yes, and_no_left, and_no_right}
+use mir.Val.{bool_byte as from_bool}
+use Rattle.std.specs.Prelude.{min}
+use Rattle.laws.proofs.Choice.{Tested, holds, fails, tested, pick_yes, pick_no, and_no_right}
 use Rattle.refusal.specs.Number.{IsNumber}
 use Rattle.refusal.specs.Told.{Told, gives, refuses}
 use Rattle.refusal.specs.declared.Refusal.TheVariants.{StartUnset, DomainOutside, SpansShared}
 use Rattle.start.specs.declared.ready.Output.{Output}
-use Rattle.state.specs.State.{Buffer, Domain, Gauge, Readiness, Party, Shared, unset, most_extent}
+use Rattle.state.specs.State.{Buffer, Domain, Gauge, Readiness, Party, unset, most_extent}
 use Rattle.state.specs.Asked.{OwnAsked}
 use Rattle.state.specs.Cells.{buffer_at, window_at, party_of, party_cells, shared_of, own_length}
 use Rattle.state.specs.Seen.{seen_from, seen_outputs}
-use Rattle.state.specs.Start.{
-  span_of_buffer,
-  output,
-  is_set,
-  unmasked,
-  channels_unmasked,
-  counts,
-  apart,
-  disjoint,
-  ready_of,
-  number_told,
-  readiness_of,
-  pairs_of,
-  credit_of,
-  claim_of,
-  most_claim,
-  most_credit,
-  most_pairs,
-}
+use Rattle.state.specs.Start.{output, is_set, channels_unmasked, counts, apart, disjoint, ready_of, number_told, readiness_of, pairs_of, credit_of, claim_of, most_claim, most_credit, most_pairs}
 use Rattle.state.specs.Readiness.{lesser, least_extent, window_for, columns_left, rows_left, gauge_of, worked_out, readiness_for}
 use Rattle.state.specs.Effects.{gauge_from, window_from, with_gauge, with_number, with_readiness, renewed, claim_for}
 use Rattle.state.specs.Valid.{DomainValid}
-use Rattle.start.specs.Gauge.{ready_by, settled, WindowsKept, RenewAsked}
+use Rattle.start.specs.Gauge.{ready_by, settled, RenewAsked}
 use Rattle.start.specs.Windows.{
   counts_by,
   muted,
@@ -86,14 +70,16 @@ pairs_of_four true true true true false u = refl
 pairs_of_four true true true true true false = refl
 pairs_of_four true true true true true true = refl
 
-module _ (bits flag format : ℕ) where
-  pub counts_set : {r : Bool} → flag ≡ 1 → r ≡ unmasked bits 0 format → r ≡ counts_by bits flag format
-  unfolding counts_by
-  counts_set e h = h ∙ sym (and_yes _ (eq-eqb flag 1 e))
+-- two tests that the code joins by `&`, and by `|`
+pub both_is : (a b : Bool) → (a && b) ≡ (a and b)
+unfolding ◌and◌
+both_is true b = refl
+both_is false b = refl
 
-  pub counts_unset : (flag ≡ 1 → ⊥) → false ≡ counts_by bits flag format
-  unfolding counts_by
-  counts_unset n = sym (and_no_left _ (ne_eqb flag 1 n))
+pub either_is : (a b : Bool) → (a || b) ≡ pick a true b
+unfolding pick
+either_is true b = refl
+either_is false b = refl
 
 -- two outputs
 pub apart_counted : (a b : Output) {t r : Bool} → t ≡ (a.counts and b.counts) → t ≡ true →
@@ -467,29 +453,21 @@ module _ (shared own : List ℕ) (asked : RenewAsked own shared) where
       ap (λ (r : Readiness). party_cells (with_readiness r party)) gauged_kept)
 
 -- the number by compares, with what the code's tests found
-pub settled_told : (own : List ℕ) {p x y : Bool} {n : ℕ} → p ≡ (eqb (get_or own 13 0) 1 and eqb (get_or own 20 0) 1) →
-    x ≡ (eqb (get_or own 8 0) 1 and p) → y ≡ (ltb (get_or own 11 0) (get_or own 21 0) and ltb (get_or own 12 0) (get_or own 22 0)) →
+pub settled_told : (own : List ℕ) {x y : Bool} {n : ℕ} →
+    x ≡ (eqb (get_or own 8 0) 1 and (eqb (get_or own 13 0) 1 and eqb (get_or own 20 0) 1)) →
+    y ≡ (ltb (get_or own 11 0) (get_or own 21 0) and ltb (get_or own 12 0) (get_or own 22 0)) →
     n ≡ first_of x y (eqb (get_or own 23 0) 1) → (l1 : List ℕ) →
     l1 ≡ party_cells (with_readiness (with_number n (party_of own []).readiness) (party_of own [])) →
     l1 ≡ party_cells (settled (party_of own []))
 unfolding ready_by party_of
-settled_told own ep ex ey en l1 e =
+settled_told own ex ey en l1 e =
     e ∙
     ap (λ (m : ℕ). party_cells (with_readiness (with_number m (party_of own []).readiness) (party_of own [])))
-    (en ∙ (λ k. first_of ((ex ∙ ap (λ (t : Bool). eqb (get_or own 8 0) 1 and t) ep) k) (ey k) (eqb (get_or own 23 0) 1)))
+    (en ∙ (λ k. first_of (ex k) (ey k) (eqb (get_or own 23 0) 1)))
 
 pub kept_length : (p : Party) {l : List ℕ} → l ≡ party_cells p → length l ≡ own_length
 unfolding party_cells
 kept_length p e = ap length e
-
--- an answer as a digit
-pub digit_yes : {t : Bool} → t ≡ true → (1 ≡ digit t) × (1 ≤ 1)
-unfolding digit
-digit_yes e = (ap digit (sym e), omega arith)
-
-pub digit_no : {t : Bool} → t ≡ false → (0 ≡ digit t) × (0 ≤ 1)
-unfolding digit
-digit_no e = (ap digit (sym e), omega arith)
 
 -- what an output leaves a domain
 pub extent_counted : {t : Bool} (e : ℕ) → t ≡ true → e ≡ extent_left t e
@@ -515,14 +493,25 @@ output_told owned bits flag base format height step span g e =
       span = span;
     }
 
--- the lesser of two numbers
-pub lesser_first : {a b : ℕ} → a < b → a ≡ lesser a b
-unfolding lesser
-lesser_first {a} {b} h = sym (pick_yes a b (lt-ltb a b h))
+-- the lesser of two numbers, as the code takes it
+pub lesser_min : (a b : ℕ) → min a b ≡ lesser a b
+unfolding lesser pick
+lesser_min a b = go (tested (ltb a b))
+  where
+    go : Tested (ltb a b) → min a b ≡ pick (ltb a b) a b
+    go (holds t) = let less : a < b = ltb-true a b t in rw t (omega arith)
+    go (fails t) = let most : b ≤ a = ltb-false a b t in rw t (omega arith)
 
-pub lesser_second : {a b : ℕ} → b ≤ a → b ≡ lesser a b
-unfolding lesser
-lesser_second {a} {b} h = sym (pick_no a b (le-ltb a b h))
+-- a test as a digit, as the code converts it
+pub digit_from : (t : Bool) → from_bool t ≡ digit t
+unfolding digit
+digit_from true = refl
+digit_from false = refl
+
+pub digit_told : (t : Bool) {n : ℕ} → n ≡ from_bool t → (n ≡ digit t) × (n ≤ 1)
+unfolding digit
+digit_told true e = (e, omega (arith, e))
+digit_told false e = (e, omega (arith, e))
 
 -- the number and the answer tell the same
 first_given : (x y z : Bool) → number_told (told_first x y z) ≡ 0 → told_first x y z ≡ gives []

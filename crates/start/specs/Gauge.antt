@@ -1,5 +1,5 @@
 -- What the settings alone give a start, by the gauge that is kept of the outputs; and what renewing asks of the cells. Assumes nothing.
-use Rattle.std.specs.Prelude.{◌≡◌, List, [], ℕ, ◌<◌, eqb, ltb, length}
+use Rattle.std.specs.Prelude.{◌≡◌, List, [], ℕ, eqb, ltb, length}
 use Rattle.laws.specs.Choice.{◌and◌}
 use Rattle.state.specs.State.{Buffer, Domain, Gauge, Readiness, Party}
 use Rattle.state.specs.Seen.{seen_outputs}

@@ -1,10 +1,10 @@
 -- An output as a start sees it, and what a start asks of one output, of two and of all four, said of what it sees. Assumes nothing.
-use Rattle.std.specs.Prelude.{Bool, true, false, List, ℕ, ◌+◌, eqb, leb}
+use Rattle.std.specs.Prelude.{Bool, true, List, ℕ, ◌+◌, eqb, leb}
 use Rattle.laws.specs.Choice.{◌and◌, pick}
 use Rattle.laws.specs.Below.{sum, count}
 use Rattle.laws.specs.Masks.{on, digit}
 use Rattle.start.specs.declared.ready.Output.{Output}
-use Rattle.state.specs.State.{Buffer, Window, Gauge, most_extent}
+use Rattle.state.specs.State.{Buffer, Window, most_extent}
 use Rattle.state.specs.Start.{output, is_set, unmasked, channels_unmasked}
 use Rattle.state.specs.Readiness.{lesser}
 

@@ -1,12 +1,10 @@
 // What the settings alone give a start, 0, 7, 8 or 9, kept in a party's own cells: renewed by each command that sets one of the
 // settings, so that a start only reads it.
 ghost use Rattle.std.specs.Prelude.{◌≡◌, true, [], ◌%◌, ◌^◌, ◌<◌, ◌≤◌};
-ghost use Rattle.laws.specs.Choice.{◌and◌, pick};
-ghost use Rattle.laws.specs.Masks.{digit as digit_of};
+ghost use Rattle.laws.specs.Choice.{pick};
 ghost use Rattle.command.specs.Format.{channels_of};
 ghost use Rattle.state.specs.Cells.{buffer_at, party_of, party_cells, shared_of};
 ghost use Rattle.state.specs.Effects.{renewed, window_from};
-ghost use Rattle.state.specs.Readiness.{lesser as lesser_of};
 ghost use Rattle.state.specs.Seen.{seen_outputs};
 ghost use Rattle.state.specs.Start.{unmasked};
 ghost use Rattle.start.specs.Gauge.{RenewAsked, settled};
@@ -19,6 +17,7 @@ use state::{edition, own, settings};
 pub const MOST_EXTENT: u32 = 4096;
 
 // What a start gets where nothing is set: the number of refusal::Refusal::StartUnset.
+// Kept (design pass 1, C interface): this and the numbers of `first_of` are what the cell own::READINESS holds, an array that C keeps.
 pub const UNSET: u32 = 7;
 
 // An output as a start sees it: whether it is set, whether it counts, and its window.
@@ -59,15 +58,12 @@ fn is_unmasked(bits: u32, format: u32) -> bool
     channel_bits(bits, format::code(format)) != 0
 }
 
-// Whether the output counts: it is set and isn't silent.
+// Whether the output counts: it is set and isn't silent. Here and below tests are joined by `&` and `|`, which take no branch, as a
+// chain of `&&` would at each of its ways.
 pub fn is_counted(bits: u32, flag: u32, format: u32) -> bool
     ensures { result ≡ counts_by bits flag format }
 {
-    if flag == 1 {
-        is_unmasked(bits, format)
-    } else {
-        false
-    }
+    (flag == 1) & is_unmasked(bits, format)
 }
 
 // A flag, where it is one's own to see.
@@ -130,33 +126,20 @@ fn output_at(
     }
 }
 
-// Two tests, by a call each: a chain of them is one equation, where a chain of `&&` is a join for each of its ways.
-fn both(a: bool, b: bool) -> bool
-    ensures { result ≡ (a and b) }
-{
-    if a { b } else { false }
-}
-
-fn either(a: bool, b: bool) -> bool
-    ensures { result ≡ pick a true b }
-{
-    if a { true } else { b }
-}
-
 // Whether two spans share no byte. A span may end where 32 bits do, so the ends are in 64.
 fn spans_apart(base: u32, span: u32, other: u32, extent: u32) -> bool
     ensures { result ≡ spans_apart base span other extent }
 {
     let end = base as u64 + span as u64;
     let other_end = other as u64 + extent as u64;
-    either(end <= other as u64, other_end <= base as u64)
+    (end <= other as u64) | (other_end <= base as u64)
 }
 
 // Whether one of two outputs doesn't count, or their spans share no byte.
 fn keeps_apart(a: Output, b: Output) -> bool
     ensures { result ≡ keeps_apart a b }
 {
-    if both(a.counts, b.counts) {
+    if a.counts & b.counts {
         spans_apart(a.base, a.span, b.base, b.span)
     } else {
         true
@@ -167,7 +150,7 @@ fn keeps_apart(a: Output, b: Output) -> bool
 fn some_set(a: Output, b: Output, c: Output, d: Output) -> bool
     ensures { result ≡ some_set a b c d }
 {
-    either(either(either(a.set, b.set), c.set), d.set)
+    a.set | b.set | c.set | d.set
 }
 
 // Whether no two outputs that count share a byte.
@@ -175,26 +158,9 @@ fn each_apart(a: Output, b: Output, c: Output, d: Output) -> bool
     ensures { result ≡ each_apart a b c d }
 {
     let second = keeps_apart(b, a);
-    let third = both(keeps_apart(c, a), keeps_apart(c, b));
-    let fourth = both(
-        both(keeps_apart(d, a), keeps_apart(d, b)),
-        keeps_apart(d, c),
-    );
-    both(both(second, third), fourth)
-}
-
-// 1 for yes, 0 for no.
-fn digit(yes: bool) -> u32
-    ensures value { result ≡ digit_of yes }
-    ensures most { result ≤ 1 }
-{
-    if yes { 1 } else { 0 }
-}
-
-fn lesser(a: u32, b: u32) -> u32
-    ensures { result ≡ lesser_of a b }
-{
-    if a < b { a } else { b }
+    let third = keeps_apart(c, a) & keeps_apart(c, b);
+    let fourth = keeps_apart(d, a) & keeps_apart(d, b) & keeps_apart(d, c);
+    second & third & fourth
 }
 
 // What an output leaves a domain of its row step or height: all that a window may have where the output doesn't count.
@@ -208,27 +174,27 @@ fn extent_left(counts: bool, extent: u32) -> u32
 fn columns(a: Output, b: Output, c: Output, d: Output) -> u32
     ensures { result ≡ columns_by a b c d }
 {
-    let last = lesser(extent_left(d.counts, d.step), MOST_EXTENT);
-    let later = lesser(extent_left(c.counts, c.step), last);
-    let latest = lesser(extent_left(b.counts, b.step), later);
-    lesser(extent_left(a.counts, a.step), latest)
+    let last = extent_left(d.counts, d.step).min(MOST_EXTENT);
+    let later = extent_left(c.counts, c.step).min(last);
+    let latest = extent_left(b.counts, b.step).min(later);
+    extent_left(a.counts, a.step).min(latest)
 }
 
 // The rows that they leave it.
 fn rows(a: Output, b: Output, c: Output, d: Output) -> u32
     ensures { result ≡ rows_by a b c d }
 {
-    let last = lesser(extent_left(d.counts, d.height), MOST_EXTENT);
-    let later = lesser(extent_left(c.counts, c.height), last);
-    let latest = lesser(extent_left(b.counts, b.height), later);
-    lesser(extent_left(a.counts, a.height), latest)
+    let last = extent_left(d.counts, d.height).min(MOST_EXTENT);
+    let later = extent_left(c.counts, c.height).min(last);
+    let latest = extent_left(b.counts, b.height).min(later);
+    extent_left(a.counts, a.height).min(latest)
 }
 
 // The number of outputs that count.
 fn by_output(a: Output, b: Output, c: Output, d: Output) -> u32
     ensures { result ≡ count_by a b c d }
 {
-    digit(a.counts) + digit(b.counts) + digit(c.counts) + digit(d.counts)
+    u32::from(a.counts) + u32::from(b.counts) + u32::from(c.counts) + u32::from(d.counts)
 }
 
 // The number of the unmasked channels of the outputs that a party owns.
@@ -303,14 +269,10 @@ fn first_of(complete: bool, covered: bool, disjoint: bool) -> u32
 pub fn settle(own: &mut [u32; state::OWN_CELLS])
     ensures { own.new ≡ party_cells (settled (party_of own.old [])) }
 {
-    let complete = both(
-        own[own::DOMAIN] == 1,
-        both(own[own::INSTRUCTIONS] == 1, own[own::SOME] == 1),
-    );
-    let covered = both(
-        own[own::DOMAIN_I1] < own[own::COLUMNS],
-        own[own::DOMAIN_J1] < own[own::ROWS],
-    );
+    let complete = (own[own::DOMAIN] == 1)
+        & ((own[own::INSTRUCTIONS] == 1) & (own[own::SOME] == 1));
+    let covered = (own[own::DOMAIN_I1] < own[own::COLUMNS])
+        & (own[own::DOMAIN_J1] < own[own::ROWS]);
     let number = first_of(complete, covered, own[own::APART] == 1);
     own::set_readiness(own, number);
 }
@@ -355,8 +317,8 @@ pub fn renew(own: &mut [u32; state::OWN_CELLS], shared: &[u32; state::SHARED_CEL
         own[own::STEP_3],
         own[own::SPAN_3],
     );
-    let some = digit(some_set(a, b, c, d));
-    let apart = digit(each_apart(a, b, c, d));
+    let some = u32::from(some_set(a, b, c, d));
+    let apart = u32::from(each_apart(a, b, c, d));
     own::set_gauge(
         own,
         some,

@@ -172,6 +172,7 @@ pub fn set_window(own: &mut [u32; crate::OWN_CELLS], number: u32, step: u32, spa
 }
 
 // What the outputs ask of a domain and give for a pair.
+// Kept (design pass 2, no plainer; also `set_domain`): five cells by name each; one function for both would take a place and five unnamed numbers.
 pub fn set_gauge(
     own: &mut [u32; crate::OWN_CELLS],
     some: u32,

@@ -1,7 +1,6 @@
 -- `start::claims::claim` meets its contract. Assumes nothing.
 use native.Mathlib.Omega.{arith}
 use Rattle.start.proofs.Readiness.{claim_told, credit_most, domain_places}
-use Rattle.start.proofs.claims.pairs.Reads as pairs_reads
 use Rattle.start.proofs.claims.claim.Goals as goal
 
 pub pairs-requires : goal.pairs-requires

@@ -1,9 +1,5 @@
 -- `start::ready::by_channel` meets its contract. Assumes nothing.
 use Rattle.start.proofs.Readiness.{channels_told}
-use Rattle.start.proofs.ready.by_channel.Reads as reads
-use Rattle.start.proofs.ready.by_channel.Lts as lts
-use Rattle.owners.proofs.is_on.Reads as is_on_reads
-use Rattle.start.proofs.ready.own_channels.Reads as own_channels_reads
 use Rattle.start.proofs.ready.by_channel.Goals as goal
 
 pub returns : goal.returns

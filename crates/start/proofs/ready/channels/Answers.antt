@@ -1,8 +1,5 @@
 -- `start::ready::channels` meets its contract: the ones among the mask bits of the format's channels, where the flag is 1. Assumes nothing.
 use Rattle.start.proofs.Channels.{four_bits, channels_set, channels_unset}
-use Rattle.command.proofs.format.code.Reads as code_Reads
-use Rattle.start.proofs.ready.channel_bits.Reads as channel_bits_reads
-use Rattle.start.proofs.ready.ones.Reads as ones_reads
 use Rattle.start.proofs.ready.channels.Goals as goal
 
 pub ones-requires : goal.ones-requires

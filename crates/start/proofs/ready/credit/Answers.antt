@@ -1,9 +1,5 @@
 -- `start::ready::credit` meets its contract. Assumes nothing.
 use Rattle.start.proofs.Readiness.{credit_channels, credit_outputs}
-use Rattle.start.proofs.ready.credit.Reads as reads
-use Rattle.start.proofs.ready.credit.Lts as lts
-use Rattle.start.proofs.ready.by_channel.Reads as by_channel_reads
-use Rattle.start.proofs.ready.by_output.Reads as by_output_reads
 use Rattle.start.proofs.ready.credit.Goals as goal
 
 pub returns-then-edition-eq-BY_CHANNEL : goal.returns-then-edition-eq-BY_CHANNEL

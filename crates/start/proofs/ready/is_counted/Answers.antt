@@ -1,9 +1,12 @@
--- `start::ready::is_counted` meets its contract: the mask is asked where the flag is 1. Assumes nothing.
-use Rattle.start.proofs.Readiness.{counts_set, counts_unset}
+-- `start::ready::is_counted` meets its contract: the flag is 1 and the mask has a channel. Assumes nothing.
+use mathlib.Core.Path.{ap, ◌∙◌}
+use mathlib.Core.Bool.{Bool}
+use lib.Dec.{eqb}
+use Rattle.laws.specs.Choice.{◌and◌}
+use Rattle.start.specs.Windows.{counts_by}
+use Rattle.start.proofs.Readiness.{both_is}
 use Rattle.start.proofs.ready.is_counted.Goals as goal
 
-pub returns-then-flag-eq1 : goal.returns-then-flag-eq1
-returns-then-flag-eq1 c = counts_set _ _ _ c.if-flag-eq1.true c.is_unmasked.ensures
-
-pub returns-else-flag-eq1 : goal.returns-else-flag-eq1
-returns-else-flag-eq1 c = counts_unset _ _ _ c.if-flag-eq1.false
+pub returns : goal.returns
+unfolding counts_by
+returns c = both_is _ _ ∙ ap (λ (t : Bool). eqb c.args.flag 1 and t) c.is_unmasked.ensures

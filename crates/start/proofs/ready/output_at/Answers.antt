@@ -1,9 +1,5 @@
 -- `start::ready::output_at` meets its contract. Assumes nothing.
 use Rattle.start.proofs.Readiness.{output_told}
-use Rattle.start.proofs.ready.output_at.Reads as reads
-use Rattle.start.proofs.ready.output_at.Lts as lts
-use Rattle.start.proofs.ready.is_counted.Reads as is_counted_reads
-use Rattle.start.proofs.ready.shown.Reads as shown_reads
 use Rattle.start.proofs.ready.output_at.Goals as goal
 
 pub returns : goal.returns

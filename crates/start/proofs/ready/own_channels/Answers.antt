@@ -2,10 +2,6 @@
 use Rattle.start.specs.Windows.{channels_by}
 use Prim.Native.Nat.{ℕ}
 use mathlib.Core.Path.{ap, ◌∙◌}
-use Rattle.start.proofs.ready.own_channels.Reads as reads
-use Rattle.start.proofs.ready.own_channels.Lts as lts
-use Rattle.start.proofs.ready.channels.Reads as channels_reads
-use Rattle.start.proofs.ready.shown.Reads as shown_reads
 use Rattle.start.proofs.ready.own_channels.Goals as goal
 
 pub returns : goal.returns

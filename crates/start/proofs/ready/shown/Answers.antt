@@ -1,8 +1,6 @@
 -- `start::ready::shown` meets its contract. Assumes nothing.
 use Rattle.laws.proofs.Choice.{pick_yes, pick_no}
 use mathlib.Core.Path.{sym}
-use Rattle.start.proofs.ready.shown.Reads as reads
-use Rattle.start.proofs.ready.shown.Lts as lts
 use Rattle.start.proofs.ready.shown.Goals as goal
 
 pub returns-then-owned : goal.returns-then-owned
