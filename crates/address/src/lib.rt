@@ -91,7 +91,7 @@ fn tiled<const SIZE: u32>(layout: Layout, x: u32, y: u32) -> Result<Translated, 
 }
 
 // A translation in a tiled layout whose base and pitch are formed, with one branch on the size.
-// Kept (design pass 7, speed): each arm, here and in `owner`, is the same call with another constant, so that divisions are by constants.
+// Kept (design pass 7, no plainer): a size becomes a constant parameter by an arm for each alone, here and in `owner`; divisions are by constants then.
 #[inline(always)]
 fn in_tiles(layout: Layout, x: u32, y: u32) -> Result<Translated, Refusal>
     requires { (well_formed layout.base.0 layout.pitch 1 ≡ true) × (layout.tiled ≡ true) }

@@ -37,7 +37,7 @@ fn in_tiles(p: u32, q: u32, size: u32, stride: u32, x: u32, y: u32) -> u32
 }
 
 // The offset of a pair in tiles, by the size's blocks.
-// Kept (design pass 7, speed): each arm, here and in `tiled_back`, hands a size's numbers over as constants.
+// Kept (design pass 7, no plainer): each arm, here and in `tiled_back`, has a size and its block as constants, so that each division is by a constant.
 #[inline(always)]
 fn tiled_offset(size: u32, stride: u32, x: u32, y: u32) -> u32
     requires { PairAsked size (stride / size) x y }

@@ -15,6 +15,7 @@ pub struct Counts {
     pub claims: u64,
 }
 
+// Kept (design pass 5, C interface): C lends a replay's arrays one by one, here and in each function below.
 // The number at a place; 0 past the end.
 fn number_at(numbers: &[u64], place: usize) -> u64
     ensures { result ≡ get_or numbers.now place 0 }
@@ -34,6 +35,7 @@ fn mark(marks: &[u64; replay::MARKS], k: u32) -> Counts
 }
 
 // The tallies when part `k` began.
+// Kept (design pass 2, no plainer): this and the next differ in the part that no midnight bounds: 0 before the first, now after the last.
 pub fn began(marks: &[u64; replay::MARKS], k: u32) -> Counts
     ensures { tally_of result ≡ began_with marks.now k }
 {

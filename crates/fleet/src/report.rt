@@ -12,6 +12,7 @@ use crate::{lengths, parts, station};
 use refusal::Refusal;
 use state::edition;
 
+// Kept (design pass 5, C interface): C lends the logs and the stations' numbers as two arrays, here and in each function below.
 // The month of a station, whose log begins at `start`.
 fn month_at(
     edition: u32,

@@ -27,6 +27,7 @@ fn silent_days(served: &[u64; score::DAYS], days: u32, owed: u32) -> u64
     if owed == 0 {
         return 0;
     }
+    // Kept (design pass 3, speed): by `filter` and `count` a month of a growing report takes 1,519 instructions, so 1,373.
     let mut silent = 0u64;
     for k in 0..days {
         silent += u64::from(served[k as usize] == 0);
@@ -35,6 +36,7 @@ fn silent_days(served: &[u64; score::DAYS], days: u32, owed: u32) -> u64
 }
 
 // The month of a replay, or the number of its score's refusal.
+// Kept (design pass 5, C interface): C lends a replay's arrays one by one.
 pub fn summed(
     log: &[u32; replay::LOG_CELLS],
     marks: &[u64; replay::MARKS],

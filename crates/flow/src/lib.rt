@@ -30,11 +30,13 @@ pub const PLAIN_FIRST: u32 = 0x20;
 pub const PLAIN_SECOND: u32 = 0;
 
 // How many slots a program may have: as many as its store.
-const STORE_SLOTS: u32 = 512;
+const STORE_SLOTS: u32 = group::SLOTS as u32;
 
 // How many numbers tell the open loops: the aL shown, and three for each of four loops.
 pub const LOOPS_TOLD: usize = 13;
 
+// Kept (design pass 5, C interface): C lends a group's cells and a program's words one by one, here and in each function below.
+// Kept (design pass 6, C interface): C lends the first and the second words as two arrays, and says how many of their slots run.
 // A step, by itself or in a run (RUN), which then has it inlined: whether it jumped; its next position is then in the cells. A slot of op 0, of which
 // most programs are made, doesn't come near the loops.
 fn step_at<const RUN: bool>(

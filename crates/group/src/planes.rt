@@ -85,19 +85,15 @@ pub fn upper_bits(p3: u32, p4: u32) -> bool
 pub fn over_limit(op: u32, cells: &[u32; crate::CELLS]) -> bool
     ensures { result ≡ (eqb op increment and some_at_limit_in cells.now) }
 {
-    if upper_bits(cells[crate::PLANE_3], cells[crate::PLANE_4]) {
-        if op == crate::INCREMENT {
-            return at_limit(
+    upper_bits(cells[crate::PLANE_3], cells[crate::PLANE_4])
+        && (op == crate::INCREMENT
+            && at_limit(
                 cells[crate::PLANE_0],
                 cells[crate::PLANE_1],
                 cells[crate::PLANE_2],
                 cells[crate::PLANE_3],
                 cells[crate::PLANE_4],
-            );
-        }
-        return false;
-    }
-    false
+            ))
 }
 
 // Whether some processor's counter is at the limit of partial mode, 5 or above.
@@ -113,16 +109,14 @@ pub fn at_partial(p0: u32, p1: u32, p2: u32, p3: u32, p4: u32) -> bool
 pub fn over_partial(op: u32, cells: &[u32; crate::CELLS]) -> bool
     ensures { result ≡ (eqb op increment and some_at_partial_in cells.now) }
 {
-    if op == crate::INCREMENT {
-        return at_partial(
+    op == crate::INCREMENT
+        && at_partial(
             cells[crate::PLANE_0],
             cells[crate::PLANE_1],
             cells[crate::PLANE_2],
             cells[crate::PLANE_3],
             cells[crate::PLANE_4],
-        );
-    }
-    false
+        )
 }
 
 // The same by the limit of the mode that the cells have. A group's mode never changes, so the processor predicts this test.

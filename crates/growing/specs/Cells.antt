@@ -3,8 +3,6 @@ use Rattle.std.specs.Prelude.{◌≡◌, true, List, [], ◌∷◌, ℕ, ◌+◌
 use Rattle.laws.specs.Choice.{pick}
 use Rattle.refusal.specs.Told.{Told, gives, refuses}
 use Rattle.refusal.specs.Crossing.{Crosses}
-use Rattle.refusal.specs.Number.{number_of}
-use Rattle.refusal.specs.declared.Refusal.{Refusal}
 use Rattle.state.specs.Start.{is_edition}
 use Rattle.replay.specs.State.{Replay}
 use Rattle.replay.specs.Cells.{replay_in}
@@ -31,12 +29,7 @@ sums_cells a =
     a.edition ∷ a.count ∷ a.fleet.served ∷ a.fleet.owed ∷ a.fleet.silent ∷ a.fleet.part.station ∷
     a.fleet.part.served ∷ a.fleet.part.owed ∷ []
 
--- an answer as the status that it is handed out as: 0, or the refusal's number
-abbrev pub status_in : Result (Unit {0}) Refusal → ℕ
-status_in (Ok _) = 0
-status_in (Err why) = number_of why
-
--- the same of one whose refusal is a number already
+-- an answer whose refusal is a number already as the status that it is handed out as: 0, or that number
 abbrev pub number_in : Result (Unit {0}) ℕ → ℕ
 number_in (Ok _) = 0
 number_in (Err number) = number

@@ -6,12 +6,13 @@
 
 ghost use Rattle.std.specs.Prelude.{◌≡◌, length};
 ghost use Rattle.refusal.specs.Crossing.{Crosses, Shows};
+ghost use Rattle.session.specs.Answers.{begun_status};
 ghost use Rattle.state.specs.Start.{is_edition};
 ghost use Rattle.score.specs.Lease.{lease_of};
 ghost use Rattle.judges.specs.Judged.{Judges};
 ghost use Rattle.fleet.specs.Join.{joined};
 ghost use Rattle.growing.specs.Sums.{is_month, is_placed, with_month};
-ghost use Rattle.growing.specs.Cells.{AddCrosses, JoinAsked, PutAsked, SumsGiven, add_month_told, begun_told, join_told, number_in, status_in, sums_cells, sums_in, told_numbers, totals_in};
+ghost use Rattle.growing.specs.Cells.{AddCrosses, JoinAsked, PutAsked, SumsGiven, add_month_told, begun_told, join_told, number_in, sums_cells, sums_in, told_numbers, totals_in};
 
 pub mod rooms;
 
@@ -70,7 +71,7 @@ fn put(sums: &mut [u64; SUMS], edition: u64, count: u64, fleet: Fleet)
 
 // No station yet; 3 for a number that is no edition's.
 pub fn begin(sums: &mut [u64; SUMS], edition: u32) -> Result<(), Refusal>
-    ensures { Crosses (begun_told edition) (status_in result) sums.old sums.new }
+    ensures { Crosses (begun_told edition) (begun_status result) sums.old sums.new }
 {
     if !edition::is_known(edition) {
         return Err(Refusal::Malformed);
@@ -125,7 +126,7 @@ fn is_month(served: u64, owed: u64, silent: u64) -> bool
 // Adds a station by its month's numbers: 22 for one more than 2^32, then 21 where no month has such numbers.
 pub fn add_month(sums: &mut [u64; SUMS], served: u64, owed: u64, silent: u64) -> Result<(), Refusal>
     requires { SumsGiven sums.old }
-    ensures { Crosses (add_month_told (sums_in sums.old) served owed silent) (status_in result) sums.old sums.new }
+    ensures { Crosses (add_month_told (sums_in sums.old) served owed silent) (begun_status result) sums.old sums.new }
 {
     let count = sums[1];
     if count >= MOST_STATIONS {
@@ -160,7 +161,7 @@ fn join_fleets(first: Fleet, count: u64, second: Fleet) -> Fleet
 // Puts another report's stations behind these: 3 where it is of another edition, 22 where they are more than 2^32 together.
 pub fn join(sums: &mut [u64; SUMS], other: &[u64; SUMS]) -> Result<(), Refusal>
     requires { SumsGiven sums.old × SumsGiven other.now }
-    ensures { Crosses (join_told (sums_in sums.old) (sums_in other.now)) (status_in result) sums.old sums.new }
+    ensures { Crosses (join_told (sums_in sums.old) (sums_in other.now)) (begun_status result) sums.old sums.new }
 {
     let edition = sums[0];
     if edition != other[0] {

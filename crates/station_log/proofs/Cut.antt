@@ -10,7 +10,7 @@ use borrow.Author.Tests.{ne_eqb, eqb-true, eqb-false}
 use Rattle.laws.proofs.Choice.{by_pick, pick_no}
 use Rattle.session.specs.Feed.{First, nothing, first, uncut}
 use Rattle.replay.specs.State.{Replay}
-use Rattle.replay.specs.Step.{by_kind, by_day, taken, refused, Stepped, stopped, taking, kind_step, after_word, after_midnight, midnight_step}
+use Rattle.replay.specs.Step.{by_kind, by_day, refused, Stepped, taking, kind_step, after_word, after_midnight, midnight_step}
 use Rattle.station_log.specs.Bytes.{record_step, open_step, byte_step}
 use Rattle.station_log.specs.Feed.{Fed, ahead, ended, proceed, replay_of, joined, replay_pieces}
 use Rattle.station_log.specs.Refusals.{RefusedTo, again, newly}

@@ -3,18 +3,17 @@
 use mathlib.Core.Path.{◌≡◌, refl, sym, ap, ◌∙◌, subst}
 use mathlib.Core.Bool.{Bool, true, false}
 use mathlib.Core.List.{List, [], ◌∷◌}
-use Prim.Native.Nat.{ℕ, zero, suc, ◌+◌, ◌-◌, ◌*◌, ◌<◌, ◌≤◌}
+use Prim.Native.Nat.{ℕ, zero, suc, ◌+◌, ◌-◌, ◌*◌}
 use native.Mathlib.Omega.{arith}
 use lib.Dec.{eqb, leb, ltb}
 use lib.ListN.{length, get_or, set, length-set, get_or-eq_default}
 use lib.Seq.{get_or-set_same, get_or-set_other}
 use borrow.Author.Tests.{eqb-true, eqb-false, ltb-true, ltb-false}
 use Rattle.laws.specs.Choice.{pick}
-use Rattle.laws.proofs.Choice.{Tested, holds, fails, tested, pick_yes, pick_no}
+use Rattle.laws.proofs.Choice.{Tested, holds, fails, tested}
 use Rattle.state.specs.State.{Session, Tally}
-use Rattle.session.specs.Editions.{unclaimed}
 use Rattle.session.proofs.Editions.{editions_alike}
-use Rattle.replay.specs.State.{OpenRecord, WordRefused, Replay, new_replay}
+use Rattle.replay.specs.State.{OpenRecord, Replay, new_replay}
 use Rattle.replay.specs.Step.{Reply, taken, refused, Stepped, opening, stopping, taking, is_kind, of_kind, kind_step, with_byte, number_from}
 use Rattle.replay.specs.Step.{after_word, may_begin, marked, after_midnight, midnight_step}
 use Rattle.replay.specs.Report.{no_tally, began_with, ended_with, part_of, part_at}

@@ -3,9 +3,9 @@
 use mathlib.Core.Path.{◌≡◌, refl, sym, ap, ap₂, ◌∙◌, subst}
 use mathlib.Core.Bool.{true, false}
 use mathlib.Core.List.{List, [], ◌∷◌}
-use Prim.Native.Nat.{ℕ, zero, suc, ◌<◌, suc-le-suc}
+use Prim.Native.Nat.{ℕ, zero, suc, ◌<◌}
 use native.Mathlib.Omega.{arith}
-use lib.ListN.{length, get_or, replicate}
+use lib.ListN.{length, replicate}
 use Rattle.laws.proofs.Choice.{pick_yes, pick_no}
 use Rattle.refusal.specs.Told.{gives, refuses}
 use Rattle.refusal.specs.Crossing.{status_of}
@@ -18,7 +18,7 @@ use Rattle.replay.specs.State.{Replay, new_replay, marks_length}
 use Rattle.replay.specs.Places.{log_length}
 use Rattle.replay.specs.Cells.{viewed, replay_in, log_cells, ReplayHeld, ReplayValid, ReplayGiven}
 use Rattle.replay.proofs.Changes.{log_back}
-use Rattle.station_log.specs.Feed.{Fed, replay_of}
+use Rattle.station_log.specs.Feed.{replay_of}
 use Rattle.station_log.specs.Asked.{Begins, ByteLeft, Bytes8}
 use Rattle.station_log.proofs.Kept.{new_replay_valid, piece_valid}
 

@@ -2,7 +2,7 @@
 use mathlib.Core.Path.{◌≡◌, refl, sym, ap, ap₂, ◌∙◌, subst}
 use mathlib.Core.Bool.{true}
 use mathlib.Core.List.{List, [], ◌∷◌, ◌++◌, append_assoc}
-use Prim.Native.Nat.{ℕ, suc, ◌+◌, ◌-◌, ◌*◌, ◌/◌, ◌%◌, ◌<◌, ◌≤◌}
+use Prim.Native.Nat.{ℕ, suc, ◌+◌, ◌*◌, ◌/◌, ◌%◌, ◌<◌, ◌≤◌}
 use native.Mathlib.Nat.{zero-add, div-div-eq-div-mul, div-add-mod'}
 use native.Mathlib.Numerals.{add-one}
 use native.Mathlib.Omega.{arith}
@@ -21,7 +21,7 @@ use Rattle.session.specs.Feed.{First, nothing, first, feed_of, proceed as feedin
 use Rattle.session.specs.Feed as pieces
 use Rattle.session.proofs.Refusals.{refused_word, stopped_for_good, stopped_piece}
 use Rattle.replay.specs.State.{OpenRecord, WordRefused, Replay, no_record}
-use Rattle.replay.specs.Step.{taken, refused, Stepped, opening, taking, is_kind, of_kind, kind_step, with_byte, number_from, noted, noted_reply}
+use Rattle.replay.specs.Step.{Stepped, opening, taking, is_kind, of_kind, kind_step, with_byte, number_from, noted, noted_reply}
 use Rattle.replay.specs.Step.{with_words, after_word, after_midnight, midnight_step}
 use Rattle.station_log.specs.Bytes.{record_step, open_step, byte_step}
 use Rattle.station_log.specs.Feed.{Fed, ahead, proceed, replay_of, record_bytes, word_records, noted_first, after_words}

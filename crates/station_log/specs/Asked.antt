@@ -93,19 +93,6 @@ abbrev pub word_at : List ℕ → ℕ → ℕ
 word_at bytes i =
     number_from (get_or bytes (i + 1) 0) (get_or bytes (i + 2) 0) (get_or bytes (i + 3) 0) (get_or bytes (i + 4) 0)
 
--- some words are gathered from a place on; so many more records lie in the bytes, and there is room for their words
-pub record MoreAsked (bytes : List ℕ) (at : ℕ) (words : List ℕ) (gathered next : ℕ) : Type 0 where
-  pub so_far : Gathered (drop at bytes) gathered words
-  pub within : at + 5 * (gathered + next) ≤ length bytes
-  pub room : gathered + next ≤ batch
-  pub words_length : length words ≡ batch
-
--- the words that are gathered then, which are no more than was asked for
-pub record MoreGathered (bytes : List ℕ) (at gathered next n : ℕ) (words : List ℕ) : Type 0 where
-  pub all : Gathered (drop at bytes) n words
-  pub most : n ≤ gathered + next
-  pub words_length : length words ≡ batch
-
 -- a running replay without an open record
 pub record Idle (log : List ℕ) : Type 0 where
   pub running : get_or log stopped_by_place 0 ≡ 0

@@ -3,7 +3,7 @@ ghost use Rattle.std.specs.Prelude.{◌≡◌, [], ◌∷◌, ◌+◌, ◌*◌, 
 ghost use Rattle.station_log.specs.Bytes.{byte_step, open_step};
 ghost use Rattle.station_log.specs.Feed.{replay_of};
 ghost use Rattle.replay.specs.Cells.{ReplayGiven, replay_in};
-ghost use Rattle.station_log.specs.Asked.{Became, Begins, ByteLeft, batch, Gathered, Grew, MoreAsked, MoreGathered, OpenAsked, PieceLeft, RecordsLeft, WordsAsked, WordsLeft, word_at};
+ghost use Rattle.station_log.specs.Asked.{Became, Begins, ByteLeft, batch, Gathered, Grew, OpenAsked, PieceLeft, RecordsLeft, WordsAsked, WordsLeft, word_at};
 ghost use Rattle.session.specs.Answers.{begun_status};
 ghost use Rattle.replay.specs.Own.{reply_of};
 
@@ -143,40 +143,22 @@ fn records_in(bytes: usize) -> usize
     (bytes / RECORD).min(BATCH)
 }
 
-// Adds to the words that were gathered from a place on those of the next records, up to so many, before the first that is of
-// another kind; how many words there are then.
-fn gather_next(bytes: &[u8], at: usize, words: &mut [u32], gathered: usize, next: usize) -> usize
-    requires { MoreAsked bytes.now at words.old gathered next }
-    ensures { MoreGathered bytes.now at gathered next result words.new }
-{
-    for n in gathered..gathered + next {
-        let i = at + RECORD * n;
-        if bytes[i] != WORD_KIND {
-            return n;
-        }
-        words[n] = word_at(bytes, i);
-    }
-    gathered + next
-}
-
 // The words of the records of kind 1 that lie whole in a piece from a place on, one after the other, as many as there is room
-// for; and how many they are. Eight at a time, since so many are gathered without a loop.
+// for, before the first record of another kind; and how many they are.
 fn gather(bytes: &[u8], at: usize, words: &mut [u32]) -> usize
     requires { (at ≤ length bytes.now) × (length words.old ≡ batch) }
     ensures gathered { Gathered (drop at bytes.now) result words.new }
     ensures room { length words.new ≡ batch }
 {
     let most = records_in(bytes.len() - at);
-    let mut n: usize = 0;
-    // Kept (design pass 3, no plainer): a for over eights would count them, and the rest goes by how many words there are.
-    while 8 <= most - n {
-        let next = gather_next(bytes, at, words, n, 8);
-        if next < n + 8 {
-            return next;
+    for n in 0..most {
+        let i = at + RECORD * n;
+        if bytes[i] != WORD_KIND {
+            return n;
         }
-        n = next;
+        words[n] = word_at(bytes, i);
     }
-    gather_next(bytes, at, words, n, most - n)
+    most
 }
 
 // Records of words that lie whole in a piece from a place on are read at once; how many they were. None where a record is

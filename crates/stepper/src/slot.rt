@@ -73,13 +73,7 @@ const TOP_GAPS: u32 = 128;
 pub fn permitted(mode: u32, first: u32) -> bool
     ensures { result ≡ permits (mode_of mode) first }
 {
-    if mode == group::PARTIAL {
-        if first % OPS != 0 {
-            return false;
-        }
-        return first / A_OP % CODES == 0;
-    }
-    true
+    mode != group::PARTIAL || (first % OPS == 0 && first / A_OP % CODES == 0)
 }
 
 // Whether every field of the first word but its op has an allowed value and every other bit is 0, used or not.

@@ -28,6 +28,7 @@ fn forbidden<const LOOP: bool>(op: u32, cells: &[u32; group::CELLS]) -> bool
 }
 
 // The branch operation on the cells. Without one the planes are neither read nor stored.
+// Kept (design pass 7, no plainer): the operation is a code of the slot's word, and each of the two takes masks of its own.
 fn branch<const LOOP: bool, const RUN: bool>(
     op: u32,
     count: u32,

@@ -11,12 +11,15 @@ pub returns-then-op-eq-INCREMENT : goal.returns-then-op-eq-INCREMENT
 returns-then-op-eq-INCREMENT c =
     c.at_limit.ensures ∙ sym (and_yes _ (eq-eqb c.args.op 2 c.if-op-eq-INCREMENT.true))
 
-pub returns-then-upper_bits : goal.returns-then-upper_bits
-returns-then-upper_bits c = sym (and_no_left _ (ne_eqb c.args.op 2 c.if-op-eq-INCREMENT.false))
+pub returns-else-op-eq-INCREMENT : goal.returns-else-op-eq-INCREMENT
+returns-else-op-eq-INCREMENT c =
+    let other = ne_eqb c.args.op 2 c.if-op-eq-INCREMENT.false in
+    other ∙ sym (and_no_left _ other)
 
-pub returns : goal.returns
-returns c =
+pub returns-else-upper_bits : goal.returns-else-upper_bits
+returns-else-upper_bits c =
     let args = c.args in
     let cells = args.cells.now in
+    c.if-upper_bits.false ∙
     sym (and_no_right (eqb args.op 2) (upper_clear (get_or cells 2 0) (get_or cells 3 0) (get_or cells 4 0) (get_or cells 5 0) (get_or cells 6 0)
     (sym c.upper_bits.ensures ∙ c.if-upper_bits.false)))

@@ -11,5 +11,7 @@ returns-then-op-eq-INCREMENT c =
     c.at_partial.ensures ∙ sym (and_yes _ (eq-eqb args.op 2 c.if-op-eq-INCREMENT.true))
 
 -- another operation
-pub returns : goal.returns
-returns c = sym (and_no_left _ (ne_eqb c.args.op 2 c.if-op-eq-INCREMENT.false))
+pub returns-else-op-eq-INCREMENT : goal.returns-else-op-eq-INCREMENT
+returns-else-op-eq-INCREMENT c =
+    let other = ne_eqb c.args.op 2 c.if-op-eq-INCREMENT.false in
+    other ∙ sym (and_no_left _ other)

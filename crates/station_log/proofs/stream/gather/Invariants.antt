@@ -1,12 +1,8 @@
 -- `log::stream::gather` meets its contract. Assumes nothing.
-use Prim.Native.Nat.{◌-◌, ◌≤◌}
 use mathlib.Core.Path.{◌≡◌}
 use lib.ListN.{length, drop}
 use Rattle.station_log.specs.Asked.{batch, Gathered}
 use Rattle.station_log.proofs.stream.gather.Given as goal
 
 abbrev pub invariant-loop-n : goal.invariant-loop-n
-invariant-loop-n l = Gathered (drop l.at l.bytes) l.n l.words × ((length l.words ≡ batch) × (l.n ≤ l.most))
-
-abbrev pub decreases-loop-n : goal.decreases-loop-n
-decreases-loop-n l = l.most - l.n
+invariant-loop-n l = Gathered (drop l.at l.bytes) l.n l.words × (length l.words ≡ batch)

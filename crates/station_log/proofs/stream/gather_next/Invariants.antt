@@ -1,9 +1,0 @@
--- `log::stream::gather_next` meets its contract. Assumes nothing.
-use mathlib.Core.Path.{◌≡◌}
-use Prim.Native.Nat.{◌≤◌}
-use lib.ListN.{length, drop}
-use Rattle.station_log.specs.Asked.{batch, Gathered}
-use Rattle.station_log.proofs.stream.gather_next.Given as goal
-
-abbrev pub invariant-loop-n : goal.invariant-loop-n
-invariant-loop-n l = Gathered (drop l.at l.bytes) l.n l.words × (length l.words ≡ batch)
