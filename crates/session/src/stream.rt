@@ -297,7 +297,7 @@ struct TakenWhole {
 }
 
 // The commands that lie whole in a piece from a place on and are accepted, one after another, while the longest would fit. What keeps
-// the session from taking any is asked once, before the first.
+// the session from taking any is asked once, before the first, and not where the piece is too short for one.
 fn take_commands(
     own: &mut [u32; state::OWN_CELLS],
     tallies: &mut [u64; state::TALLIES],
@@ -308,7 +308,14 @@ fn take_commands(
     requires { Given own.old tallies.old shared.old × (from ≤ length words.now) }
     ensures { Fold (session_of own.old tallies.old shared.old) (drop from words.now) own.new tallies.new shared.new result.words result.commands }
 {
-    let room = reach(own, words.len() - from);
+    let left = words.len() - from;
+    if left < accept::MOST_WORDS {
+        return TakenWhole {
+            words: 0,
+            commands: 0,
+        };
+    }
+    let room = reach(own, left);
     // Kept (design pass 3, no plainer; also the loop in `feed`): a turn takes as many words as its command has, so no range counts them.
     let mut taken: usize = 0;
     let mut commands: u64 = 0;

@@ -5,12 +5,15 @@ use Rattle.state.specs.Cells.{party_of}
 use Rattle.session.proofs.Feeding.{fold_begins, fold_whole, fold_same, fold_reach, reach_as, reach_ready, begun_there, begun_most}
 use Rattle.session.proofs.stream.take_commands.Goals as goal
 
-pub overflow_sub-words : goal.overflow_sub-words
-overflow_sub-words c = omega (arith, c.requires.1)
+pub overflow_sub-left : goal.overflow_sub-left
+overflow_sub-left c = omega (arith, c.requires.1)
 
 pub reach-room-requires : goal.reach-room-requires
 reach-room-requires c =
     unfold party_of in c.requires.0.valid.full
+
+pub returns-then-left-lt-MOST_WORDS : goal.returns-then-left-lt-MOST_WORDS
+returns-then-left-lt-MOST_WORDS c = fold_begins _ _ _ _ c.requires.0
 
 pub loop-taken-init : goal.loop-taken-init
 loop-taken-init c =
