@@ -1,21 +1,22 @@
 -- The answers of translation and of the way back, as far as the tests on the way decide them: one law a return of the code.
 -- Assumes nothing.
-use Rattle.std.proofs.Common.{◌≡◌, ℕ, ◌+◌, ◌*◌, ◌/◌, ◌%◌, ◌^◌, ◌<◌, ◌≤◌, Bool, true, false, eqb, ltb, leb, [], ◌∷◌, sym, refl, ap, ◌∙◌, ap₂, mul-le-mul, lt_of_mul-lt-mul_right, le_of_mul-le-mul_right, mul-div_cancel, arith, ltb-false, ltb-true, le-ltb, lt-ltb, eq-eqb, ne_eqb, eqb-true, le-leb, leb-true}
+use Rattle.std.proofs.Common.{◌≡◌, ℕ, ◌+◌, ◌-◌, ◌*◌, ◌/◌, ◌%◌, ◌^◌, ◌<◌, ◌≤◌, Bool, true, false, eqb, ltb, leb, List, [], ◌∷◌, get_or, sym, refl, ap, ◌∙◌, subst, ap₂, mul-le-mul, lt_of_mul-lt-mul_right, le_of_mul-le-mul_right, mul-div_cancel, arith, ltb-false, ltb-true, le-ltb, lt-ltb, eq-eqb, ne_eqb, eqb-true, le-leb, leb-false, leb-true}
 use borrow.Author.Tests.{eqb-false}
-use Rattle.laws.specs.Choice.{◌and◌, place_of}
+use Rattle.laws.specs.Choice.{◌and◌, pick, place_of}
 use Rattle.laws.proofs.Choice.{pick_yes, pick_no, and_intro, and_left, and_right, and_no_left, and_no_right, Tested, tested, holds, fails}
 use Rattle.refusal.specs.Told.{Told, gives, refuses}
-use Rattle.layout.specs.Sizes.{sizes, is_size}
+use Rattle.refusal.specs.Crossing.{Crosses, status_of, room_of}
+use Rattle.layout.specs.Sizes.{sizes, is_size, width_of}
 use Rattle.layout.proofs.Sizes.{no_size}
 use Rattle.laws.proofs.Table.{NoneOf}
 use Rattle.layout.specs.Layout.{well_formed, span_of, window_rule, stride_of}
 use Rattle.layout.specs.declared.Layout.{Layout}
 use Rattle.layout.proofs.Window.{form_size, size_most, rule_bounds}
 use Rattle.layout.proofs.Rows.{Ruled, ruled, unruled}
-use Rattle.address.specs.Asked.{PairAsked, StepAsked, TiledAsked}
+use Rattle.address.specs.Asked.{PairAsked, StepAsked}
 use Rattle.address.specs.Offset.{offset_of, x_of, y_of, byte_place}
 use Rattle.address.specs.Owner.{StrideTaken, owner_of}
-use Rattle.address.specs.Address.{step_of, if_accepted, inside, address_of, run_of, translate_of, back_of, locate_of}
+use Rattle.address.specs.Address.{step_of, if_accepted, inside, address_of, run_of, translate_of, back_of, locate_of, layout_of, refused_as, told_number}
 use Rattle.address.specs.Inverse.{Accepted, Inside}
 use Rattle.address.specs.Run.{run_number}
 use Rattle.address.proofs.Offsets.{blocks}
@@ -23,6 +24,27 @@ use Rattle.address.proofs.Windows as windows
 use Rattle.address.proofs.Windows.{tiles_pos}
 use Rattle.address.proofs.Inverse.{grid, room, answered, below_base, from_base, inverse}
 use Rattle.address.proofs.Runs.{clash, run_number_lem, longest}
+
+told_apart : {v : List ℕ} {n : ℕ} → gives v ≡ refuses n → ⊥
+told_apart h = let z : ◌≡◌ {A = ℕ} 0 1 = cc in omega arith
+
+-- a number as an answer
+pub told_address : (n : ℕ) → n < 2 ^ 63 → told_number n ≡ gives (n % 2 ^ 32 ∷ n / 2 ^ 32 ∷ [])
+unfolding told_number
+told_address n h = pick_yes _ _ (lt-ltb _ _ h)
+
+pub told_run : (run a : ℕ) → run ≤ 4096 → a < 2 ^ 32 → told_number (run * 2 ^ 32 + a) ≡ gives (a ∷ run ∷ [])
+told_run run a few small =
+    told_address (run * 2 ^ 32 + a) (omega arith) ∙
+    ap₂ (λ (b n : ℕ). gives (b ∷ n ∷ [])) {x = (run * 2 ^ 32 + a) % 2 ^ 32} {y = a} {u = (run * 2 ^ 32 + a) / 2 ^ 32} {v = run}
+    (omega arith) (omega arith)
+
+pub told_refusal : (n : ℕ) → 2 ^ 63 ≤ n → told_number n ≡ refuses (n - 2 ^ 63)
+unfolding told_number
+told_refusal n h = pick_no _ _ (le-ltb _ _ h)
+
+pub told_refused : (number : ℕ) → told_number (refused_as number) ≡ refuses number
+told_refused number = told_refusal (refused_as number) (omega arith) ∙ ap refuses {x = 2 ^ 63 + number - 2 ^ 63} (omega arith)
 
 -- a layout that isn't accepted
 module _ (l : Layout) where
@@ -43,6 +65,45 @@ module _ (l : Layout) where
   unfolding if_accepted
   ruleless answer f r er k =
       pick_yes _ _ f ∙ pick_no _ _ (unruled l.base.0 l.pitch l.height l.size l.tiled f r er k)
+
+  -- a translation is refused with 3, 6 or 10
+  pub ten_left : (x y n : ℕ) → translate_of l x y ≡ refuses n → (n ≡ 3 → ⊥) → (n ≡ 6 → ⊥) → n ≡ 10
+  unfolding translate_of if_accepted
+  ten_left x y n told three six = go (tested form) (tested rule) (tested (inside l x y))
+    where
+      same : {i k : ℕ} → refuses i ≡ refuses k → k ≡ i
+      same h = cc
+
+      go : Tested form → Tested rule → Tested (inside l x y) → n ≡ 10
+      go (fails f) w i = absurd (three (same (sym (pick_no _ _ f) ∙ told)))
+      go (holds f) (fails w) i = absurd (six (same (sym (pick_yes _ _ f ∙ pick_no _ _ w) ∙ told)))
+      go (holds f) (holds w) (fails i) = same (sym (pick_yes _ _ f ∙ pick_yes _ _ w ∙ pick_no _ _ i) ∙ told)
+      go (holds f) (holds w) (holds i) = absurd (told_apart (sym (pick_yes _ _ f ∙ pick_yes _ _ w ∙ pick_yes _ _ i) ∙ told))
+
+  pub refused_outside :
+      (x y n : ℕ) → told_number n ≡ translate_of l x y → 2 ^ 63 ≤ n → (n ≡ refused_as 3 → ⊥) → (n ≡ refused_as 6 → ⊥) →
+      refuses 10 ≡ translate_of l x y
+  refused_outside x y n told h three six =
+      ap refuses (sym (ten_left x y (n - 2 ^ 63) (sym told ∙ told_refusal n h) (λ e. three (omega arith)) (λ e. six (omega arith)))) ∙
+      sym (told_refusal n h) ∙
+      told
+
+  refusal_small : (x y n : ℕ) → told_number n ≡ translate_of l x y → 2 ^ 63 ≤ n → n - 2 ^ 63 ≤ 10
+  refusal_small x y n told h = go (tested (eqb (n - 2 ^ 63) 3)) (tested (eqb (n - 2 ^ 63) 6))
+    where
+      go : Tested (eqb (n - 2 ^ 63) 3) → Tested (eqb (n - 2 ^ 63) 6) → n - 2 ^ 63 ≤ 10
+      go (holds a) b = omega (arith, eqb-true (n - 2 ^ 63) 3 a)
+      go (fails a) (holds b) = omega (arith, eqb-true (n - 2 ^ 63) 6 b)
+      go (fails a) (fails b) =
+          omega
+          (arith, ten_left x y (n - 2 ^ 63) (sym told ∙ told_refusal n h) (eqb-false (n - 2 ^ 63) 3 a) (eqb-false (n - 2 ^ 63) 6 b))
+
+  pub number_small : (x y n : ℕ) → told_number n ≡ translate_of l x y → n < 2 ^ 63 + 2 ^ 32
+  number_small x y n told = go (tested (leb (2 ^ 63) n))
+    where
+      go : Tested (leb (2 ^ 63) n) → n < 2 ^ 63 + 2 ^ 32
+      go (holds h) = omega (arith, refusal_small x y n told (leb-true (2 ^ 63) n h))
+      go (fails h) = omega (arith, leb-false (2 ^ 63) n h)
 
 -- a number that is none of the five sizes
 no_form : (base pitch s : ℕ) → place_of s sizes ≡ 5 → well_formed base pitch s ≡ false
@@ -99,9 +160,12 @@ sizeless_form base pitch s z = and_no_right _ (and_no_right _ (and_no_right _ z)
 pub none_form : (base pitch s : ℕ) → NoneOf Unit sizes s → well_formed base pitch s ≡ false
 none_form base pitch s r = no_form base pitch s (no_size s r.0.0.0.0.1 r.0.0.0.1 r.0.0.1 r.0.1 r.1)
 
--- an arm of a `match` on the size
-pub tiled_asked : {l : Layout} (s : ℕ) → (well_formed l.base.0 l.pitch 1 ≡ true) × (l.tiled ≡ true) → is_size s ≡ true → l.size ≡ s → TiledAsked l s
-tiled_asked {l} s asked z e = record { form = form_at l.base.0 l.pitch 1 s asked.0 z; size = e; kind = asked.1 }
+pub sizeless :
+    (base pitch height s : ℕ) (tiled : Bool) (x y : ℕ) → NoneOf Unit sizes s →
+    told_number (refused_as 3) ≡ translate_of (layout_of base pitch height s tiled) x y
+unfolding translate_of
+sizeless base pitch height s tiled x y r =
+    told_refused 3 ∙ sym (malformed (layout_of base pitch height s tiled) _ (none_form base pitch s r))
 
 -- an accepted layout, with its row step in elements
 pub record Taken (l : Layout) (e : ℕ) : Type 0 where
@@ -201,9 +265,11 @@ module _ (l : Layout) (e : ℕ) (t : Taken l e) where
                 (rule_bounds l.base.0 l.tiled l.size (step_of l) l.height t.accepted.window).step_most,
               )
 
-          pub translated : gives ((l.base.0 + o) ∷ run ∷ []) ≡ translate_of l x y
+          pub translated : told_number (run * 2 ^ 32 + (l.base.0 + o)) ≡ translate_of l x y
           translated =
-              ap₂ (λ (a n : ℕ). gives (a ∷ n ∷ [])) (sym is_address) (sym is_run) ∙ sym ((inverse l t.accepted).there x y within)
+              told_run run (l.base.0 + o) run_few address_fits ∙
+              ap₂ (λ (a n : ℕ). gives (a ∷ n ∷ [])) (sym is_address) (sym is_run) ∙
+              sym ((inverse l t.accepted).there x y within)
 
   -- what stands behind the span is past the last row
   behind : (o : ℕ) → span_of l.tiled l.size (step_of l) l.height ≤ o → l.height ≤ y_of l.tiled l.size (step_of l) o
@@ -273,3 +339,63 @@ module _ (l : Layout) (f : well_formed l.base.0 l.pitch l.size ≡ true) (r : �
       go (fails k) =
           let here = taken l f r er (ltb-false _ _ k) in
           pick_no _ _ k ∙ rw here.step (sym (at_distance l _ here a o small low wraps))
+
+-- what the way back tells: a pair and a place, or 3, 6 or 12
+data Tells (t : Told) : Type 0 where
+  pair : (x y place : ℕ) → t ≡ gives (x ∷ y ∷ place ∷ []) → Tells t
+  three : t ≡ refuses 3 → Tells t
+  six : t ≡ refuses 6 → Tells t
+  twelve : t ≡ refuses 12 → Tells t
+
+tells : (l : Layout) (a : ℕ) → Tells (locate_of l a)
+unfolding locate_of if_accepted back_of
+tells l a =
+    go (tested (form l)) (tested (rule l)) (tested (leb l.base.0 a))
+    (tested (ltb (y_of l.tiled l.size (step_of l) (a - l.base.0)) l.height))
+  where
+    go :
+        Tested (form l) → Tested (rule l) → Tested (leb l.base.0 a) →
+        Tested (ltb (y_of l.tiled l.size (step_of l) (a - l.base.0)) l.height) → Tells (locate_of l a)
+    go (fails f) w b h = three (pick_no _ _ f)
+    go (holds f) (fails w) b h = six (pick_yes _ _ f ∙ pick_no _ _ w)
+    go (holds f) (holds w) (fails b) h = twelve (pick_yes _ _ f ∙ pick_yes _ _ w ∙ pick_no _ _ b)
+    go (holds f) (holds w) (holds b) (fails h) = twelve (pick_yes _ _ f ∙ pick_yes _ _ w ∙ pick_yes _ _ b ∙ pick_no _ _ h)
+    go (holds f) (holds w) (holds b) (holds h) =
+        pair _ _ _ (pick_yes _ _ f ∙ pick_yes _ _ w ∙ pick_yes _ _ b ∙ pick_yes _ _ h)
+
+-- and so what status and room tell
+module _ (l : Layout) (a r : ℕ) (before after : List ℕ) (c : Crosses (locate_of l a) r before after) where
+  status_of_lem : {n : ℕ} → locate_of l a ≡ refuses n → r ≡ n
+  status_of_lem e = c.status ∙ ap status_of e
+
+  given : {v : List ℕ} → locate_of l a ≡ gives v → r ≡ 0
+  given e = c.status ∙ ap status_of e
+
+  pub pair_told : r ≡ 0 → gives (get_or after 0 0 ∷ get_or after 1 0 ∷ get_or after 2 0 ∷ []) ≡ locate_of l a
+  pair_told z = go (tells l a)
+    where
+      go : Tells (locate_of l a) → gives (get_or after 0 0 ∷ get_or after 1 0 ∷ get_or after 2 0 ∷ []) ≡ locate_of l a
+      go (pair x y k e) =
+          ap (λ (v : List ℕ). gives (get_or v 0 0 ∷ get_or v 1 0 ∷ get_or v 2 0 ∷ [])) (c.room ∙ ap (λ (u : Told). room_of u before) e) ∙
+          sym e
+      go (three e) = absurd (omega (arith, z, status_of_lem e))
+      go (six e) = absurd (omega (arith, z, status_of_lem e))
+      go (twelve e) = absurd (omega (arith, z, status_of_lem e))
+
+  pub refusal_told : (r ≡ 0 → ⊥) → refuses r ≡ locate_of l a
+  refusal_told some = go (tells l a)
+    where
+      go : Tells (locate_of l a) → refuses r ≡ locate_of l a
+      go (pair x y k e) = absurd (some (given e))
+      go (three e) = ap refuses (status_of_lem e) ∙ sym e
+      go (six e) = ap refuses (status_of_lem e) ∙ sym e
+      go (twelve e) = ap refuses (status_of_lem e) ∙ sym e
+
+  pub twelve_left : (r ≡ 0 → ⊥) → (r ≡ 3 → ⊥) → (r ≡ 6 → ⊥) → refuses 12 ≡ locate_of l a
+  twelve_left some not_three not_six = go (tells l a)
+    where
+      go : Tells (locate_of l a) → refuses 12 ≡ locate_of l a
+      go (pair x y k e) = absurd (some (given e))
+      go (three e) = absurd (not_three (status_of_lem e))
+      go (six e) = absurd (not_six (status_of_lem e))
+      go (twelve e) = sym e

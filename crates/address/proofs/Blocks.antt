@@ -1,6 +1,6 @@
 -- The code of a block inside its tile, bits 10 to 5 of the place, has an inverse: the way back finds the block's column and
 -- row from the tile's and the code. No size is in it. Assumes nothing.
-use Rattle.std.proofs.Common.{◌≡◌, ℕ, ◌+◌, ◌*◌, ◌/◌, ◌%◌, ◌<◌, sym, ap, ◌∙◌, ap₂, div-one, arith}
+use Rattle.std.proofs.Common.{◌≡◌, ℕ, ◌+◌, ◌*◌, ◌/◌, ◌%◌, ◌<◌, sym, refl, ap, ◌∙◌, ap₂, div-one, arith}
 use native.Mathlib.Nat.{div-add-mod, div-div-eq-div-mul}
 use lib.Bits.{bit_xor, xor_block}
 use Rattle.laws.specs.Bits.{bit, xor}

@@ -1,7 +1,7 @@
 -- Demand 3's "by the guide's formula, as document 01 gives it": a pair's address is the one that document 01 prints, line by line
 -- and size by size, and where the layout is accepted and the pair inside it is source 003's too. Assumes nothing.
 use Rattle.std.proofs.Common.{◌≡◌, ℕ, ◌+◌, ◌*◌, ◌/◌, ◌%◌, ◌<◌, ◌≤◌, Bool, true, false, [], ◌∷◌, get_or, sym, refl, ap, ◌∙◌, add_assoc, mul-div_cancel, arith, eqb-true, leb-true}
-use Rattle.laws.specs.Choice.{pick, place_of}
+use Rattle.laws.specs.Choice.{◌and◌, pick, place_of}
 use Rattle.laws.proofs.Choice.{and_left, and_right}
 use Rattle.refusal.specs.Told.{gives}
 use Rattle.layout.specs.Sizes.{sizes, is_size, width_of, height_of}

@@ -1,10 +1,11 @@
 -- Demand 3: every accepted layout has an exact inverse. Assumes nothing.
-use Rattle.std.proofs.Common.{◌≡◌, ℕ, ◌+◌, ◌-◌, ◌^◌, ◌<◌, ◌≤◌, true, ltb, leb, List, [], ◌∷◌, sym, ap, ◌∙◌, subst, arith, ltb-true, lt-ltb, le-leb, leb-false, leb-true}
+use Rattle.std.proofs.Common.{◌≡◌, ℕ, ◌+◌, ◌-◌, ◌*◌, ◌/◌, ◌^◌, ◌<◌, ◌≤◌, Bool, true, false, ltb, leb, List, [], ◌∷◌, sym, refl, ap, ◌∙◌, subst, arith, ltb-false, ltb-true, lt-ltb, le-leb, leb-false, leb-true}
 use mathlib.Core.Path.{subst₃}
 use borrow.Author.Tests.{lt-leb}
+use Rattle.laws.specs.Choice.{◌and◌, pick}
 use Rattle.laws.proofs.Choice.{pick_yes, pick_no, and_intro, Tested, tested, holds, fails}
 use Rattle.refusal.specs.Told.{Told, gives, refuses}
-use Rattle.layout.specs.Layout.{span_of}
+use Rattle.layout.specs.Layout.{well_formed, row_step, span_of, window_rule}
 use Rattle.layout.specs.declared.Layout.{Layout}
 use Rattle.layout.proofs.Window.{form_size, rule_bounds, rule_room, step_whole}
 use Rattle.address.specs.Offset.{offset_of, x_of, y_of, byte_place}

@@ -1,12 +1,30 @@
 -- Offsets from the base and the way back are inverse to each other, with the size open: from a pair to the bytes of its
 -- element and back, and from any offset to a pair and place and back. Linear and tiled, then joined. Assumes nothing.
-use Rattle.std.proofs.Common.{◌≡◌, ℕ, ◌+◌, ◌*◌, ◌/◌, ◌%◌, ◌<◌, true, sym, ap, ◌∙◌, subst, mod-lt, div-lt_iff_lt-mul, div-add-mod', arith}
+use Rattle.std.proofs.Common.{◌≡◌, ℕ, zero, suc, ◌+◌, ◌-◌, ◌*◌, ◌/◌, ◌%◌, ◌<◌, ◌≤◌, Bool, true, false, sym, refl, ap, ◌∙◌, subst, ap₂, mod-lt, mul_comm, div-lt_iff_lt-mul, mul-le-mul, mul-pos, div-add-mod', arith}
 use Prim.Native.Nat.{◌∣◌}
 use native.Mathlib.Nat.{dvd-mul_left, div-div-eq-div-mul, mod-mod_of_dvd}
 use lib.Arith.{digits_lt, digits_div, digits_mod}
+use Rattle.laws.specs.Choice.{pick}
 use Rattle.layout.specs.Sizes.{is_size, width_of, height_of}
 use Rattle.layout.proofs.Sizes.{Tile, tile}
-use Rattle.address.specs.Offset.{block_width, block_height, code_of, inside_of, tiled_offset, linear_offset, block_x, block_y, tiled_x, tiled_y, linear_x, linear_y, byte_place}
+use Rattle.address.specs.Offset.{
+  block_width,
+  block_height,
+  code_of,
+  inside_of,
+  tiled_offset,
+  linear_offset,
+  offset_of,
+  block_x,
+  block_y,
+  tiled_x,
+  tiled_y,
+  linear_x,
+  linear_y,
+  x_of,
+  y_of,
+  byte_place,
+}
 use Rattle.address.proofs.Blocks.{code_lt, block_x_lem, block_y_lem, block_column, block_row, block_code}
 
 -- an offset is a tile's number, a block's code and the rest inside the block

@@ -1,12 +1,12 @@
 -- The tables as they are printed are the definitions used, at each size. Assumes nothing.
-use Rattle.std.proofs.Common.{◌≡◌, ℕ, ◌+◌, ◌*◌, ◌/◌, ◌%◌, ◌^◌, ◌<◌, false, sym, refl, ap, ◌∙◌, mul_assoc, add-mul, div-add-mod', arith}
+use Rattle.std.proofs.Common.{◌≡◌, ℕ, ◌+◌, ◌-◌, ◌*◌, ◌/◌, ◌%◌, ◌^◌, ◌<◌, false, sym, refl, ap, ◌∙◌, mod-eq_of_lt, mul_assoc, add-mul, div-add-mod', mul-one, div-one, arith}
 use native.Mathlib.Nat.{div-add-mod, div-div-eq-div-mul, mod-one}
-use Rattle.laws.specs.Bits.{bit}
+use Rattle.laws.specs.Bits.{bit, xor}
 use Rattle.laws.specs.Choice.{place_of, pick}
 use Rattle.layout.specs.Layout.{unit_of, row_step}
 use Rattle.layout.specs.Sizes.{width_of, height_of}
 use Rattle.address.specs.Offset.{block_width, block_height, code_of, inside_of, linear_offset}
-use Rattle.address.specs.Printed.{from_bits, line1, line2, line4, line8, line16, slices}
+use Rattle.address.specs.Printed.{from_bits, line1, line2, line4, line8, line16, slice, slices}
 use Rattle.address.proofs.Blocks.{low}
 
 -- the low bits of a number

@@ -1,11 +1,11 @@
 -- What the code reckons on the way from a pair to an offset and back: every sum fits 32 bits, and the result is the
 -- definition's. The size is open, with p and q the width and height of its blocks. Assumes nothing.
-use Rattle.std.proofs.Common.{◌≡◌, ℕ, ◌+◌, ◌-◌, ◌*◌, ◌/◌, ◌%◌, ◌^◌, ◌<◌, ◌≤◌, true, sym, refl, ap, ◌∙◌, subst, subst₂, mod-lt, mul_assoc, mul_comm, div-lt_iff_lt-mul, add-mul, mul-le-mul, mul-pos, div-add-mod', div-le_self, arith}
+use Rattle.std.proofs.Common.{◌≡◌, ℕ, ◌+◌, ◌-◌, ◌*◌, ◌/◌, ◌%◌, ◌^◌, ◌<◌, ◌≤◌, Bool, true, false, sym, refl, ap, ◌∙◌, subst, subst₂, mod-lt, mul_assoc, mul_comm, div-lt_iff_lt-mul, add-mul, mul-le-mul, mul-pos, div-add-mod', div-le_self, arith}
 use native.Mathlib.Nat.{mod-le, div-div-eq-div-mul}
 use native.Mathlib.Nat.{add-mul-div_right}
 use lib.Arith.{digits_lt, digits_mod}
 use lib.Bits.{bit_and, and_mask}
-use Rattle.layout.specs.Sizes.{is_size, width_of}
+use Rattle.layout.specs.Sizes.{is_size, width_of, height_of}
 use Rattle.laws.specs.Choice.{place_of}
 use Rattle.layout.proofs.Sizes.{Tile, by_size}
 use Rattle.address.specs.Asked.{BlockAsked, PairAsked, StepAsked}

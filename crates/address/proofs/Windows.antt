@@ -1,12 +1,27 @@
 -- The laws of offsets for both kinds of layout at once, and the element's place inside the span. Assumes nothing.
-use Rattle.std.proofs.Common.{◌≡◌, ℕ, ◌+◌, ◌-◌, ◌*◌, ◌/◌, ◌%◌, ◌<◌, ◌≤◌, Bool, true, false, refl, mod-lt, div-lt_iff_lt-mul, div-add-mod', arith}
+use Rattle.std.proofs.Common.{◌≡◌, ℕ, zero, suc, ◌+◌, ◌-◌, ◌*◌, ◌/◌, ◌%◌, ◌<◌, ◌≤◌, Bool, true, false, sym, refl, ap, ◌∙◌, subst, mul-le-mul_right, mod-lt, div-lt_iff_lt-mul, div-add-mod', mul-div_cancel, arith}
 use lib.Arith.{digits_lt}
 use Rattle.laws.specs.Choice.{pick}
 use Rattle.layout.specs.Sizes.{is_size, width_of, height_of}
 use Rattle.layout.specs.Layout.{tile_rows, span_of}
 use Rattle.layout.proofs.Sizes.{Tile}
 use Rattle.layout.proofs.Window.{width_pos}
-use Rattle.address.specs.Offset.{block_width, block_height, inside_of, tiled_offset, linear_offset, offset_of, tiled_x, linear_x, x_of, y_of, byte_place}
+use Rattle.address.specs.Offset.{
+  block_width,
+  block_height,
+  code_of,
+  inside_of,
+  tiled_offset,
+  linear_offset,
+  offset_of,
+  tiled_x,
+  tiled_y,
+  linear_x,
+  linear_y,
+  x_of,
+  y_of,
+  byte_place,
+}
 use Rattle.address.proofs.Blocks.{code_lt}
 use Rattle.address.proofs.Offsets as offsets
 

@@ -1,17 +1,18 @@
 -- Document 01, "Layouts and windows": what translation and the way back answer. "Order for all of these: 3, 6, 10, 11, 12."
 -- Request 8: translation's answer "shall also say how many elements from this pair on, in the same row, lie at consecutive
 -- addresses". Assumes nothing.
-use Rattle.std.specs.Prelude.{ℕ, zero, suc, ◌+◌, ◌-◌, Bool, false, not, ltb, Result, Ok, Err, [], ◌∷◌, ◌==◌, nat_le, nat_lt}
+use Rattle.std.specs.Prelude.{ℕ, zero, suc, ◌+◌, ◌-◌, ◌/◌, ◌%◌, ◌^◌, Bool, false, not, ltb, [], ◌∷◌, ◌==◌, nat_le, nat_lt}
 use Rattle.laws.specs.Below.{least}
 use Rattle.laws.specs.Choice.{◌and◌, pick}
 use Rattle.refusal.specs.Number.{number_of}
 use Rattle.refusal.specs.Told.{Told, gives, refuses}
-use Rattle.refusal.specs.declared.Refusal.{Refusal}
 use Rattle.layout.specs.Layout.{well_formed, row_step, window_rule}
 use Rattle.layout.specs.declared.Layout.{Layout}
 use Rattle.address.specs.Offset.{offset_of, x_of, y_of, byte_place}
 use Rattle.address.specs.declared.Translated.{Translated}
 use Rattle.address.specs.declared.Located.{Located}
+use Rattle.address.specs.declared.Translated.TheVariants as translated
+use Rattle.address.specs.declared.Located.TheVariants as located
 
 -- document 01's E of a layout
 abbrev pub step_of : Layout → ℕ
@@ -60,15 +61,23 @@ unfoldable pub locate_of : Layout → ℕ → Told
 locate_of l a = if_accepted l (pick (nat_le l.base.0 a) (back_of l (a - l.base.0)) (refuses 12))
 
 -- what the answers tell, case by case
-abbrev pub told_translated : Result Translated Refusal → Told
-told_translated (Ok at) = gives (at.address.0 ∷ at.run ∷ [])
-told_translated (Err why) = refuses (number_of why)
+abbrev pub told_translated : Translated → Told
+told_translated (translated.At address run) = gives (address.0 ∷ run ∷ [])
+told_translated (translated.Refused why) = refuses (number_of why)
 
-abbrev pub told_located : Result Located Refusal → Told
-told_located (Ok pair) = gives (pair.x ∷ pair.y ∷ pair.place ∷ [])
-told_located (Err why) = refuses (number_of why)
+abbrev pub told_located : Located → Told
+told_located (located.Pair x y place) = gives (x ∷ y ∷ place ∷ [])
+told_located (located.Refused why) = refuses (number_of why)
 
 -- a layout from its numbers
 abbrev pub layout_of : ℕ → ℕ → ℕ → ℕ → Bool → Layout
 layout_of base pitch height size tiled =
     record { base = record { 0 = base }; pitch = pitch; height = height; size = size; tiled = tiled }
+
+-- a refusal in one number, above every address with its run
+abbrev pub refused_as : ℕ → ℕ
+refused_as number = 2 ^ 63 + number
+
+-- an answer in one number: an address below 2^32 with the run above it, or a refusal
+unfoldable pub told_number : ℕ → Told
+told_number n = pick (nat_lt n (2 ^ 63)) (gives (n % 2 ^ 32 ∷ n / 2 ^ 32 ∷ [])) (refuses (n - 2 ^ 63))

@@ -1,8 +1,6 @@
 -- What the inner routines ask of their callers: an accepted layout's numbers. Assumes nothing.
 use Rattle.std.specs.Prelude.{◌≡◌, ℕ, ◌/◌, ◌<◌, ◌≤◌, Bool, true}
 use Rattle.layout.specs.Sizes.{is_size, width_of}
-use Rattle.layout.specs.Layout.{well_formed}
-use Rattle.layout.specs.declared.Layout.{Layout}
 use Rattle.address.specs.Offset.{block_width, block_height}
 
 -- a size with the width and height of its blocks, and a row step in bounds; the numbers' ranges, so that no sum wraps
@@ -31,9 +29,3 @@ pub record StepAsked (tiled : Bool) (s e : ℕ) : Type 0 where
   pub step : e ≤ 4096
   pub least : 0 < e
   pub tiles : tiled ≡ true → 0 < e / width_of s
-
--- a well-formed tiled layout of the size `s`
-pub record TiledAsked (l : Layout) (s : ℕ) : Type 0 where
-  pub form : well_formed l.base.0 l.pitch s ≡ true
-  pub size : l.size ≡ s
-  pub kind : l.tiled ≡ true

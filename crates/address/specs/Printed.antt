@@ -1,6 +1,6 @@
 -- The tables as they are printed: document 01's bits inside a tile, line by line, and source 003's slices for linear rows.
 -- proofs/Printed.antt shows that the definitions of Offset.antt are these. Assumes nothing.
-use Rattle.std.specs.Prelude.{ℕ, suc, ◌+◌, ◌-◌, ◌*◌, ◌/◌, ◌%◌, ◌^◌, List, [], ◌∷◌, length}
+use Rattle.std.specs.Prelude.{◌≡◌, ℕ, suc, ◌+◌, ◌-◌, ◌*◌, ◌/◌, ◌%◌, ◌^◌, List, [], ◌∷◌, length}
 use Rattle.laws.specs.Bits.{bit, xor}
 
 -- the number whose bits are listed, the highest first

@@ -12,7 +12,6 @@ pub struct Block {
 }
 
 // The exclusive or of two bits.
-#[inline(always)]
 fn flip(a: u32, b: u32) -> u32
     requires { (a < 2) × (b < 2) }
     ensures value { result ≡ xor a b }
@@ -22,7 +21,6 @@ fn flip(a: u32, b: u32) -> u32
 }
 
 // Bits 10 to 5 of the place inside a tile, for the block at this column and row of the window.
-#[inline(always)]
 pub fn code(column: u32, row: u32) -> u32
     ensures value { result ≡ code_of column row }
     ensures most { result < 64 }
@@ -34,7 +32,6 @@ pub fn code(column: u32, row: u32) -> u32
 }
 
 // The block with this code in the tile at this column and row of tiles.
-#[inline(always)]
 pub fn find(column: u32, row: u32, code: u32) -> Block
     requires { (column < 2 ^ 24) × (row < 2 ^ 24) }
     ensures column { result.column ≡ block_x column row code }

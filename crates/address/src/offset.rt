@@ -24,7 +24,6 @@ pub struct Pair {
 }
 
 // The offset of a pair where blocks are p wide and q high.
-#[inline(always)]
 fn in_tiles(p: u32, q: u32, size: u32, stride: u32, x: u32, y: u32) -> u32
     requires { BlockAsked p q size (stride / size) × PairAsked size (stride / size) x y }
     ensures { result ≡ tiled_offset size (stride / size) x y }
@@ -36,9 +35,6 @@ fn in_tiles(p: u32, q: u32, size: u32, stride: u32, x: u32, y: u32) -> u32
     TILE_BYTES * number + (BLOCK_BYTES * code + element * size)
 }
 
-// The offset of a pair in tiles, by the size's blocks.
-// Kept (design pass 7, no plainer): each arm, here and in `tiled_back`, has a size and its block as constants, so that each division is by a constant.
-#[inline(always)]
 fn tiled_offset(size: u32, stride: u32, x: u32, y: u32) -> u32
     requires { PairAsked size (stride / size) x y }
     ensures { result ≡ tiled_offset size (stride / size) x y }
@@ -53,7 +49,6 @@ fn tiled_offset(size: u32, stride: u32, x: u32, y: u32) -> u32
 }
 
 // How far a pair's element is from the base.
-#[inline(always)]
 pub fn offset(tiled: bool, size: u32, stride: u32, x: u32, y: u32) -> u32
     requires { PairAsked size (stride / size) x y × (stride / size * size ≡ stride) }
     ensures { result ≡ offset_of tiled size (stride / size) x y }
@@ -66,7 +61,6 @@ pub fn offset(tiled: bool, size: u32, stride: u32, x: u32, y: u32) -> u32
 }
 
 // The pair of an offset where blocks are p wide and q high.
-#[inline(always)]
 fn back_in_tiles(p: u32, q: u32, size: u32, stride: u32, o: u32) -> Pair
     requires { BlockAsked p q size (stride / size) × (0 < stride / size / width_of size) }
     ensures column { result.x ≡ tiled_x size (stride / size) o }
@@ -87,7 +81,6 @@ fn back_in_tiles(p: u32, q: u32, size: u32, stride: u32, o: u32) -> Pair
     }
 }
 
-#[inline(always)]
 fn tiled_back(size: u32, stride: u32, o: u32) -> Pair
     requires { StepAsked true size (stride / size) }
     ensures column { result.x ≡ tiled_x size (stride / size) o }
@@ -103,7 +96,6 @@ fn tiled_back(size: u32, stride: u32, o: u32) -> Pair
 }
 
 // How many whole elements stand before an offset. A size is a power of two, so a shift divides by it.
-#[inline(always)]
 fn elements(size: u32, o: u32) -> u32
     requires { is_size size ≡ true }
     ensures { result ≡ o / size }
@@ -112,7 +104,6 @@ fn elements(size: u32, o: u32) -> u32
 }
 
 // The pair of an offset; its row may be past the window's last.
-#[inline(always)]
 pub fn back(tiled: bool, size: u32, stride: u32, o: u32) -> Pair
     requires { StepAsked tiled size (stride / size) × (stride / size * size ≡ stride) }
     ensures column { result.x ≡ x_of tiled size (stride / size) o }
@@ -129,7 +120,6 @@ pub fn back(tiled: bool, size: u32, stride: u32, o: u32) -> Pair
 }
 
 // The place of a byte in its element. A size is a power of two, so its bits less 1 mask the place.
-#[inline(always)]
 pub fn byte_place(size: u32, o: u32) -> u32
     requires { is_size size ≡ true }
     ensures { result ≡ byte_place size o }

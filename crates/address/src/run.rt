@@ -4,7 +4,6 @@ ghost use Rattle.layout.specs.Sizes.{is_size};
 ghost use Rattle.address.specs.Run.{run_unit, run_number};
 
 // What is left, from a column on, of a tiled row's group of elements that follow each other.
-#[inline(always)]
 fn group_rest(size: u32, x: u32) -> u32
     requires { is_size size ≡ true }
     ensures { result ≡ run_unit size - x % run_unit size }
@@ -20,7 +19,6 @@ fn group_rest(size: u32, x: u32) -> u32
 }
 
 // What is left, from a column on, of a linear row. A size is a power of two, so a shift divides by it.
-#[inline(always)]
 fn row_rest(size: u32, stride: u32, x: u32) -> u32
     requires { (is_size size ≡ true) × (x * size < stride) × (stride / size * size ≡ stride) }
     ensures { result ≡ stride / size - x }
@@ -29,7 +27,6 @@ fn row_rest(size: u32, stride: u32, x: u32) -> u32
 }
 
 // The run from a column of the row on.
-#[inline(always)]
 pub fn run_from(tiled: bool, size: u32, stride: u32, x: u32) -> u32
     requires { (is_size size ≡ true) × (x * size < stride) × (stride / size * size ≡ stride) }
     ensures { result ≡ run_number tiled size (stride / size) x }

@@ -2,18 +2,20 @@
 // lends. A refusal touches no room: 3, 6, 10 or 12.
 #![tactic(auto)]
 
-ghost use Rattle.refusal.specs.Crossing.{Crosses};
+ghost use Rattle.std.specs.Prelude.{◌+◌, ◌^◌, ◌<◌};
 ghost use Rattle.layout.specs.Layout.{judge_of};
-ghost use Rattle.address.specs.Address.{layout_of, translate_of, locate_of};
+ghost use Rattle.address.specs.Address.{layout_of, translate_of, locate_of, told_number};
+ghost use Rattle.refusal.specs.Crossing.{Crosses};
 
-use layout::{ByteAddress, Layout};
+use address::owner;
+use layout::{ByteAddress, Judged, Layout};
 
 // Lengths of rooms: a layout's row step and span; a pair's address and run; a pair's x, y and the byte's place in its element.
 pub const LAYOUT_NUMBERS: usize = 2;
 
 pub const ADDRESS_NUMBERS: usize = 2;
 
-pub const PLACE_NUMBERS: usize = 3;
+pub const PLACE_NUMBERS: usize = owner::NUMBERS;
 
 // The row step and the span of a layout; 3 or 6.
 pub fn judge(
@@ -34,11 +36,27 @@ pub fn judge(
         tiled,
     };
     match layout::judge(layout) {
-        Ok(taken) => {
-            *room = [taken.step, taken.span];
+        Judged::Refused(why) => u32::from(why),
+        Judged::Accepted { step, span } => {
+            *room = [step, span];
             0
         }
-        Err(why) => u32::from(why),
+    }
+}
+
+// A translation's number as status and room.
+fn cross(number: u64, room: &mut [u32; ADDRESS_NUMBERS]) -> u32
+    requires { number < 2 ^ 63 + 2 ^ 32 }
+    ensures { Crosses (told_number number) result room.old room.new }
+{
+    if number < address::REFUSED {
+        *room = [
+            (number % address::RUN_UNIT) as u32,
+            (number / address::RUN_UNIT) as u32,
+        ];
+        0
+    } else {
+        (number - address::REFUSED) as u32
     }
 }
 
@@ -55,19 +73,14 @@ pub fn translate(
 ) -> u32
     ensures { Crosses (translate_of (layout_of base pitch height size tiled) x y) result room.old room.new }
 {
-    let layout = Layout {
-        base: ByteAddress(base),
-        pitch,
-        height,
-        size,
-        tiled,
-    };
-    match address::translate(layout, x, y) {
-        Ok(at) => {
-            *room = [at.address.0, at.run];
-            0
-        }
-        Err(why) => u32::from(why),
+    // the branch stands here, so that the linear kind needs no call
+    if tiled {
+        cross(address::tiled_number(base, pitch, height, size, x, y), room)
+    } else {
+        cross(
+            address::linear_number(base, pitch, height, size, x, y),
+            room,
+        )
     }
 }
 
@@ -83,18 +96,5 @@ pub fn locate(
 ) -> u32
     ensures { Crosses (locate_of (layout_of base pitch height size tiled) address) result room.old room.new }
 {
-    let layout = Layout {
-        base: ByteAddress(base),
-        pitch,
-        height,
-        size,
-        tiled,
-    };
-    match address::locate(layout, ByteAddress(address)) {
-        Ok(pair) => {
-            *room = [pair.x, pair.y, pair.place];
-            0
-        }
-        Err(why) => u32::from(why),
-    }
+    owner::locate(base, pitch, height, size, tiled, address, room)
 }

@@ -24,9 +24,18 @@ fn fill(part: &mut [u32], at: u32, size: u32)
     requires { (at + length part.old * size ≤ 2 ^ 32) × (length part.old ≤ 4096) × (0 < size) }
     ensures { part.new ≡ listed (λ j. at + j * size) 0 (length part.old) }
 {
-    for j in 0..part.len() {
+    let mut j = 0;
+    while j < part.len() {
         part[j] = at + j as u32 * size;
+        j += 1;
     }
+}
+
+fn smaller(a: u32, b: usize) -> usize
+    ensures { (result ≤ a) × (result ≤ b) × (result < b → result ≡ a) }
+{
+    let wide = a as usize;
+    if wide < b { wide } else { b }
 }
 
 // The addresses from place i up to `end`, at most where the run of the first of them ends.
@@ -50,7 +59,6 @@ fn one_run(
 
 // Whole runs of `unit` elements in tiles, from place `from` on, as many as there is room for, and where they end. Where unit and size are
 // constants, a run is one or two wide stores.
-// Kept (design pass 3, no plainer): the answer is where the last whole run ends, and a loop over a range hands no such place on.
 fn whole_runs(
     unit: usize,
     size: u32,
@@ -105,7 +113,7 @@ fn by_runs(base: u32, size: u32, stride: u32, x: u32, y: u32, room: &mut [u32])
     if count == 0 {
         return;
     }
-    let head = (run::run_from(true, size, stride, x) as usize).min(count);
+    let head = smaller(run::run_from(true, size, stride, x), count);
     one_run(base, size, true, stride, x, y, room, 0, head);
     let past = whole_of(base, size, stride, x, y, room, head);
     if past < count {
@@ -141,7 +149,6 @@ fn byte_offset(table: &[u16; PLACES], stride: u32, x: u32, y: u32) -> u32
 }
 
 // The addresses of one-byte elements in tiles: the table is taken once, and lent down.
-// Kept (design pass 3, no plainer): each step is as long as the run that its column begins, which no range goes by.
 fn by_places(base: u32, stride: u32, x: u32, y: u32, room: &mut [u32])
     requires { RowAsked base 1 true stride x y (length room.old) }
     ensures { room.new ≡ listed (element_at base 1 true (stride / 1) x y) 0 (length room.old) }
@@ -151,7 +158,7 @@ fn by_places(base: u32, stride: u32, x: u32, y: u32, room: &mut [u32])
     let mut i = 0;
     while i < count {
         let column = x + i as u32;
-        let many = (run::run_from(true, 1, stride, column) as usize).min(count - i);
+        let many = smaller(run::run_from(true, 1, stride, column), count - i);
         let at = base + byte_offset(&table, stride, column, y);
         fill(&mut room[i..i + many], at, 1);
         i += many;

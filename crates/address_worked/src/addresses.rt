@@ -1,50 +1,59 @@
 // Addresses: C1 to C8, row steps, and small windows of every size and kind, pair by pair, byte by byte and address by
 // address.
-use crate::walks::{each_pair, each_window};
-use address::Located;
-use layout::{Accepted, ByteAddress, Layout};
-use refusal::Refusal;
+use address::{Located, Translated};
+use layout::{ByteAddress, Judged, Layout};
 use std::io;
 use worked::tally::Tally;
-use worked::windows::{linear, tiled};
+use worked::windows::{linear, tiled, window_of};
 
 // Whether a pair goes to this address.
 pub fn goes_to(layout: Layout, x: u32, y: u32, at: u32) -> bool {
     match address::translate(layout, x, y) {
-        Ok(found) => found.address.0 == at,
-        Err(_) => false,
+        Translated::At { address, run: _ } => address.0 == at,
+        Translated::Refused(_) => false,
     }
 }
 
 // Whether translating a pair is refused with this number.
 pub fn refused(layout: Layout, x: u32, y: u32, number: u32) -> bool {
     match address::translate(layout, x, y) {
-        Ok(_) => false,
-        Err(why) => u32::from(why) == number,
+        Translated::At { address: _, run: _ } => false,
+        Translated::Refused(why) => u32::from(why) == number,
     }
 }
 
 // Whether the byte at an address leads back to this pair and place.
 pub fn leads_to(layout: Layout, at: u32, x: u32, y: u32, place: u32) -> bool {
     match address::locate(layout, ByteAddress(at)) {
-        Ok(found) => found == Located { x, y, place },
-        Err(_) => false,
+        Located::Pair {
+            x: found_x,
+            y: found_y,
+            place: found,
+        } => found_x == x && (found_y == y && found == place),
+        Located::Refused(_) => false,
     }
 }
 
 // Whether locating an address is refused with this number.
 pub fn unlocated(layout: Layout, at: u32, number: u32) -> bool {
     match address::locate(layout, ByteAddress(at)) {
-        Ok(_) => false,
-        Err(why) => u32::from(why) == number,
+        Located::Pair {
+            x: _,
+            y: _,
+            place: _,
+        } => false,
+        Located::Refused(why) => u32::from(why) == number,
     }
 }
 
 // Whether a layout is accepted with this row step, or, for 0, refused with 6.
 fn has_step(layout: Layout, step: u32) -> bool {
     match layout::judge(layout) {
-        Ok(taken) => taken.step == step,
-        Err(why) => step == 0 && u32::from(why) == 6,
+        Judged::Accepted {
+            step: found,
+            span: _,
+        } => found == step,
+        Judged::Refused(why) => step == 0 && u32::from(why) == 6,
     }
 }
 
@@ -86,17 +95,34 @@ fn steps() -> Tally {
         .with(has_step(linear(1, 0, 8188, 1), 0))
 }
 
-// There and back: every byte of a pair's element leads back to the pair.
+// Every byte of a pair's element leads back to the pair.
 fn element(layout: Layout, x: u32, y: u32) -> Tally {
     let mut t = Tally::new();
     match address::translate(layout, x, y) {
-        Ok(found) => {
+        Translated::At { address, run: _ } => {
             for place in 0..layout.size {
-                let at = std::num::wrapping_add_u32(found.address.0, place);
+                let at = std::num::wrapping_add_u32(address.0, place);
                 t = t.with(leads_to(layout, at, x, y, place));
             }
         }
-        Err(_) => t = t.with(false),
+        Translated::Refused(_) => t = t.with(false),
+    }
+    t
+}
+
+fn row(layout: Layout, y: u32, step: u32) -> Tally {
+    let mut t = Tally::new();
+    for x in 0..step {
+        t = t.and(element(layout, x, y));
+    }
+    t
+}
+
+// There and back for every pair of a window.
+fn pairs(layout: Layout, step: u32) -> Tally {
+    let mut t = Tally::new();
+    for y in 0..layout.height {
+        t = t.and(row(layout, y, step));
     }
     t
 }
@@ -111,7 +137,7 @@ struct Swept {
 impl Swept {
     fn with(self, layout: Layout, at: u32) -> Self {
         match address::locate(layout, ByteAddress(at)) {
-            Ok(Located { x, y, place }) => {
+            Located::Pair { x, y, place } => {
                 let begins = std::num::wrapping_sub_u32(at, place);
                 if goes_to(layout, x, y, begins) {
                     Swept {
@@ -122,8 +148,8 @@ impl Swept {
                     self
                 }
             }
-            Err(why) => {
-                if why == Refusal::Unowned {
+            Located::Refused(why) => {
+                if u32::from(why) == 12 {
                     Swept {
                         owned: self.owned,
                         nobody: std::num::wrapping_add_u64(self.nobody, 1),
@@ -151,8 +177,8 @@ fn sweep(layout: Layout, first: u32, count: u32) -> Swept {
 // the pairs' bytes are owned.
 fn window(layout: Layout) -> Tally {
     match layout::judge(layout) {
-        Ok(Accepted { step, span }) => {
-            let t = each_pair(layout, step, |x, y| element(layout, x, y));
+        Judged::Accepted { step, span } => {
+            let t = pairs(layout, step);
             let around = std::num::wrapping_add_u32(span, 4096);
             let swept = sweep(
                 layout,
@@ -164,8 +190,16 @@ fn window(layout: Layout) -> Tally {
             let t = t.with(swept.owned == bytes);
             t.with(std::num::wrapping_add_u64(swept.nobody, bytes) == around as u64)
         }
-        Err(_) => Tally::new().with(false),
+        Judged::Refused(_) => Tally::new().with(false),
     }
+}
+
+fn windows() -> Tally {
+    let mut t = Tally::new();
+    for k in 0..90 {
+        t = t.and(window(window_of(k)));
+    }
+    t
 }
 
 // The last bytes below 2^32, from both sides.
@@ -186,6 +220,6 @@ fn edges() -> Tally {
 pub fn run(rt: &impl Print) -> io::Result<()> {
     cases().print(rt, "C1 to C8")?;
     steps().print(rt, "row steps")?;
-    each_window(window).print(rt, "windows there and back")?;
+    windows().print(rt, "windows there and back")?;
     edges().print(rt, "the last bytes")
 }

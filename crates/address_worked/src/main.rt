@@ -7,7 +7,6 @@ use std::io;
 mod addresses;
 mod refusals;
 mod runs;
-mod walks;
 
 fn main(rt: HostRuntime) -> io::Result<()> {
     addresses::run(&rt)?;

@@ -1,17 +1,16 @@
 // Runs: those of C1 to C6, and of every pair of small windows of every size and kind, element by element.
 use crate::addresses::goes_to;
-use crate::walks::{each_pair, each_window};
 use address::Translated;
-use layout::Layout;
+use layout::{Judged, Layout};
 use std::io;
 use worked::tally::Tally;
-use worked::windows::{linear, tiled};
+use worked::windows::{linear, tiled, window_of};
 
 // Whether this is a pair's run.
 fn has_run(layout: Layout, x: u32, y: u32, wanted: u32) -> bool {
     match address::translate(layout, x, y) {
-        Ok(found) => found.run == wanted,
-        Err(_) => false,
+        Translated::At { address: _, run } => run == wanted,
+        Translated::Refused(_) => false,
     }
 }
 
@@ -30,7 +29,7 @@ fn cases() -> Tally {
 fn element(layout: Layout, x: u32, y: u32) -> Tally {
     let mut t = Tally::new();
     match address::translate(layout, x, y) {
-        Ok(Translated { address, run }) => {
+        Translated::At { address, run } => {
             let mut at = address.0;
             for k in 0..run {
                 t = t.with(goes_to(layout, std::num::wrapping_add_u32(x, k), y, at));
@@ -39,19 +38,43 @@ fn element(layout: Layout, x: u32, y: u32) -> Tally {
             let next = goes_to(layout, std::num::wrapping_add_u32(x, run), y, at);
             t = t.with(!next);
         }
-        Err(_) => t = t.with(false),
+        Translated::Refused(_) => t = t.with(false),
+    }
+    t
+}
+
+fn row(layout: Layout, y: u32, step: u32) -> Tally {
+    let mut t = Tally::new();
+    for x in 0..step {
+        t = t.and(element(layout, x, y));
+    }
+    t
+}
+
+fn pairs(layout: Layout, step: u32) -> Tally {
+    let mut t = Tally::new();
+    for y in 0..layout.height {
+        t = t.and(row(layout, y, step));
     }
     t
 }
 
 fn window(layout: Layout) -> Tally {
     match layout::judge(layout) {
-        Ok(taken) => each_pair(layout, taken.step, |x, y| element(layout, x, y)),
-        Err(_) => Tally::new().with(false),
+        Judged::Accepted { step, span: _ } => pairs(layout, step),
+        Judged::Refused(_) => Tally::new().with(false),
     }
+}
+
+fn windows() -> Tally {
+    let mut t = Tally::new();
+    for k in 0..90 {
+        t = t.and(window(window_of(k)));
+    }
+    t
 }
 
 pub fn run(rt: &impl Print) -> io::Result<()> {
     cases().print(rt, "runs of C1 to C6")?;
-    each_window(window).print(rt, "runs, element by element")
+    windows().print(rt, "runs, element by element")
 }

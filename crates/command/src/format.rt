@@ -2,7 +2,7 @@
 ghost use Rattle.std.specs.Prelude.{◌≡◌};
 ghost use Rattle.command.specs.Format.{pitch_of, tiled_of, superfine_of, code_of, size_of, channels_of, window_of, window_seen};
 
-use layout::{ByteAddress, Layout};
+use layout;
 
 // Bits 12:0.
 pub fn pitch(format: u32) -> u32
@@ -67,7 +67,7 @@ pub struct Window {
 // What is kept in its place where a window isn't accepted.
 pub const NO_WINDOW: Window = Window { step: 0, span: 0 };
 
-// The window that the words describe, none where it isn't accepted.
+// The window that the words describe, none where it isn't accepted. Its layout is asked by numbers, so that nothing goes through memory.
 pub fn window_of(base: u32, format: u32, height: u32) -> Option<Window>
     ensures { result ≡ window_seen (window_of base format height) }
 {
@@ -77,16 +77,10 @@ pub fn window_of(base: u32, format: u32, height: u32) -> Option<Window>
     if !layout::well_formed(base, pitch, size) {
         return None;
     }
-    let described = Layout {
-        base: ByteAddress(base),
-        pitch,
-        height,
-        size,
-        tiled,
-    };
-    let Ok(row) = layout::stream_stride(described) else {
+    let row = layout::stream_stride(base, pitch, height, size, tiled);
+    if row < 1 {
         return None;
-    };
+    }
     Some(Window {
         step: layout::row_step(pitch, size, tiled),
         span: layout::rows_taken(height, size, tiled) * row,

@@ -1,19 +1,22 @@
 -- Request 12, "Conditional output tests": "the unit that compares an unsigned 32-bit v with b read from the conditional buffer at the
 -- pair: result v op b, for UINT16_1 only (other formats get 3 here), low byte first, from lent memory". The unit reads a session's
 -- settings and nothing else of it. Assumes nothing.
-use Rattle.std.specs.Prelude.{◌≡◌, Bool, List, [], ◌∷◌, ℕ, zero, suc, ◌+◌, ◌-◌, ◌*◌, ◌/◌, ◌%◌, leb, eqb, length, Result, Ok, Err}
+use Rattle.std.specs.Prelude.{◌≡◌, Bool, List, [], ◌∷◌, ℕ, zero, suc, ◌+◌, ◌-◌, ◌*◌, ◌/◌, ◌%◌, leb, eqb, length}
 use Rattle.laws.specs.Below.{every, sum}
 use Rattle.laws.specs.Choice.{◌and◌, pick}
 use Rattle.laws.specs.Masks.{digit}
 use Rattle.refusal.specs.Number.{number_of}
 use Rattle.refusal.specs.Told.{Told, gives, refuses}
-use Rattle.refusal.specs.declared.Refusal.{Refusal}
 use Rattle.layout.specs.declared.Layout.{Layout}
 use Rattle.address.specs.Address.{if_accepted, inside, address_of}
 use Rattle.memory.specs.Elements.{held_at, in_order}
 use Rattle.command.specs.Format.{pitch_of, tiled_of, code_of}
 use Rattle.state.specs.State.{Buffer, Shared}
 use Rattle.conditions.specs.Conditions.{passes, word_in}
+use Rattle.conditional.specs.declared.Tested.{Tested}
+use Rattle.conditional.specs.declared.Tested.TheVariants as tested
+use Rattle.conditional.specs.declared.Surveyed.{Surveyed}
+use Rattle.conditional.specs.declared.Surveyed.TheVariants as surveyed
 
 -- "low byte first, from lent memory": the number at an address, in memory `m` that stands at `first`
 unfoldable pub word_at : ℕ → List ℕ → ℕ → ℕ
@@ -122,10 +125,10 @@ SurveyedBy s v first m i0 j0 i1 j1 r before after =
     Answers (survey_of s v first m i0 j0 i1 j1 (length before)) (bytes_of s v first m i0 j0 i1 j1) r before after
 
 -- what the answers tell, case by case
-abbrev pub told_tested : Result Bool Refusal → Told
-told_tested (Ok passed) = gives (digit passed ∷ [])
-told_tested (Err why) = refuses (number_of why)
+abbrev pub told_tested : Tested → Told
+told_tested (tested.Result passed) = gives (digit passed ∷ [])
+told_tested (tested.Refused why) = refuses (number_of why)
 
-abbrev pub told_surveyed : Result ℕ Refusal → Told
-told_surveyed (Ok count) = gives (count ∷ [])
-told_surveyed (Err why) = refuses (number_of why)
+abbrev pub told_surveyed : Surveyed → Told
+told_surveyed (surveyed.Passed count) = gives (count ∷ [])
+told_surveyed (surveyed.Refused why) = refuses (number_of why)

@@ -8,8 +8,10 @@ ghost use Rattle.address.specs.Address.{layout_of};
 ghost use Rattle.conditional.specs.Asked.{DomainAsked, SurveyAsked};
 ghost use Rattle.conditional.specs.Conditional.{pair_of, test_of, SurveyedIn, SurveyedBy, told_tested, told_surveyed};
 
-use layout::{ByteAddress, Layout};
+use address::Translated;
+use layout::{ByteAddress, Judged, Layout};
 use memory::place;
+use memory::place::Place;
 use refusal::Refusal;
 use survey::{held, rows};
 
@@ -17,6 +19,26 @@ use survey::{held, rows};
 const UINT16_1: u32 = 0;
 
 const SIZE: u32 = 2;
+
+// What a test of one pair answers.
+#[derive(Drop)]
+pub enum Tested {
+    Result(bool),
+    Refused(Refusal),
+}
+
+// What a survey answers: how many pairs pass.
+#[derive(Drop)]
+pub enum Surveyed {
+    Passed(u32),
+    Refused(Refusal),
+}
+
+fn wide(number: u16) -> u32
+    ensures { result ≡ number }
+{
+    number as u32
+}
 
 // The test at a pair of a layout; 3, 6, 10 or 11.
 fn pair_of(
@@ -27,13 +49,17 @@ fn pair_of(
     y: u32,
     memory: &[u8],
     first: ByteAddress,
-) -> Result<bool, Refusal>
+) -> Tested
     requires { layout.size ≡ 2 }
     ensures { told_tested result ≡ pair_of layout test v first.0 memory.now x y }
 {
-    let at = place::find(layout, x, y, first, memory.len())?;
-    let b = u32::from(conditions::word_at(memory, at));
-    Ok(conditions::passes_test(test, v, b))
+    match place::find(layout, x, y, first, memory.len()) {
+        Place::Refused(why) => Tested::Refused(why),
+        Place::At(a) => {
+            let b = wide(conditions::word_at(memory, a));
+            Tested::Result(conditions::passes_test(test, v, b))
+        }
+    }
 }
 
 // A survey of a domain that is inside a layout whose row step and span are known, into a room as long as its pairs are many; 11 where
@@ -54,7 +80,7 @@ fn survey_judged(
     memory: &[u8],
     first: u32,
     room: &mut [u8],
-) -> Result<u32, Refusal>
+) -> Surveyed
     requires { SurveyAsked (layout_of base pitch height 2 tiled) step span i0 j0 i1 j1 (length room.old) }
     ensures { SurveyedIn (layout_of base pitch height 2 tiled) test v first memory.now i0 j0 i1 j1 (told_surveyed result) room.old room.new }
 {
@@ -73,10 +99,10 @@ fn survey_judged(
         first,
         memory.len(),
     ) {
-        return Err(Refusal::WrongLength);
+        return Surveyed::Refused(Refusal::WrongLength);
     }
     let passing = conditions::span_of(test, v);
-    Ok(rows::rows(
+    Surveyed::Passed(rows::rows(
         passing.low,
         passing.top,
         passing.outside,
@@ -109,7 +135,7 @@ fn survey_inside(
     memory: &[u8],
     first: u32,
     room: &mut [u8],
-) -> Result<u32, Refusal>
+) -> Surveyed
     requires { DomainAsked (layout_of base pitch height 2 tiled) i0 j0 i1 j1 }
     ensures { SurveyedIn (layout_of base pitch height 2 tiled) test v first memory.now i0 j0 i1 j1 (told_surveyed result) room.old room.new }
 {
@@ -117,7 +143,7 @@ fn survey_inside(
     let rows = (j1 - j0) as u64 + 1;
     let count = room.len();
     if count as u64 != rows * columns {
-        return Err(Refusal::WrongLength);
+        return Surveyed::Refused(Refusal::WrongLength);
     }
     let layout = Layout {
         base: ByteAddress(base),
@@ -126,24 +152,12 @@ fn survey_inside(
         size: SIZE,
         tiled,
     };
-    let accepted = layout::judge(layout)?;
-    survey_judged(
-        base,
-        pitch,
-        height,
-        tiled,
-        accepted.step,
-        accepted.span,
-        test,
-        v,
-        i0,
-        j0,
-        i1,
-        j1,
-        memory,
-        first,
-        room,
-    )
+    match layout::judge(layout) {
+        Judged::Refused(why) => Surveyed::Refused(why),
+        Judged::Accepted { step, span } => survey_judged(
+            base, pitch, height, tiled, step, span, test, v, i0, j0, i1, j1, memory, first, room,
+        ),
+    }
 }
 
 // A survey of a layout's domain; 5, then 3, 6 or 10, then 11. A domain in order is inside where its last pair is.
@@ -161,14 +175,14 @@ fn survey_in(
     memory: &[u8],
     first: u32,
     room: &mut [u8],
-) -> Result<u32, Refusal>
+) -> Surveyed
     ensures { SurveyedIn (layout_of base pitch height 2 tiled) test v first memory.now i0 j0 i1 j1 (told_surveyed result) room.old room.new }
 {
     if i1 < i0 {
-        return Err(Refusal::DomainCrossed);
+        return Surveyed::Refused(Refusal::DomainCrossed);
     }
     if j1 < j0 {
-        return Err(Refusal::DomainCrossed);
+        return Surveyed::Refused(Refusal::DomainCrossed);
     }
     let layout = Layout {
         base: ByteAddress(base),
@@ -177,10 +191,12 @@ fn survey_in(
         size: SIZE,
         tiled,
     };
-    let _ = address::translate(layout, i1, j1)?;
-    survey_inside(
-        base, pitch, height, tiled, test, v, i0, j0, i1, j1, memory, first, room,
-    )
+    match address::translate(layout, i1, j1) {
+        Translated::Refused(why) => Surveyed::Refused(why),
+        Translated::At { address: _, run: _ } => survey_inside(
+            base, pitch, height, tiled, test, v, i0, j0, i1, j1, memory, first, room,
+        ),
+    }
 }
 
 // The test of one pair with what a session's settings are now. 7 where no conditional buffer or no test is set; 3 for another format than
@@ -192,18 +208,18 @@ pub fn test(
     y: u32,
     memory: &[u8],
     first: ByteAddress,
-) -> Result<bool, Refusal>
+) -> Tested
     ensures { told_tested result ≡ test_of (shared_of shared.now) v first.0 memory.now x y }
 {
     let buffer = queries::conditional(shared);
     if !buffer.present {
-        return Err(Refusal::StartUnset);
+        return Tested::Refused(Refusal::StartUnset);
     }
     if !queries::has_test(shared) {
-        return Err(Refusal::StartUnset);
+        return Tested::Refused(Refusal::StartUnset);
     }
     if command::format::code(buffer.format) != UINT16_1 {
-        return Err(Refusal::Malformed);
+        return Tested::Refused(Refusal::Malformed);
     }
     let layout = Layout {
         base: ByteAddress(buffer.base),
@@ -228,21 +244,21 @@ pub fn survey(
     memory: &[u8],
     first: u32,
     room: &mut [u8],
-) -> Result<u32, Refusal>
+) -> Surveyed
     ensures { SurveyedBy (shared_of shared.now) v first memory.now i0 j0 i1 j1 (told_surveyed result) room.old room.new }
 {
     let buffer = queries::conditional(shared);
     if !buffer.present {
-        return Err(Refusal::StartUnset);
+        return Surveyed::Refused(Refusal::StartUnset);
     }
     if !queries::has_test(shared) {
-        return Err(Refusal::StartUnset);
+        return Surveyed::Refused(Refusal::StartUnset);
     }
     let base = buffer.base;
     let format = buffer.format;
     let height = buffer.height;
     if command::format::code(format) != UINT16_1 {
-        return Err(Refusal::Malformed);
+        return Surveyed::Refused(Refusal::Malformed);
     }
     let pitch = command::format::pitch(format);
     let tiled = command::format::tiled(format);

@@ -2,12 +2,21 @@
 // that order), with what passed in a room that the caller lends. A refusal touches no room, and the settings are only read.
 #![tactic(auto)]
 
+ghost use Rattle.std.specs.Prelude.{◌≡◌};
+ghost use Rattle.laws.specs.Masks.{digit};
 ghost use Rattle.state.specs.Cells.{shared_of};
 ghost use Rattle.refusal.specs.Crossing.{Crosses};
 ghost use Rattle.conditional.specs.Conditional.{test_of};
 ghost use Rattle.conditional_rooms.specs.Rooms.{SurveyCrosses};
 
+use conditional::{Surveyed, Tested};
 use layout::ByteAddress;
+
+fn flag_of(passed: bool) -> u32
+    ensures { result ≡ digit passed }
+{
+    if passed { 1 } else { 0 }
+}
 
 // Whether the test passes at a pair, as 1 or 0; 7, 3, 10 or 11.
 pub fn test(
@@ -22,9 +31,9 @@ pub fn test(
     ensures { Crosses (test_of (shared_of shared.now) value first memory.now x y) result passed.old passed.new }
 {
     match conditional::test(shared, value, x, y, memory, ByteAddress(first)) {
-        Err(why) => u32::from(why),
-        Ok(result) => {
-            *passed = [u32::from(result)];
+        Tested::Refused(why) => u32::from(why),
+        Tested::Result(result) => {
+            *passed = [flag_of(result)];
             0
         }
     }
@@ -46,8 +55,8 @@ pub fn survey(
     ensures { SurveyCrosses (shared_of shared.now) value first memory.now i0 j0 i1 j1 result room.old room.new passed.old passed.new }
 {
     match conditional::survey(shared, value, i0, j0, i1, j1, memory, first, room) {
-        Err(why) => u32::from(why),
-        Ok(count) => {
+        Surveyed::Refused(why) => u32::from(why),
+        Surveyed::Passed(count) => {
             *passed = [count];
             0
         }

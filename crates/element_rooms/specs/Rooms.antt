@@ -2,7 +2,6 @@
 use Rattle.std.specs.Prelude.{◌≡◌, List, ℕ}
 use Rattle.refusal.specs.Told.{Told, gives, refuses}
 use Rattle.layout.specs.declared.Layout.{Layout}
-use Rattle.address.specs.Address.{layout_of}
 use Rattle.memory.specs.Elements.{write_of, memory_after}
 use Rattle.memory.specs.Answers.{count_told, filled}
 use Rattle.refusal.specs.Crossing.{Crosses, status_of}
@@ -11,10 +10,6 @@ use Rattle.refusal.specs.Crossing.{Crosses, status_of}
 abbrev pub in_sixteen : Told → Told
 in_sixteen (gives values) = gives (filled (gives values))
 in_sixteen (refuses number) = refuses number
-
--- a layout with its size in place of the one that it has
-abbrev pub of_size : ℕ → Layout → Layout
-of_size s l = layout_of l.base.0 l.pitch l.height s l.tiled
 
 pub record SuperfineCrosses (t : Told) (r : ℕ) (bytes bytes' count count' : List ℕ) : Type 0 where
   pub answer : Crosses (in_sixteen t) r bytes bytes'

@@ -1,5 +1,4 @@
 pub mod Powers
 pub mod Rows
 pub mod Sizes
-pub mod Strides
 pub mod Window

@@ -1,12 +1,11 @@
 -- Document 01, "Layouts and windows": when a layout is accepted, its row step and its span. Assumes nothing.
-use Rattle.std.specs.Prelude.{Bool, Result, Ok, Err, [], ◌∷◌, ℕ, zero, suc, ◌+◌, ◌-◌, ◌*◌, ◌/◌, ◌%◌, ◌^◌, leb, eqb}
+use Rattle.std.specs.Prelude.{Bool, [], ◌∷◌, ℕ, ◌+◌, ◌-◌, ◌*◌, ◌/◌, ◌%◌, ◌^◌, leb, eqb}
 use Rattle.laws.specs.Choice.{◌and◌, pick}
 use Rattle.refusal.specs.Number.{number_of}
 use Rattle.refusal.specs.Told.{Told, gives, refuses}
 use Rattle.layout.specs.Sizes.{is_size, width_of, height_of}
-use Rattle.refusal.specs.declared.Refusal.{Refusal}
-use Rattle.refusal.specs.declared.Refusal.TheVariants.{WindowRule}
-use Rattle.layout.specs.declared.Accepted.{Accepted}
+use Rattle.layout.specs.declared.Judged.{Judged}
+use Rattle.layout.specs.declared.Judged.TheVariants.{Accepted, Refused}
 
 -- "Base is a multiple of 2,048, pitch a multiple of 4 up to 8,188, else 3"; a size is one of the five
 unfoldable pub well_formed : ℕ → ℕ → ℕ → Bool
@@ -45,11 +44,6 @@ unfoldable pub stride_of : ℕ → ℕ → ℕ → ℕ → Bool → ℕ
 stride_of base pitch h s tiled =
     pick (window_rule base tiled s (row_step tiled s pitch) h) (row_step tiled s pitch * s) 0
 
--- the stride as an answer: 6 where there is none
-abbrev pub strided : ℕ → Result ℕ Refusal
-strided zero = Err WindowRule
-strided (suc n) = Ok (suc n)
-
 -- "A layout (base, pitch, height, size, linear or tiled) is accepted when it gets neither 3 nor 6": its row step and span
 unfoldable pub judge_of : ℕ → ℕ → ℕ → ℕ → Bool → Told
 judge_of base pitch h s tiled =
@@ -60,6 +54,6 @@ judge_of base pitch h s tiled =
     (refuses 3)
 
 -- what the judgement of a layout tells, case by case
-abbrev pub told_judged : Result Accepted Refusal → Told
-told_judged (Ok taken) = gives (taken.step ∷ taken.span ∷ [])
-told_judged (Err why) = refuses (number_of why)
+abbrev pub told_judged : Judged → Told
+told_judged (Accepted step span) = gives (step ∷ span ∷ [])
+told_judged (Refused why) = refuses (number_of why)

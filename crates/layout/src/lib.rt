@@ -6,7 +6,7 @@ ghost use Rattle.std.specs.Prelude.{◌≡◌, true, ◌*◌, ◌/◌, ◌^◌, 
 ghost use Rattle.laws.specs.Choice.{pick};
 ghost use Rattle.layout.specs.Sizes.{is_size, width_of, height_of};
 ghost use Rattle.layout.specs.Powers.{power_at, Powers};
-ghost use Rattle.layout.specs.Layout.{well_formed, unit_of, row_step, rows_taken, stride_of, strided, judge_of, told_judged};
+ghost use Rattle.layout.specs.Layout.{well_formed, unit_of, row_step, rows_taken, stride_of, judge_of, told_judged};
 ghost use Rattle.layout.specs.Asked.{StrideAsked};
 
 use refusal::Refusal;
@@ -27,11 +27,11 @@ pub struct Layout {
     pub tiled: bool,
 }
 
-// What a layout that is accepted has: its row step (document 01's E) and its span.
-#[derive(Clone, Copy)]
-pub struct Accepted {
-    pub step: u32,
-    pub span: u32,
+// A layout's row step (document 01's E) and span, or the refusal.
+#[derive(Drop)]
+pub enum Judged {
+    Accepted { step: u32, span: u32 },
+    Refused(Refusal),
 }
 
 // Bases are multiples of 2,048, pitches of 4 and at most 8,188.
@@ -78,30 +78,33 @@ const ALL_ONE: u64 = 0;
 pub fn is_size(size: u32) -> bool
     ensures { result ≡ is_size size }
 {
-    size <= SIZE_MOST && (SIZE_BITS >> size) % 2 == 1
+    if SIZE_MOST < size {
+        return false;
+    }
+    (SIZE_BITS >> size) % 2 == 1
 }
 
-// A tile's width and height in elements.
-#[derive(Clone, Copy)]
-struct Tile {
-    width: u32,
-    height: u32,
-}
-
-// The tile of a size, from the tables; 0 by 0 for what is no size.
-fn tile_of(size: u32) -> Tile
-    ensures width { result.width ≡ width_of size }
-    ensures height { result.height ≡ height_of size }
+// The width of a size's tile, from the table; 0 for what is no size.
+fn tile_width(size: u32) -> u32
+    ensures { result ≡ width_of size }
 {
-    match tables::size_line(size) {
-        Some(line) => Tile {
-            width: tables::tile_width_at(line),
-            height: tables::tile_height_at(line),
-        },
-        None => Tile {
-            width: 0,
-            height: 0,
-        },
+    let line = tables::size_line(size);
+    if line < tables::SIZE_LINES {
+        tables::tile_width_at(line)
+    } else {
+        0
+    }
+}
+
+// The height of a size's tile, from the table; 0 for what is no size.
+fn tile_height(size: u32) -> u32
+    ensures { result ≡ height_of size }
+{
+    let line = tables::size_line(size);
+    if line < tables::SIZE_LINES {
+        tables::tile_height_at(line)
+    } else {
+        0
     }
 }
 
@@ -109,7 +112,13 @@ fn tile_of(size: u32) -> Tile
 pub fn well_formed(base: u32, pitch: u32, size: u32) -> bool
     ensures { result ≡ well_formed base pitch size }
 {
-    if base % BASE_UNIT != 0 || pitch % PITCH_UNIT != 0 || PITCH_MOST < pitch {
+    if base % BASE_UNIT != 0 {
+        return false;
+    }
+    if pitch % PITCH_UNIT != 0 {
+        return false;
+    }
+    if PITCH_MOST < pitch {
         return false;
     }
     is_size(size)
@@ -124,7 +133,6 @@ fn power_at(powers: u64, size: u32) -> u32
 }
 
 // The powers of what row steps are multiples of.
-// Kept (design pass 2, no plainer): this and the like for strides and rows are a choice each, and a clause of its own on two numbers.
 fn step_logs(tiled: bool) -> u64
     ensures { Powers result (unit_of tiled) }
 {
@@ -181,55 +189,76 @@ pub fn rows_taken(height: u32, size: u32, tiled: bool) -> u32
     (height + ((1u32 << log) - 1)) >> log << log
 }
 
-// The stride, or 6 where the window rule is broken, by the powers of what strides and rows are multiples of. A stride is at most 2^16
-// and a window has 2^12 rows, so the span is at most 2^28. It is expanded where it is called, so that no answer goes through memory.
-#[inline(always)]
-fn stride_by(layout: Layout, stride_log: u32, rows_log: u32) -> Result<u32, Refusal>
-    requires { StrideAsked layout.base.0 layout.pitch layout.size layout.tiled stride_log rows_log }
-    ensures { result ≡ strided (stride_of layout.base.0 layout.pitch layout.height layout.size layout.tiled) }
+// The stride, or 0 where the window rule is broken, by the powers of what strides and rows are multiples of. It is a number, so
+// that it stays in a register; a stride is at most 2^16 and a window has 2^12 rows, so the span is at most 2^28.
+fn stride_by(
+    base: u32,
+    pitch: u32,
+    height: u32,
+    size: u32,
+    tiled: bool,
+    stride_log: u32,
+    rows_log: u32,
+) -> u32
+    requires { StrideAsked base pitch size tiled stride_log rows_log }
+    ensures { result ≡ stride_of base pitch height size tiled }
 {
-    let Layout {
-        base: ByteAddress(base),
-        pitch,
-        height,
-        size,
-        tiled: _,
-    } = layout;
     let stride = pitch * size >> stride_log << stride_log;
-    if stride < 1 || SIDE_MOST * size < stride || height < 1 || SIDE_MOST < height {
-        return Err(Refusal::WindowRule);
+    if stride < 1 {
+        return 0;
+    }
+    if SIDE_MOST * size < stride {
+        return 0;
+    }
+    if height < 1 {
+        return 0;
+    }
+    if SIDE_MOST < height {
+        return 0;
     }
     let rows = (height + ((1u32 << rows_log) - 1)) >> rows_log << rows_log;
     // base plus span is at most 2^32, asked so that nothing wraps
     if LAST_ADDRESS - base < rows * stride - 1 {
-        return Err(Refusal::WindowRule);
+        return 0;
     }
-    Ok(stride)
+    stride
 }
 
-// The stride, document 01's E in bytes: the bytes from one row to the next; or 6 where the window rule is broken. For the windows of
-// a stream, which can't be foretold: no branch on the kind.
-#[inline(always)]
-pub fn stream_stride(layout: Layout) -> Result<u32, Refusal>
-    requires { well_formed layout.base.0 layout.pitch layout.size ≡ true }
-    ensures { result ≡ strided (stride_of layout.base.0 layout.pitch layout.height layout.size layout.tiled) }
+// The stride, document 01's E in bytes: the bytes from one row to the next; or 0 where the window rule is broken. For callers
+// whose layouts are mostly alike, so that a branch is guessed and a linear stride waits for nothing but its pitch.
+pub fn window_stride(base: u32, pitch: u32, height: u32, size: u32, tiled: bool) -> u32
+    requires { well_formed base pitch size ≡ true }
+    ensures { result ≡ stride_of base pitch height size tiled }
 {
-    let stride_log = stride_log(layout.size, layout.tiled);
-    let rows_log = rows_log(layout.size, layout.tiled);
-    stride_by(layout, stride_log, rows_log)
-}
-
-// The same for callers whose layouts are mostly alike, so that a branch is guessed and a linear stride waits for nothing but its pitch.
-#[inline(always)]
-pub fn window_stride(layout: Layout) -> Result<u32, Refusal>
-    requires { well_formed layout.base.0 layout.pitch layout.size ≡ true }
-    ensures { result ≡ strided (stride_of layout.base.0 layout.pitch layout.height layout.size layout.tiled) }
-{
-    if layout.tiled {
-        stream_stride(layout)
+    if tiled {
+        stride_by(
+            base,
+            pitch,
+            height,
+            size,
+            true,
+            stride_log(size, true),
+            rows_log(size, true),
+        )
     } else {
-        stride_by(layout, LINEAR_UNIT_LOG, 0)
+        stride_by(base, pitch, height, size, false, LINEAR_UNIT_LOG, 0)
     }
+}
+
+// The same for the windows of a stream, which can't be foretold: no branch.
+pub fn stream_stride(base: u32, pitch: u32, height: u32, size: u32, tiled: bool) -> u32
+    requires { well_formed base pitch size ≡ true }
+    ensures { result ≡ stride_of base pitch height size tiled }
+{
+    stride_by(
+        base,
+        pitch,
+        height,
+        size,
+        tiled,
+        stride_log(size, tiled),
+        rows_log(size, tiled),
+    )
 }
 
 // What row steps are multiples of, by the table.
@@ -238,14 +267,13 @@ fn unit(size: u32, tiled: bool) -> u32
     ensures { result ≡ unit_of tiled size }
 {
     if tiled {
-        tile_of(size).width
+        tile_width(size)
     } else {
         LINEAR_UNIT / size
     }
 }
 
 // The row step by the table, for what runs less often.
-// Kept (design pass 2, no plainer): this and `table_rows` say by division, over the printed table, what `row_step` and `rows_taken` say by shifts.
 fn table_step(pitch: u32, size: u32, tiled: bool) -> u32
     requires { is_size size ≡ true }
     ensures { result ≡ row_step tiled size pitch }
@@ -258,7 +286,7 @@ fn table_step(pitch: u32, size: u32, tiled: bool) -> u32
 fn rows_unit(size: u32, tiled: bool) -> u32
     ensures { result ≡ pick tiled (height_of size) 1 }
 {
-    if tiled { tile_of(size).height } else { 1 }
+    if tiled { tile_height(size) } else { 1 }
 }
 
 // The rows that a window's bytes make up, by the table.
@@ -271,17 +299,25 @@ fn table_rows(height: u32, size: u32, tiled: bool) -> u32
 }
 
 // A layout's row step and span, by the tables; or 3 where base, pitch or size is malformed, or 6 where the window rule is broken.
-pub fn judge(layout: Layout) -> Result<Accepted, Refusal>
+pub fn judge(layout: Layout) -> Judged
     ensures { told_judged result ≡ judge_of layout.base.0 layout.pitch layout.height layout.size layout.tiled }
 {
-    if !well_formed(layout.base.0, layout.pitch, layout.size) {
-        return Err(Refusal::Malformed);
+    let base = layout.base.0;
+    let pitch = layout.pitch;
+    let height = layout.height;
+    let size = layout.size;
+    let tiled = layout.tiled;
+    if !well_formed(base, pitch, size) {
+        return Judged::Refused(Refusal::Malformed);
     }
-    let stride = window_stride(layout)?;
-    let step = table_step(layout.pitch, layout.size, layout.tiled);
-    let rows = table_rows(layout.height, layout.size, layout.tiled);
-    Ok(Accepted {
+    let stride = window_stride(base, pitch, height, size, tiled);
+    if stride < 1 {
+        return Judged::Refused(Refusal::WindowRule);
+    }
+    let step = table_step(pitch, size, tiled);
+    let rows = table_rows(height, size, tiled);
+    Judged::Accepted {
         step,
         span: rows * stride,
-    })
+    }
 }

@@ -7,25 +7,19 @@ use native.Mathlib.Omega.{arith}
 use lib.ListN.{length, take, drop}
 use borrow.Author.Tests.{eq-eqb, ne_eqb}
 use borrow.Rule.Slice.PartMut.{post_of, mid_len}
+use Rattle.laws.specs.Choice.{◌and◌}
 use Rattle.laws.proofs.Choice.{and_intro, and_right, and_no_left}
-use Rattle.refusal.specs.Number.{number_of}
 use Rattle.refusal.specs.Told.{Told, gives, refuses}
 use Rattle.layout.specs.declared.Layout.{Layout}
-use Rattle.memory.specs.Answers.{Answered, count_told}
+use Rattle.memory.specs.Answers.{Answered}
 use Rattle.memory.specs.Elements.{bytes_at, read_of, write_of, overwritten, memory_after, Wrote, find_of}
 use Rattle.memory.specs.declared.Reading.{Reading}
-use Rattle.refusal.specs.declared.Refusal.{Refusal}
-use Rattle.std.specs.Prelude.{Result, Err}
 use Rattle.memory.proofs.Copies.{put_back}
 use Rattle.memory.proofs.Places.{found, not_found}
 
 -- a reading tells whatever is the same
-pub told_so : {t u : Told} {r : Result Reading Refusal} → t ≡ u → Answered u r → Answered t r
+pub told_so : {t u : Told} {r : Reading} → t ≡ u → Answered u r → Answered t r
 told_so {t} {u} {r} e a = subst (λ (v : Told). Answered v r) (sym e) a
-
--- a refusal tells its number, and has nothing besides
-pub refused_so : {t : Told} {why : Refusal} → t ≡ refuses (number_of why) → Answered t (Err why)
-refused_so e = record { told = sym e; count = ap count_told (sym e); whole = tt; bytes = tt }
 
 module _ (l : Layout) (x y first n p : ℕ) (told : find_of l x y first n ≡ gives (p ∷ [])) where
   pub ends_inside : p + l.size ≤ n

@@ -10,7 +10,7 @@ use borrow.Rule.Slice.PartMut.{post_of, Post-is}
 use Rattle.refusal.specs.Told.{gives}
 use Rattle.memory.specs.Answers.{filled, Answered}
 use Rattle.memory.specs.Elements.{overwritten}
-use Rattle.std.specs.Prelude.{Ok}
+use Rattle.memory.specs.declared.Answer.TheVariants.{Bytes}
 
 -- one byte more
 pub copy_step :
@@ -71,7 +71,7 @@ zeros_left k n h =
 -- a reading whose bytes are `v`, then zeros
 pub reading_of :
     (v b : List ℕ) (n : ℕ) → n ≡ length v → length v ≤ 16 → b ≡ v ++ drop (length v) (zeros 16) →
-    Answered (gives v) (Ok (record { count = n; bytes = b }))
+    Answered (gives v) (record { answer = Bytes n; bytes = b })
 unfolding filled
 reading_of v b n en fits eb =
     record {
@@ -89,5 +89,5 @@ reading_of v b n en fits eb =
 
 pub reading_of_one :
     (v b : List ℕ) → length v ≤ 16 → b ≡ overwritten 0 v (zeros 16) →
-    Answered (gives v) (Ok (record { count = length v; bytes = b }))
+    Answered (gives v) (record { answer = Bytes (length v); bytes = b })
 reading_of_one v b fits eb = reading_of v b (length v) refl fits (grown (zeros 16) [] v (zeros 16) b 0 refl refl eb)

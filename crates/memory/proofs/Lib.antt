@@ -1,7 +1,6 @@
 pub mod Bytes
 pub mod Calls
 pub mod Copies
-pub mod Least
 pub mod Overwritten
 pub mod Pairs
 pub mod Places

@@ -6,7 +6,7 @@ use mathlib.Core.List.{List, [], ◌∷◌}
 use Prim.Native.Nat.{ℕ, ◌+◌, ◌^◌, ◌<◌}
 use native.Mathlib.Omega.{arith}
 use borrow.Author.Tests.{ltb-true}
-use Rattle.laws.specs.Choice.{pick}
+use Rattle.laws.specs.Choice.{◌and◌, pick}
 use Rattle.laws.proofs.Choice.{pick_yes, pick_no, and_left, and_right, Tested, tested, holds, fails}
 use Rattle.refusal.specs.Told.{Told, gives, refuses}
 use Rattle.layout.specs.Layout.{well_formed, window_rule}

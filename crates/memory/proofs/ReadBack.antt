@@ -9,6 +9,7 @@ use native.Mathlib.Omega.{arith}
 use lib.Dec.{leb, eqb}
 use lib.ListN.{length, take, drop}
 use borrow.Author.Tests.{eqb-true, leb-true, leb-false}
+use Rattle.laws.specs.Choice.{◌and◌}
 use Rattle.laws.proofs.Choice.{and_right, and_no_left, Tested, tested, holds, fails}
 use Rattle.refusal.specs.Told.{Told, gives}
 use Rattle.layout.specs.declared.Layout.{Layout}

@@ -1,12 +1,15 @@
 -- Document 01: reads and writes of elements in lent memory. "Lent memory is up to 65,536 bytes standing at a given first
 -- address." "Order for all of these: 3, 6, 10, 11, 12." Assumes nothing.
-use Rattle.std.specs.Prelude.{◌≡◌, Bool, List, [], ◌∷◌, ◌++◌, ℕ, ◌+◌, ◌-◌, ◌^◌, leb, eqb, length, take, drop, Result, Ok, Err, ⊤}
+use Rattle.std.specs.Prelude.{◌≡◌, Bool, List, [], ◌∷◌, ◌++◌, ℕ, ◌+◌, ◌-◌, ◌^◌, leb, eqb, length, take, drop}
 use Rattle.laws.specs.Choice.{◌and◌, pick}
 use Rattle.refusal.specs.Number.{number_of}
 use Rattle.refusal.specs.Told.{Told, gives, refuses}
-use Rattle.refusal.specs.declared.Refusal.{Refusal}
 use Rattle.layout.specs.declared.Layout.{Layout}
 use Rattle.address.specs.Address.{if_accepted, inside, address_of}
+use Rattle.memory.specs.declared.Written.{Written}
+use Rattle.memory.specs.declared.Written.TheVariants as written
+use Rattle.memory.specs.declared.place.Place.{Place}
+use Rattle.memory.specs.declared.place.Place.TheVariants as place
 
 -- "Lent memory is up to 65,536 bytes"
 abbrev pub most_bytes : ℕ
@@ -67,10 +70,10 @@ find_of l x y first n =
     if_accepted l (in_order (inside l x y) (held_at l x y first n) (gives ((address_of l x y - first) ∷ [])))
 
 -- what the answers tell, case by case
-abbrev pub told_place : Result ℕ Refusal → Told
-told_place (Ok a) = gives (a ∷ [])
-told_place (Err why) = refuses (number_of why)
+abbrev pub told_place : Place → Told
+told_place (place.At a) = gives (a ∷ [])
+told_place (place.Refused why) = refuses (number_of why)
 
-abbrev pub told_written : Result ⊤ Refusal → Told
-told_written (Ok _) = gives []
-told_written (Err why) = refuses (number_of why)
+abbrev pub told_written : Written → Told
+told_written written.Done = gives []
+told_written (written.Refused why) = refuses (number_of why)

@@ -8,32 +8,44 @@ pub mod place;
 ghost use Rattle.memory.specs.Answers.{Answered};
 ghost use Rattle.memory.specs.Elements.{read_of, Wrote, told_written};
 
+use crate::place::Place;
 use layout::{ByteAddress, Layout};
 use refusal::Refusal;
 
-// What a read answers: how many bytes were read, and the bytes, which stand at the front in the order of their addresses, with
-// zeros after them.
-#[derive(Clone, Copy, Debug, PartialEq, Eq)]
+#[derive(Clone, Copy)]
+pub enum Answer {
+    // How many bytes were read.
+    Bytes(usize),
+    Refused(Refusal),
+}
+
+// What a read answers. The bytes stand at the front, in the order of their addresses, and zeros after them. A refusal has
+// zeros alone.
+#[derive(Clone, Copy)]
 pub struct Reading {
-    pub count: usize,
+    pub answer: Answer,
     pub bytes: [u8; 16],
+}
+
+#[derive(Drop)]
+pub enum Written {
+    Done,
+    Refused(Refusal),
 }
 
 // The bytes of the element at (x, y) as they stand in memory whose first byte is at `first`; or 3 and 6 for a layout that
 // isn't accepted, 10 for a pair outside its window, 11 where memory is too long, ends too high or doesn't hold the whole
 // element.
-pub fn read(
-    layout: Layout,
-    x: u32,
-    y: u32,
-    memory: &[u8],
-    first: ByteAddress,
-) -> Result<Reading, Refusal>
+pub fn read(layout: Layout, x: u32, y: u32, memory: &[u8], first: ByteAddress) -> Reading
     ensures { Answered (read_of layout x y first.0 memory.now) result }
 {
-    let at = place::find(layout, x, y, first, memory.len())?;
-    let size = layout.size as usize;
-    Ok(copy::one(&memory[at..at + size]))
+    match place::find(layout, x, y, first, memory.len()) {
+        Place::Refused(why) => copy::refused(why),
+        Place::At(a) => {
+            let size = layout.size as usize;
+            copy::one(&memory[a..a + size])
+        }
+    }
 }
 
 // Stores the element at (x, y), whose bytes are `given`, and touches no other byte of memory; or refuses as `read` does, also
@@ -45,14 +57,18 @@ pub fn write(
     memory: &mut [u8],
     first: ByteAddress,
     given: &[u8],
-) -> Result<(), Refusal>
+) -> Written
     ensures { Wrote layout x y first.0 given.now (told_written result) memory.old memory.new }
 {
-    let at = place::find(layout, x, y, first, memory.len())?;
-    let size = layout.size as usize;
-    if given.len() != size {
-        return Err(Refusal::WrongLength);
+    match place::find(layout, x, y, first, memory.len()) {
+        Place::Refused(why) => Written::Refused(why),
+        Place::At(a) => {
+            let size = layout.size as usize;
+            if given.len() != size {
+                return Written::Refused(Refusal::WrongLength);
+            }
+            copy::store(&mut memory[a..a + size], given);
+            Written::Done
+        }
     }
-    copy::store(&mut memory[at..at + size], given);
-    Ok(())
 }

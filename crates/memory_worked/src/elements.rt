@@ -1,8 +1,8 @@
 // Elements in lent memory: windows written pair by pair and read back, memory of every length and place that decides, data
 // of every wrong length, and superfine reads.
-use layout::{Accepted, ByteAddress, Layout};
-use memory::Reading;
-use refusal::Refusal;
+use address::{Located, Translated};
+use layout::{ByteAddress, Judged, Layout};
+use memory::{Answer, Reading, Written};
 use std::io;
 use worked::tally::Tally;
 use worked::windows::{linear, tiled, window_of};
@@ -34,35 +34,34 @@ fn element(x: u32, y: u32) -> [u8; 16] {
 // What a memory at `first` of `length` bytes must make of a pair's element: 0 where it holds it, or the number.
 fn expected(layout: Layout, x: u32, y: u32, first: u32, length: usize) -> u32 {
     match address::translate(layout, x, y) {
-        Err(why) => u32::from(why),
-        Ok(found) => {
+        Translated::Refused(why) => u32::from(why),
+        Translated::At { address, run: _ } => {
             if 65536 < length {
                 return 11;
             }
             let begin = first as u64;
             let end = begin + length as u64;
-            let at = found.address.0 as u64;
+            let at = address.0 as u64;
             let held = end <= 4294967296 && (begin <= at && at + layout.size as u64 <= end);
             if held { 0 } else { 11 }
         }
     }
 }
 
-fn number(w: Result<(), Refusal>) -> u32 {
+fn number(w: Written) -> u32 {
     match w {
-        Ok(()) => 0,
-        Err(why) => u32::from(why),
+        Written::Done => 0,
+        Written::Refused(why) => u32::from(why),
     }
 }
 
-// Whether a read answers just these bytes, or refuses with the number.
-fn reads(r: Result<Reading, Refusal>, wanted: u32, bytes: [u8; 16], size: usize) -> bool {
-    match r {
-        Ok(reading) => {
-            let got = reading.bytes;
-            wanted == 0 && (reading.count == size && same(got, bytes, size))
-        }
-        Err(why) => u32::from(why) == wanted,
+// Whether a reading has just these bytes, or refuses with the number and has none.
+fn reads(r: Reading, wanted: u32, bytes: [u8; 16], size: usize) -> bool {
+    let got = r.bytes;
+    let answer = r.answer;
+    match answer {
+        Answer::Bytes(n) => wanted == 0 && (n == size && same(got, bytes, n)),
+        Answer::Refused(why) => u32::from(why) == wanted && same(got, [0; 16], 16),
     }
 }
 
@@ -134,7 +133,7 @@ fn untouched(layout: Layout, memory: &[u8], first: u32) -> Tally {
     let mut differed = 0u64;
     for k in 0..memory.len() {
         let at = std::num::wrapping_add_u32(first, (k % 65536) as u32);
-        if let Err(_) = address::locate(layout, ByteAddress(at)) {
+        if let Located::Refused(_) = address::locate(layout, ByteAddress(at)) {
             if memory[k] != pattern(k) {
                 differed = std::num::wrapping_add_u64(differed, 1);
             }
@@ -147,12 +146,12 @@ fn untouched(layout: Layout, memory: &[u8], first: u32) -> Tally {
 fn written(layout: Layout, memory: &mut [u8], first: u32) -> Tally {
     fill(memory);
     match layout::judge(layout) {
-        Ok(Accepted { step, span: _ }) => {
+        Judged::Accepted { step, span: _ } => {
             let t = rows(layout, step, memory, first);
             let t = t.and(rows_again(layout, step, memory, first));
             t.and(untouched(layout, memory, first))
         }
-        Err(_) => Tally::new().with(false),
+        Judged::Refused(_) => Tally::new().with(false),
     }
 }
 
@@ -229,8 +228,8 @@ fn lent(t: Trial, memory: &mut [u8]) -> Tally {
     let size = t.layout.size as usize;
     let wanted = expected(t.layout, t.x, t.y, t.first, memory.len());
     let mut from = 0;
-    if let Ok(found) = address::translate(t.layout, t.x, t.y) {
-        from = std::num::wrapping_sub_u32(found.address.0, t.first);
+    if let Translated::At { address, run: _ } = address::translate(t.layout, t.x, t.y) {
+        from = std::num::wrapping_sub_u32(address.0, t.first);
     }
     let bytes = bytes_from(memory, from as usize);
     let got = memory::read(t.layout, t.x, t.y, memory, first);
@@ -321,11 +320,8 @@ fn sooner(a: u32, b: u32) -> u32 {
 }
 
 // Whether a superfine read has the read of a pair from a place on.
-fn channel(r: Reading, from: usize, size: usize, one: Result<Reading, Refusal>) -> bool {
+fn channel(r: Reading, from: usize, size: usize, one: Reading) -> bool {
     let all = r.bytes;
-    let Ok(one) = one else {
-        return false;
-    };
     let part = one.bytes;
     let mut agree = true;
     for k in 0..4 {
@@ -356,7 +352,7 @@ fn channels(layout: Layout, f: Fine, memory: &[u8], r: Reading) -> bool {
 }
 
 fn four_expected(layout: Layout, f: Fine, length: usize) -> u32 {
-    if let Err(why) = layout::judge(layout) {
+    if let Judged::Refused(why) = layout::judge(layout) {
         return u32::from(why);
     }
     if f.x == 4294967295 || f.y == 4294967295 {
@@ -392,10 +388,11 @@ fn superfine(f: Fine, memory: &[u8]) -> bool {
         linear(size, f.base, f.pitch, f.height)
     };
     let wanted = four_expected(layout, f, memory.len());
-    match r {
-        Ok(reading) => wanted == 0
-            && (reading.count == size as usize * 4 && channels(layout, f, memory, reading)),
-        Err(why) => u32::from(why) == wanted,
+    let answer = r.answer;
+    match answer {
+        Answer::Bytes(n) => wanted == 0
+            && (n == size as usize * 4 && channels(layout, f, memory, r)),
+        Answer::Refused(_) => reads(r, wanted, [0; 16], 0),
     }
 }
 

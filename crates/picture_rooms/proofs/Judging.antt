@@ -12,10 +12,6 @@ use borrow.Author.Tests.{eqb-true, eqb-false, eq-eqb, ne_eqb, leb-true, le-leb, 
 use Rattle.laws.specs.Below.{every}
 use Rattle.laws.specs.Choice.{◌and◌, pick}
 use Rattle.laws.proofs.Choice.{pick_yes, pick_no, and_intro, and_left, and_right, and_no_left, and_no_right, Tested, tested, holds, fails}
-use Rattle.std.specs.Prelude.{Result, Ok, Err, ⊤}
-use Rattle.refusal.specs.Number.{number_of}
-use Rattle.refusal.specs.declared.Refusal.{Refusal}
-use Rattle.refusal.specs.declared.Refusal.TheVariants.{Stopped, UnknownHeader, Malformed, NumberTooHigh, DomainCrossed, WindowRule, StartUnset, DomainOutside, SpansShared, PairOutside, WrongLength, Unowned, FlowField, AtLimit, PastEnd, Ended, WordLimit, RecordKind, MidnightDay, NotOwned, LeaseLine, TooManyLogs}
 use Rattle.refusal.specs.Told.{Told, gives, refuses}
 use Rattle.refusal.specs.Crossing.{status_of}
 use Rattle.layout.specs.Layout.{well_formed, window_rule, span_of, judge_of}
@@ -24,7 +20,7 @@ use Rattle.layout.proofs.Window.{rule_bounds, size_most, form_size}
 use Rattle.address.specs.Address.{step_of, if_accepted, inside}
 use Rattle.address.specs.Inverse.{Accepted}
 use Rattle.address.proofs.Inverse.{answered}
-use Rattle.memory.specs.Elements.{in_order, told_written}
+use Rattle.memory.specs.Elements.{in_order}
 use Rattle.picture.specs.Picture.{end_of}
 use Rattle.rectangles.specs.Bulk.{all_within, RectLent}
 use Rattle.rectangles.proofs.Inside.{corners}
@@ -294,38 +290,3 @@ no_spots w h s room e small some = go (tested (eqb w 0)) (tested (eqb h 0))
         let ps : 1 ≤ s = omega (arith, some) in
         let b : 1 * 1 ≤ w * h * s = mul-le-mul pa ps in
         absurd (omega (arith, b, e, small))
-
--- the status of a judgement that is known
-pub refused_as : {r : Result ⊤ Refusal} {why : Refusal} → r ≡ Err why → number_of why ≡ status_of (told_written r)
-refused_as e = ap (λ (r : Result ⊤ Refusal). status_of (told_written r)) (sym e)
-
-pub done_as : {r : Result ⊤ Refusal} {u : ⊤} → r ≡ Ok u → 0 ≡ status_of (told_written r)
-done_as e = ap (λ (r : Result ⊤ Refusal). status_of (told_written r)) (sym e)
-
--- a refusal's number isn't 0
-some_number : (why : Refusal) → number_of why ≡ 0 → ⊥
-some_number Stopped e = omega (arith, e)
-some_number UnknownHeader e = omega (arith, e)
-some_number Malformed e = omega (arith, e)
-some_number NumberTooHigh e = omega (arith, e)
-some_number DomainCrossed e = omega (arith, e)
-some_number WindowRule e = omega (arith, e)
-some_number StartUnset e = omega (arith, e)
-some_number DomainOutside e = omega (arith, e)
-some_number SpansShared e = omega (arith, e)
-some_number PairOutside e = omega (arith, e)
-some_number WrongLength e = omega (arith, e)
-some_number Unowned e = omega (arith, e)
-some_number FlowField e = omega (arith, e)
-some_number AtLimit e = omega (arith, e)
-some_number PastEnd e = omega (arith, e)
-some_number Ended e = omega (arith, e)
-some_number WordLimit e = omega (arith, e)
-some_number RecordKind e = omega (arith, e)
-some_number MidnightDay e = omega (arith, e)
-some_number NotOwned e = omega (arith, e)
-some_number LeaseLine e = omega (arith, e)
-some_number TooManyLogs e = omega (arith, e)
-
-pub number_some : {n : ℕ} (why : Refusal) → n ≡ number_of why → n ≡ 0 → ⊥
-number_some why e z = some_number why (sym e ∙ z)

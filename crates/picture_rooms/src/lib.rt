@@ -5,18 +5,21 @@
 
 ghost use Rattle.std.specs.Prelude.{◌≡◌, ◌*◌, length};
 ghost use Rattle.refusal.specs.Crossing.{Crosses, status_of};
-ghost use Rattle.memory.specs.Elements.{told_written};
 ghost use Rattle.layout.specs.declared.Layout.{Layout};
 ghost use Rattle.address.specs.Address.{layout_of};
 ghost use Rattle.rectangles.specs.Bulk.{all_within};
 ghost use Rattle.picture_rooms.specs.Rooms.{covers_span, rectangle_of, copy_of, row_of, PaintCrosses};
 
-use layout::{ByteAddress, Layout};
+use layout::{ByteAddress, Judged, Layout};
 use rectangles::bulk;
-use refusal::Refusal;
 
 // How many bytes have an address, 2^32.
 const ADDRESSED: u64 = 0x1_0000_0000;
+
+// A pair outside its window, and memory or a room of a wrong length or place.
+const PAIR_OUTSIDE: u32 = 10;
+
+const WRONG_LENGTH: u32 = 11;
 
 // Whether memory ends at 2^32 at most and covers so many bytes from the base on. Sums are taken at 64 bits, where they can't wrap.
 fn covers(base: u32, span: u32, first: u32, length: usize) -> bool
@@ -35,7 +38,7 @@ fn covers(base: u32, span: u32, first: u32, length: usize) -> bool
     base as u64 + span as u64 <= end
 }
 
-// Whether a rectangle may be moved; or 3, 6, 10 or 11.
+// The status of a rectangle: 0, 3, 6, 10 or 11.
 fn judge(
     layout: Layout,
     x: u32,
@@ -45,26 +48,29 @@ fn judge(
     first: u32,
     room: usize,
     length: usize,
-) -> Result<(), Refusal>
-    ensures { status_of (told_written result) ≡ status_of (rectangle_of layout x y columns rows first room length) }
+) -> u32
+    ensures { result ≡ status_of (rectangle_of layout x y columns rows first room length) }
 {
-    let accepted = layout::judge(layout)?;
-    if !bulk::within(accepted.step, layout.height, x, y, columns, rows) {
-        return Err(Refusal::PairOutside);
+    match layout::judge(layout) {
+        Judged::Refused(why) => u32::from(why),
+        Judged::Accepted { step, span } => {
+            if !bulk::within(step, layout.height, x, y, columns, rows) {
+                return PAIR_OUTSIDE;
+            }
+            // at most 2^32 pairs of at most 16 bytes
+            let bytes = columns as u64 * rows as u64 * layout.size as u64;
+            if room as u64 != bytes {
+                return WRONG_LENGTH;
+            }
+            if !covers(layout.base.0, span, first, length) {
+                return WRONG_LENGTH;
+            }
+            0
+        }
     }
-    // at most 2^32 pairs of at most 16 bytes
-    let bytes = columns as u64 * rows as u64 * layout.size as u64;
-    if room as u64 != bytes {
-        return Err(Refusal::WrongLength);
-    }
-    if !covers(layout.base.0, accepted.span, first, length) {
-        return Err(Refusal::WrongLength);
-    }
-    Ok(())
 }
 
 // The elements of the room, row by row, into memory; 3, 6, 10 or 11.
-// Kept (design pass 2, C interface): memory is written here and the room is not, in `copy_out` the other way round; `carry` is what they share.
 pub fn paint(
     base: u32,
     pitch: u32,
@@ -88,15 +94,14 @@ pub fn paint(
         size,
         tiled,
     };
-    match judge(layout, x, y, columns, rows, first, room.len(), memory.len()) {
-        Err(why) => u32::from(why),
-        Ok(()) => {
-            if 0 < room.len() {
-                bulk::carry(false, layout, x, y, columns, rows, first, room, memory)
-            }
-            0
-        }
+    let status = judge(layout, x, y, columns, rows, first, room.len(), memory.len());
+    if status != 0 {
+        return status;
     }
+    if 0 < room.len() {
+        bulk::carry(false, layout, x, y, columns, rows, first, room, memory)
+    }
+    0
 }
 
 // The elements of a rectangle, row by row, into the room; 3, 6, 10 or 11.
@@ -123,15 +128,14 @@ pub fn copy_out(
         size,
         tiled,
     };
-    match judge(layout, x, y, columns, rows, first, room.len(), memory.len()) {
-        Err(why) => u32::from(why),
-        Ok(()) => {
-            if 0 < room.len() {
-                bulk::carry(true, layout, x, y, columns, rows, first, memory, room)
-            }
-            0
-        }
+    let status = judge(layout, x, y, columns, rows, first, room.len(), memory.len());
+    if status != 0 {
+        return status;
     }
+    if 0 < room.len() {
+        bulk::carry(true, layout, x, y, columns, rows, first, memory, room)
+    }
+    0
 }
 
 // Whether as many pairs of the row y from column x on are inside as a room has places.
@@ -165,13 +169,13 @@ pub fn translate_row(
         tiled,
     };
     match layout::judge(layout) {
-        Err(why) => u32::from(why),
-        Ok(accepted) => {
-            if !row_within(accepted.step, height, x, y, addresses.len()) {
-                return u32::from(Refusal::PairOutside);
+        Judged::Refused(why) => u32::from(why),
+        Judged::Accepted { step, span: _ } => {
+            if !row_within(step, height, x, y, addresses.len()) {
+                return PAIR_OUTSIDE;
             }
             if 0 < addresses.len() {
-                address_rows::addresses(base, size, tiled, accepted.step * size, x, y, addresses)
+                address_rows::addresses(base, size, tiled, step * size, x, y, addresses)
             }
             0
         }

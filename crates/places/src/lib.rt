@@ -138,6 +138,12 @@ pub fn table() -> [u16; PLACES]
     TABLE
 }
 
+fn wide(n: u16) -> u32
+    ensures { result ≡ n }
+{
+    n as u32
+}
+
 // The place inside its tile of the element at (x, y), by the table: bit 10 is turned where x6 is set, bit 9 where y5 is.
 pub fn by_table(table: &[u16; PLACES], x: u32, y: u32) -> u32
     requires { table.now ≡ places }
@@ -145,5 +151,5 @@ pub fn by_table(table: &[u16; PLACES], x: u32, y: u32) -> u32
     ensures most { result < 2048 }
 {
     let k = (y % 32 * 64 + x % 64) as usize;
-    u32::from(table[k]) ^ (x / 64 % 2 * 1024 + y / 32 % 2 * 512)
+    wide(table[k]) ^ (x / 64 % 2 * 1024 + y / 32 % 2 * 512)
 }

@@ -18,11 +18,13 @@ pub fn lines(
     requires { LinesAsked out place stride n count (length from.now) (length to.old) }
     ensures { to.new ≡ moved (row_moves out (line_place place stride) n 0 0 count) from.now to.old }
 {
+    let mut j = 0;
     let mut here = place;
     let mut line = 0;
-    for _j in 0..count {
+    while j < count {
         stretch::stretch(out, here, line, n, from, to);
         here += stride;
         line += n;
+        j += 1;
     }
 }

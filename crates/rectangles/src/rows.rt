@@ -133,8 +133,9 @@ pub fn rows(
     ensures { to.new ≡ moved (rect_moves out (element_place true size (stride / size) at) size x (lead + inner + tail) 0 y rows) from.now to.old }
 {
     let bytes = ((lead + inner + tail) * size) as usize;
+    let mut j = 0;
     let mut line = 0;
-    for j in 0..rows {
+    while j < rows {
         row(
             out,
             size,
@@ -154,5 +155,6 @@ pub fn rows(
             to,
         );
         line += bytes;
+        j += 1;
     }
 }

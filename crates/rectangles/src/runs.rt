@@ -1,12 +1,17 @@
 // Elements of a tiled row, run by run: each run is one stretch of bytes.
-ghost use Rattle.std.specs.Prelude.{◌≡◌, true, ◌+◌, ◌*◌, ◌/◌, length};
+ghost use Rattle.std.specs.Prelude.{◌≡◌, true, ◌+◌, ◌*◌, ◌/◌, ◌≤◌, ◌<◌, length};
 ghost use Rattle.rectangles.specs.Moves.{moved, row_moves, element_place, RunsAsked};
 
 use crate::stretch;
 use address::{offset, run};
 
+fn smaller(a: u32, b: u32) -> u32
+    ensures { (result ≤ a) × (result ≤ b) × (0 < a → 0 < b → 0 < result) }
+{
+    if a < b { a } else { b }
+}
+
 // `count` elements of the row y from column x on, in a tiled window whose base is at the place `at` of memory.
-// Kept (design pass 3, no plainer): each step is as long as the run that its column begins, which no range goes by.
 pub fn by_runs(
     out: bool,
     size: u32,
@@ -28,7 +33,7 @@ pub fn by_runs(
         let column = x + i;
         let place = at + offset::offset(true, size, stride, column, y) as usize;
         let run = run::run_from(true, size, stride, column);
-        let many = run.min(count - i);
+        let many = smaller(run, count - i);
         let bytes = (many * size) as usize;
         stretch::stretch(out, place, here, bytes, from, to);
         here += bytes;

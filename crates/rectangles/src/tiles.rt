@@ -45,9 +45,11 @@ pub fn tiles(
     requires { TilesAsked out n start row first count line (length from.now) (length to.old) }
     ensures { to.new ≡ moved (row_moves out (block_place start row) n (8 * first) line (8 * count)) from.now to.old }
 {
+    let mut k = 0;
     let mut at = line;
-    for k in 0..count {
+    while k < count {
         tile_row(out, n, start, row, first + k, at, from, to);
         at += 8 * n;
+        k += 1;
     }
 }

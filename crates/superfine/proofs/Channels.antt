@@ -3,7 +3,6 @@ use mathlib.Core.Path.{◌≡◌, sym, ap, ap₂, ◌∙◌, subst}
 use mathlib.Core.Bool.{Bool, true, false}
 use mathlib.Core.List.{List, [], ◌∷◌, ◌++◌}
 use Prim.Native.Nat.{ℕ, ◌+◌, ◌-◌, ◌^◌, ◌<◌, ◌≤◌}
-use mathlib.Core.Logic.{◌⊎◌, inl, inr}
 use native.Mathlib.Omega.{arith}
 use lib.ListN.{length, take, drop}
 use Rattle.laws.specs.Choice.{◌and◌}
@@ -27,32 +26,27 @@ module _ (first : ℕ) (m : List ℕ) (s a p : ℕ) (told : start_of a s first (
       ap₂ (λ (n q : ℕ). take n (drop q m)) {x = s} {y = p + s - p} (omega arith)
       (sym (begins first (length m) a s p told).place)
 
--- an element's refusal is 11
-eleven : (first n a s k : ℕ) → start_of a s first n ≡ refuses k → refuses 11 ≡ refuses k
-unfolding start_of
-eleven first n a s k t = sym (pick_no _ _ (not_held first n a s k t)) ∙ t
-
 module _ (first : ℕ) (m : List ℕ) (s right below across own : ℕ) where
   unheld : four_held first (length m) s right below across own ≡ false → four_of first m s right below across own ≡ refuses 11
   unfolding four_of
   unheld e = pick_no _ _ e
 
-  pub right_unheld : (k : ℕ) → start_of right s first (length m) ≡ refuses k → four_of first m s right below across own ≡ refuses k
+  pub right_unheld : (k : ℕ) → start_of right s first (length m) ≡ refuses k → four_of first m s right below across own ≡ refuses 11
   unfolding four_held
-  right_unheld k t = unheld (and_no_left _ (not_held first (length m) right s k t)) ∙ eleven first (length m) right s k t
+  right_unheld k t = unheld (and_no_left _ (not_held first (length m) right s k t))
 
-  pub below_unheld : (k : ℕ) → start_of below s first (length m) ≡ refuses k → four_of first m s right below across own ≡ refuses k
+  pub below_unheld : (k : ℕ) → start_of below s first (length m) ≡ refuses k → four_of first m s right below across own ≡ refuses 11
   unfolding four_held
-  below_unheld k t = unheld (and_no_right _ (and_no_left _ (not_held first (length m) below s k t))) ∙ eleven first (length m) below s k t
+  below_unheld k t = unheld (and_no_right _ (and_no_left _ (not_held first (length m) below s k t)))
 
   pub across_unheld :
-      (k : ℕ) → start_of across s first (length m) ≡ refuses k → four_of first m s right below across own ≡ refuses k
+      (k : ℕ) → start_of across s first (length m) ≡ refuses k → four_of first m s right below across own ≡ refuses 11
   unfolding four_held
-  across_unheld k t = unheld (and_no_right _ (and_no_right _ (and_no_left _ (not_held first (length m) across s k t)))) ∙ eleven first (length m) across s k t
+  across_unheld k t = unheld (and_no_right _ (and_no_right _ (and_no_left _ (not_held first (length m) across s k t))))
 
-  pub own_unheld : (k : ℕ) → start_of own s first (length m) ≡ refuses k → four_of first m s right below across own ≡ refuses k
+  pub own_unheld : (k : ℕ) → start_of own s first (length m) ≡ refuses k → four_of first m s right below across own ≡ refuses 11
   unfolding four_held
-  own_unheld k t = unheld (and_no_right _ (and_no_right _ (and_no_right _ (not_held first (length m) own s k t)))) ∙ eleven first (length m) own s k t
+  own_unheld k t = unheld (and_no_right _ (and_no_right _ (and_no_right _ (not_held first (length m) own s k t))))
 
   module _
       (a b c d : ℕ) (ta : start_of right s first (length m) ≡ gives (a ∷ [])) (tb : start_of below s first (length m) ≡ gives (b ∷ []))
@@ -70,8 +64,8 @@ module _ (first : ℕ) (m : List ℕ) (s right below across own : ℕ) where
         }
 
     -- the size as a number that it is
-    pub parts_asked_at : (n : ℕ) → s ≡ n → n ≤ 4 → PartsAsked m n a b c d
-    parts_asked_at n e most = let few : s ≤ 4 = omega (arith, e, most) in subst (λ (k : ℕ). PartsAsked m k a b c d) e (parts_asked few)
+    pub parts_asked_at : (n : ℕ) → s ≡ n → s ≤ 4 → PartsAsked m n a b c d
+    parts_asked_at n e few = subst (λ (k : ℕ). PartsAsked m k a b c d) e (parts_asked few)
 
     pub four_read : four_of first m s right below across own ≡ gives (four_parts m s a b c d)
     unfolding four_of four_held four_bytes
@@ -119,11 +113,6 @@ module _ (base format height x y first : ℕ) (m : List ℕ) where
             four_of first m l.size a b c d ≡ four_of first m l.size a' b' c' d'
         moved h = cc
 
--- of two sizes the one that is left
-pub other_size : (s : ℕ) → (s ≡ 2) ⊎ (s ≡ 4) → (s ≡ 2 → ⊥) → s ≡ 4
-other_size s (inl e) other = absurd (other e)
-other_size s (inr e) other = e
-
 -- the layout of base, format word and height, as the code reads its fields
 pub layout_read :
     (base : ByteAddress) (format height pitch code size : ℕ) (tiled : Bool) → code ≡ code_of format → size ≡ size_of code →
@@ -131,5 +120,5 @@ pub layout_read :
     ◌≡◌ {A = Layout} (record { base = base; pitch = pitch; height = height; size = size; tiled = tiled }) (format_layout base.0 format height)
 layout_read base format height pitch code size tiled ec es ep et = rw (ep, et, es, ec)
 
-pub four_small : (base format code size : ℕ) → superfine_word base format ≡ true → code ≡ code_of format → size ≡ size_of code → (size ≡ 2) ⊎ (size ≡ 4)
+pub four_small : (base format code size : ℕ) → superfine_word base format ≡ true → code ≡ code_of format → size ≡ size_of code → size ≤ 4
 four_small base format code size word ec es = rw (es, ec) (small_size base format word)

@@ -7,14 +7,14 @@ use lib.ListN.{length, length-append}
 use Rattle.refusal.specs.Told.{gives}
 use Rattle.memory.specs.Answers.{Answered}
 use Rattle.memory.specs.Elements.{overwritten}
-use Rattle.std.specs.Prelude.{Ok}
+use Rattle.memory.specs.declared.Answer.TheVariants.{Bytes}
 use Rattle.memory.proofs.Copies.{zeros, grown, reading_of}
 use Rattle.superfine.specs.InLine.{FourAsked}
 
 pub reading_of_four :
     (n : ℕ) (a b c d b₁ b₂ b₃ b₄ : List ℕ) → FourAsked a b c d → n ≡ length a →
     b₁ ≡ overwritten 0 a (zeros 16) → b₂ ≡ overwritten n b b₁ → b₃ ≡ overwritten (n * 2) c b₂ → b₄ ≡ overwritten (n * 3) d b₃ →
-    Answered (gives (a ++ (b ++ (c ++ d)))) (Ok (record { count = n * 4; bytes = b₄ }))
+    Answered (gives (a ++ (b ++ (c ++ d)))) (record { answer = Bytes (n * 4); bytes = b₄ })
 reading_of_four n a b c d b₁ b₂ b₃ b₄ asked e e₁ e₂ e₃ e₄ =
     let z = zeros 16 in
     let l₂ : length (a ++ b) ≡ n * 2 = length-append a b ∙ omega (arith, e, asked.second) in
@@ -25,5 +25,5 @@ reading_of_four n a b c d b₁ b₂ b₃ b₄ asked e e₁ e₂ e₃ e₄ =
     let g₃ = grown z (a ++ b) c b₂ b₃ (n * 2) g₂ l₂ e₃ in
     let g₄ = grown z ((a ++ b) ++ c) d b₃ b₄ (n * 3) g₃ l₃ e₄ in
     let whole : ((a ++ b) ++ c) ++ d ≡ a ++ (b ++ (c ++ d)) = simp append_assoc in
-    subst (λ (v : List ℕ). Answered (gives v) (Ok (record { count = n * 4; bytes = b₄ }))) whole
+    subst (λ (v : List ℕ). Answered (gives v) (record { answer = Bytes (n * 4); bytes = b₄ })) whole
     (reading_of (((a ++ b) ++ c) ++ d) b₄ (n * 4) (sym l₄) (omega (arith, e, asked.small)) g₄)

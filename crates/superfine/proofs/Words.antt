@@ -1,8 +1,7 @@
 -- The format word of a superfine read: one law a return of the code, and the sizes that are left. Assumes nothing.
-use mathlib.Core.Path.{◌≡◌, refl, sym, ap, ◌∙◌}
+use mathlib.Core.Path.{◌≡◌, sym, ap, ◌∙◌}
 use mathlib.Core.Bool.{true, false}
 use Prim.Native.Nat.{ℕ, zero, suc, ◌≤◌}
-use mathlib.Core.Logic.{◌⊎◌, inl, inr}
 use native.Mathlib.Omega.{arith}
 use lib.Dec.{eqb, lit≤}
 use borrow.Author.Tests.{eqb-true}
@@ -33,16 +32,16 @@ module _ (base format : ℕ) where
   by_channels code channels b f s ec en =
       ap (λ (n : ℕ). eqb n 1) (en ∙ ap channels_of ec) ∙ sym (and_yes _ b ∙ and_yes _ f ∙ and_yes _ s)
 
-one_channel : (code : ℕ) → channels_of code ≡ 1 → (size_of code ≡ 2) ⊎ (size_of code ≡ 4)
+one_channel : (code : ℕ) → channels_of code ≡ 1 → size_of code ≤ 4
 unfolding channels_of size_of
-one_channel zero e = inl refl
-one_channel (suc zero) e = absurd (omega (arith, e))
-one_channel (suc (suc zero)) e = inr refl
+one_channel zero e = lit≤ tt
+one_channel (suc zero) e = lit≤ tt
+one_channel (suc (suc zero)) e = lit≤ tt
 one_channel (suc (suc (suc zero))) e = absurd (omega (arith, e))
 one_channel (suc (suc (suc (suc zero)))) e = absurd (omega (arith, e))
 one_channel (suc (suc (suc (suc (suc n))))) e = absurd (omega (arith, e))
 
 -- "the code has one channel": its elements have 2 or 4 bytes
-pub small_size : (base format : ℕ) → superfine_word base format ≡ true → (size_of (code_of format) ≡ 2) ⊎ (size_of (code_of format) ≡ 4)
+pub small_size : (base format : ℕ) → superfine_word base format ≡ true → size_of (code_of format) ≤ 4
 unfolding superfine_word
 small_size base format e = one_channel (code_of format) (eqb-true _ _ (and_right _ _ (and_right _ _ (and_right _ _ e))))

@@ -1,11 +1,10 @@
 -- Document 01: "A superfine read is given base, format word and height, and gets 3 unless bit 17 is set and the code has one
 -- channel. It asks (x+1, y), (x, y+1), (x+1, y+1), (x, y), in that order into channels 0 to 3; if one is outside (also where x or y
 -- can't grow by 1), 10. It answers the four elements' bytes, channel by channel." Assumes nothing.
-use Rattle.std.specs.Prelude.{Bool, List, [], ◌∷◌, ◌++◌, ℕ, ◌+◌, eqb, length, Result, Ok, Err}
+use Rattle.std.specs.Prelude.{Bool, List, [], ◌∷◌, ◌++◌, ℕ, ◌+◌, eqb, length}
 use Rattle.laws.specs.Choice.{◌and◌, pick}
 use Rattle.refusal.specs.Number.{number_of}
 use Rattle.refusal.specs.Told.{Told, gives, refuses}
-use Rattle.refusal.specs.declared.Refusal.{Refusal}
 use Rattle.layout.specs.declared.Layout.{Layout}
 use Rattle.address.specs.Address.{if_accepted, inside, address_of}
 use Rattle.command.specs.Format.{pitch_of, tiled_of, superfine_of, code_of, size_of, channels_of}
@@ -13,6 +12,7 @@ use Rattle.command.specs.Kinds.{allowed}
 use Rattle.command.specs.declared.kinds.Kind.TheVariants.{Base, Format}
 use Rattle.memory.specs.Elements.{is_held, bytes_at}
 use Rattle.superfine.specs.declared.corners.Corners.{Corners}
+use Rattle.superfine.specs.declared.corners.Corners.TheVariants.{At, Refused}
 
 -- base and word are allowed as in a command, "bit 17 is set and the code has one channel"
 unfoldable pub superfine_word : ℕ → ℕ → Bool
@@ -70,6 +70,6 @@ corners_of l x y =
     (refuses 10))
 
 -- what the answer tells, case by case
-abbrev pub told_corners : Result Corners Refusal → Told
-told_corners (Ok c) = gives (c.right.0 ∷ c.below.0 ∷ c.across.0 ∷ c.own.0 ∷ [])
-told_corners (Err why) = refuses (number_of why)
+abbrev pub told_corners : Corners → Told
+told_corners (At right below across own) = gives (right.0 ∷ below.0 ∷ across.0 ∷ own.0 ∷ [])
+told_corners (Refused why) = refuses (number_of why)

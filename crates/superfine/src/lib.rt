@@ -4,7 +4,7 @@
 mod corners;
 mod line;
 
-ghost use Rattle.std.specs.Prelude.{◌≡◌, ◌⊎◌, Ok};
+ghost use Rattle.std.specs.Prelude.{◌≡◌, ◌≤◌};
 ghost use Rattle.refusal.specs.Told.{gives};
 ghost use Rattle.memory.specs.Answers.{Answered};
 ghost use Rattle.superfine.specs.InLine.{PartsAsked, four_parts};
@@ -13,48 +13,73 @@ ghost use Rattle.superfine.specs.Superfine.{superfine_read_of, superfine_word, f
 use crate::corners::Corners;
 use command::kinds::Kind;
 use layout::{ByteAddress, Layout};
-use memory::{Reading, place};
+use memory::place::Place;
+use memory::{Reading, copy, place};
 use refusal::Refusal;
 
 // Whether base and format word are allowed, the word is superfine and its elements have one channel.
 fn superfine_word(base: u32, format: u32) -> bool
     ensures { result ≡ superfine_word base format }
 {
-    command::kinds::is_allowed(Kind::Base, base)
-        && command::kinds::is_allowed(Kind::Format, format)
-        && command::format::superfine(format)
-        && command::format::channels(command::format::code(format)) == 1
+    if !command::kinds::is_allowed(Kind::Base, base) {
+        return false;
+    }
+    if !command::kinds::is_allowed(Kind::Format, format) {
+        return false;
+    }
+    if !command::format::superfine(format) {
+        return false;
+    }
+    command::format::channels(command::format::code(format)) == 1
 }
 
-// The parts of `N` bytes at four places of memory, one after the other.
-fn parts<const N: usize>(memory: &[u8], a: usize, b: usize, c: usize, d: usize) -> Reading
-    requires { PartsAsked memory.now N a b c d }
-    ensures { Answered (gives (four_parts memory.now N a b c d)) (Ok result) }
+// The parts of `n` bytes at four places of memory, one after the other.
+fn parts(memory: &[u8], a: usize, b: usize, c: usize, d: usize, n: usize) -> Reading
+    requires { PartsAsked memory.now n a b c d }
+    ensures { Answered (gives (four_parts memory.now n a b c d)) result }
 {
     line::four(
-        &memory[a..a + N],
-        &memory[b..b + N],
-        &memory[c..c + N],
-        &memory[d..d + N],
+        &memory[a..a + n],
+        &memory[b..b + n],
+        &memory[c..c + n],
+        &memory[d..d + n],
+        n,
     )
 }
 
 // The elements of `size` bytes at four addresses, one after the other, or 11 where memory is too long, ends too high or
-// doesn't hold all of each. A superfine read has two sizes, and each is a constant in its branch, so that no loop is left there.
-fn four(memory: &[u8], first: ByteAddress, size: u32, corners: Corners) -> Result<Reading, Refusal>
-    requires { (size ≡ 2) ⊎ (size ≡ 4) }
-    ensures { Answered (four_of first.0 memory.now size corners.right.0 corners.below.0 corners.across.0 corners.own.0) result }
+// doesn't hold all of each.
+fn four(
+    memory: &[u8],
+    first: ByteAddress,
+    size: u32,
+    right: ByteAddress,
+    below: ByteAddress,
+    across: ByteAddress,
+    own: ByteAddress,
+) -> Reading
+    requires { size ≤ 4 }
+    ensures { Answered (four_of first.0 memory.now size right.0 below.0 across.0 own.0) result }
 {
     let length = memory.len();
-    let right = place::start(corners.right, size, first, length)?;
-    let below = place::start(corners.below, size, first, length)?;
-    let across = place::start(corners.across, size, first, length)?;
-    let own = place::start(corners.own, size, first, length)?;
-    Ok(if size == 2 {
-        parts::<2>(memory, right, below, across, own)
-    } else {
-        parts::<4>(memory, right, below, across, own)
-    })
+    let Place::At(a) = place::start(right, size, first, length) else {
+        return copy::refused(Refusal::WrongLength);
+    };
+    let Place::At(b) = place::start(below, size, first, length) else {
+        return copy::refused(Refusal::WrongLength);
+    };
+    let Place::At(c) = place::start(across, size, first, length) else {
+        return copy::refused(Refusal::WrongLength);
+    };
+    let Place::At(d) = place::start(own, size, first, length) else {
+        return copy::refused(Refusal::WrongLength);
+    };
+    // the sizes of a superfine read are constants in their arms, so that no loop is left there
+    match size {
+        2 => parts(memory, a, b, c, d, 2),
+        4 => parts(memory, a, b, c, d, 4),
+        _ => parts(memory, a, b, c, d, size as usize),
+    }
 }
 
 // A superfine read: the elements at (x + 1, y), (x, y + 1), (x + 1, y + 1) and (x, y), in that order into channels 0 to 3.
@@ -68,11 +93,11 @@ pub fn superfine(
     y: u32,
     memory: &[u8],
     first: ByteAddress,
-) -> Result<Reading, Refusal>
+) -> Reading
     ensures { Answered (superfine_read_of base.0 format height x y first.0 memory.now) result }
 {
     if !superfine_word(base.0, format) {
-        return Err(Refusal::Malformed);
+        return copy::refused(Refusal::Malformed);
     }
     let size = command::format::size(command::format::code(format));
     let layout = Layout {
@@ -82,6 +107,13 @@ pub fn superfine(
         size,
         tiled: command::format::tiled(format),
     };
-    let corners = corners::addresses(layout, x, y)?;
-    four(memory, first, size, corners)
+    match corners::addresses(layout, x, y) {
+        Corners::Refused(why) => copy::refused(why),
+        Corners::At {
+            right,
+            below,
+            across,
+            own,
+        } => four(memory, first, size, right, below, across, own),
+    }
 }

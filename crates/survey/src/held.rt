@@ -14,8 +14,13 @@ const MOST_BYTES: usize = 65536;
 
 const ADDRESSED: u64 = 0x1_0000_0000;
 
+fn smaller(a: u32, b: u32) -> u32
+    ensures { (result ≤ a) × (result ≤ b) × (0 < a → 0 < b → 0 < result) }
+{
+    if a < b { a } else { b }
+}
+
 // Whether memory of `length` bytes holds `count` numbers of a row, run by run: the first and the last of each.
-// Kept (design pass 3, no plainer): each step is as long as the run that its column begins, which no range goes by.
 fn row_held(
     base: u32,
     stride: u32,
@@ -36,7 +41,7 @@ fn row_held(
         if at < first {
             return false;
         }
-        let many = run::run_from(tiled, SIZE, stride, x + i).min(count - i);
+        let many = smaller(run::run_from(tiled, SIZE, stride, x + i), count - i);
         if end < at as u64 + (SIZE * many) as u64 {
             return false;
         }
@@ -60,10 +65,12 @@ fn rows_held(
     requires { RowsHeldAsked base stride tiled x y columns rows first «length» × (0 < columns) }
     ensures { result ≡ every (rows * columns) (domain_held base tiled (stride / 2) first «length» x y columns) }
 {
-    for j in 0..rows {
+    let mut j = 0;
+    while j < rows {
         if !row_held(base, stride, tiled, x, y + j, columns, first, length) {
             return false;
         }
+        j += 1;
     }
     true
 }

@@ -42,11 +42,13 @@ fn singles(
     ensures bytes { room.new ≡ written line (row_byte low top outside memory.now base true (stride / 2) first x y) count room.old }
 {
     let mut passed = 0;
-    for i in 0..count {
+    let mut i = 0;
+    while i < count {
         let at = place(base, stride, true, x + i, y, first);
         let bit = conditions::bit_at(low, top, outside, memory, at);
         room[line + i as usize] = bit as u8;
         passed += bit;
+        i += 1;
     }
     passed
 }
@@ -71,12 +73,20 @@ fn groups(
     ensures bytes { room.new ≡ written line (row_byte low top outside memory.now base true (stride / 2) first x y) (4 * count) room.old }
 {
     let mut passed = 0;
-    for i in 0..count {
+    let mut i = 0;
+    while i < count {
         let done = GROUP * i;
         let at = place(base, stride, true, x + done, y, first);
         passed += conditions::four(low, top, outside, memory, at, room, line + done as usize);
+        i += 1;
     }
     passed
+}
+
+fn smaller(a: u32, b: u32) -> u32
+    ensures { (result ≤ a) × (result ≤ b) × (result < b → result ≡ a) }
+{
+    if a < b { a } else { b }
 }
 
 // A tiled row: what is left of a group, whole groups, the beginning of a group.
@@ -98,7 +108,7 @@ fn tiled_row(
     ensures count { result ≡ sum count (row_byte low top outside memory.now base true (stride / 2) first x y) }
     ensures bytes { room.new ≡ written line (row_byte low top outside memory.now base true (stride / 2) first x y) count room.old }
 {
-    let lead = (GROUP - 1 - (x + (GROUP - 1)) % GROUP).min(count);
+    let lead = smaller(GROUP - 1 - (x + (GROUP - 1)) % GROUP, count);
     let whole = (count - lead) / GROUP;
     let past = lead + GROUP * whole;
     let before = singles(
@@ -165,6 +175,12 @@ fn row(
     }
 }
 
+fn wide(count: u16) -> u32
+    ensures { result ≡ count }
+{
+    count as u32
+}
+
 // The bytes of `columns` by `rows` pairs from (x, y) on into the room, and how many pass.
 pub fn rows(
     low: u16,
@@ -187,8 +203,9 @@ pub fn rows(
 {
     let mut passed = 0;
     let mut line = 0;
-    for j in 0..rows {
-        passed += u32::from(row(
+    let mut j = 0;
+    while j < rows {
+        passed += wide(row(
             low,
             top,
             outside,
@@ -204,6 +221,7 @@ pub fn rows(
             line,
         ));
         line += columns as usize;
+        j += 1;
     }
     passed
 }

@@ -3,7 +3,7 @@
 // or a shift, in `layout` and `command`, proved equal to the same lists; what runs less often reads the tables here.
 #![tactic(auto)]
 
-ghost use Rattle.std.specs.Prelude.{◌≡◌, ◌<◌, get_or, IfSome, unwrap_or};
+ghost use Rattle.std.specs.Prelude.{◌≡◌, ◌<◌, get_or};
 ghost use Rattle.laws.specs.Choice.{place_of};
 ghost use Rattle.tables.specs.Tables.{sizes, widths, heights, headers, counts};
 
@@ -55,16 +55,21 @@ pub const COUNTS: [u32; COMMAND_LINES] = [
     4, 1, 1, 2, 4, 4, 3, 2, 2, 2, 1, 1, 1, 1, 1, 1, 1, 1, 1, 1, 1,
 ];
 
-// The line of a size, counted from 0; none for a number that is no size.
-pub fn size_line(size: u32) -> Option<usize>
-    ensures place { unwrap_or result 5 ≡ place_of size sizes }
-    ensures line { IfSome result (λ line. line < 5) }
+// The line of a size, counted from 0; 5 for a number that is no size.
+pub fn size_line(size: u32) -> usize
+    ensures { result ≡ place_of size sizes }
 {
-    SIZES.iter().position(|s| *s == size)
+    let mut line = 0;
+    while line < SIZE_LINES {
+        if SIZES[line] == size {
+            return line;
+        }
+        line += 1;
+    }
+    SIZE_LINES
 }
 
 // The width and the height of the tile in a line.
-// Kept (design pass 2, no plainer): this and the next three are an index each, and a clause that ties each table to its list.
 pub fn tile_width_at(line: usize) -> u32
     requires { line < 5 }
     ensures { result ≡ get_or widths line 0 }

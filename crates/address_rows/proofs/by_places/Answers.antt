@@ -5,7 +5,6 @@ use Prim.Native.Nat.{ℕ, ◌/◌}
 use native.Mathlib.Omega.{arith}
 use lib.ListN.{length}
 use Rattle.address_rows.specs.Rows.{element_at, written}
-use Rattle.memory.proofs.Least.{least}
 use Rattle.address_rows.proofs.Runs.{
   column_bytes,
   pair_asked,
@@ -46,12 +45,12 @@ byte_offset-requires c =
 
 pub overflow_add-at : goal.overflow_add-at
 overflow_add-at c =
-    let run = run_rest _ _ _ c.requires c.loop-i-test.true c.run_from.ensures (least _ _ _ c.min-many.ensures) refl in
+    let run = run_rest _ _ _ c.requires c.loop-i-test.true c.run_from.ensures c.smaller-many.ensures refl in
     omega (arith, at_fits c.requires run _ c.byte_offset.ensures)
 
 pub overflow_add-i : goal.overflow_add-i
 overflow_add-i c =
-    let run = run_rest _ _ _ c.requires c.loop-i-test.true c.run_from.ensures (least _ _ _ c.min-many.ensures) refl in
+    let run = run_rest _ _ _ c.requires c.loop-i-test.true c.run_from.ensures c.smaller-many.ensures refl in
     omega (
       arith,
       run.inside,
@@ -71,18 +70,18 @@ slice_bounds-fill-start c = omega arith
 
 pub slice_bounds-fill-end : goal.slice_bounds-fill-end
 slice_bounds-fill-end c =
-    let run = run_rest _ _ _ c.requires c.loop-i-test.true c.run_from.ensures (least _ _ _ c.min-many.ensures) refl in
+    let run = run_rest _ _ _ c.requires c.loop-i-test.true c.run_from.ensures c.smaller-many.ensures refl in
     omega
     (arith, run.inside, c.loop-i.invariant.1)
 
 pub fill-requires : goal.fill-requires
 fill-requires c =
-    let run = run_rest _ _ _ c.requires c.loop-i-test.true c.run_from.ensures (least _ _ _ c.min-many.ensures) refl in
+    let run = run_rest _ _ _ c.requires c.loop-i-test.true c.run_from.ensures c.smaller-many.ensures refl in
     fill_asked c.requires run _ c.byte_offset.ensures _ c.loop-i.invariant.1
 
 pub overflow_add-i-in-loop-i : goal.overflow_add-i-in-loop-i
 overflow_add-i-in-loop-i c =
-    let run = run_rest _ _ _ c.requires c.loop-i-test.true c.run_from.ensures (least _ _ _ c.min-many.ensures) refl in
+    let run = run_rest _ _ _ c.requires c.loop-i-test.true c.run_from.ensures c.smaller-many.ensures refl in
     omega (
       arith,
       run.inside,
@@ -92,13 +91,13 @@ overflow_add-i-in-loop-i c =
 
 pub loop-i-smaller : goal.loop-i-smaller
 loop-i-smaller c =
-    let run = run_rest _ _ _ c.requires c.loop-i-test.true c.run_from.ensures (least _ _ _ c.min-many.ensures) refl in
+    let run = run_rest _ _ _ c.requires c.loop-i-test.true c.run_from.ensures c.smaller-many.ensures refl in
     omega
     (arith, run.some, c.loop-i-test.true)
 
 pub loop-i-preserved : goal.loop-i-preserved
 loop-i-preserved c =
-    let run = run_rest _ _ _ c.requires c.loop-i-test.true c.run_from.ensures (least _ _ _ c.min-many.ensures) refl in
+    let run = run_rest _ _ _ c.requires c.loop-i-test.true c.run_from.ensures c.smaller-many.ensures refl in
     let inv = c.loop-i.invariant in
     let one = put_in c.requires run _ c.byte_offset.ensures _ _ inv.1 c.fill.ensures in (
       omega (arith, run.inside),

@@ -32,6 +32,12 @@ offset_bounds-part-j c =
 pub bounds-part-j : goal.bounds-part-j
 bounds-part-j c = omega (arith, c.loop-j-test.true)
 
+pub overflow_add-j : goal.overflow_add-j
+overflow_add-j c = omega (arith, c.loop-j-test.true, c.loop-j.invariant.1, c.requires.1)
+
+pub loop-j-smaller : goal.loop-j-smaller
+loop-j-smaller c = omega (arith, c.loop-j-test.true, c.loop-j.invariant.1)
+
 pub loop-j-preserved : goal.loop-j-preserved
 loop-j-preserved c = (
   omega (arith, c.loop-j-test.true, c.loop-j.invariant.1),

@@ -1,7 +1,6 @@
 -- `conditional::survey_in` meets its contract: a law for each return. Assumes nothing.
 use mathlib.Core.Path.{sym, ap, ◌∙◌}
 use lib.ListN.{length}
-use Rattle.std.proofs.lemmas.Result.{err_from_is_err_and}
 use Rattle.address.specs.Address.{layout_of, told_translated}
 use Rattle.conditional.proofs.Surveys.{answers_refused, crossed_columns, crossed_rows, last_found, last_refused}
 use Rattle.conditional.proofs.survey_in.Goals as goal
@@ -29,16 +28,14 @@ survey_inside-requires c =
     let m = args.memory.now in
     let n = length args.room.now in
     last_found l args.test args.v args.first m args.i0 args.j0 args.i1 args.j1 n c.if-i1-i0.false c.if-j1-j0.false _ _
-    (sym c.translate.ensures ∙ ap told_translated c.in_ok-translate.was)
+    (sym c.translate.ensures ∙ ap told_translated c.in-At.is)
 
-pub returns-in_err-translate : goal.returns-in_err-translate
-returns-in_err-translate c =
+pub returns-in-Refused : goal.returns-in-Refused
+returns-in-Refused c =
     let args = c.args in
     let l = layout_of args.base args.pitch args.height 2 args.tiled in
     let m = args.memory.now in
     let n = length args.room.now in
-    let why = err_from_is_err_and c.from_residual.result c.from_residual.ensures.1 in
-    rw (why.1, why.2)
-    (answers_refused _ _ _ _
+    answers_refused _ _ _ _
     (last_refused l args.test args.v args.first m args.i0 args.j0 args.i1 args.j1 n c.if-i1-i0.false c.if-j1-j0.false _
-    (sym c.translate.ensures ∙ ap told_translated c.in_err-translate.was)))
+    (sym c.translate.ensures ∙ ap told_translated c.in-Refused.is))

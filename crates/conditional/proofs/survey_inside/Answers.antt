@@ -34,7 +34,7 @@ survey_judged-requires c =
     let l = layout_of args.base args.pitch args.height 2 args.tiled in
     let m = args.memory.now in
     let n = length args.room.now in
-    let told = sym (ap told_judged c.in_ok-accepted.was) ∙ c.judge.ensures in
+    let told = sym (ap told_judged c.in-Accepted.is) ∙ c.judge.ensures in
     let is = judged_so args.base args.pitch args.height args.tiled asked.accepted _ _ told in
     record {
       domain = asked;
@@ -44,9 +44,9 @@ survey_judged-requires c =
     }
 
 -- a layout that is accepted isn't refused
-pub returns-in_err-accepted : goal.returns-in_err-accepted
-returns-in_err-accepted c =
+pub returns-in-Refused : goal.returns-in-Refused
+returns-in-Refused c =
     let args = c.args in
     absurd
     (not_refused args.base args.pitch args.height args.tiled c.requires.accepted _
-    (sym (ap told_judged c.in_err-accepted.was) ∙ c.judge.ensures))
+    (sym (ap told_judged c.in-Refused.is) ∙ c.judge.ensures))

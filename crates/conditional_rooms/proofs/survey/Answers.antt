@@ -5,21 +5,21 @@ use Rattle.conditional.specs.Conditional.{told_surveyed}
 use Rattle.conditional_rooms.proofs.survey.Goals as goal
 
 -- refused
-pub returns-in-Err : goal.returns-in-Err
-returns-in-Err c =
+pub returns-in-Refused : goal.returns-in-Refused
+returns-in-Refused c =
     record {
       answer =
           crosses_refuses _ _ _ _ c.from.ensures
-          (sym c.survey.ensures.answer ∙ ap told_surveyed c.in-Err.is);
+          (sym c.survey.ensures.answer ∙ ap told_surveyed c.in-Refused.is);
       bytes = c.survey.ensures.room;
     }
 
 -- surveyed
-pub returns-in-Ok : goal.returns-in-Ok
-returns-in-Ok c =
+pub returns-in-Passed : goal.returns-in-Passed
+returns-in-Passed c =
     record {
       answer =
           crosses_gives _ _ _
-          (sym c.survey.ensures.answer ∙ ap told_surveyed c.in-Ok.is);
+          (sym c.survey.ensures.answer ∙ ap told_surveyed c.in-Passed.is);
       bytes = c.survey.ensures.room;
     }

@@ -4,7 +4,7 @@ use Rattle.laws.proofs.Choice.{pick_yes, pick_no}
 use Rattle.layout.proofs.rows_unit.Goals as goal
 
 pub returns-then-tiled : goal.returns-then-tiled
-returns-then-tiled c = c.tile_of.ensures.height ∙ sym (pick_yes _ _ c.if-tiled.true)
+returns-then-tiled c = c.tile_height.ensures ∙ sym (pick_yes _ _ c.if-tiled.true)
 
 pub returns-else-tiled : goal.returns-else-tiled
 returns-else-tiled c = sym (pick_no _ _ c.if-tiled.false)

@@ -11,7 +11,7 @@ nonzero_div-result c = omega (arith, (tile _ c.requires).s_pos)
 
 pub returns-then-tiled : goal.returns-then-tiled
 unfolding unit_of
-returns-then-tiled c = c.tile_of.ensures.width ∙ sym (pick_yes _ _ c.if-tiled.true)
+returns-then-tiled c = c.tile_width.ensures ∙ sym (pick_yes _ _ c.if-tiled.true)
 
 pub returns-else-tiled : goal.returns-else-tiled
 unfolding unit_of

@@ -10,5 +10,5 @@ pub returns : goal.returns
 returns c =
     let args = c.args in
     let is = corrected args.x args.y _ _ refl
-    (c.from.ensures ∙ ap (λ (l : List ℕ). get_or l (args.y % 32 * 64 + args.x % 64) 0) c.requires) in
+    (c.wide.ensures ∙ ap (λ (l : List ℕ). get_or l (args.y % 32 * 64 + args.x % 64) 0) c.requires) in
     record { place = is; most = subst (λ (n : ℕ). n < 2048) (sym is) (inside_lt args.x args.y) }

@@ -3,4 +3,4 @@ use Rattle.memory.proofs.Copies.{reading_of_one}
 use Rattle.memory.proofs.copy.one.Goals as goal
 
 pub returns : goal.returns
-returns c = reading_of_one _ _ c.requires c.put.ensures
+returns c = reading_of_one _ _ c.requires c.first-bytes.ensures

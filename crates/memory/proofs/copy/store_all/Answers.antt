@@ -17,6 +17,12 @@ bounds-given-i c = omega arith
 pub bounds-part-i : goal.bounds-part-i
 bounds-part-i c = omega arith
 
+pub overflow_add-i : goal.overflow_add-i
+overflow_add-i c = omega arith
+
+pub loop-i-smaller : goal.loop-i-smaller
+loop-i-smaller c = omega arith
+
 pub loop-i-preserved : goal.loop-i-preserved
 loop-i-preserved c =
     let args = c.args in (

@@ -19,6 +19,13 @@ pub overflow_add-line : goal.overflow_add-line
 overflow_add-line c =
     (lines_fit _ _ _ _ _ _ _ c.requires _ _ _ _ c.loop-j.invariant c.loop-j-test.true).1
 
+pub overflow_add-j : goal.overflow_add-j
+overflow_add-j c =
+    omega (arith, c.requires.count_most, c.loop-j-test.true)
+
+pub loop-j-smaller : goal.loop-j-smaller
+loop-j-smaller c = omega (arith, c.loop-j-test.true)
+
 pub loop-j-preserved : goal.loop-j-preserved
 loop-j-preserved c =
     lines_next _ _ _ _ _ _ _ c.requires

@@ -4,4 +4,7 @@ use Rattle.rectangles.proofs.Lines.{LinesGoing}
 use Rattle.rectangles.proofs.linear.lines.Given as goal
 
 abbrev pub invariant-loop-j : goal.invariant-loop-j
-invariant-loop-j l = LinesGoing l.out l.place l.stride l.n l.count l.from l.initial.to l._j l.here l.line l.to
+invariant-loop-j l = LinesGoing l.out l.place l.stride l.n l.count l.from l.initial.to l.j l.here l.line l.to
+
+abbrev pub decreases-loop-j : goal.decreases-loop-j
+decreases-loop-j l = l.count - l.j

@@ -32,6 +32,13 @@ overflow_add-line c =
     omega
     (arith, line_in _ _ _ _ _ _ _ _ _ _ _ _ _ _ _ _ c.requires _ _ c.loop-j-test.true c.loop-j.invariant.line_at)
 
+pub overflow_add-j : goal.overflow_add-j
+overflow_add-j c =
+    omega (arith, c.requires.rows_most, c.loop-j-test.true)
+
+pub loop-j-smaller : goal.loop-j-smaller
+loop-j-smaller c = omega (arith, c.loop-j-test.true)
+
 pub loop-j-preserved : goal.loop-j-preserved
 loop-j-preserved c =
     rect_next _ _ _ _ _ _ _ _ _ _ _ _ _ c.loop-j.invariant

@@ -1,7 +1,6 @@
 -- `rectangles::runs::by_runs` meets its contract: each run is one stretch. Assumes nothing.
 use mathlib.Core.Bool.{true}
 use native.Mathlib.Omega.{arith}
-use Rattle.memory.proofs.Least.{least, lesser}
 use Rattle.rectangles.proofs.Stretches.{runs_start, runs_done, column_asked, column_small, place_small, some, bytes_small, run_asked, runs_next}
 use Rattle.rectangles.proofs.runs.by_runs.Goals as goal
 
@@ -32,7 +31,7 @@ overflow_mul-bytes c =
     omega (
       arith,
       (bytes_small _ _ _ _ _ _ _ _ _ _ _ c.requires _ c.loop-i-test.true _ _ _ _ _ c.loop-i.invariant c.offset.ensures
-          c.run_from-run.ensures (lesser c.min-many.ensures)).0,
+          c.run_from-run.ensures c.smaller-many.ensures).0,
     )
 
 pub overflow_cast-bytes : goal.overflow_cast-bytes
@@ -40,20 +39,20 @@ overflow_cast-bytes c =
     omega (
       arith,
       (bytes_small _ _ _ _ _ _ _ _ _ _ _ c.requires _ c.loop-i-test.true _ _ _ _ _ c.loop-i.invariant c.offset.ensures
-          c.run_from-run.ensures (lesser c.min-many.ensures)).0,
+          c.run_from-run.ensures c.smaller-many.ensures).0,
     )
 
 pub stretch-requires : goal.stretch-requires
 stretch-requires c =
     run_asked _ _ _ _ _ _ _ _ _ _ _ c.requires _ c.loop-i-test.true _ _ _ _ _ c.loop-i.invariant c.offset.ensures
-    c.run_from-run.ensures (lesser c.min-many.ensures)
+    c.run_from-run.ensures c.smaller-many.ensures
 
 pub overflow_add-here : goal.overflow_add-here
 overflow_add-here c =
     omega (
       arith,
       (bytes_small _ _ _ _ _ _ _ _ _ _ _ c.requires _ c.loop-i-test.true _ _ _ _ _ c.loop-i.invariant c.offset.ensures
-          c.run_from-run.ensures (lesser c.min-many.ensures)).1,
+          c.run_from-run.ensures c.smaller-many.ensures).1,
     )
 
 pub overflow_add-i : goal.overflow_add-i
@@ -61,7 +60,7 @@ overflow_add-i c =
     omega (
       arith,
       (bytes_small _ _ _ _ _ _ _ _ _ _ _ c.requires _ c.loop-i-test.true _ _ _ _ _ c.loop-i.invariant c.offset.ensures
-          c.run_from-run.ensures (lesser c.min-many.ensures)).2,
+          c.run_from-run.ensures c.smaller-many.ensures).2,
     )
 
 pub loop-i-smaller : goal.loop-i-smaller
@@ -69,15 +68,15 @@ loop-i-smaller c =
     omega (
       arith,
       some _ _ _ _ _ _ _ _ _ _ _ c.requires _ c.loop-i-test.true _ _ _ _ _ c.loop-i.invariant c.offset.ensures
-          c.run_from-run.ensures (lesser c.min-many.ensures),
-      (least _ _ _ c.min-many.ensures).1,
+          c.run_from-run.ensures c.smaller-many.ensures,
+      c.smaller-many.ensures.1,
       c.loop-i-test.true,
     )
 
 pub loop-i-preserved : goal.loop-i-preserved
 loop-i-preserved c =
     runs_next _ _ _ _ _ _ _ _ _ _ _ c.requires _ c.loop-i-test.true _ _ _ _ _ c.loop-i.invariant c.offset.ensures
-    c.run_from-run.ensures (lesser c.min-many.ensures) _ c.to-1.given c.stretch.ensures
+    c.run_from-run.ensures c.smaller-many.ensures _ c.to-1.given c.stretch.ensures
 
 pub shape_of-to : goal.shape_of-to
 shape_of-to c = c.loop-i.invariant.1.long

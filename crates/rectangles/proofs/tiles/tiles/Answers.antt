@@ -23,6 +23,13 @@ overflow_add-at c =
     line_small _ _ _ _ _ _ _ _ _ c.requires _ _
     c.loop-k-test.true c.loop-k.invariant.1.line_at
 
+pub overflow_add-k : goal.overflow_add-k
+overflow_add-k c =
+    omega (arith, c.requires.tiles_most, c.loop-k-test.true)
+
+pub loop-k-smaller : goal.loop-k-smaller
+loop-k-smaller c = omega (arith, c.loop-k-test.true)
+
 pub loop-k-preserved : goal.loop-k-preserved
 loop-k-preserved c =
     (omega (arith, c.loop-k-test.true), tiles_next _ _ _ _ _ _ _ _ _ _ _ c.loop-k.invariant.1 c.to-1.given c.tile_row.ensures)

@@ -4,4 +4,4 @@ use Rattle.superfine.proofs.corners.around.Goals as goal
 
 pub returns : goal.returns
 returns c =
-    corners_told _ _ _ _ _ _ _ _ _ _ c.corner.ensures c.corner-2.ensures c.corner-3.ensures c.corner-4.ensures
+    corners_told _ _ _ _ _ _ _ _ _ _ c.corner-right.ensures c.corner-below.ensures c.corner-across.ensures c.corner-own.ensures

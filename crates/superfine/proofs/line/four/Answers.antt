@@ -6,4 +6,6 @@ use Rattle.superfine.proofs.line.four.Goals as goal
 
 pub returns : goal.returns
 unfolding in_line
-returns c = reading_of_four _ _ _ _ _ _ _ _ _ c.requires refl refl refl refl c.in_line.ensures
+returns c =
+    let pre = c.requires in
+    reading_of_four _ _ _ _ _ _ _ _ _ pre.0 pre.1 refl refl refl c.in_line-bytes.ensures

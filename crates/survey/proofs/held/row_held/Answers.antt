@@ -3,7 +3,6 @@ use mathlib.Core.Path.{sym}
 use mathlib.Core.Bool.{true}
 use Prim.Native.Nat.{◌+◌, ◌/◌}
 use native.Mathlib.Omega.{arith}
-use Rattle.memory.proofs.Least.{least, least_some}
 use Rattle.survey.proofs.Numbers.{two_size, pair_asked, run_some}
 use Rattle.survey.proofs.Holds.{none_yet, all_so_far, first_below, last_past, run_held}
 use Rattle.survey.proofs.held.row_held.Goals as goal
@@ -73,13 +72,13 @@ overflow_mul-many c =
     let args = c.args in
     let inv = c.loop-i.invariant in
     let i = c.loop-i.i in
-    omega (arith, (least _ _ _ c.min-many.ensures).1, c.requires.columns, c.requires.stride_is.step)
+    omega (arith, c.smaller-many.ensures.1, c.requires.columns, c.requires.stride_is.step)
 
 pub overflow_add-at-in-loop-i : goal.overflow_add-at-in-loop-i
 overflow_add-at-in-loop-i c =
     omega (
       arith,
-      (least _ _ _ c.min-many.ensures).1,
+      c.smaller-many.ensures.1,
       c.requires.columns,
       c.requires.stride_is.step,
       c.offset.ensures,
@@ -91,9 +90,9 @@ returns-then-end-at c =
     let args = c.args in
     let inv = c.loop-i.invariant in
     let i = c.loop-i.i in
-    let small = least _ _ _ c.min-many.ensures in
+    let small = c.smaller-many.ensures in
     let taken = c.loop-i-test.true in
-    let some = least_some _ _ _ c.min-many.ensures (rw (sym c.run_from.ensures) at (run_some args.tiled (args.stride / 2) (args.x + i) (omega (arith, c.requires.columns, taken)))) (omega (arith, taken)) in
+    let some = small.2 (rw (sym c.run_from.ensures) at (run_some args.tiled (args.stride / 2) (args.x + i) (omega (arith, c.requires.columns, taken)))) (omega (arith, taken)) in
     last_past _ _ _ _ _ _ _ _ c.requires i _ some (omega (arith, small.0, c.run_from.ensures)) (omega (arith, small.1, taken))
     (omega (arith, c.if-end-at.true, c.offset.ensures))
 
@@ -102,16 +101,16 @@ overflow_add-i c =
     let args = c.args in
     let inv = c.loop-i.invariant in
     let i = c.loop-i.i in
-    omega (arith, (least _ _ _ c.min-many.ensures).1, c.requires.columns, c.requires.stride_is.step)
+    omega (arith, c.smaller-many.ensures.1, c.requires.columns, c.requires.stride_is.step)
 
 pub loop-i-smaller : goal.loop-i-smaller
 loop-i-smaller c =
     let args = c.args in
     let inv = c.loop-i.invariant in
     let i = c.loop-i.i in
-    let small = least _ _ _ c.min-many.ensures in
+    let small = c.smaller-many.ensures in
     let taken = c.loop-i-test.true in
-    let some = least_some _ _ _ c.min-many.ensures (rw (sym c.run_from.ensures) at (run_some args.tiled (args.stride / 2) (args.x + i) (omega (arith, c.requires.columns, taken)))) (omega (arith, taken)) in
+    let some = small.2 (rw (sym c.run_from.ensures) at (run_some args.tiled (args.stride / 2) (args.x + i) (omega (arith, c.requires.columns, taken)))) (omega (arith, taken)) in
     omega (arith, some, taken, small.1)
 
 pub loop-i-preserved : goal.loop-i-preserved
@@ -119,9 +118,9 @@ loop-i-preserved c =
     let args = c.args in
     let inv = c.loop-i.invariant in
     let i = c.loop-i.i in
-    let small = least _ _ _ c.min-many.ensures in
+    let small = c.smaller-many.ensures in
     let taken = c.loop-i-test.true in
-    let some = least_some _ _ _ c.min-many.ensures (rw (sym c.run_from.ensures) at (run_some args.tiled (args.stride / 2) (args.x + i) (omega (arith, c.requires.columns, taken)))) (omega (arith, taken)) in (
+    let some = small.2 (rw (sym c.run_from.ensures) at (run_some args.tiled (args.stride / 2) (args.x + i) (omega (arith, c.requires.columns, taken)))) (omega (arith, taken)) in (
       omega (arith, small.1, taken),
       run_held _ _ _ _ _ _ _ _ c.requires i _ some (omega (arith, small.0, c.run_from.ensures)) (omega (arith, small.1, taken))
           (omega (arith, c.if-at-first.false, c.offset.ensures)) (omega (arith, c.if-end-at.false, c.offset.ensures)) inv.1,

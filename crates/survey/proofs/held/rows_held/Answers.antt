@@ -30,6 +30,12 @@ pub returns-then-not-row_held : goal.returns-then-not-row_held
 returns-then-not-row_held c =
     row_unheld _ _ _ _ _ _ _ _ c.requires.1 _ _ c.loop-j-test.true _ c.row_held.ensures c.if-not-row_held.true
 
+pub overflow_add-j : goal.overflow_add-j
+overflow_add-j c = omega (arith, c.loop-j-test.true)
+
+pub loop-j-smaller : goal.loop-j-smaller
+loop-j-smaller c = omega (arith, c.loop-j-test.true)
+
 pub loop-j-preserved : goal.loop-j-preserved
 loop-j-preserved c = (
   omega (arith, c.loop-j-test.true),

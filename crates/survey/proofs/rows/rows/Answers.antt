@@ -41,7 +41,7 @@ overflow_add-passed c =
       few,
       here,
       line.1,
-      c.from-passed.ensures,
+      c.wide-passed.ensures,
       c.row.ensures.count,
       rows_few _ _ _ _ _ _ _ _ _ _ c.requires.0 c.requires.1,
     )
@@ -53,6 +53,12 @@ overflow_add-line c =
     let taken = c.loop-j-test.true in
     let line = next_line _ _ _ _ _ _ _ _ _ _ c.requires.0 c.requires.1 _ _ taken inv.1 in
     omega (arith, line.1, rows_few _ _ _ _ _ _ _ _ _ _ c.requires.0 c.requires.1)
+
+pub overflow_add-j : goal.overflow_add-j
+overflow_add-j c = omega (arith, c.loop-j-test.true)
+
+pub loop-j-smaller : goal.loop-j-smaller
+loop-j-smaller c = omega (arith, c.loop-j-test.true)
 
 pub loop-j-preserved : goal.loop-j-preserved
 loop-j-preserved c =
@@ -66,7 +72,7 @@ loop-j-preserved c =
     (c.loop-j.line + i) = λ i h. row_bytes _ _ _ _ _ _ _ _ _ _ c.requires.0 c.requires.1 args.low args.top args.outside args.memory.now _ _ i inv.1 h in (
       omega (arith, taken),
       line.0,
-      counted_next _ _ _ _ _ same refl _ _ inv.2 (c.from-passed.ensures ∙ c.row.ensures.count),
+      counted_next _ _ _ _ _ same refl _ _ inv.2 (c.wide-passed.ensures ∙ c.row.ensures.count),
       written_next _ _ _ _ _ same refl _ _ _ _ _ inv.3 (omega arith) c.row.ensures.bytes,
     )
 

@@ -12,3 +12,6 @@ invariant-loop-j l =
     (l.j ≤ l.rows) × (l.line ≡ l.j * l.columns) ×
     (l.passed ≡ sum l.line (domain_byte l.low l.top l.outside l.memory l.base l.tiled (l.stride / 2) l.first l.x l.y l.columns)) ×
     (l.room ≡ written 0 (domain_byte l.low l.top l.outside l.memory l.base l.tiled (l.stride / 2) l.first l.x l.y l.columns) l.line l.initial.room)
+
+abbrev pub decreases-loop-j : goal.decreases-loop-j
+decreases-loop-j l = l.rows - l.j

@@ -12,3 +12,6 @@ abbrev pub invariant-loop-i : goal.invariant-loop-i
 invariant-loop-i l =
     (l.i ≤ l.count) × (l.passed ≡ sum l.i (row_byte l.low l.top l.outside l.memory l.base true (l.stride / 2) l.first l.x l.y)) ×
     (l.room ≡ written l.line (row_byte l.low l.top l.outside l.memory l.base true (l.stride / 2) l.first l.x l.y) l.i l.initial.room)
+
+abbrev pub decreases-loop-i : goal.decreases-loop-i
+decreases-loop-i l = l.count - l.i
