@@ -2,7 +2,7 @@
 use mathlib.Core.Path.{◌≡◌, refl, sym, ap, ap₂, ◌∙◌, subst}
 use mathlib.Core.Bool.{Bool, true, false}
 use mathlib.Core.List.{List, [], ◌∷◌}
-use Prim.Native.Nat.{ℕ, ◌+◌, ◌<◌, ◌≤◌}
+use Prim.Native.Nat.{ℕ, suc, ◌+◌, ◌<◌, ◌≤◌}
 use native.Mathlib.Nat.{le_trans}
 use native.Mathlib.Omega.{arith}
 use lib.Dec.{eqb, leb}
@@ -25,7 +25,7 @@ use Rattle.fleet.specs.Join.{joined}
 use Rattle.fleet.specs.declared.station.Month.{Month}
 use Rattle.fleet.specs.declared.parts.Part.{Part}
 use Rattle.fleet.specs.declared.parts.Fleet.{Fleet}
-use Rattle.fleet.proofs.Months.{monthly, month_numbers, was_month, was_number}
+use Rattle.fleet.proofs.Months.{monthly, month_numbers, was_month, was_number, zero_fine}
 use Rattle.std.specs.Prelude.{Result, Ok, Err}
 use Rattle.growing.specs.Sums.{Sums, no_sums, with_month, with_station, joined_sums, most_stations, is_month, is_placed, SumsValid}
 use Rattle.growing.specs.Cells.{
@@ -99,6 +99,24 @@ unfolding is_month
 score_month l q =
     let m = monthly l q in
     and_intro (le-leb _ _ m.owed_most) (and_intro (le-leb _ _ m.served_owed) (le-leb _ _ m.silent_most))
+
+-- a refusal's number isn't 0, so that no error looks like a station that was added
+pub error_some : {n k : ℕ} → n ≡ suc k → ◌≡◌ {A = Result (Unit {0}) ℕ} (Err n) (Err 0) → ⊥
+error_some {n} x e =
+    let zero : n ≡ 0 = cc in
+    omega arith
+
+pub refused_some : (l : Lease) {log marks tallies : List ℕ} {answer : Result Month ℕ} → ScoredAs l log marks tallies answer →
+    {number : ℕ} → answer ≡ Err number → ◌≡◌ {A = Result (Unit {0}) ℕ} (Err number) (Err 0) → ⊥
+refused_some l {log} {marks} {tallies} is {number} e z =
+    let r = replay_in log marks [] tallies [] in
+    let was = was_number l (score_of l r) (sym e ∙ is.told [] []) in
+    let zero : number ≡ 0 = cc in
+    let y = sym was.1 ∙ zero_fine l r (sym was.0 ∙ zero) in
+    absurd (let w : ◌≡◌ {A = ℕ} 0 1 = cc in omega arith)
+
+pub added_apart : {done : Unit {0}} → ◌≡◌ {A = Result (Unit {0}) ℕ} (Ok done) (Err 0) → ⊥
+added_apart e = absurd (let z : ◌≡◌ {A = ℕ} 0 1 = cc in omega arith)
 
 -- the station of a replay
 module _ (l : Lease) (log marks own tallies sums : List ℕ) where

@@ -4,7 +4,7 @@
 // owes 0 there is none. A refusal touches nothing.
 #![tactic(auto)]
 
-ghost use Rattle.std.specs.Prelude.{◌≡◌, length};
+ghost use Rattle.std.specs.Prelude.{◌≡◌, Err, length};
 ghost use Rattle.refusal.specs.Crossing.{Crosses, Shows};
 ghost use Rattle.session.specs.Answers.{begun_status};
 ghost use Rattle.state.specs.Start.{is_edition};
@@ -92,7 +92,7 @@ fn put_month(sums: &mut [u64; SUMS], served: u64, owed: u64, silent: u64)
 }
 
 // Adds the station of a replay, under its lease line: 3 where the replay's session isn't of the report's edition, 22 for one more than
-// 2^32, then 21, 18 or 19.
+// 2^32, then 21, 18 or 19. No error is 0, which would look added.
 pub fn add(
     sums: &mut [u64; SUMS],
     log: &[u32; replay::LOG_CELLS],
@@ -102,7 +102,7 @@ pub fn add(
     line: LeaseLine,
 ) -> Result<(), u32>
     requires { SumsGiven sums.old }
-    ensures { AddCrosses (lease_of line) log.now marks.now own.now tallies.now (number_in result) sums.old sums.new }
+    ensures { AddCrosses (lease_of line) log.now marks.now own.now tallies.now (number_in result) sums.old sums.new × (result ≡ Err 0 → ⊥) }
 {
     if sums[0] != u64::from(own[own::EDITION]) {
         return Err(u32::from(Refusal::Malformed));
