@@ -97,6 +97,5 @@ pub extern "C" fn egretfold_log_trim(
     requires { length log.old ≡ log_length }
     ensures { TrimCrosses log.old marks.old result log.new marks.new }
 {
-    trim::trim(log, marks);
-    0
+    trim::cross(log, marks)
 }

@@ -17,12 +17,9 @@ pub extern "C" fn egretfold_pair_begin(
 ) -> u32
     ensures { PairBegins inputs outputs edition result own0.old tallies0.old own1.old tallies1.old shared.old own0.new tallies0.new own1.new tallies1.new shared.new }
 {
-    match lessees::begin(
+    lessees::rooms::begin(
         own0, tallies0, own1, tallies1, shared, inputs, outputs, edition,
-    ) {
-        Ok(()) => 0,
-        Err(why) => u32::from(why),
-    }
+    )
 }
 
 // A piece of both parties' words: for each party the words taken, the commands that they completed, and its first refusal. 11.
@@ -40,8 +37,5 @@ pub extern "C" fn egretfold_pair_feed(
     requires { PairGiven own0.old tallies0.old own1.old tallies1.old shared.old }
     ensures { PairFeeds words.now parties.now result own0.old tallies0.old own1.old tallies1.old shared.old fed.old own0.new tallies0.new own1.new tallies1.new shared.new fed.new }
 {
-    match lessees::feed(own0, tallies0, own1, tallies1, shared, words, parties, fed) {
-        Ok(()) => 0,
-        Err(why) => u32::from(why),
-    }
+    lessees::rooms::feed(own0, tallies0, own1, tallies1, shared, words, parties, fed)
 }

@@ -4,7 +4,7 @@
 
 ghost use Rattle.std.specs.Prelude.{◌≡◌, length};
 ghost use Rattle.replay.specs.Places.{log_length};
-ghost use Rattle.trim.specs.Left.{Trims};
+ghost use Rattle.trim.specs.Left.{TrimCrosses, Trims};
 ghost use Rattle.trim.specs.Trim.{only_mark};
 
 use days::report;
@@ -31,4 +31,14 @@ pub fn trim(log: &mut [u32; replay::LOG_CELLS], marks: &mut [u64; replay::MARKS]
         log[own::REFUSED_AFTER] = log[own::REFUSED_AFTER].saturating_sub(midnights - 1);
         log[own::MIDNIGHTS] = 1;
     }
+}
+
+// Kept (design pass 1, C interface): the status of an answer that is never refused.
+// The same as an entry: 0 in any case.
+pub fn cross(log: &mut [u32; replay::LOG_CELLS], marks: &mut [u64; replay::MARKS]) -> u32
+    requires { length log.old ≡ log_length }
+    ensures { TrimCrosses log.old marks.old result log.new marks.new }
+{
+    trim(log, marks);
+    0
 }

@@ -1,12 +1,16 @@
 -- `lessees::may_begin` meets its contract. Assumes nothing.
+use mathlib.Core.Path.{sym, ◌∙◌}
+use borrow.Author.Tests.{le-ltb}
 use Rattle.lessees.proofs.Begun.{by_outputs, not_edition, not_inputs}
 use Rattle.lessees.proofs.may_begin.Goals as goal
 
-pub returns-then-inputs-lt-INPUTS : goal.returns-then-inputs-lt-INPUTS
-returns-then-inputs-lt-INPUTS c = by_outputs _ _ _ c.is_known.ensures c.if-is_known.true c.if-inputs-lt-INPUTS.true
+pub returns-then-not-is_known : goal.returns-then-not-is_known
+returns-then-not-is_known c =
+    sym c.if-not-is_known.true ∙ not_edition _ _ _ c.is_known.ensures c.if-not-is_known.true
 
-pub returns-else-inputs-lt-INPUTS : goal.returns-else-inputs-lt-INPUTS
-returns-else-inputs-lt-INPUTS c = not_inputs _ _ _ c.if-inputs-lt-INPUTS.false
+pub returns-then-inputs-ge-INPUTS : goal.returns-then-inputs-ge-INPUTS
+returns-then-inputs-ge-INPUTS c =
+    sym (le-ltb _ _ c.if-inputs-ge-INPUTS.true) ∙ not_inputs _ _ _ c.if-inputs-ge-INPUTS.true
 
-pub returns-else-is_known : goal.returns-else-is_known
-returns-else-is_known c = not_edition _ _ _ c.is_known.ensures c.if-is_known.false
+pub returns : goal.returns
+returns c = by_outputs _ _ _ c.is_known.ensures c.if-not-is_known.false c.if-inputs-ge-INPUTS.false

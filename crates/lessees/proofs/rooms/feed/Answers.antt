@@ -1,8 +1,8 @@
--- `egretfold::pairs::egretfold_pair_feed` meets its contract. Assumes nothing.
+-- `lessees::rooms::feed` meets its contract. Assumes nothing.
 use mathlib.Core.Path.{sym, subst}
 use Prim.Native.Nat.{ℕ}
 use Rattle.lessees.specs.Rooms.{PairFeeds}
-use Rattle.egretfold.proofs.pairs.egretfold_pair_feed.Goals as goal
+use Rattle.lessees.proofs.rooms.feed.Goals as goal
 
 pub returns-in-Err : goal.returns-in-Err
 returns-in-Err c =
